@@ -1,0 +1,7 @@
+use Rattle.std.proofs.Common.{◌≡◌, ◌++◌, ◌+◌, suc, length, take}
+use Rattle.std.specs.List.{flat_map}
+use Rattle.jmodel.specs.ClassFile.{u2, constant, attribute, member}
+use Rattle.class_writer.proofs.writer.put_indexes.Given as goal
+
+abbrev pub invariant-loop-i : goal.invariant-loop-i
+invariant-loop-i l = l.out ≡ l.fn.out ++ (u2 (length l.list) ++ flat_map u2 (take l.i-index l.list))

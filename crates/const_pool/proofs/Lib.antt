@@ -1,0 +1,12 @@
+pub mod Loops
+pub mod Scan
+pub mod Parameters
+pub mod Uses
+pub mod Takes
+pub mod Entries
+pub mod Scans
+pub mod Types
+pub mod Signatures
+pub mod Named
+pub mod Parts
+pub mod Reading

@@ -1,0 +1,9 @@
+pub mod Lists
+pub mod Items
+pub mod FirstTry
+pub mod Calling
+pub mod Made
+pub mod Serially
+pub mod Numbered
+pub mod Reading
+pub mod Running

@@ -1,0 +1,52 @@
+-- Files that were read whole.
+use Rattle.std.proofs.Common.{Bor, ◌≡◌, ℕ, suc, ◌≤◌, List, length, min, Option, Some, None, refl, sym, ap, ◌∙◌, take, arith}
+use Rattle.std.specs.Prelude.{option_map}
+use Rattle.std.proofs.lemmas.List.{length-take, take_all}
+use Rattle.deuce_io.specs.Files.{Files, inside}
+use Rattle.deuce.specs.declared.inputs.Inputs.{Inputs}
+use Rattle.deuce.specs.Headline.{IsRun}
+use Rattle.std.specs.Prelude.{String}
+use Rattle.std.specs.declared.alloc.Global.{Global}
+use Rattle.deuce_io.specs.Fault.{Call}
+use Rattle.deuce.specs.declared.words.Command.{Command}
+use Rattle.deuce.specs.declared.words.Command.TheVariants.{Run}
+use Rattle.deuce.specs.declared.outcome.Outcome.{Outcome}
+use Rattle.deuce.specs.declared.outcome.Outcome.TheVariants.{Journal, Usage, Outside, NotBuilt}
+use Rattle.deuce.specs.Ending.{IsFrontOf, Holds, AreInputs, IsJournalOf, IsJournalOfWords, IsOutcome, IsTextOf, Appends, status_of}
+
+whole : (most limit : ℕ) (o : Option (List ℕ)) (bytes : List ℕ) → most ≡ suc limit → option_map (take most) o ≡ Some bytes → length bytes ≤ limit → o ≡ Some bytes
+whole most limit None bytes m e le = absurd (cc)
+whole most limit (Some xs) bytes m e le =
+    let is : take most xs ≡ bytes = cc (e) in
+    let short : min most (length xs) ≤ limit = omega (arith, sym (length-take most xs) ∙ ap length is, le) in
+    let all : take most xs ≡ xs = take_all most xs (omega (arith, short, m)) in
+    ap (λ (l : List ℕ). Some l) (sym all ∙ is)
+
+pub holds : (files : Option Files) (path : List ℕ) (most limit : ℕ) (bytes : List ℕ) → most ≡ suc limit → IsFrontOf files path most bytes → length bytes ≤ limit → Holds files path bytes
+holds files path most limit bytes m front le = λ told is. whole most limit (told path) bytes m (front told is) le
+
+-- a run of what was read whole
+pub journal_of : (files : Option Files) (dir script : List ℕ) (inputs : Inputs) (text : List ℕ) → AreInputs files dir script inputs → length inputs.class ≤ 1048576 → length inputs.script ≤ 16777216
+    → IsRun inputs.class inputs.script text → IsJournalOf files dir script text
+journal_of files dir script inputs text a c s run = record {
+  name = a.name;
+  class_file = a.class_file;
+  class_bytes = inputs.class;
+  class = holds files (inside dir a.name) 1048577 1048576 inputs.class refl a.class c;
+  script_bytes = inputs.script;
+  script_holds = holds files script 16777217 16777216 inputs.script refl a.script_bytes s;
+  run = run;
+}
+
+-- what was printed with status 0 is a run's journal
+pub journal_printed : (words : List (String Global)) (files : Option Files) (before now : ℕ) (last : Option Call) (o : Outcome) (printed : List ℕ) (old new : Option (List ℕ)) (status : ℕ)
+    → IsOutcome words files before now last o → status ≡ status_of o → IsTextOf o printed → Appends old new printed → status ≡ 0
+    → (text : List ℕ) × IsJournalOfWords words files text × Appends old new text
+journal_printed words files before now last (Journal text) printed old new status h s is all z = (text, h, rw is at all)
+journal_printed words files before now last Usage printed old new status h s is all z = absurd (omega (arith, s, z))
+journal_printed words files before now last (Outside path) printed old new status h s is all z = absurd (omega (arith, s, z))
+journal_printed words files before now last NotBuilt printed old new status h s is all z = absurd (omega (arith, s, z))
+
+-- the one command there is
+pub one_command : (cmd : Command) → (d : Bor (List ℕ)) × (s : Bor (List ℕ)) × (cmd ≡ Run d s)
+one_command (Run d s) = (d, s, refl)

@@ -1,0 +1,5 @@
+pub mod Command
+pub mod Ending
+pub mod Script
+pub mod Headline
+pub mod Rule

@@ -1,0 +1,56 @@
+//! A lane of calls over the engine of one thread.
+ghost use Rattle.std.specs.Prelude.{◌≡◌, ◌≤◌, ◌<◌, All, length, IfOk, Some, [], ◌∷◌};
+ghost use Rattle.jmodel.specs.ClassFile.{ClassFile};
+ghost use Rattle.jmodel.specs.History.{Entry};
+ghost use Rattle.jmodel.specs.Linking.{linked};
+ghost use Rattle.jmodel.specs.Layout.{opening_words, opening_state};
+ghost use Rattle.deuce.specs.Headline.{AreCalls};
+ghost use Rattle.deuce.specs.Rule.{IsRuled, IsReady};
+
+use crate::calls::call_all;
+use crate::text::journal;
+use hierarchy::Program;
+use jmodel::Bytes;
+use machine::Solo;
+use machine::solo::Origin;
+use std::alloc::{AllocError, Global};
+use std::marker::Brand;
+
+/// Calls methods of a program one after another, from the words that it begins with, and gives the text of their journal.
+/// The rewritten program is what runs. The numbers are those of methods of the original program.
+pub fn run_lane(
+    alloc: Global,
+    original: &Program,
+    rewritten: &Program,
+    words: Vec<u64>,
+    numbers: &[usize],
+) -> Result<Bytes, AllocError>
+    requires ready { IsReady original.now rewritten.now }
+    requires numbers { All (λ m. m < length original.now.methods) numbers.now }
+    requires few { length numbers.now ≤ 1000 }
+    ensures { (c : ClassFile) → linked c ≡ Some original.now → words.items ≡ opening_words (c ∷ [])
+        → IfOk result (AreCalls original.now (opening_state (c ∷ [])) numbers.now) }
+{
+    run_over::<Brand>(alloc, original, rewritten, words, numbers)
+}
+
+fn run_over<K: Origin>(
+    alloc: Global,
+    original: &Program,
+    rewritten: &Program,
+    words: Vec<u64>,
+    numbers: &[usize],
+) -> Result<Bytes, AllocError>
+    requires ready { IsReady original.now rewritten.now }
+    requires numbers { All (λ m. m < length original.now.methods) numbers.now }
+    requires few { length numbers.now ≤ 1000 }
+    requires first { words.items ≡ K.first }
+    requires rule { (e : Entry) → IsRuled original.now e → K.rule e }
+    requires ruled { (e : Entry) → K.rule e → IsRuled original.now e }
+    ensures { (c : ClassFile) → linked c ≡ Some original.now → words.items ≡ opening_words (c ∷ [])
+        → IfOk result (AreCalls original.now (opening_state (c ∷ [])) numbers.now) }
+{
+    let mut engine = Solo::<K>::new(alloc, words);
+    let lines = call_all(alloc, original, rewritten, &mut engine, numbers)?;
+    journal(alloc, &lines.placed, &lines.unplaced)
+}

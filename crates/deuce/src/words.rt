@@ -1,0 +1,23 @@
+//! The words of the command line.
+ghost use Rattle.std.specs.Prelude.{◌≡◌, string_bytes, map, MatchOption};
+ghost use Rattle.deuce.specs.Command.{AreWords, IsNoCommand};
+
+/// What the words ask for. The paths are words of the command line.
+#[derive(Clone, Copy)]
+pub enum Command<'a> {
+    /// Runs the script at the second path on the classes of the folder at the first.
+    Run { dir: &'a str, script: &'a str },
+}
+
+/// What the words after the program's name ask for: `run DIR SCRIPT`, and nothing else.
+pub fn command_of(words: &[String]) -> Option<Command<'_>>
+    ensures { MatchOption result (IsNoCommand words.now) (AreWords words.now) }
+{
+    match words {
+        [name, dir, script] if name.as_str() == "run" => Some(Command::Run {
+            dir: dir.as_str(),
+            script: script.as_str(),
+        }),
+        _ => None,
+    }
+}

@@ -1,0 +1,182 @@
+//! The machine's files.
+ghost use Rattle.std.specs.Prelude.{◌≡◌, ◌≤◌, length, IfOk, OnOk, OnErr, IsErrOf, None, Some};
+ghost use Rattle.std.specs.Option.{option_map};
+ghost use Rattle.deuce_io.specs.Fault.{HasFailed, Rose, next_count, call_of, list_of, read_of, put_of, seen_call};
+
+use crate::end::IoEnd;
+use crate::failed_call::{CallKind, FailedCall, fail};
+use crate::folder::{Folder, Item};
+use crate::std_sink::end_of;
+use jmodel::Bytes;
+use std::alloc::Global;
+use std::io::Read;
+use std::rt::Files;
+use std::{fs, io};
+
+/// How many bytes are read at once.
+const PIECE: usize = 4096;
+
+/// The machine's files, of which it tells nothing. A link counts as what it leads to, and as a file where that
+/// is missing. A name that isn't UTF-8 is a fault of the list.
+#[derive(Drop)]
+pub struct RealFolder<R: Files + AllocGlobal + Clone + Drop> {
+    rt: R,
+    alloc: Global,
+    /// How many lists and reads have failed.
+    pub faults: u64,
+    /// How many puts have failed.
+    pub put_faults: u64,
+    /// The last call that failed.
+    pub failed: Option<FailedCall>,
+}
+
+impl<R: Files + AllocGlobal + Clone + Drop> RealFolder<R> {
+    /// The files of a runtime. Takes no memory.
+    pub fn new(alloc: Global, rt: R) -> Self
+        ensures { (result.faults ≡ 0) × (result.put_faults ≡ 0) × (result.failed ≡ None) }
+    {
+        RealFolder {
+            rt,
+            alloc,
+            faults: 0,
+            put_faults: 0,
+            failed: None,
+        }
+    }
+
+    /// The items that stand directly in a folder.
+    fn items(&self, dir: &str) -> io::Result<Vec<Item>> {
+        let mut items = Vec::new(self.alloc);
+        for entry in fs::read_dir(&self.rt, dir)? {
+            let entry = entry?;
+            let folder = match fs::metadata(&self.rt, entry.path()) {
+                Ok(metadata) => metadata.is_dir(),
+                Err(_) => false,
+            };
+            items.push(Item {
+                name: String::from_str(self.alloc, entry.file_name())?,
+                folder,
+            })?;
+        }
+        Ok(items)
+    }
+
+    /// The first `most` bytes of a file, or all where there are fewer.
+    fn start_of(&self, path: &str, most: usize) -> io::Result<Bytes>
+        ensures { IfOk result (λ bytes. length bytes ≤ most) }
+    {
+        let mut file = fs::open(&self.rt, path)?;
+        let mut bytes = Vec::new(self.alloc);
+        let mut piece = [0u8; PIECE];
+        for _ in 0..u64::MAX {
+            let room = PIECE.min(most - bytes.len());
+            if room == 0 {
+                break;
+            }
+            let taken = file.read(&mut piece[..room])?;
+            if taken == 0 {
+                break;
+            }
+            bytes.extend_from_slice(&piece[..taken])?;
+        }
+        Ok(Bytes::from_vec(bytes))
+    }
+
+    /// Makes a file have these bytes, and makes the folders above it where they are missing.
+    fn store(&self, path: &str, bytes: &[u8]) -> io::Result<()> {
+        if let Some((above, _)) = path.rsplit_once('/') {
+            fs::create_dir_all(&self.rt, above)?;
+        }
+        fs::write(&self.rt, path, bytes)
+    }
+}
+
+/// Counts an error of the machine, and keeps this call as the last that failed, but not where there was no
+/// memory for it.
+fn fail_by(
+    alloc: Global,
+    error: &io::Error,
+    count: &mut u64,
+    last: &mut Option<FailedCall>,
+    kind: CallKind,
+    path: &str,
+) -> IoEnd
+    ensures counted { count.new ≡ next_count count.old }
+    ensures no_less { count.old ≤ count.new }
+    ensures rose { Rose count.old count.new }
+    ensures failed { result ≡ IoEnd.Failed → option_map seen_call last.new ≡ Some (call_of kind path.now) }
+    ensures no_memory { result ≡ IoEnd.NoMemory → last.new ≡ last.old }
+{
+    match end_of(error) {
+        IoEnd::Failed => fail(alloc, count, last, kind, path),
+        IoEnd::NoMemory => {
+            *count = count.saturating_add(1);
+            IoEnd::NoMemory
+        }
+    }
+}
+
+impl<R: Files + AllocGlobal + Clone + Drop> Folder for RealFolder<R> {
+    ghost faults = { λ f. f.faults };
+
+    ghost put_faults = { λ f. f.put_faults };
+
+    ghost failed = { λ f. option_map seen_call f.failed };
+
+    ghost files = { λ f. None };
+
+    fn list(&mut self, dir: &str) -> Result<Vec<Item>, IoEnd>
+        // as of every folder
+        ensures counts { self.old.faults ≤ self.new.faults }
+        ensures put_counts { self.old.put_faults ≤ self.new.put_faults }
+        ensures cause { IsErrOf result IoEnd.Failed → HasFailed self.old.faults self.new.faults (option_map seen_call self.new.failed) (list_of dir.now) }
+        // of this one: its count rises at each error, and nothing else changes
+        ensures quiet { OnOk result (self.new ≡ self.old) }
+        ensures rises { OnErr result (self.new ≡ record self.old { faults = next_count self.old.faults; failed = self.new.failed }) }
+    {
+        match self.items(dir) {
+            Ok(items) => Ok(items),
+            Err(error) => {
+                let (count, last) = (&mut self.faults, &mut self.failed);
+                Err(fail_by(self.alloc, &error, count, last, CallKind::List, dir))
+            }
+        }
+    }
+
+    fn read(&mut self, path: &str, most: usize) -> Result<Bytes, IoEnd>
+        // as of every folder
+        ensures within { IfOk result (λ bytes. length bytes ≤ most) }
+        ensures counts { self.old.faults ≤ self.new.faults }
+        ensures put_counts { self.old.put_faults ≤ self.new.put_faults }
+        ensures cause { IsErrOf result IoEnd.Failed → HasFailed self.old.faults self.new.faults (option_map seen_call self.new.failed) (read_of path.now) }
+        // of this one: its count rises at each error, and nothing else changes
+        ensures quiet { OnOk result (self.new ≡ self.old) }
+        ensures rises { OnErr result (self.new ≡ record self.old { faults = next_count self.old.faults; failed = self.new.failed }) }
+    {
+        match self.start_of(path, most) {
+            Ok(bytes) => Ok(bytes),
+            Err(error) => {
+                let (count, last) = (&mut self.faults, &mut self.failed);
+                Err(fail_by(self.alloc, &error, count, last, CallKind::Read, path))
+            }
+        }
+    }
+
+    fn put(&mut self, path: &str, bytes: &[u8]) -> Result<(), IoEnd>
+        // as of every folder
+        ensures counts { self.old.faults ≤ self.new.faults }
+        ensures put_counts { self.old.put_faults ≤ self.new.put_faults }
+        ensures cause { IsErrOf result IoEnd.Failed → HasFailed self.old.put_faults self.new.put_faults (option_map seen_call self.new.failed) (put_of path.now) }
+        // of this one: its count rises at each error, and nothing else changes
+        ensures quiet { OnOk result (self.new ≡ self.old) }
+        ensures rises { OnErr result (self.new ≡ record self.old { put_faults = next_count self.old.put_faults; failed = self.new.failed }) }
+    {
+        match self.store(path, bytes) {
+            Ok(()) => Ok(()),
+            Err(error) => {
+                let (count, last) = (&mut self.put_faults, &mut self.failed);
+                Err(fail_by(self.alloc, &error, count, last, CallKind::Put, path))
+            }
+        }
+    }
+}

@@ -1,0 +1,56 @@
+-- What each item gives, as a loop collects it.
+use Rattle.std.proofs.Common.{◌≡◌, ℕ, suc, ◌+◌, ◌≤◌, ◌<◌, List, [], ◌∷◌, ◌++◌, length, drop, get_or, Option, Some, None, refl, sym, ap, ◌∙◌, append_assoc, add-one, drop-cons}
+use Rattle.std.proofs.lemmas.List.{append-nil, drop_all}
+use Rattle.jmodel.specs.Decoding.{in_front, each}
+use Rattle.hierarchy.specs.declared.outcome.BuildEnd.{BuildEnd}
+use Rattle.hierarchy.specs.declared.outcome.BuildEnd.TheVariants.{NotBuilt, NoMemory}
+use Rattle.hierarchy.specs.Built.{Ends}
+
+-- what was collected before, and what is still collected
+abbrev pub with_front : {A : Type 0} → List A → Option (List A) → Option (List A)
+with_front front None = None
+with_front front (Some xs) = Some (front ++ xs)
+
+regroup : {A : Type 0} (front : List A) (y : A) (rest : Option (List A)) → with_front front (in_front (Some y) rest) ≡ with_front (front ++ y ∷ []) rest
+regroup {A} front y (Some xs) = ap (λ (ys : List A). Some ys) (simp append_assoc)
+regroup front y None = refl
+
+front_nil : {A : Type 0} (o : Option (List A)) → with_front [] o ≡ o
+front_nil (Some xs) = refl
+front_nil None = refl
+
+nothing : {A : Type 0} (front : List A) (rest : Option (List A)) → with_front front (in_front None rest) ≡ None
+nothing front (Some xs) = refl
+nothing front None = refl
+
+-- the rest of a list begins with the item of its place, which is its own default
+pub item_is : {A : Type 0} (xs : List A) (i : ℕ) (x : A) → i < length xs → x ≡ get_or xs i x → drop i xs ≡ x ∷ drop (i + 1) xs
+item_is {A} xs i x h is =
+    let one : drop i xs ≡ get_or xs i x ∷ drop (suc i) xs = drop-cons xs i x h in
+    one ∙ ap (λ (y : A). y ∷ drop (suc i) xs) (sym is) ∙ ap (λ (n : ℕ). x ∷ drop n xs) (sym (add-one i))
+
+-- or has any default
+pub item_at : {A : Type 0} (xs : List A) (i : ℕ) (d : A) → i < length xs → drop i xs ≡ get_or xs i d ∷ drop (i + 1) xs
+item_at xs i d h = drop-cons xs i d h ∙ ap (λ (n : ℕ). get_or xs i d ∷ drop n xs) (sym (add-one i))
+
+module _ {A B : Type 0} (f : A → Option B) where
+  pub starts : (xs : List A) → with_front [] (each f (drop 0 xs)) ≡ each f xs
+  starts xs = front_nil (each f xs)
+
+  pub goes_on : (front : List B) (xs : List A) (i : ℕ) (x : A) (y : B) (total : Option (List B)) → drop i xs ≡ x ∷ drop (i + 1) xs → f x ≡ Some y
+      → with_front front (each f (drop i xs)) ≡ total → with_front (front ++ y ∷ []) (each f (drop (i + 1) xs)) ≡ total
+  goes_on front xs i x y total item gives so_far =
+      let one : each f (drop i xs) ≡ in_front (Some y) (each f (drop (i + 1) xs)) = ap (each f) item ∙ ap (λ (o : Option B). in_front o (each f (drop (i + 1) xs))) gives in
+      sym (regroup front y (each f (drop (i + 1) xs))) ∙ sym (ap (with_front front) one) ∙ so_far
+
+  pub ends : (e : BuildEnd) (front : List B) (xs : List A) (i : ℕ) (x : A) (total : Option (List B)) → drop i xs ≡ x ∷ drop (i + 1) xs → Ends e (f x)
+      → with_front front (each f (drop i xs)) ≡ total → Ends e total
+  ends NoMemory front xs i x total item gives so_far = tt
+  ends NotBuilt front xs i x total item gives so_far =
+      let one : each f (drop i xs) ≡ in_front None (each f (drop (i + 1) xs)) = ap (each f) item ∙ ap (λ (o : Option B). in_front o (each f (drop (i + 1) xs))) gives in
+      sym so_far ∙ ap (with_front front) one ∙ nothing front (each f (drop (i + 1) xs))
+
+  pub is_done : (front : List B) (xs : List A) (i : ℕ) (total : Option (List B)) → length xs ≤ i → with_front front (each f (drop i xs)) ≡ total → total ≡ Some front
+  is_done front xs i total le so_far =
+      let one : with_front front (each f (drop i xs)) ≡ Some (front ++ []) = ap (λ (ys : List A). with_front front (each f ys)) (drop_all i xs le) in
+      sym so_far ∙ one ∙ ap (λ (ys : List B). Some ys) (append-nil front)

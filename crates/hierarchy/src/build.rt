@@ -1,0 +1,205 @@
+//! Programs of class files.
+ghost use Rattle.std.specs.Prelude.{◌≡◌, [], ◌∷◌, map, IfOk};
+ghost use Rattle.hierarchy.specs.Built.{Builds};
+ghost use Rattle.jmodel.specs.Source.{IsStraightProgram};
+ghost use Rattle.jmodel.specs.Layout.{fields_from, statics, opening_words as all_opening_words};
+ghost use Rattle.jmodel.specs.Decoding.{each};
+ghost use Rattle.jmodel.specs.Linking.{original_fields, symbols_of, method_of as meaning, linked_method as linked_one, linked as linked_program, relinked_methods, relinked};
+
+use crate::form::is_form_class;
+use crate::meaning::Symbols;
+use crate::method::{linked_method, method_of};
+use crate::outcome::BuildEnd;
+use crate::program::{Field, Method, Program};
+use crate::symbols::{is_static, names_of, own_name, text};
+use const_pool::{ClassFile, Member};
+use jmodel::Bytes;
+use jmodel::op::{Place, WordType};
+use std::alloc::{AllocError, Global};
+
+// A static int field of a lone class, whose static base lies at 2.
+fn field_at(
+    alloc: Global,
+    class: &ClassFile,
+    field: &Member,
+    index: u64,
+) -> Result<Field, AllocError>
+    ensures { IfOk result (λ f. fields_from (class.now ∷ []) 0 class.now index (field.now ∷ []) ≡ f ∷ []) }
+{
+    let owner = Bytes::from_slice(alloc, own_name(class))?;
+    let name = Bytes::from_slice(alloc, text(&class.pool, field.name))?;
+    Ok(Field::new(owner, name, Place { object: 2, index }, WordType::Int))
+}
+
+// The static fields of a lone class.
+fn fields_of(alloc: Global, class: &ClassFile) -> Result<Vec<Field>, AllocError>
+    ensures { IfOk result (λ v. v.items ≡ original_fields class.now) }
+{
+    let mut fields = Vec::new(alloc);
+    let mut index = 1;
+    for member in &class.fields {
+        if is_static(member) {
+            fields.push(field_at(alloc, class, member, index)?)?;
+            index += 1;
+        }
+    }
+    Ok(fields)
+}
+
+/// The words of memory before the first call: two that hold 0, the header of the static base, and a 0 for each static
+/// field. A class without static fields has no static base.
+pub fn opening_words(alloc: Global, class: &ClassFile) -> Result<Vec<u64>, AllocError>
+    ensures { IfOk result (λ v. v.items ≡ all_opening_words (class.now ∷ [])) }
+{
+    let mut words = vec![in alloc; 0; 2]?;
+    let fields = static_words(alloc, class)?;
+    if !fields.is_empty() {
+        words.push(22 << 32)?;
+        words.extend_from_slice(fields.as_slice())?;
+    }
+    Ok(words)
+}
+
+// A 0 for each static field.
+fn static_words(alloc: Global, class: &ClassFile) -> Result<Vec<u64>, AllocError>
+    ensures { IfOk result (λ v. v.items ≡ map (λ m. 0) (statics class.now)) }
+{
+    let mut words = Vec::new(alloc);
+    for member in &class.fields {
+        if is_static(member) {
+            words.push(0)?;
+        }
+    }
+    Ok(words)
+}
+
+fn copy(alloc: Global, field: &Field) -> Result<Field, AllocError>
+    ensures { IfOk result (λ f. f ≡ field.now) }
+{
+    let (place, word_type) = field.place();
+    Ok(Field::new(
+        field.class().copy(alloc)?,
+        field.name().copy(alloc)?,
+        place,
+        word_type,
+    ))
+}
+
+fn copies(alloc: Global, fields: &[Field]) -> Result<Vec<Field>, AllocError>
+    ensures { IfOk result (λ v. v.items ≡ fields.now) }
+{
+    let mut copied = Vec::new(alloc);
+    for field in fields {
+        copied.push(copy(alloc, field)?)?;
+    }
+    Ok(copied)
+}
+
+fn linked_each(
+    alloc: Global,
+    symbols: &Symbols,
+    methods: &[Member],
+) -> Result<Vec<Method>, BuildEnd>
+    ensures { Builds (λ v. v.items) result (each (linked_one symbols.now) methods.now) }
+{
+    let mut built = Vec::new(alloc);
+    for method in methods {
+        built.push(linked_method(alloc, symbols, method)?)?;
+    }
+    Ok(built)
+}
+
+fn linked_methods(
+    alloc: Global,
+    class: &ClassFile,
+    fields: &[Field],
+) -> Result<Vec<Method>, BuildEnd>
+    ensures { Builds (λ v. v.items) result (each (linked_one (symbols_of class.now fields.now)) class.now.methods) }
+{
+    let methods = names_of(alloc, class)?;
+    let symbols = Symbols {
+        class,
+        fields,
+        methods,
+    };
+    linked_each(alloc, &symbols, class.methods.as_slice())
+}
+
+fn methods_of(
+    alloc: Global,
+    symbols: &Symbols,
+    counted: bool,
+    methods: &[Member],
+) -> Result<Vec<Method>, BuildEnd>
+    ensures { Builds (λ v. v.items) result (each (meaning symbols.now counted) methods.now) }
+{
+    let mut built = Vec::new(alloc);
+    for method in methods {
+        built.push(method_of(alloc, symbols, counted, method)?)?;
+    }
+    Ok(built)
+}
+
+// The last `count` methods are duplicates, whose frames count.
+fn rewritten_methods(
+    alloc: Global,
+    symbols: &Symbols,
+    count: usize,
+    methods: &[Member],
+) -> Result<Vec<Method>, BuildEnd>
+    ensures { Builds (λ v. v.items) result (relinked_methods symbols.now count methods.now) }
+{
+    if methods.len() < count {
+        return Err(BuildEnd::NotBuilt);
+    }
+    let first = methods.len() - count;
+    let mut built = methods_of(alloc, symbols, false, &methods[..first])?;
+    let mut duplicates = methods_of(alloc, symbols, true, &methods[first..])?;
+    built.append(&mut duplicates)?;
+    Ok(built)
+}
+
+// The program of a class of the form.
+fn linked(alloc: Global, class: &ClassFile) -> Result<Program, BuildEnd>
+    ensures { Builds (λ p. p) result (linked_program class.now) }
+{
+    if !is_form_class(class) {
+        return Err(BuildEnd::NotBuilt);
+    }
+    let fields = fields_of(alloc, class)?;
+    let methods = linked_methods(alloc, class, fields.as_slice())?;
+    Ok(Program::new(fields, methods))
+}
+
+impl Program {
+    /// The program of an original class. NotBuilt exactly where the class isn't of the form that is known so far, which is
+    /// temporary: one class right under Object, whose fields are static ints and whose methods are static, marked as atomic
+    /// without elements, and take nothing and give an int by straight-line code.
+    pub fn build(alloc: Global, class: &ClassFile) -> Result<Program, BuildEnd>
+        ensures built { Builds (λ p. p) result (linked_program class.now) }
+        ensures straight { IfOk result IsStraightProgram }
+    {
+        linked(alloc, class)
+    }
+
+    /// The program of a rewritten class over that of its original. NotBuilt exactly where the class has none.
+    pub fn rebuilt(
+        alloc: Global,
+        class: &ClassFile,
+        original: &Program,
+    ) -> Result<Program, BuildEnd>
+        ensures { Builds (λ p. p) result (relinked original.now class.now) }
+    {
+        let names = names_of(alloc, class)?;
+        let symbols = Symbols {
+            class,
+            fields: original.fields(),
+            methods: names,
+        };
+        let methods = class.methods.as_slice();
+        let count = original.methods().len();
+        let built = rewritten_methods(alloc, &symbols, count, methods)?;
+        let fields = copies(alloc, original.fields())?;
+        Ok(Program::new(fields, built))
+    }
+}

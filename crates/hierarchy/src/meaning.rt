@@ -1,0 +1,310 @@
+//! What instructions mean, with every name resolved (JVM Specification, Java SE 7, chapter 6).
+ghost use Rattle.std.specs.Prelude.{◌≡◌, find, option_copied};
+ghost use Rattle.jmodel.specs.Decoding.{integer as integer_of, long_named as long_of, long_value as long_value_of, is_member as is_member_of, is_field_of as is_same_field, is_method_of as is_same_method, field_number as number_of_field, method_number as number_of_method, long_field as long_field_of, is_base as is_base_of, is_called as is_call_of, is_get_context as is_context_getter, short_local_op as short_local, simple_op as simple, number_op as number, is_target as leads, target as target_of, jump_op as jump, get_op as get, put_op as put, static_call_op as static_call, context_op as context_call, virtual_call_op as virtual_call, pool_op as pooled, operand_op as with_operand, op_of as meaning};
+
+use crate::decode::{Instruction, operand_bytes, pair_number};
+use crate::program::Field;
+use crate::reference::{Reference, field_reference, method_reference};
+use crate::symbols::{equal, find_attribute, is_text, own_name, same};
+use const_pool::{ClassFile, Constant, Member, Pool};
+use jmodel::MethodName;
+use jmodel::op::{Binary, ContextCall, Op, Rearrange, Test, WordType};
+use jmodel::value::Value;
+use std::marker::Model;
+
+/// A class, the static fields of its program, and the names of its methods in order of their numbers.
+#[derive(Drop)]
+pub struct Symbols<'a> {
+    pub class: &'a ClassFile,
+    pub fields: &'a [Field],
+    pub methods: Vec<MethodName>,
+}
+
+impl<'a> Model for Symbols<'a> {
+    ghost use Rattle.jmodel.specs.Decoding.{Symbols as Form};
+
+    ghost Value = { Form };
+
+    ghost view = { λ s. record { class = s.class.now; fields = s.fields.now; methods = s.methods.items } };
+}
+
+// The int of an entry of the pool.
+fn integer(pool: &Pool, i: u16) -> Option<i32>
+    ensures { result ≡ integer_of pool.now i }
+{
+    match pool.entry(i) {
+        Some(Constant::Integer(n)) => Some(*n),
+        _ => None,
+    }
+}
+
+// The long that an attribute of two bytes names.
+fn long_named(pool: &Pool, bytes: &[u8]) -> Option<i64>
+    ensures { result ≡ long_of pool.now bytes.now }
+{
+    match bytes {
+        [a, b] => match pool.entry(pair_number(*a, *b)) {
+            Some(Constant::Long(n)) => Some(*n),
+            _ => None,
+        },
+        _ => None,
+    }
+}
+
+// The constant of a long field.
+fn long_value(pool: &Pool, field: &Member) -> Option<i64>
+    ensures { result ≡ long_value_of pool.now field.now }
+{
+    let found = find_attribute(pool, b"ConstantValue", field.attributes.as_slice())?;
+    long_named(pool, found.bytes.as_slice())
+}
+
+fn is_member(pool: &Pool, name: &[u8], descriptor: &[u8], member: &Member) -> bool
+    ensures { result ≡ is_member_of pool.now name.now descriptor.now member.now }
+{
+    is_text(pool.utf8(member.name), name) && is_text(pool.utf8(member.descriptor), descriptor)
+}
+
+// The first member of this name and descriptor.
+fn find_member<'a>(
+    pool: &Pool,
+    name: &[u8],
+    descriptor: &[u8],
+    list: &'a [Member],
+) -> Option<&'a Member>
+    ensures { option_copied result ≡ find (is_member_of pool.now name.now descriptor.now) list.now }
+{
+    list.iter().find(|m| is_member(pool, name, descriptor, m))
+}
+
+// The constant of a class's own long field.
+fn long_field(class: &ClassFile, r: &Reference) -> Option<i64>
+    ensures { result ≡ long_field_of class.now r.now }
+{
+    if !equal(r.class, own_name(class)) {
+        return None;
+    }
+    let field = find_member(&class.pool, r.name, b"J", class.fields.as_slice())?;
+    long_value(&class.pool, field)
+}
+
+fn is_field_of(r: &Reference, field: &Field) -> bool
+    ensures { result ≡ is_same_field r.now field.now }
+{
+    same(field.name(), r.name) && same(field.class(), r.class)
+}
+
+fn is_method_of(r: &Reference, name: &MethodName) -> bool
+    ensures { result ≡ is_same_method r.now name.now }
+{
+    same(&name.name, r.name) && same(&name.descriptor, r.descriptor) && same(&name.class, r.class)
+}
+
+// The number of a field.
+fn field_number(fields: &[Field], r: &Reference) -> Option<usize>
+    ensures { result ≡ number_of_field fields.now r.now }
+{
+    fields.iter().position(|f| is_field_of(r, f))
+}
+
+// The number of a method.
+fn method_number(methods: &[MethodName], r: &Reference) -> Option<usize>
+    ensures { result ≡ number_of_method methods.now r.now }
+{
+    methods.iter().position(|m| is_method_of(r, m))
+}
+
+// Whether it is the added field that holds the static base of the class.
+fn is_base(class: &ClassFile, r: &Reference) -> bool
+    ensures { result ≡ is_base_of class.now r.now }
+{
+    equal(r.name, b"__CLASS_BASE__")
+        && equal(r.descriptor, b"Ljava/lang/Object;")
+        && equal(r.class, own_name(class))
+}
+
+// Loads and stores of the first four locals.
+fn short_local_op(opcode: u8) -> Option<Op>
+    ensures { result ≡ short_local opcode }
+{
+    match opcode {
+        26..=29 => Some(Op::Load(opcode as usize - 26)),
+        42..=45 => Some(Op::Load(opcode as usize - 42)),
+        59..=62 => Some(Op::Store(opcode as usize - 59)),
+        75..=78 => Some(Op::Store(opcode as usize - 75)),
+        _ => None,
+    }
+}
+
+// An instruction without operands.
+fn simple_op(opcode: u8) -> Option<Op>
+    ensures { result ≡ simple opcode }
+{
+    match opcode {
+        0 => Some(Op::Rearrange(Rearrange::Nothing)),
+        2..=8 => Some(Op::Constant(Value::Int(opcode as i32 - 3))),
+        87 => Some(Op::Rearrange(Rearrange::Pop)),
+        89 => Some(Op::Rearrange(Rearrange::Duplicate)),
+        96 => Some(Op::Binary(Binary::Add)),
+        100 => Some(Op::Binary(Binary::Subtract)),
+        104 => Some(Op::Binary(Binary::Multiply)),
+        116 => Some(Op::Negate),
+        172 => Some(Op::ReturnValue),
+        177 => Some(Op::Return),
+        191 => Some(Op::Throw),
+        _ => short_local_op(opcode),
+    }
+}
+
+// One with a number or a local.
+fn number_op(opcode: u8, n: u16) -> Option<Op>
+    ensures { result ≡ number opcode n }
+{
+    match opcode {
+        16 => Some(Op::Constant(Value::Int(((n % 256) as u8).cast_signed() as i32))),
+        17 => Some(Op::Constant(Value::Int(n.cast_signed() as i32))),
+        21 | 25 => Some(Op::Load(n as usize)),
+        54 | 58 => Some(Op::Store(n as usize)),
+        _ => None,
+    }
+}
+
+// Whether a jump at a pc by an offset of two bytes leads to an instruction.
+fn is_target(pc: usize, offset: u16, i: &Instruction) -> bool
+    ensures { result ≡ leads pc offset i.now }
+{
+    if offset < 32768 {
+        pc <= i.pc && i.pc - pc == offset as usize
+    } else {
+        i.pc <= pc && pc - i.pc == 65536 - offset as usize
+    }
+}
+
+fn target(list: &[Instruction], pc: usize, offset: u16) -> Option<usize>
+    ensures { result ≡ target_of list.now pc offset }
+{
+    list.iter().position(|i| is_target(pc, offset, i))
+}
+
+fn jump_op(list: &[Instruction], pc: usize, opcode: u8, offset: u16) -> Option<Op>
+    ensures { result ≡ jump list.now pc opcode offset }
+{
+    match opcode {
+        153 => Some(Op::Branch(Test::Zero, target(list, pc, offset)?)),
+        167 => Some(Op::Goto(target(list, pc, offset)?)),
+        _ => None,
+    }
+}
+
+fn get_op(symbols: &Symbols, r: &Reference) -> Option<Op>
+    ensures { result ≡ get symbols.now r.now }
+{
+    if equal(r.descriptor, b"I") {
+        Some(Op::GetStatic(field_number(symbols.fields, r)?))
+    } else if equal(r.descriptor, b"J") {
+        Some(Op::Constant(Value::Long(long_field(symbols.class, r)?)))
+    } else if is_base(symbols.class, r) {
+        Some(Op::Constant(Value::Ref(2)))
+    } else {
+        None
+    }
+}
+
+fn put_op(symbols: &Symbols, r: &Reference) -> Option<Op>
+    ensures { result ≡ put symbols.now r.now }
+{
+    if !equal(r.descriptor, b"I") {
+        return None;
+    }
+    Some(Op::PutStatic(field_number(symbols.fields, r)?))
+}
+
+fn is_get_context(r: &Reference) -> bool
+    ensures { result ≡ is_context_getter r.now }
+{
+    equal(r.class, b"org/deuce/transaction/ContextDelegator")
+        && equal(r.name, b"getInstance")
+        && equal(r.descriptor, b"()Lorg/deuce/transaction/Context;")
+}
+
+fn static_call_op(symbols: &Symbols, r: &Reference) -> Option<Op>
+    ensures { result ≡ static_call symbols.now r.now }
+{
+    if is_get_context(r) {
+        return Some(Op::GetContext);
+    }
+    Some(Op::InvokeStatic(method_number(symbols.methods.as_slice(), r)?))
+}
+
+fn is_called(name: &[u8], descriptor: &[u8], r: &Reference) -> bool
+    ensures { result ≡ is_call_of name.now descriptor.now r.now }
+{
+    equal(r.name, name) && equal(r.descriptor, descriptor)
+}
+
+// A call of the transaction's context.
+fn context_op(r: &Reference) -> Option<Op>
+    ensures { result ≡ context_call r.now }
+{
+    let call = if is_called(b"init", b"(II)V", r) {
+        ContextCall::Init
+    } else if is_called(b"beforeReadAccess", b"(Ljava/lang/Object;J)V", r) {
+        ContextCall::BeforeRead
+    } else if is_called(b"onReadAccess", b"(Ljava/lang/Object;IJ)I", r) {
+        ContextCall::OnRead(WordType::Int)
+    } else if is_called(b"onWriteAccess", b"(Ljava/lang/Object;IJ)V", r) {
+        ContextCall::OnWrite(WordType::Int)
+    } else if is_called(b"commit", b"()Z", r) {
+        ContextCall::Commit
+    } else if is_called(b"rollback", b"()V", r) {
+        ContextCall::Rollback
+    } else {
+        return None;
+    };
+    Some(Op::Context(call))
+}
+
+fn virtual_call_op(r: &Reference) -> Option<Op>
+    ensures { result ≡ virtual_call r.now }
+{
+    if !equal(r.class, b"org/deuce/transaction/Context") {
+        return None;
+    }
+    context_op(r)
+}
+
+// One with an index of the pool.
+fn pool_op(symbols: &Symbols, opcode: u8, i: u16) -> Option<Op>
+    ensures { result ≡ pooled symbols.now opcode i }
+{
+    let class = symbols.class;
+    let pool = &class.pool;
+    match opcode {
+        19 => Some(Op::Constant(Value::Int(integer(pool, i)?))),
+        178 => get_op(symbols, &field_reference(pool, i)?),
+        179 => put_op(symbols, &field_reference(pool, i)?),
+        182 => virtual_call_op(&method_reference(pool, i)?),
+        184 => static_call_op(symbols, &method_reference(pool, i)?),
+        _ => None,
+    }
+}
+
+fn operand_op(symbols: &Symbols, list: &[Instruction], pc: usize, opcode: u8, n: u16) -> Option<Op>
+    ensures { result ≡ with_operand symbols.now list.now pc opcode n }
+{
+    match opcode {
+        153..=168 => jump_op(list, pc, opcode, n),
+        19 | 178..=255 => pool_op(symbols, opcode, n),
+        _ => number_op(opcode, n),
+    }
+}
+
+/// What an instruction of a list of them means, None where it has no meaning so far.
+pub fn op_of(symbols: &Symbols, list: &[Instruction], i: &Instruction) -> Option<Op>
+    ensures { result ≡ meaning symbols.now list.now i.now }
+{
+    if operand_bytes(i.opcode) == 0 {
+        return simple_op(i.opcode);
+    }
+    operand_op(symbols, list, i.pc, i.opcode, i.operand?)
+}

@@ -1,0 +1,97 @@
+//! What the names in a class's pool stand for.
+ghost use Rattle.std.specs.Prelude.{◌≡◌, option_copied, bytes_eq, IfOk, map, find};
+ghost use Rattle.jmodel.specs.Pool.{utf8, field_name as field_of, method_name as method_of, MemberName};
+ghost use Rattle.jmodel.specs.Layout.{text_or_none, is_static as is_static_member};
+ghost use Rattle.jmodel.specs.ClassRules.{same_text, is_named as is_named_attribute};
+ghost use Rattle.jmodel.specs.Decoding.{own_name as own_name_of, name_of as method_name_of};
+
+use const_pool::{Attribute, ClassFile, Constant, Member, Pool};
+use jmodel::{Bytes, MethodName};
+use std::alloc::{AllocError, Global};
+
+/// Whether two texts are the same.
+pub fn equal(a: &[u8], b: &[u8]) -> bool
+    ensures { result ≡ bytes_eq a.now b.now }
+{
+    a == b
+}
+
+/// Whether a text that is kept is this one.
+pub fn same(a: &Bytes, b: &[u8]) -> bool
+    ensures { result ≡ bytes_eq a.now b.now }
+{
+    equal(a.as_slice(), b)
+}
+
+/// Whether a text is there and is this one.
+pub fn is_text(found: Option<&Bytes>, text: &[u8]) -> bool
+    ensures { result ≡ same_text (option_copied found.entry) text.now }
+{
+    match found {
+        Some(bytes) => same(bytes, text),
+        None => false,
+    }
+}
+
+/// The text of an index of the pool, no bytes where it isn't a text's.
+pub fn text(pool: &Pool, i: u16) -> &[u8]
+    ensures { result.now ≡ text_or_none (utf8 pool.now i) }
+{
+    match pool.utf8(i) {
+        Some(bytes) => bytes.as_slice(),
+        None => b"",
+    }
+}
+
+/// The name of the class itself.
+pub fn own_name(class: &ClassFile) -> &[u8]
+    ensures { result.now ≡ own_name_of class.now }
+{
+    match class.pool.class_name(class.this_class) {
+        Some(bytes) => bytes.as_slice(),
+        None => b"",
+    }
+}
+
+/// Whether an attribute has this name.
+pub fn is_named(pool: &Pool, name: &[u8], attribute: &Attribute) -> bool
+    ensures { result ≡ is_named_attribute pool.now name.now attribute.now }
+{
+    is_text(pool.utf8(attribute.name), name)
+}
+
+/// The first attribute of this name.
+pub fn find_attribute<'a>(pool: &Pool, name: &[u8], list: &'a [Attribute]) -> Option<&'a Attribute>
+    ensures { option_copied result ≡ find (is_named_attribute pool.now name.now) list.now }
+{
+    list.iter().find(|a| is_named(pool, name, a))
+}
+
+/// Whether a member is static, by the flag 0008.
+pub fn is_static(member: &Member) -> bool
+    ensures { result ≡ is_static_member member.now }
+{
+    member.flags & 8 != 0
+}
+
+/// The name of a method of the class.
+pub fn name_of(alloc: Global, class: &ClassFile, method: &Member) -> Result<MethodName, AllocError>
+    ensures { IfOk result (λ n. n ≡ method_name_of class.now method.now) }
+{
+    Ok(MethodName {
+        class: Bytes::from_slice(alloc, own_name(class))?,
+        name: Bytes::from_slice(alloc, text(&class.pool, method.name))?,
+        descriptor: Bytes::from_slice(alloc, text(&class.pool, method.descriptor))?,
+    })
+}
+
+/// The names of all methods of the class, in the order of the file.
+pub fn names_of(alloc: Global, class: &ClassFile) -> Result<Vec<MethodName>, AllocError>
+    ensures { IfOk result (λ v. v.items ≡ map (method_name_of class.now) class.now.methods) }
+{
+    let mut names = Vec::new(alloc);
+    for method in &class.methods {
+        names.push(name_of(alloc, class, method)?)?;
+    }
+    Ok(names)
+}

@@ -1,0 +1,202 @@
+-- Where a call of the original method ends, an attempt over memory that stands still ends so too.
+use Rattle.std.proofs.Common.{◌≡◌, ◌≢◌, ℕ, ℤ, zero, suc, ◌+◌, ◌-◌, ◌%◌, ◌^◌, List, [], ◌∷◌, length, Option, Some, None, Bool, true, false, refl, sym, ap, subst, ◌∙◌, arith}
+use Rattle.std.specs.Prelude.{pos, slice_get, nat_lt, min}
+use Rattle.std.specs.List.{flat_map}
+use Rattle.std.specs.Int.{w32, cast_signed}
+use Rattle.std.proofs.lemmas.Bool.Decides.{nat_tests}
+use Rattle.jmodel.specs.declared.value.Value.TheVariants as value
+use Rattle.jmodel.specs.declared.value.Answer.{Answer}
+use Rattle.jmodel.specs.declared.value.Answer.TheVariants.{Returned, Budget, Depth, Spent}
+use Rattle.jmodel.specs.declared.op.Slot.{Slot}
+use Rattle.jmodel.specs.declared.op.Slot.TheVariants.{Int, Context}
+use Rattle.jmodel.specs.declared.op.Op.TheVariants.{Load, GetStatic, PutStatic, InvokeStatic}
+use Rattle.jmodel.specs.declared.op.Phase.TheVariants.{Ready, Open, Closed}
+use Rattle.jmodel.specs.Value.{slots_of, word_of}
+use Rattle.jmodel.specs.Program.{Field, Method, Program}
+use Rattle.jmodel.specs.Step.{Frames}
+use Rattle.jmodel.specs.State.{State, put}
+use Rattle.jmodel.specs.Call.{Direct, next_direct, direct, call_start, kept}
+use Rattle.jmodel.specs.Call as call
+use Rattle.jmodel.specs.Attempt.{Log, Reply, Gives, Bounds, Meter, Run, On, Ended, next_run, run, on_commit, begun, count_of, address, written, recorded, access}
+use Rattle.jmodel.specs.History.{Words, overlaid, Agrees}
+use Rattle.jmodel.specs.Meaning.{Represents}
+use Rattle.jmodel.specs.Rewriting.{getter, setter, duplicate, duplicate_method, wrapper_method, conflict_at, rewritten}
+use Rattle.jmodel.specs.Source.{IsSource}
+use Rattle.jmodel.specs.Law.{Completion}
+use Rattle.jmodel.proofs.Places.{Rewrites, rewrites, HasAt}
+use Rattle.jmodel.proofs.Replies.{Leads}
+use Rattle.jmodel.proofs.Rows.{frame, IsKnown, get_first, get_look, get_second, get_read, get_last, put_first, put_write, put_last}
+use Rattle.jmodel.proofs.Wrapper.{IsWrapper, wrapper_is, loop_first, loop_begins, starts_up}
+use Rattle.jmodel.proofs.Moved.{ArePlain, FitsInt, fits_here, narrow}
+use Rattle.jmodel.proofs.Memory.{holds_at, represents_write}
+use Rattle.jmodel.proofs.Follow.{IsSet, FrameAlike}
+use Rattle.jmodel.proofs.Alone as alone
+use Rattle.jmodel.proofs.Alone.{OfAlone, step_alone, first_alone}
+use Rattle.jmodel.proofs.Walk.{read_int, IsWalk}
+use Rattle.jmodel.proofs.Begins.{args_plain, args_length, entered_first, locals_first, locals_then, room_first, set_first, starts_first, first_above, attempt}
+use Rattle.jmodel.proofs.Match.{IsOpenFine, open_more}
+
+ended_stays : (P : Program) (j : ℕ) (x : Answer) (σ : State) → direct P j (call.Ended x σ) ≡ call.Ended x σ
+ended_stays P zero x σ = refl
+ended_stays P (suc j) x σ = ended_stays P j x σ
+
+stuck_stays : (P : Program) (j : ℕ) → direct P j call.Stuck ≡ call.Stuck
+stuck_stays P zero = refl
+stuck_stays P (suc j) = stuck_stays P j
+
+-- a call that ends so, from a state that words stand for
+module _ (P Q : Program) (R : Rewrites P Q) (S : IsSource P) (B : Bounds) (size mn : ℕ) (k0 : Method) (slots : List Slot) (ws : Words) (σ : State) (rep : Represents P size ws σ) (x : Answer) (last : State) where
+  -- replies lead the rewritten code to that end
+  pub record Comes (c : Run) : Type 0 where
+    pub replies : List Reply
+    pub meter : Meter
+    pub writes : Log
+    pub reads : Log
+    pub ends : run Q B replies c ≡ Ended x meter writes reads
+    pub made : x ≢ Spent
+    pub agrees : Agrees ws reads
+    pub represents : Represents P size (overlaid writes ws) (kept x σ last)
+
+  -- j steps from its end
+  abbrev pub Known : ℕ → (State → Direct) → Log → Log → Type 0
+  Known j d w r = (τ : State) × (direct P j (d τ) ≡ call.Ended x last) × Represents P size (overlaid w ws) τ × Agrees ws r
+
+  comes_by : (v : Reply) (c : Run) → Comes (next_run Q B v c) → Comes c
+  comes_by v c h = record { replies = v ∷ h.replies; meter = h.meter; writes = h.writes; reads = h.reads; ends = h.ends; made = h.made; agrees = h.agrees; represents = h.represents }
+
+  comes_led : (j : ℕ) (c d : Run) → Leads Q B j c d → Comes d → Comes c
+  comes_led zero c d l h = subst Comes (sym l) h
+  comes_led (suc j) c d l h = comes_by (Gives 0) c (comes_led j (next_run Q B (Gives 0) c) d (l (Gives 0)) h)
+
+  same_end : (j : ℕ) (y : Answer) (τ : State) → direct P j (call.Ended y τ) ≡ call.Ended x last → (y ≡ x) × (τ ≡ last)
+  same_end j y τ h = let e = sym (ended_stays P j y τ) ∙ h in (cc, cc)
+
+  comes_out : (y : Answer) (m : Meter) (w r : Log) → y ≡ x → y ≢ Spent → Agrees ws r → Represents P size (overlaid w ws) (kept y σ last) → Comes (Ended y m w r)
+  comes_out y m w r e ne a h = record { replies = []; meter = m; writes = w; reads = r; ends = ap (λ (z : Answer). Ended z m w r) e; made = λ d. ne (e ∙ d); agrees = a; represents = subst (λ (z : Answer). Represents P size (overlaid w ws) (kept z σ last)) e h }
+
+  module _ (j : ℕ) where
+    commits : (wl : List Slot) → IsSet k0.params slots wl → (pc : ℕ) (c : Run) (m : Meter) (w r : Log) → ((v : Reply) → next_run Q B v c ≡ on_commit v (frame mn pc wl [] ∷ []) m w r)
+        → Leads Q B 1 (On Ready (frame mn (pc + 1) wl (Int (pos 0) ∷ []) ∷ []) m [] []) (On Ready (frame mn 2 wl [] ∷ []) m [] [])
+        → Comes (On Closed (frame mn (pc + 1) wl (Int (pos 1) ∷ []) ∷ []) m w r) → Comes c
+    commits wl set pc c m w r is again done = comes_by (Gives 0) c (subst Comes (sym (is (Gives 0))) done)
+
+    module _ (m pc dn a : ℕ) (k : Method) (l l' : List Slot) (fs gs : Frames) (M : Meter) (w r : Log) (f : FrameAlike P mn k0 slots m pc dn a k l l') (i : ℕ) (y : Field) (o : ℕ) (there : slice_get P.fields i ≡ Some y) (place : IsKnown y o) where
+      dup : slice_get Q.methods dn ≡ Some (duplicate_method P k)
+      dup = ap (slice_get Q.methods) f.dup ∙ R.duplicates m k f.is
+
+      here : slice_get l' k.params ≡ Some Context
+      here = fits_here k.params l l' f.fits
+
+      below : slice_get Q.fields i ≡ Some y
+      below = ap (λ (fs : List Field). slice_get fs i) R.fields ∙ there
+
+      abbrev at_field : ℕ
+      at_field = address y.place
+
+      agrees_more : (b : Option ℕ) → Agrees ws r → Agrees ws (recorded b at_field (ws at_field) r)
+      agrees_more None h = (refl, h)
+      agrees_more (Some own) h = h
+
+      reads : (s : List Slot) → slice_get k.ops pc ≡ Some (GetStatic i) → Known (suc j) (call.On (frame m pc l s ∷ fs) M.turns) w r
+          → Known j (call.On (frame m (pc + 1) l (Int (read_int w y (ws at_field)) ∷ s) ∷ fs) M.turns) w (recorded (written w at_field) at_field (ws at_field) r)
+      reads s e known =
+          let hold = holds_at P size (overlaid w ws) known.0 i y known.2 there in
+          let held = hold.held in
+          let is = f.is in
+          let same : hold.x ≡ read_int w y (ws at_field) = sym (narrow hold.x hold.fits) ∙ ap (λ (u : ℕ). cast_signed w32 (u % 2 ^ 32)) (sym hold.word) in
+          let step : next_direct P (call.On (frame m pc l s ∷ fs) M.turns known.0) ≡ call.On (frame m (pc + 1) l (Int hold.x ∷ s) ∷ fs) M.turns known.0 = simp (is, e, there, held) in
+          (known.0, ap (direct P j) (sym (step ∙ ap (λ (y : ℤ). call.On (frame m (pc + 1) l (Int y ∷ s) ∷ fs) M.turns known.0) same)) ∙ known.1, known.2, agrees_more (written w at_field) known.3)
+
+      writes : (s : List Slot) (v : ℤ) → FitsInt v → slice_get k.ops pc ≡ Some (PutStatic i) → Known (suc j) (call.On (frame m pc l (Int v ∷ s) ∷ fs) M.turns) w r
+          → Known j (call.On (frame m (pc + 1) l s ∷ fs) M.turns) (access at_field (word_of (value.Int v)) ∷ w) r
+      writes s v fit e known =
+          let hold = holds_at P size (overlaid w ws) known.0 i y known.2 there in
+          let held = hold.held in
+          let is = f.is in
+          let type = place.type in
+          let step : next_direct P (call.On (frame m pc l (Int v ∷ s) ∷ fs) M.turns known.0) ≡ call.On (frame m (pc + 1) l s ∷ fs) M.turns (put known.0 y.place (value.Int v)) = simp (is, e, there, type, held) in
+          (put known.0 y.place (value.Int v), ap (direct P j) (sym step) ∙ known.1, represents_write P size w ws known.0 i y v fit there known.2, known.3)
+
+      gets : (s : List Slot) → HasAt (duplicate_method P k).ops a (Load k.params ∷ InvokeStatic (getter P i) ∷ [])
+          → Comes (On Open (frame dn (a + 1 + 1) l' (Int (read_int w y (ws at_field)) ∷ s) ∷ gs) M w (recorded (written w at_field) at_field (ws at_field) r)) → Comes (On Open (frame dn a l' s ∷ gs) M w r)
+      gets s at go =
+          let g = getter P i in
+          let h = R.getters i y there in
+          let r' = recorded (written w at_field) at_field (ws at_field) r in
+          comes_led 5 _ _ (get_first Q B dn a (duplicate_method P k) dup l' k.params here g at i y o place gs M w r s h below)
+          (comes_by (Gives 0) _ (subst Comes (sym (get_look Q B dn a (duplicate_method P k) dup l' k.params here g at i y o place gs M w r s h below (Gives 0)))
+          (comes_led 4 _ _ (get_second Q B dn a (duplicate_method P k) dup l' k.params here g at i y o place gs M w r s h below)
+          (comes_by (Gives (ws at_field)) _ (subst Comes (sym (get_read Q B dn a (duplicate_method P k) dup l' k.params here g at i y o place gs M w r s h below (Gives (ws at_field))))
+          (comes_led 1 _ _ (get_last Q B dn a (duplicate_method P k) dup l' k.params here g at i y o place gs M w r' s h below (read_int w y (ws at_field))) go))))))
+
+      puts : (s : List Slot) (v : ℤ) → HasAt (duplicate_method P k).ops a (Load k.params ∷ InvokeStatic (setter P i) ∷ [])
+          → Comes (On Open (frame dn (a + 1 + 1) l' s ∷ gs) M (access at_field (word_of (value.Int v)) ∷ w) r) → Comes (On Open (frame dn a l' (Int v ∷ s) ∷ gs) M w r)
+      puts s v at go =
+          let g = setter P i in
+          let h = R.setters i y there in
+          comes_led 6 _ _ (put_first Q B dn a (duplicate_method P k) dup l' k.params here g at i y o place gs M w r s h v)
+          (comes_by (Gives 0) _ (subst Comes (sym (put_write Q B dn a (duplicate_method P k) dup l' k.params here g at i y o place gs M w r s h v (Gives 0)))
+          (comes_led 1 _ _ (put_last Q B dn a (duplicate_method P k) dup l' k.params here g at i y o place gs M (access at_field (word_of (value.Int v)) ∷ w) r s h v) go)))
+
+    pub completes : IsWalk P Q B mn k0 slots Comes Comes (OfAlone (Known (suc j))) (OfAlone (Known j))
+    completes = record {
+      step = λ c d w r e known. step_alone P (Known (suc j)) (Known j) w r (λ c d h known. (known.0, ap (direct P j) (sym (h known.0)) ∙ known.1, known.2, known.3)) c d e known;
+      more = λ i c d l h. comes_led (suc i) c d l h;
+      leads = comes_led;
+      reply_more = λ c h. comes_by (Gives 0) c (h (Gives 0));
+      reply = λ c h. comes_by (Gives 0) c (h (Gives 0));
+      stuck = λ w r known. absurd (let e : call.Stuck ≡ call.Ended x last = sym (stuck_stays P j) ∙ known.1 in let no : ⊥ = cc in no);
+      out_of_turns = λ m w r known. comes_out Budget m [] r (same_end j Budget known.0 known.1).0 (λ e. cc) known.3 rep;
+      too_deep = λ m w r known. comes_out Depth m [] r (same_end j Depth known.0 known.1).0 (λ e. cc) known.3 rep;
+      returned = λ v m w r known. comes_out (Returned v) m w r (same_end j (Returned v) known.0 known.1).0 (λ e. cc) known.3 (subst (Represents P size (overlaid w ws)) (same_end j (Returned v) known.0 known.1).1 known.2);
+      commit = commits;
+      get = λ m pc dn a k l l' s fs gs M w r f callers i y o e there place at known go.
+          gets m pc dn a k l l' fs gs M w r f i y o there place s at (go (ws (address y.place)) (reads m pc dn a k l l' fs gs M w r f i y o there place s e known));
+      put = λ m pc dn a k l l' s fs gs M w r f callers i y o e there place at v fit known go.
+          puts m pc dn a k l l' fs gs M w r f i y o there place s v at (go (writes m pc dn a k l l' fs gs M w r f i y o there place s v fit e known));
+    }
+
+  module _ (plain : ArePlain slots) (len : length slots ≡ k0.params) (there : slice_get P.methods mn ≡ Some k0) (wm : Method) (wis : slice_get Q.methods mn ≡ Some wm) (id : ℕ) (retries : ℤ) (z : ℕ) (W : IsWrapper wm k0.params id (duplicate P mn) retries k0.gives (6 + k0.params) z) where
+    opens : (j : ℕ) → IsOpenFine P Q R S B mn k0 slots wm wis id (duplicate P mn) retries z W len (OfAlone (Known j)) Comes
+    opens zero = λ m pc dn a k l l' s fs gs M w r f p callers known. absurd (let e = known.1 in let no : ⊥ = cc in no)
+    opens (suc j) = open_more P Q R S B mn k0 slots wm wis id (duplicate P mn) retries z W len Comes Comes (OfAlone (Known (suc j))) (OfAlone (Known j)) (completes j) (opens j)
+
+    -- the first attempt, where there is one
+    pub comes_first : (M : Meter) → nat_lt M.tried (min (count_of retries) B.attempts) ≡ true → (j : ℕ)
+        → OfAlone (Known j) (alone.entered false (first_above mn k0 slots) B.budget) [] [] → Comes (On Ready (frame mn 0 (locals_first slots) [] ∷ []) M [] [])
+    comes_first M may j known =
+        let wl = locals_then k0.params slots in
+        let set = set_first k0.params slots len in
+        let q = 6 + k0.params in
+        let begins : next_run Q B (Gives 0) (On Ready (frame mn 5 wl (Int retries ∷ Int (pos id) ∷ Context ∷ []) ∷ []) M [] []) ≡ begun true B (frame mn 5 wl [] ∷ []) M =
+        loop_begins Q B mn wm wis k0.params id (duplicate P mn) retries q z k0.gives W wl set.here M [] [] (Gives 0) ∙ ap (λ (b : Bool). begun b B (frame mn 5 wl [] ∷ []) M) may in
+        comes_led 2 _ _ (starts_up Q B mn wm wis k0.params id (duplicate P mn) retries q z k0.gives W wl set.here M [] [] (locals_first slots) (room_first k0.params slots len) refl)
+        (comes_led 3 _ _ (loop_first Q B mn wm wis k0.params id (duplicate P mn) retries q z k0.gives W wl set.here M [] [])
+        (comes_by (Gives 0) _ (subst Comes (sym begins)
+        (attempt P Q R S B mn k0 slots plain len there wm wis id retries z W Comes Comes (OfAlone (Known (suc j))) (OfAlone (Known j)) (completes j) (opens j) wl set (record M { turns = B.budget; tried = M.tried + 1 }) known))))
+
+pub completion : Completion
+completion P S B size m k n there marked some more args ints count used ws σ rep x τ calls =
+    let R = rewrites P in
+    let t = R.wrapper m k n there marked in
+    let wm = wrapper_method P t.0 m n k in
+    let W = wrapper_is P t.0 m n k in
+    let slots = flat_map slots_of args in
+    let two : k.params + 2 - k.params ≡ 2 = omega arith in
+    let len : length slots ≡ k.params = args_length args ints ∙ count in
+    let plain = args_plain args ints in
+    let first = first_above m k slots in
+    let meter : Meter = record { turns = 0; tried = 0; used = used } in
+    let may : nat_lt 0 (min (count_of n) B.attempts) ≡ true = grind (arith, nat_tests) in
+    let starts : call_start P m args B.budget σ ≡ call.entered false first B.budget σ = ap (λ (o : Option Method). call.starts o m args B.budget σ) there ∙ entered_first first B.budget σ in
+    let h : Comes P (rewritten P) R S B size m k slots ws σ rep x calls.last (On Ready (frame m 0 (locals_first slots) [] ∷ []) meter [] []) =
+    comes_first P (rewritten P) R S B size m k slots ws σ rep x calls.last plain len there wm t.1 t.0 n (conflict_at k.gives k.params) W meter may calls.steps
+    (first_alone (Known P (rewritten P) R S B size m k slots ws σ rep x calls.last calls.steps) first B.budget [] [] (σ, ap (direct P calls.steps) (sym starts) ∙ calls.ends, rep, tt)) in
+    let start = starts_first (rewritten P) m args used wm t.1 two in
+    record {
+      writes = h.writes;
+      reads = h.reads;
+      runs = record { meter = h.meter; comes = (h.replies, ap (run (rewritten P) B h.replies) start ∙ h.ends); made = h.made };
+      agrees = h.agrees;
+      represents = subst (Represents P size (overlaid h.writes ws)) (sym calls.leaves) h.represents;
+    }

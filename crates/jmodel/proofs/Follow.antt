@@ -1,0 +1,79 @@
+-- How a run of the rewritten code and a call of the original code go together.
+use Rattle.std.proofs.Common.{◌≡◌, ◌≢◌, ℕ, zero, suc, ◌+◌, ◌<◌, List, [], ◌∷◌, length, Option, Some, Bool, refl, ap, ◌∙◌}
+use Rattle.std.specs.Prelude.{slice_get}
+use Rattle.jmodel.specs.declared.value.Value.{Value}
+use Rattle.jmodel.specs.declared.value.Answer.{Answer}
+use Rattle.jmodel.specs.declared.value.Answer.TheVariants.{Returned, Budget, Depth, Spent}
+use Rattle.jmodel.specs.declared.op.Slot.{Slot}
+use Rattle.jmodel.specs.declared.op.Slot.TheVariants.{Context}
+use Rattle.jmodel.specs.declared.op.Op.TheVariants.{InvokeStatic}
+use Rattle.jmodel.specs.Program.{Method, Program}
+use Rattle.jmodel.specs.Step.{Frames}
+use Rattle.jmodel.specs.State.{State}
+use Rattle.jmodel.specs.Call.{Direct, next_direct, direct, call_start, Calls}
+use Rattle.jmodel.specs.Call as call
+use Rattle.jmodel.specs.Attempt.{Log, Run, On, Ended, Stuck}
+use Rattle.jmodel.specs.History.{Words, overlaid, Agrees}
+use Rattle.jmodel.specs.Meaning.{Represents}
+use Rattle.jmodel.specs.Rewriting.{block_at, duplicate}
+use Rattle.jmodel.proofs.Replies.{IsOfEnds}
+use Rattle.jmodel.proofs.Rows.{frame}
+use Rattle.jmodel.proofs.Moved.{ArePlain, Fits}
+
+pub direct_more : (P : Program) (j : ℕ) (d : Direct) → direct P (suc j) d ≡ next_direct P (direct P j d)
+direct_more P zero d = refl
+direct_more P (suc j) d = direct_more P j (next_direct P d)
+
+module _ (P : Program) (size budget mn : ℕ) (args : List Value) where
+  -- What an attempt that ended so says of the original method: from each state that has what it read.
+  abbrev pub Explained : Answer → Log → Log → Type 0
+  Explained x w r = (ws : Words) (σ : State) → Represents P size ws σ → Agrees ws r
+      → (after : State) × Calls P budget mn args σ x after × Represents P size (overlaid w ws) after × (after.used ≡ σ.used)
+
+  -- from each such state the call comes to where d says, with the state that the writes leave
+  abbrev pub Reached : (State → Direct) → Log → Log → Type 0
+  Reached d w r = (ws : Words) (σ : State) → Represents P size ws σ → Agrees ws r
+      → (j : ℕ) × (τ : State) × (direct P j (call_start P mn args budget σ) ≡ d τ) × Represents P size (overlaid w ws) τ × (τ.used ≡ σ.used)
+
+  abbrev pub IsExplained : Run → Type 0
+  IsExplained (On p fs m w r) = Unit {0}
+  IsExplained (Ended x m w r) = x ≢ Spent → Explained x w r
+  IsExplained Stuck = Unit {0}
+
+  pub fine : IsOfEnds IsExplained
+  fine = record { on = λ p fs m w r. tt }
+
+  pub reached_next : (c d : State → Direct) (w r : Log) → ((τ : State) → next_direct P (c τ) ≡ d τ) → Reached c w r → Reached d w r
+  reached_next c d w r h reached ws σ R a =
+      let t = reached ws σ R a in
+      (suc t.0, t.1, direct_more P t.0 (call_start P mn args budget σ) ∙ ap (next_direct P) t.2 ∙ h t.1, t.3, t.4)
+
+  pub returned : (v : Option Value) (w r : Log) → Reached (call.Ended (Returned v)) w r → Explained (Returned v) w r
+  returned v w r reached ws σ R a = let t = reached ws σ R a in (t.1, record { steps = t.0; last = t.1; ends = t.2; leaves = refl }, t.3, t.4)
+
+  pub out_of_turns : (w r : Log) → Reached (call.Ended Budget) w r → Explained Budget [] r
+  out_of_turns w r reached ws σ R a = let t = reached ws σ R a in (σ, record { steps = t.0; last = t.1; ends = t.2; leaves = refl }, R, refl)
+
+  pub too_deep : (w r : Log) → Reached (call.Ended Depth) w r → Explained Depth [] r
+  too_deep w r reached ws σ R a = let t = reached ws σ R a in (σ, record { steps = t.0; last = t.1; ends = t.2; leaves = refl }, R, refl)
+
+-- locals of the wrapper, with the arguments and the context in place
+pub record IsSet (c : ℕ) (slots wl : List Slot) : Type 0 where
+  pub here : slice_get wl c ≡ Some Context
+  pub room : c + 1 < length wl
+  pub args : (j : ℕ) (v : Slot) → slice_get slots j ≡ Some v → slice_get wl j ≡ Some v
+
+module _ (P : Program) (mn : ℕ) (k0 : Method) (slots : List Slot) where
+  -- a frame of the original code, in its method, and that of the duplicate
+  pub record FrameAlike (m pc dn a : ℕ) (k : Method) (l l' : List Slot) : Type 0 where
+    pub is : slice_get P.methods m ≡ Some k
+    pub dup : dn ≡ duplicate P m
+    pub at : a ≡ block_at k.ops pc
+    pub fits : Fits k.params l l'
+    pub plain : ArePlain l
+
+  -- callers of a method that gives a value or none: the outermost one is the wrapper
+  pub data Callers : Bool → Frames → Frames → Type 0 where
+    bottom : (g : Bool) (wl : List Slot) → IsSet k0.params slots wl → g ≡ k0.gives → Callers g [] (frame mn (6 + k0.params + 1) wl [] ∷ [])
+    caller : (g : Bool) (m pc dn a callee : ℕ) (k : Method) (l l' s : List Slot) (fs gs : Frames) → FrameAlike m pc dn a k l l' → slice_get k.ops pc ≡ Some (InvokeStatic callee) → ArePlain s → Callers k.gives fs gs
+        → Callers g (frame m pc l s ∷ fs) (frame dn (a + 1) l' s ∷ gs)

@@ -1,0 +1,29 @@
+-- Counter meets what the laws ask: it is a straight-line program, there are words for its state, and a run of it is explained.
+use Rattle.std.proofs.Common.{ℕ, [], ◌∷◌, ◌++◌, Some, refl, arith, lit<}
+use Rattle.std.specs.Prelude.{pos, replicate}
+use Rattle.jmodel.specs.declared.value.Value.TheVariants.{Int}
+use Rattle.jmodel.specs.declared.value.Answer.TheVariants.{Returned}
+use Rattle.jmodel.specs.Attempt.{Gives, Refuses, Runs, access}
+use Rattle.jmodel.specs.History.{Entry}
+use Rattle.jmodel.specs.Meaning.{Explains}
+use Rattle.jmodel.specs.Source.{IsSource, IsSourceMethod, IsStraightProgram}
+use Rattle.jmodel.specs.Rewriting.{rewritten}
+use Rattle.jmodel.specs.Law.{TellsOf}
+use Rattle.jmodel.proofs.Examples.{counter_program, method_inc, bounds, second_answers}
+use Rattle.jmodel.proofs.Simulates.{simulation}
+
+counter_method : IsSourceMethod counter_program method_inc
+counter_method = record { counted = refl; room = omega arith; no_entries = refl; each = (lit< tt, (record { sfits = lit< tt }, (tt, (tt, (lit< tt, (refl, tt)))))) }
+
+counter_source : IsSource counter_program
+counter_source = record { fields = (record { object = lit< tt; index = lit< tt; address = lit< tt }, tt); methods = (counter_method, tt) }
+
+pub counter_straight : IsStraightProgram counter_program
+counter_straight = record { source = counter_source; straight = (record { no_params = refl; gives_value = refl; code = refl }, tt) }
+
+-- the run whose first attempt meets a conflict
+second_runs : Runs (rewritten counter_program) bounds 0 [] 0 (Returned (Some (Int (pos 5)))) (access 3 5 ∷ []) (access 3 4 ∷ [])
+second_runs = record { meter = record { turns = 8; tried = 2; used = 0 }; comes = (replicate 18 (Gives 9) ++ Refuses ∷ replicate 60 (Gives 4), second_answers); made = λ h. cc }
+
+pub second_explained : (size : ℕ) (e : Entry) → TellsOf 0 [] 0 (Returned (Some (Int (pos 5)))) (access 3 5 ∷ []) (access 3 4 ∷ []) e → Explains counter_program size 9 e
+second_explained size e tells = simulation counter_program counter_source bounds size 0 method_inc (pos 2147483647) refl refl [] tt refl 0 _ _ _ second_runs e tells

@@ -1,0 +1,382 @@
+-- One instruction of a method, and its block in the duplicate.
+use Rattle.std.proofs.Common.{◌≡◌, ℕ, ℤ, ◌+◌, ◌-◌, ◌<◌, ◌≤◌, List, [], ◌∷◌, ◌++◌, length, Option, Some, None, Bool, true, false, refl, sym, ap, subst, ◌∙◌, arith, ⊎_elim}
+use Rattle.std.specs.Prelude.{slice_get, slice_set, nat_lt, nat_le, replicate, FitsSigned}
+use Rattle.std.specs.Int.{w32, int_wrapping_neg}
+use Rattle.std.proofs.lemmas.Bool.{cases_lt}
+use Rattle.std.proofs.lemmas.Bool.Decides.{nat_tests}
+use Rattle.std.proofs.lemmas.List.{length-set}
+use Rattle.std.proofs.lemmas.Option.{slice_get_within}
+use borrow.Author.Gap.{read_sfits}
+use Rattle.jmodel.specs.declared.value.Value.TheVariants as value
+use Rattle.jmodel.specs.declared.value.Answer.TheVariants.{Returned}
+use Rattle.jmodel.specs.declared.op.Slot.{Slot}
+use Rattle.jmodel.specs.declared.op.Slot.TheVariants.{Int, Context, Empty}
+use Rattle.jmodel.specs.declared.op.Op.{Op}
+use Rattle.jmodel.specs.declared.op.Op.TheVariants.{Constant, Load, Store, Rearrange, Negate, Branch, Goto, GetStatic, PutStatic, InvokeStatic, Return, ReturnValue}
+use Rattle.jmodel.specs.declared.op.Op.TheVariants as op
+use Rattle.jmodel.specs.declared.op.Binary.{Binary}
+use Rattle.jmodel.specs.declared.op.Binary.TheVariants.{Add, Subtract, Multiply}
+use Rattle.jmodel.specs.declared.op.Rearrange.TheVariants.{Nothing, Pop, Duplicate}
+use Rattle.jmodel.specs.declared.op.Phase.TheVariants.{Open}
+use Rattle.jmodel.specs.Value.{word_of}
+use Rattle.jmodel.specs.Program.{Method, Program}
+use Rattle.jmodel.specs.Step.{Frames, Taken, Took, depth, binary, holds, jumps, gives, with_args, take_args}
+use Rattle.jmodel.proofs.Alone.{Alone, next_alone}
+use Rattle.jmodel.proofs.Alone as alone
+use Rattle.jmodel.specs.Attempt.{Log, Reply, Bounds, Meter, Run, On, Stuck, next_run, on_asked, with_turns, with_depth, address, written, recorded, access}
+use Rattle.jmodel.specs.Rewriting.{moved, block, block_len, block_at, duplicate, duplicate_method}
+use Rattle.jmodel.specs.Source.{IsSource, IsSourceOp}
+use Rattle.jmodel.proofs.Places.{Rewrites, HasAt, has_block, has_stub, next_block, blocks_grow, blocks_most, past_end}
+use Rattle.jmodel.proofs.Replies.{Leads}
+use Rattle.jmodel.proofs.Rows.{frame}
+use Rattle.jmodel.proofs.Wrapper.{IsWrapper, end_first, end_commits, end_again, end_last, bare_first, bare_commits, bare_again, bare_last}
+use Rattle.jmodel.proofs.Fields.{each_at, some_at, field_at}
+use Rattle.jmodel.proofs.Moved.{IsPlain, ArePlain, plain_append, plain_empty, plain_at, plain_set, fits_here, fits_get, fits_set, fits_room, fits_start, TakenAlike, few, took, takes_alike, get_set_same, get_set_other}
+use Rattle.jmodel.proofs.Walk.{read_int, IsWalk, turned_alike, entered_alike}
+use Rattle.jmodel.proofs.Follow.{IsSet, FrameAlike, Callers, bottom, caller}
+use Rattle.jmodel.proofs.Callers.{source_at, depth_alike, depth_alike_more}
+
+binary_fits : (b : Binary) (x y : ℤ) → FitsSigned w32 (binary b x y)
+binary_fits Add x y = read_sfits w32 _
+binary_fits Subtract x y = read_sfits w32 _
+binary_fits Multiply x y = read_sfits w32 _
+
+-- jumps go back in both, or in neither
+same_way : (code : List Op) (to pc : ℕ) → to < length code → pc < length code → nat_le (block_at code to) (block_at code pc) ≡ nat_le to pc
+same_way code to pc h i = ⊎_elim
+    (λ (lt : pc < to). let le : to ≤ length code = omega arith in let e = blocks_grow code pc to lt le in grind (arith, nat_tests))
+    (λ (le : to ≤ pc). let b : pc ≤ length code = omega arith in let e = blocks_most code to pc le b in grind (arith, nat_tests))
+    (cases_lt pc to)
+
+pub starts_at : (code : List Op) → 0 ≡ block_at code 0
+starts_at [] = refl
+starts_at (o ∷ code) = refl
+
+module _ (P Q : Program) (R : Rewrites P Q) (S : IsSource P) (B : Bounds) (mn : ℕ) (k0 : Method) (slots : List Slot) (wm : Method) (wis : slice_get Q.methods mn ≡ Some wm) (id dn0 : ℕ) (retries : ℤ) (z : ℕ) (W : IsWrapper wm k0.params id dn0 retries k0.gives (6 + k0.params) z) (len : length slots ≡ k0.params) where
+  -- what is known of the original method's run leads to what is wanted of the rewritten code's, from frames that are alike
+  abbrev pub IsOpenFine : (Alone → Log → Log → Type 0) → (Run → Type 0) → Type 0
+  IsOpenFine Known Good = (m pc dn a : ℕ) (k : Method) (l l' s : List Slot) (fs gs : Frames) (M : Meter) (w r : Log) → FrameAlike P mn k0 slots m pc dn a k l l' → ArePlain s → Callers P mn k0 slots k.gives fs gs
+      → Known (alone.On (frame m pc l s ∷ fs) M.turns) w r → Good (On Open (frame dn a l' s ∷ gs) M w r)
+
+  abbrev q : ℕ
+  q = 6 + k0.params
+
+  module _ (Now Then : Run → Type 0) (Before After : Alone → Log → Log → Type 0) (X : IsWalk P Q B mn k0 slots Now Then Before After) (open_fine : IsOpenFine After Then) where
+    -- the end of the wrapper's call, with a value
+    set_more : (wl : List Slot) (v : Slot) → IsSet k0.params slots wl → IsSet k0.params slots (slice_set wl (k0.params + 1) v)
+    set_more wl v h = record {
+      here = let ne : k0.params ≡ k0.params + 1 → ⊥ = λ e. omega arith in get_set_other wl (k0.params + 1) k0.params v ne ∙ h.here;
+      room = let e = length-set wl (k0.params + 1) v in let a = h.room in omega arith;
+      args = λ j u e. let lt = slice_get_within slots j u e in let ne : j ≡ k0.params + 1 → ⊥ = λ d. omega arith in get_set_other wl (k0.params + 1) j v ne ∙ h.args j u e;
+    }
+
+    module _ (wl : List Slot) (h : IsSet k0.params slots wl) (M : Meter) (w r : Log) where
+      module _ (x : ℤ) (W1 : IsWrapper wm k0.params id dn0 retries true q z) (done : After (alone.Ended (Returned (Some (value.Int x)))) w r) where
+        abbrev wl2 : List Slot
+        wl2 = slice_set wl (k0.params + 1) (Int x)
+
+        set2 : IsSet k0.params slots wl2
+        set2 = set_more wl (Int x) h
+
+        room : nat_lt (k0.params + 1) (length wl) ≡ true
+        room = let a = h.room in grind (arith, nat_tests)
+
+        kept : slice_get wl2 (k0.params + 1) ≡ Some (Int x)
+        kept = get_set_same wl (k0.params + 1) (Int x) h.room
+
+        ends_with : Then (On Open (frame mn (q + 1 + 1) wl (Int x ∷ []) ∷ []) M w r)
+        ends_with = X.leads 2 _ _ (end_first Q B mn wm wis k0.params id dn0 retries q z W1 wl wl2 x room refl set2.here kept M w r)
+            (X.commit wl2 set2 (q + 1 + 1 + 1 + 1) _ M w r (end_commits Q B mn wm wis k0.params id dn0 retries q z W1 wl wl2 x room refl set2.here kept M w r)
+            (end_again Q B mn wm wis k0.params id dn0 retries q z W1 wl wl2 x room refl set2.here kept M [] [])
+            (X.leads 3 _ _ (end_last Q B mn wm wis k0.params id dn0 retries q z W1 wl wl2 x room refl set2.here kept M w r) (X.returned (Some (value.Int x)) M w r done)))
+
+      module _ (W0 : IsWrapper wm k0.params id dn0 retries false q z) (done : After (alone.Ended (Returned None)) w r) where
+        ends_bare : Then (On Open (frame mn (q + 1 + 1) wl [] ∷ []) M w r)
+        ends_bare = X.leads 1 _ _ (bare_first Q B mn wm wis k0.params id dn0 retries q z W0 wl h.here M w r)
+            (X.commit wl h (q + 1 + 1 + 1) _ M w r (bare_commits Q B mn wm wis k0.params id dn0 retries q z W0 wl h.here M w r)
+            (bare_again Q B mn wm wis k0.params id dn0 retries q z W0 wl h.here M [] [])
+            (X.leads 2 _ _ (bare_last Q B mn wm wis k0.params id dn0 retries q z W0 wl h.here M w r) (X.returned None M w r done)))
+
+    -- a return, to the next instruction of the caller
+    next_frame : (m pc dn a : ℕ) (k : Method) (l l' : List Slot) (o : Op) → FrameAlike P mn k0 slots m pc dn a k l l' → slice_get k.ops pc ≡ Some o → (b : ℕ) → b ≡ a + block_len o → FrameAlike P mn k0 slots m (pc + 1) dn b k l l'
+    next_frame m pc dn a k l l' o f e b h =
+        let at = f.at in
+        record { is = f.is; dup = f.dup; at = h ∙ ap (λ (c : ℕ). c + block_len o) at ∙ sym (next_block k.ops pc o e); fits = f.fits; plain = f.plain }
+
+    two_on : (a : ℕ) → a + 1 + 1 ≡ a + 2
+    two_on a = omega arith
+
+    back_with : (x : ℤ) → FitsSigned w32 x → (g : Bool) (fs gs : Frames) → Callers P mn k0 slots g fs gs → g ≡ true → (M : Meter) (w r : Log) → After (alone.on_asked (gives (Some (value.Int x)) fs) M.turns) w r → (v : Reply)
+        → Then (on_asked Q B (gives (Some (value.Int x)) gs) Open v M w r)
+    back_with x fit g fs gs (bottom g1 wl h e) same M w r known v =
+        ends_with wl h M w r x (subst (λ (b : Bool). IsWrapper wm k0.params id dn0 retries b q z) (sym e ∙ same) W) known
+    back_with x fit g fs gs (caller g1 m pc dn a callee k l l' s fs1 gs1 f e p c) same M w r known v =
+        open_fine m (pc + 1) dn (a + 1 + 1) k l l' (Int x ∷ s) fs1 gs1 M w r (next_frame m pc dn a k l l' _ f e (a + 1 + 1) (two_on a)) (fit, p) c known
+
+    back_bare : (g : Bool) (fs gs : Frames) → Callers P mn k0 slots g fs gs → g ≡ false → (M : Meter) (w r : Log) → After (alone.on_asked (gives None fs) M.turns) w r → (v : Reply)
+        → Then (on_asked Q B (gives None gs) Open v M w r)
+    back_bare g fs gs (bottom g1 wl h e) same M w r known v =
+        ends_bare wl h M w r (subst (λ (b : Bool). IsWrapper wm k0.params id dn0 retries b q z) (sym e ∙ same) W) known
+    back_bare g fs gs (caller g1 m pc dn a callee k l l' s fs1 gs1 f e p c) same M w r known v =
+        open_fine m (pc + 1) dn (a + 1 + 1) k l l' s fs1 gs1 M w r (next_frame m pc dn a k l l' _ f e (a + 1 + 1) (two_on a)) p c known
+
+    -- at an instruction of a method
+    module _ (m pc dn a : ℕ) (k : Method) (l l' : List Slot) (fs gs : Frames) (M : Meter) (w r : Log) (f : FrameAlike P mn k0 slots m pc dn a k l l') (callers : Callers P mn k0 slots k.gives fs gs) where
+      abbrev Above : List Slot → Alone
+      Above s = alone.On (frame m pc l s ∷ fs) M.turns
+
+      abbrev Below : List Slot → Run
+      Below s = On Open (frame dn a l' s ∷ gs) M w r
+
+      dup : slice_get Q.methods dn ≡ Some (duplicate_method P k)
+      dup = ap (slice_get Q.methods) f.dup ∙ R.duplicates m k f.is
+
+      here : slice_get l' k.params ≡ Some Context
+      here = fits_here k.params l l' f.fits
+
+      is_stuck : (s : List Slot) → Before (Above s) w r → ((v : Reply) → next_run Q B v (Below s) ≡ Stuck) → (next_alone P (Above s) ≡ alone.Stuck) → Now (Below s)
+      is_stuck s known below above = X.more 0 _ _ below (X.stuck w r (X.step (Above s) alone.Stuck w r above known))
+
+      quiet : (s : List Slot) → Before (Above s) w r → (pc2 b : ℕ) (l2 l2' s2 : List Slot) → FrameAlike P mn k0 slots m pc2 dn b k l2 l2' → ArePlain s2
+          → ((v : Reply) → next_run Q B v (Below s) ≡ On Open (frame dn b l2' s2 ∷ gs) M w r)
+          → (next_alone P (Above s) ≡ alone.On (frame m pc2 l2 s2 ∷ fs) M.turns) → Now (Below s)
+      quiet s known pc2 b l2 l2' s2 g p below above =
+          X.more 0 _ _ below (open_fine m pc2 dn b k l2 l2' s2 fs gs M w r g p callers (X.step (Above s) (alone.On (frame m pc2 l2 s2 ∷ fs) M.turns) w r above known))
+
+      module _ (o : Op) (e : slice_get k.ops pc ≡ Some o) where
+        stands : HasAt (duplicate_method P k).ops a (block P k.params (block_at k.ops) o)
+        stands = subst (λ (b : ℕ). HasAt (duplicate_method P k).ops b (block P k.params (block_at k.ops) o)) (sym f.at) (has_block P k pc o e)
+
+        -- an instruction that goes on with another stack
+        on_stack : block_len o ≡ 1 → (s : List Slot) → Before (Above s) w r → (s2 : List Slot) → ArePlain s2
+            → ((v : Reply) → next_run Q B v (Below s) ≡ On Open (frame dn (a + 1) l' s2 ∷ gs) M w r)
+            → (next_alone P (Above s) ≡ alone.On (frame m (pc + 1) l s2 ∷ fs) M.turns) → Now (Below s)
+        on_stack one s known s2 p below above =
+            quiet s known (pc + 1) (a + 1) l l' s2 (next_frame m pc dn a k l l' o f e (a + 1) (ap (λ (b : ℕ). a + b) (sym one))) p below above
+
+        -- a jump
+        module _ (to : ℕ) (lt : to < length k.ops) (s : List Slot) (known : Before (Above s) w r) (s2 : List Slot) (p : ArePlain s2)
+            (below : (v : Reply) → next_run Q B v (Below s) ≡ on_asked Q B (jumps Q (block_at k.ops to) (frame dn a l' s2) gs) Open v M w r)
+            (above : next_alone P (Above s) ≡ alone.on_asked (jumps P to (frame m pc l s2) fs) M.turns) where
+          there : FrameAlike P mn k0 slots m to dn (block_at k.ops to) k l l'
+          there = record { is = f.is; dup = f.dup; at = refl; fits = f.fits; plain = f.plain }
+
+          counts : k.counted ≡ true
+          counts = (source_at P Q R S m k f.is).counted
+
+          way : nat_le (block_at k.ops to) a ≡ nat_le to pc
+          way = ap (nat_le (block_at k.ops to)) f.at ∙ same_way k.ops to pc lt (slice_get_within k.ops pc o e)
+
+          jumps_on : (b : Bool) → nat_le to pc ≡ b → Now (Below s)
+          jumps_on true h =
+              let is = f.is in
+              let back = way ∙ h in
+              let turn : (v : Reply) → on_asked Q B (jumps Q (block_at k.ops to) (frame dn a l' s2) gs) Open v M w r ≡ with_turns M.turns (frame dn (block_at k.ops to) l' s2 ∷ gs) M w r = λ v. simp (dup, back) in
+              let turn' : alone.on_asked (jumps P to (frame m pc l s2) fs) M.turns ≡ alone.turned (frame m to l s2 ∷ fs) M.turns = simp (is, counts, h) in
+              X.reply_more _ (λ v. subst Then (sym (below v ∙ turn v))
+              (turned_alike P Q B mn k0 slots Now Then Before After X M.turns (frame m to l s2 ∷ fs) (frame dn (block_at k.ops to) l' s2 ∷ gs) M w r
+              (X.step (Above s) (alone.turned (frame m to l s2 ∷ fs) M.turns) w r (above ∙ turn') known)
+              (λ t reached. open_fine m to dn (block_at k.ops to) k l l' s2 fs gs (record M { turns = t }) w r there p callers reached)))
+          jumps_on false h =
+              let is = f.is in
+              let back = way ∙ h in
+              let go : (v : Reply) → on_asked Q B (jumps Q (block_at k.ops to) (frame dn a l' s2) gs) Open v M w r ≡ On Open (frame dn (block_at k.ops to) l' s2 ∷ gs) M w r = λ v. simp (dup, back) in
+              let go' : alone.on_asked (jumps P to (frame m pc l s2) fs) M.turns ≡ alone.On (frame m to l s2 ∷ fs) M.turns = simp (is, counts, h) in
+              quiet s known to (block_at k.ops to) l l' s2 there p (λ v. below v ∙ go v) (above ∙ go')
+
+          jumps_to : Now (Below s)
+          jumps_to = jumps_on (nat_le to pc) refl
+
+      -- the instructions, each on each stack of int code
+      load_goes : (i : ℕ) → slice_get k.ops pc ≡ Some (Load i) → (s : List Slot) → ArePlain s → Before (Above s) w r → (v : Option Slot) → slice_get l i ≡ v → Now (Below s)
+      load_goes i e s p known None h =
+          let is = f.is in
+          let at = stands (Load i) e in
+          let h' = fits_get k.params i l l' f.fits ∙ h in
+          is_stuck s known (λ u. simp (dup, at.0, h')) (simp (is, e, h))
+      load_goes i e s p known (Some v) h =
+          let is = f.is in
+          let at = stands (Load i) e in
+          let h' = fits_get k.params i l l' f.fits ∙ h in
+          on_stack (Load i) e refl s known (v ∷ s) (plain_at l i v f.plain h, p) (λ u. simp (dup, at.0, h')) (simp (is, e, h))
+
+      store_goes : (i : ℕ) → slice_get k.ops pc ≡ Some (Store i) → (v : Slot) (s : List Slot) → IsPlain v → ArePlain s → Before (Above (v ∷ s)) w r → (b : Bool) → nat_lt i (length l) ≡ b → Now (Below (v ∷ s))
+      store_goes i e v s pv p known false h =
+          let is = f.is in
+          let at = stands (Store i) e in
+          let h' = fits_room k.params i l l' f.fits ∙ h in
+          is_stuck (v ∷ s) known (λ u. simp (dup, at.0, h')) (simp (is, e, h))
+      store_goes i e v s pv p known true h =
+          let is = f.is in
+          let at = stands (Store i) e in
+          let h' = fits_room k.params i l l' f.fits ∙ h in
+          let g = next_frame m pc dn a k l l' (Store i) f e (a + 1) refl in
+          quiet (v ∷ s) known (pc + 1) (a + 1) (slice_set l i v) (slice_set l' (moved k.params i) v) s
+          (record { is = g.is; dup = g.dup; at = g.at; fits = fits_set k.params i v l l' f.fits; plain = plain_set l i v f.plain pv }) p
+          (λ u. simp (dup, at.0, h')) (simp (is, e, h))
+
+      branch_goes : (t : _) (to : ℕ) → slice_get k.ops pc ≡ Some (Branch t to) → to < length k.ops → (x : ℤ) (s : List Slot) → ArePlain s → Before (Above (Int x ∷ s)) w r → (b : Bool) → holds t x ≡ b → Now (Below (Int x ∷ s))
+      branch_goes t to e lt x s p known true h =
+          let is = f.is in
+          let at = stands (Branch t to) e in
+          jumps_to (Branch t to) e to lt (Int x ∷ s) known s p (λ u. simp (dup, at.0, h)) (simp (is, e, h))
+      branch_goes t to e lt x s p known false h =
+          let is = f.is in
+          let at = stands (Branch t to) e in
+          on_stack (Branch t to) e refl (Int x ∷ s) known s p (λ u. simp (dup, at.0, h)) (simp (is, e, h))
+
+      get_goes : (i : ℕ) → slice_get k.ops pc ≡ Some (GetStatic i) → i < length P.fields → (s : List Slot) → ArePlain s → Before (Above s) w r → Now (Below s)
+      get_goes i e lt s p known =
+          let x = field_at P i S.fields lt in
+          X.get m pc dn a k l l' s fs gs M w r f callers i x.0 x.2 e x.1 x.3 (stands (GetStatic i) e) known
+          (λ v known'. open_fine m (pc + 1) dn (a + 1 + 1) k l l' (Int (read_int w x.0 v) ∷ s) fs gs M w (recorded (written w (address x.0.place)) (address x.0.place) v r)
+          (next_frame m pc dn a k l l' (GetStatic i) f e (a + 1 + 1) (two_on a)) (read_sfits w32 _, p) callers known')
+
+      put_goes : (i : ℕ) → slice_get k.ops pc ≡ Some (PutStatic i) → i < length P.fields → (x : ℤ) (s : List Slot) → FitsSigned w32 x → ArePlain s → Before (Above (Int x ∷ s)) w r → Now (Below (Int x ∷ s))
+      put_goes i e lt x s fit p known =
+          let y = field_at P i S.fields lt in
+          X.put m pc dn a k l l' s fs gs M w r f callers i y.0 y.2 e y.1 y.3 (stands (PutStatic i) e) x fit known
+          (λ known'. open_fine m (pc + 1) dn (a + 1 + 1) k l l' s fs gs M (access (address y.0.place) (word_of (value.Int x)) ∷ w) r
+          (next_frame m pc dn a k l l' (PutStatic i) f e (a + 1 + 1) (two_on a)) p callers known')
+
+      -- a call
+      module _ (callee : ℕ) (e : slice_get k.ops pc ≡ Some (InvokeStatic callee)) (k2 : Method) (there : slice_get P.methods callee ≡ Some k2) where
+        abbrev spare : List Slot
+        spare = replicate (k2.locals - k2.params) Empty
+
+        abbrev entered_above : List Slot → List Slot → Frames
+        entered_above args s = frame callee 0 (args ++ spare) [] ∷ frame m pc l s ∷ fs
+
+        abbrev entered_below : List Slot → List Slot → Frames
+        entered_below args s = frame (duplicate P callee) 0 ((args ++ Context ∷ []) ++ spare) [] ∷ frame dn (a + 1) l' s ∷ gs
+
+        dup2 : slice_get Q.methods (duplicate P callee) ≡ Some (duplicate_method P k2)
+        dup2 = R.duplicates callee k2 there
+
+        counted2 : k2.counted ≡ true
+        counted2 = (source_at P Q R S callee k2 there).counted
+
+        -- as deep above as below
+        same_depth : (args s : List Slot) → depth P (entered_above args s) ≡ depth Q (entered_below args s)
+        same_depth args s =
+            let one : depth P (frame m pc l s ∷ fs) ≡ depth Q (frame dn (a + 1) l' s ∷ gs) = rw f.dup (depth_alike_more P Q R S m pc (a + 1) k l l' s s fs gs f.is (depth_alike P Q R S mn k0 slots wm wis id dn0 retries z W k.gives fs gs callers)) in
+            depth_alike_more P Q R S callee 0 0 k2 (args ++ spare) ((args ++ Context ∷ []) ++ spare) [] [] (frame m pc l s ∷ fs) (frame dn (a + 1) l' s ∷ gs) there one
+
+        same_spare : (args s : List Slot) → entered_below args s ≡ frame (duplicate P callee) 0 ((args ++ Context ∷ []) ++ replicate (k2.locals + 1 - (k2.params + 1)) Empty) [] ∷ frame dn (a + 1) l' s ∷ gs
+        same_spare args s =
+            let h : k2.locals - k2.params ≡ k2.locals + 1 - (k2.params + 1) = omega arith in
+            ap (λ (n : ℕ). frame (duplicate P callee) 0 ((args ++ Context ∷ []) ++ replicate n Empty) [] ∷ frame dn (a + 1) l' s ∷ gs) h
+
+        enters : (args s : List Slot) → alone.on_asked (with_args P (Took args s) callee k2 (frame m pc l s) fs) M.turns ≡ alone.entered (nat_lt 200 (depth P (entered_above args s))) (entered_above args s) M.turns
+        enters args s = simp counted2
+
+        taken : (s : List Slot) (above below : Taken) → TakenAlike k2.params above below → After (alone.on_asked (with_args P above callee k2 (frame m pc l s) fs) M.turns) w r → (v : Reply)
+            → Then (on_asked Q B (with_args Q below (duplicate P callee) (duplicate_method P k2) (frame dn (a + 1) l' (Context ∷ s)) gs) Open v M w r)
+        taken s above below few known v = X.stuck w r known
+        taken s above below (took args t count pa pt) known v =
+            let frames : Frames → Run = λ gs. with_depth (nat_lt 200 (depth Q gs)) M.turns gs M w r in
+            let deep = ap (nat_lt 200) (same_depth args t) in
+            subst Then (ap frames (same_spare args t)) (subst (λ (b : Bool). Then (with_depth b M.turns (entered_below args t) M w r)) deep
+            (entered_alike P Q B mn k0 slots Now Then Before After X (nat_lt 200 (depth P (entered_above args t))) M.turns (entered_above args t) (entered_below args t) M w r
+            (subst (λ (c : Alone). After c w r) (enters args t) known)
+            (λ turns reached. open_fine callee 0 (duplicate P callee) 0 k2 (args ++ spare) ((args ++ Context ∷ []) ++ spare) [] (frame m pc l t ∷ fs) (frame dn (a + 1) l' t ∷ gs) (record M { turns = turns }) w r
+            (record { is = there; dup = refl; at = starts_at k2.ops; fits = fits_start k2.params args spare count; plain = plain_append args spare pa (plain_empty (k2.locals - k2.params)) }) tt
+            (caller k2.gives m pc dn a callee k l l' t fs gs f e pt callers) reached)))
+
+        invoke_goes : (s : List Slot) → ArePlain s → Before (Above s) w r → Now (Below s)
+        invoke_goes s p known =
+            let is = f.is in
+            let at = stands (InvokeStatic callee) e in
+            let first : Leads Q B 1 (Below s) (On Open (frame dn (a + 1) l' (Context ∷ s) ∷ gs) M w r) = λ v. simp (dup, at.0, here) in
+            let calls : (v : Reply) → next_run Q B v (On Open (frame dn (a + 1) l' (Context ∷ s) ∷ gs) M w r) ≡ on_asked Q B (with_args Q (take_args (k2.params + 1) [] (Context ∷ s)) (duplicate P callee) (duplicate_method P k2) (frame dn (a + 1) l' (Context ∷ s)) gs) Open v M w r = λ v. simp (dup, at.1.0, dup2) in
+            let calls' : next_alone P (Above s) ≡ alone.on_asked (with_args P (take_args k2.params [] s) callee k2 (frame m pc l s) fs) M.turns = simp (is, e, there) in
+            X.more 0 _ _ first (X.reply _ (λ v. subst Then (sym (calls v))
+            (taken s (take_args k2.params [] s) (take_args (k2.params + 1) [] (Context ∷ s)) (takes_alike k2.params s p)
+            (X.step (Above s) (alone.on_asked (with_args P (take_args k2.params [] s) callee k2 (frame m pc l s) fs) M.turns) w r calls' known) v)))
+
+      -- a return
+      value_goes : (s : List Slot) (x : ℤ) → slice_get k.ops pc ≡ Some ReturnValue → k.gives ≡ true → FitsSigned w32 x → Before (Above (Int x ∷ s)) w r → Now (Below (Int x ∷ s))
+      value_goes s x e g fit known =
+          let is = f.is in
+          let at = stands ReturnValue e in
+          let below : (v : Reply) → next_run Q B v (Below (Int x ∷ s)) ≡ on_asked Q B (gives (Some (value.Int x)) gs) Open v M w r = λ v. simp (dup, at.0) in
+          let above : next_alone P (Above (Int x ∷ s)) ≡ alone.on_asked (gives (Some (value.Int x)) fs) M.turns = simp (is, e) in
+          X.reply_more _ (λ v. subst Then (sym (below v)) (back_with x fit k.gives fs gs callers g M w r (X.step (Above (Int x ∷ s)) (alone.on_asked (gives (Some (value.Int x)) fs) M.turns) w r above known) v))
+
+      bare_goes : (s : List Slot) → slice_get k.ops pc ≡ Some Return → k.gives ≡ false → Before (Above s) w r → Now (Below s)
+      bare_goes s e g known =
+          let is = f.is in
+          let at = stands Return e in
+          let below : (v : Reply) → next_run Q B v (Below s) ≡ on_asked Q B (gives None gs) Open v M w r = λ v. simp (dup, at.0) in
+          let above : next_alone P (Above s) ≡ alone.on_asked (gives None fs) M.turns = simp (is, e) in
+          X.reply_more _ (λ v. subst Then (sym (below v)) (back_bare k.gives fs gs callers g M w r (X.step (Above s) (alone.on_asked (gives None fs) M.turns) w r above known) v))
+
+      op_goes : (o : Op) → slice_get k.ops pc ≡ Some o → IsSourceOp P k o → (s : List Slot) → ArePlain s → Before (Above s) w r → Now (Below s)
+      op_goes (Constant (value.Int x)) e src s p known = let is = f.is in let at = stands _ e in on_stack _ e refl s known (Int x ∷ s) (src, p) (λ v. simp (dup, at.0)) (simp (is, e))
+      op_goes (Constant v) e src s p known = absurd src
+      op_goes (Load i) e src s p known = load_goes i e s p known (slice_get l i) refl
+      op_goes (Store i) e src [] p known = let is = f.is in let at = stands _ e in is_stuck [] known (λ v. simp (dup, at.0)) (simp (is, e))
+      op_goes (Store i) e src (v ∷ s) p known = store_goes i e v s p.0 p.1 known (nat_lt i (length l)) refl
+      op_goes (Rearrange Nothing) e src s p known = let is = f.is in let at = stands _ e in on_stack _ e refl s known s p (λ v. simp (dup, at.0)) (simp (is, e))
+      op_goes (Rearrange Pop) e src [] p known = let is = f.is in let at = stands _ e in is_stuck [] known (λ v. simp (dup, at.0)) (simp (is, e))
+      op_goes (Rearrange Pop) e src (u ∷ s) p known = let is = f.is in let at = stands _ e in on_stack _ e refl (u ∷ s) known s p.1 (λ v. simp (dup, at.0)) (simp (is, e))
+      op_goes (Rearrange Duplicate) e src [] p known = let is = f.is in let at = stands _ e in is_stuck [] known (λ v. simp (dup, at.0)) (simp (is, e))
+      op_goes (Rearrange Duplicate) e src (u ∷ s) p known = let is = f.is in let at = stands _ e in on_stack _ e refl (u ∷ s) known (u ∷ u ∷ s) (p.0, p) (λ v. simp (dup, at.0)) (simp (is, e))
+      op_goes (op.Binary b) e src [] p known = let is = f.is in let at = stands _ e in is_stuck [] known (λ v. simp (dup, at.0)) (simp (is, e))
+      op_goes (op.Binary b) e src (Int y ∷ []) p known = let is = f.is in let at = stands _ e in is_stuck _ known (λ v. simp (dup, at.0)) (simp (is, e))
+      op_goes (op.Binary b) e src (Int y ∷ Int x ∷ s) p known = let is = f.is in let at = stands _ e in on_stack _ e refl _ known (Int (binary b x y) ∷ s) (binary_fits b x y, p.1.1) (λ v. simp (dup, at.0)) (simp (is, e))
+      op_goes (op.Binary b) e src (Int y ∷ Empty ∷ s) p known = let is = f.is in let at = stands _ e in is_stuck _ known (λ v. simp (dup, at.0)) (simp (is, e))
+      op_goes (op.Binary b) e src (Int y ∷ u ∷ s) p known = absurd p.1.0
+      op_goes (op.Binary b) e src (Empty ∷ s) p known = let is = f.is in let at = stands _ e in is_stuck _ known (λ v. simp (dup, at.0)) (simp (is, e))
+      op_goes (op.Binary b) e src (u ∷ s) p known = absurd p.0
+      op_goes Negate e src [] p known = let is = f.is in let at = stands _ e in is_stuck [] known (λ v. simp (dup, at.0)) (simp (is, e))
+      op_goes Negate e src (Int x ∷ s) p known = let is = f.is in let at = stands _ e in on_stack _ e refl _ known (Int (int_wrapping_neg w32 x) ∷ s) (read_sfits w32 _, p.1) (λ v. simp (dup, at.0)) (simp (is, e))
+      op_goes Negate e src (Empty ∷ s) p known = let is = f.is in let at = stands _ e in is_stuck _ known (λ v. simp (dup, at.0)) (simp (is, e))
+      op_goes Negate e src (u ∷ s) p known = absurd p.0
+      op_goes (Branch t to) e src [] p known = let is = f.is in let at = stands _ e in is_stuck [] known (λ v. simp (dup, at.0)) (simp (is, e))
+      op_goes (Branch t to) e src (Int x ∷ s) p known = branch_goes t to e src x s p.1 known (holds t x) refl
+      op_goes (Branch t to) e src (Empty ∷ s) p known = let is = f.is in let at = stands _ e in is_stuck _ known (λ v. simp (dup, at.0)) (simp (is, e))
+      op_goes (Branch t to) e src (u ∷ s) p known = absurd p.0
+      op_goes (Goto to) e src s p known = let is = f.is in let at = stands _ e in jumps_to _ e to src s known s p (λ u. simp (dup, at.0)) (simp (is, e))
+      op_goes (GetStatic i) e src s p known = get_goes i e src s p known
+      op_goes (PutStatic i) e src [] p known =
+          let x = field_at P i S.fields src in
+          let at = stands _ e in
+          let setter_is = R.setters i x.0 x.1 in
+          let is = f.is in
+          let there = x.1 in
+          X.more 1 _ _ (λ v1 v2. simp (dup, at.0, at.1.0, here, setter_is)) (X.stuck w r (X.step (Above []) alone.Stuck w r (simp (is, e, there)) known))
+      op_goes (PutStatic i) e src (Int x ∷ s) p known = put_goes i e src x s p.0 p.1 known
+      op_goes (PutStatic i) e src (Empty ∷ s) p known =
+          let x = field_at P i S.fields src in
+          let at = stands _ e in
+          let setter_is = R.setters i x.0 x.1 in
+          let type = x.3.type in
+          let is = f.is in
+          let there = x.1 in
+          X.more 6 _ _ (λ v1 v2 v3 v4 v5 v6 v7. simp (dup, at.0, at.1.0, here, setter_is, type)) (X.stuck w r (X.step (Above (Empty ∷ s)) alone.Stuck w r (simp (is, e, there, type)) known))
+      op_goes (PutStatic i) e src (u ∷ s) p known = absurd p.0
+      op_goes (InvokeStatic callee) e src s p known = let x = some_at P.methods callee src in invoke_goes callee e x.0 x.1 s p known
+      op_goes Return e src s p known = bare_goes s e src known
+      op_goes ReturnValue e src [] p known = let is = f.is in let at = stands _ e in is_stuck [] known (λ v. simp (dup, at.0)) (simp (is, e))
+      op_goes ReturnValue e src (Int x ∷ s) p known = value_goes s x e src p.0 known
+      op_goes ReturnValue e src (Empty ∷ s) p known = let is = f.is in let at = stands _ e in is_stuck _ known (λ v. simp (dup, at.0)) (simp (is, e))
+      op_goes ReturnValue e src (u ∷ s) p known = absurd p.0
+      op_goes o e src s p known = absurd src
+
+      stub : slice_get k.ops pc ≡ None → slice_get (duplicate_method P k).ops a ≡ Some op.Throw
+      stub e = ap (slice_get (duplicate_method P k).ops) (f.at ∙ past_end k.ops pc e) ∙ has_stub P k
+
+      -- past the end of the code stands the stub, which finds no exception
+      past_goes : slice_get k.ops pc ≡ None → (s : List Slot) → ArePlain s → Before (Above s) w r → Now (Below s)
+      past_goes e [] p known = let is = f.is in let at = stub e in is_stuck [] known (λ v. simp (dup, at)) (simp (is, e))
+      past_goes e (Int x ∷ s) p known = let is = f.is in let at = stub e in is_stuck _ known (λ v. simp (dup, at)) (simp (is, e))
+      past_goes e (Empty ∷ s) p known = let is = f.is in let at = stub e in is_stuck _ known (λ v. simp (dup, at)) (simp (is, e))
+      past_goes e (u ∷ s) p known = absurd p.0
+
+      any_goes : (o : Option Op) → slice_get k.ops pc ≡ o → (s : List Slot) → ArePlain s → Before (Above s) w r → Now (Below s)
+      any_goes None e s p known = past_goes e s p known
+      any_goes (Some o) e s p known = op_goes o e (each_at (IsSourceOp P k) k.ops pc o (source_at P Q R S m k f.is).each e) s p known
+
+    pub open_more : IsOpenFine Before Now
+    open_more m pc dn a k l l' s fs gs M w r f p callers known = any_goes m pc dn a k l l' fs gs M w r f callers (slice_get k.ops pc) refl s p known

@@ -1,0 +1,70 @@
+-- Two runs that go together step by step, whatever it is that is proved of them.
+use Rattle.std.proofs.Common.{◌≡◌, ℕ, ℤ, zero, suc, ◌+◌, ◌%◌, ◌^◌, List, [], ◌∷◌, Option, Some, Bool, true, false}
+use Rattle.std.specs.Prelude.{pos, slice_get}
+use Rattle.std.specs.Int.{w32, cast_signed}
+use Rattle.jmodel.specs.declared.value.Value.{Value}
+use Rattle.jmodel.specs.declared.value.Value.TheVariants as value
+use Rattle.jmodel.specs.declared.value.Answer.TheVariants.{Returned, Budget, Depth}
+use Rattle.jmodel.specs.declared.op.Slot.{Slot}
+use Rattle.jmodel.specs.declared.op.Slot.TheVariants.{Int}
+use Rattle.jmodel.specs.declared.op.Op.TheVariants.{Load, GetStatic, PutStatic, InvokeStatic}
+use Rattle.jmodel.specs.declared.op.Phase.TheVariants.{Ready, Open, Closed}
+use Rattle.jmodel.specs.Value.{word_of}
+use Rattle.jmodel.specs.Program.{Field, Method, Program}
+use Rattle.jmodel.specs.Step.{Frames}
+use Rattle.jmodel.proofs.Alone.{Alone, next_alone}
+use Rattle.jmodel.proofs.Alone as alone
+use Rattle.jmodel.specs.Attempt.{Log, Reply, Bounds, Meter, Run, On, Ended, Stuck, next_run, on_commit, with_turns, with_depth, address, answered, written, recorded, access}
+use Rattle.jmodel.specs.Rewriting.{getter, setter, duplicate_method}
+use Rattle.jmodel.proofs.Places.{HasAt}
+use Rattle.jmodel.proofs.Replies.{Leads}
+use Rattle.jmodel.proofs.Rows.{frame, IsKnown}
+use Rattle.jmodel.proofs.Moved.{FitsInt}
+use Rattle.jmodel.proofs.Follow.{IsSet, FrameAlike, Callers}
+
+-- the int that a read leaves, where the engine answers x
+abbrev pub read_int : Log → Field → ℕ → ℤ
+read_int w f x = cast_signed w32 (answered w (address f.place) x % 2 ^ 32)
+
+-- What a proof has to say. Before and After: of the original method's run, before a step and after it. Now and Then: of the
+-- rewritten code's run at the same places.
+pub record IsWalk (P Q : Program) (B : Bounds) (mn : ℕ) (k0 : Method) (slots : List Slot) (Now Then : Run → Type 0) (Before After : Alone → Log → Log → Type 0) : Type 0 where
+  pub step : (c d : Alone) (w r : Log) → next_alone P c ≡ d → Before c w r → After d w r
+  pub more : (j : ℕ) (c d : Run) → Leads Q B (suc j) c d → Then d → Now c
+  pub leads : (j : ℕ) (c d : Run) → Leads Q B j c d → Then d → Then c
+  pub reply_more : (c : Run) → ((v : Reply) → Then (next_run Q B v c)) → Now c
+  pub reply : (c : Run) → ((v : Reply) → Then (next_run Q B v c)) → Then c
+  -- the ends
+  pub stuck : (w r : Log) → After alone.Stuck w r → Then Stuck
+  pub out_of_turns : (m : Meter) (w r : Log) → After (alone.Ended Budget) w r → Then (Ended Budget m [] r)
+  pub too_deep : (m : Meter) (w r : Log) → After (alone.Ended Depth) w r → Then (Ended Depth m [] r)
+  pub returned : (v : Option Value) (m : Meter) (w r : Log) → After (alone.Ended (Returned v)) w r → Then (Ended (Returned v) m w r)
+  -- what the engine answers
+  pub commit : (wl : List Slot) → IsSet k0.params slots wl → (pc : ℕ) (c : Run) (m : Meter) (w r : Log) → ((v : Reply) → next_run Q B v c ≡ on_commit v (frame mn pc wl [] ∷ []) m w r)
+      → Leads Q B 1 (On Ready (frame mn (pc + 1) wl (Int (pos 0) ∷ []) ∷ []) m [] []) (On Ready (frame mn 2 wl [] ∷ []) m [] [])
+      → Then (On Closed (frame mn (pc + 1) wl (Int (pos 1) ∷ []) ∷ []) m w r) → Then c
+  pub get : (m pc dn a : ℕ) (k : Method) (l l' s : List Slot) (fs gs : Frames) (M : Meter) (w r : Log) → FrameAlike P mn k0 slots m pc dn a k l l' → Callers P mn k0 slots k.gives fs gs
+      → (i : ℕ) (f : Field) (o : ℕ) → slice_get k.ops pc ≡ Some (GetStatic i) → slice_get P.fields i ≡ Some f → IsKnown f o
+      → HasAt (duplicate_method P k).ops a (Load k.params ∷ InvokeStatic (getter P i) ∷ []) → Before (alone.On (frame m pc l s ∷ fs) M.turns) w r
+      → ((x : ℕ) → After (alone.On (frame m (pc + 1) l (Int (read_int w f x) ∷ s) ∷ fs) M.turns) w (recorded (written w (address f.place)) (address f.place) x r)
+      → Then (On Open (frame dn (a + 1 + 1) l' (Int (read_int w f x) ∷ s) ∷ gs) M w (recorded (written w (address f.place)) (address f.place) x r)))
+      → Now (On Open (frame dn a l' s ∷ gs) M w r)
+  pub put : (m pc dn a : ℕ) (k : Method) (l l' s : List Slot) (fs gs : Frames) (M : Meter) (w r : Log) → FrameAlike P mn k0 slots m pc dn a k l l' → Callers P mn k0 slots k.gives fs gs
+      → (i : ℕ) (f : Field) (o : ℕ) → slice_get k.ops pc ≡ Some (PutStatic i) → slice_get P.fields i ≡ Some f → IsKnown f o
+      → HasAt (duplicate_method P k).ops a (Load k.params ∷ InvokeStatic (setter P i) ∷ []) → (x : ℤ) → FitsInt x → Before (alone.On (frame m pc l (Int x ∷ s) ∷ fs) M.turns) w r
+      → (After (alone.On (frame m (pc + 1) l s ∷ fs) M.turns) (access (address f.place) (word_of (value.Int x)) ∷ w) r
+      → Then (On Open (frame dn (a + 1 + 1) l' s ∷ gs) M (access (address f.place) (word_of (value.Int x)) ∷ w) r))
+      → Now (On Open (frame dn a l' (Int x ∷ s) ∷ gs) M w r)
+
+module _ (P Q : Program) (B : Bounds) (mn : ℕ) (k0 : Method) (slots : List Slot) (Now Then : Run → Type 0) (Before After : Alone → Log → Log → Type 0) (X : IsWalk P Q B mn k0 slots Now Then Before After) where
+  -- a turn is counted by both
+  pub turned_alike : (turns : ℕ) (fs gs : Frames) (m : Meter) (w r : Log) → After (alone.turned fs turns) w r
+      → ((t : ℕ) → After (alone.On fs t) w r → Then (On Open gs (record m { turns = t }) w r)) → Then (with_turns turns gs m w r)
+  turned_alike zero fs gs m w r reached go = X.out_of_turns m w r reached
+  turned_alike (suc t) fs gs m w r reached go = go t reached
+
+  pub entered_alike : (deep : Bool) (turns : ℕ) (fs gs : Frames) (m : Meter) (w r : Log) → After (alone.entered deep fs turns) w r
+      → ((t : ℕ) → After (alone.On fs t) w r → Then (On Open gs (record m { turns = t }) w r)) → Then (with_depth deep turns gs m w r)
+  entered_alike deep zero fs gs m w r reached go = X.out_of_turns m w r reached
+  entered_alike true (suc t) fs gs m w r reached go = X.too_deep m w r reached
+  entered_alike false (suc t) fs gs m w r reached go = go t reached

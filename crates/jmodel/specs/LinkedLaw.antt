@@ -1,0 +1,21 @@
+-- What is linked is a program that the other laws speak of.
+use Rattle.std.specs.Prelude.{◌≡◌, pos, [], ◌∷◌, Some}
+use Rattle.std.specs.List.{AllByRecursion}
+use Rattle.jmodel.specs.ClassFile.{ClassFile}
+use Rattle.jmodel.specs.Program.{Method, Program}
+use Rattle.jmodel.specs.Source.{IsStraightProgram}
+use Rattle.jmodel.specs.Layout.{fields_of}
+use Rattle.jmodel.specs.Linking.{linked}
+
+-- the mark without a number of attempts
+abbrev pub IsMarked : Method → Type 0
+IsMarked k = k.retries ≡ Some (pos 2147483647)
+
+-- straight-line methods, each of them marked, over the class's own static fields
+pub record IsLinked (c : ClassFile) (P : Program) : Type 0 where
+  pub straight : IsStraightProgram P
+  pub marked : AllByRecursion IsMarked P.methods
+  pub fields : P.fields ≡ fields_of (c ∷ []) 0 (c ∷ [])
+
+abbrev pub LinkedLaw : Type 0
+LinkedLaw = (c : ClassFile) (P : Program) → linked c ≡ Some P → IsLinked c P

@@ -1,0 +1,34 @@
+-- The state that original methods run over.
+use Rattle.std.specs.Prelude.{ℕ, zero, suc, List, Option, Some, None, nat_eq, if◌then◌else◌, slice_get, slice_set, option_and_then}
+use Rattle.jmodel.specs.declared.value.Value.{Value}
+use Rattle.jmodel.specs.declared.op.Place.{Place}
+
+-- an object, an array or a class's static fields: its type's number, and its values
+pub record Object : Type 0 where
+  pub type : ℕ
+  pub values : List Value
+
+-- the objects by reference, and the used words of each region
+pub record State : Type 0 where
+  pub objects : ℕ → Option Object
+  pub used : ℕ → ℕ
+
+abbrev pub value_at : ℕ → Object → Option Value
+value_at zero o = None
+value_at (suc i) o = slice_get o.values i
+
+-- the value at a place
+abbrev pub value_held : State → Place → Option Value
+value_held σ p = option_and_then (value_at p.index) (σ.objects p.object)
+
+abbrev pub object_with : ℕ → Value → Object → Object
+object_with zero v o = o
+object_with (suc i) v o = record o { values = slice_set o.values i v }
+
+abbrev pub changed : ℕ → Value → Option Object → Option Object
+changed i v None = None
+changed i v (Some o) = Some (object_with i v o)
+
+-- the state with another value at a place
+abbrev pub put : State → Place → Value → State
+put σ p v = record σ { objects = λ r. if nat_eq r p.object then changed p.index v (σ.objects r) else σ.objects r }

@@ -1,0 +1,26 @@
+//! Laws of the definitions: each function's contract is one, and its body does nothing.
+ghost use Rattle.jmodel.specs.Law.{Completion, Preservation, Simulation, Soundness};
+
+/// Rewritten straight-line code never gets stuck: whatever words the engine answers, wherever it meets conflicts and
+/// whatever the limits are, no instruction misses an operand, a local or a phase that it needs.
+pub fn soundness()
+    ensures { Soundness }
+{}
+
+/// The rewriting of int code adds nothing that gets stuck: where the original method never does, whatever ints its fields
+/// give, the rewritten code never does, whatever the engine answers.
+pub fn preservation()
+    ensures { Preservation }
+{}
+
+/// What a call of rewritten int code did in its last attempt is what the original method does in one piece, from each
+/// state that has what the attempt read: the same answer, the state that its writes leave, and as many turns and frames.
+pub fn simulation()
+    ensures { Simulation }
+{}
+
+/// Where a call of the original method ends, there are replies under which the rewritten code ends: with the same answer,
+/// reads of what memory has, and writes that leave the same state.
+pub fn completion()
+    ensures { Completion }
+{}

@@ -1,0 +1,21 @@
+//! The shared types, and in `specs/` the definitions of what the program promises.
+#![tactic(auto)]
+
+pub mod bytes;
+pub mod class_file;
+pub mod journal;
+pub mod laws;
+pub mod name;
+pub mod op;
+pub mod refusal;
+pub mod serial_law;
+pub mod typing;
+pub mod value;
+
+pub use bytes::Bytes;
+pub use class_file::{Constant, FieldType, Handler};
+pub use journal::Line;
+pub use name::MethodName;
+pub use refusal::{Halt, NoMemory, Refusal};
+pub use typing::{TypeEntry, Typing, VType};
+pub use value::{Answer, Stamp, Value};

@@ -1,0 +1,179 @@
+//! Instructions by kind, with every name resolved (JVM Specification, Java SE 7, chapter 6). Places in code are counted
+//! in instructions, from 0.
+use crate::value::Value;
+
+/// One place of a frame, among its locals or on its operand stack (JVM Specification, Java SE 7, section 2.6). A long
+/// takes two.
+#[derive(Clone, Copy, Debug)]
+pub enum Slot {
+    Int(i32),
+    /// The first place of a long.
+    Long(i64),
+    /// The second place of a long.
+    Second,
+    /// Reference 0 is null.
+    Ref(u64),
+    /// The context of the lane's transactions.
+    Context,
+    /// What a plain load gave in transactional code: of no use but to be handed to the context.
+    Loaded,
+    /// A local in which nothing was stored.
+    Empty,
+}
+
+/// The type of a field or an element, as far as words of memory go.
+#[derive(Clone, Copy, Debug)]
+pub enum WordType {
+    Int,
+}
+
+/// A word's place: an object, and the distance from its header, from 1.
+#[derive(Clone, Copy, Debug)]
+pub struct Place {
+    pub object: u64,
+    pub index: u64,
+}
+
+/// Two ints to one.
+#[derive(Clone, Copy, Debug)]
+pub enum Binary {
+    Add,
+    Subtract,
+    Multiply,
+}
+
+/// What a branch asks of an int.
+#[derive(Clone, Copy, Debug)]
+pub enum Test {
+    Zero,
+}
+
+/// What rearranges the operand stack.
+#[derive(Clone, Copy, Debug)]
+pub enum Rearrange {
+    Nothing,
+    Pop,
+    Duplicate,
+}
+
+/// A call of the transaction's context (Korland, Shavit, Felber, MULTIPROG 2010, in this project's form).
+#[derive(Clone, Copy, Debug)]
+pub enum ContextCall {
+    /// Begins an attempt.
+    Init,
+    /// Before a plain load of a field.
+    BeforeRead,
+    /// After it.
+    OnRead(WordType),
+    /// In place of a store to a field.
+    OnWrite(WordType),
+    Commit,
+    Rollback,
+}
+
+/// An instruction.
+#[derive(Clone, Copy, Debug)]
+pub enum Op {
+    Constant(Value),
+    Load(usize),
+    Store(usize),
+    Rearrange(Rearrange),
+    Binary(Binary),
+    Negate,
+    /// To the target, where the test holds.
+    Branch(Test, usize),
+    Goto(usize),
+    /// A static field, by its number.
+    GetStatic(usize),
+    PutStatic(usize),
+    /// A static method, by its number.
+    InvokeStatic(usize),
+    Return,
+    ReturnValue,
+    Throw,
+    /// The lane's context.
+    GetContext,
+    Context(ContextCall),
+}
+
+/// Which exceptions an entry of an exception table takes.
+#[derive(Clone, Copy, Debug)]
+pub enum Catches {
+    /// The conflict of a transaction.
+    Conflict,
+    Any,
+}
+
+/// An exception entry: instructions from one up to another, and where an exception in them goes.
+#[derive(Clone, Copy, Debug)]
+pub struct Catch {
+    pub from: usize,
+    pub to: usize,
+    pub at: usize,
+    pub catches: Catches,
+}
+
+/// What an instruction asks of memory or of the transaction.
+#[derive(Clone, Copy, Debug)]
+pub enum Request {
+    /// A plain load.
+    Get(Place, WordType),
+    /// A plain store of a value of the field's type.
+    Put(Place, Value),
+    /// Begins an attempt, of which there may be this many.
+    Begin(i32),
+    /// Before a read.
+    Look(Place),
+    Read(Place, WordType),
+    Write(Place, u64),
+    Commit,
+    Rollback,
+}
+
+/// What an instruction does, beside what it does to its frame.
+#[derive(Clone, Copy, Debug)]
+pub enum Doing {
+    Next,
+    Jump(usize),
+    Invoke(usize),
+    Give(Option<Value>),
+    Throw(u64),
+    Ask(Request),
+}
+
+/// What a step of the machine leaves to be done.
+#[derive(Clone, Copy, Debug)]
+pub enum Asking {
+    /// Nothing.
+    Go,
+    /// A turn is to be counted.
+    Turn,
+    /// A method was entered: a turn, and whether there are too many frames now.
+    Enter(bool),
+    /// The last frame gave this.
+    Return(Option<Value>),
+    /// No frame took this exception.
+    Throw(u64),
+    /// The instruction has taken its operands and waits for this.
+    Ask(Request),
+}
+
+/// A read or a write of memory: an address with its word.
+#[derive(Clone, Copy, Debug)]
+pub struct Access {
+    pub address: u64,
+    pub word: u64,
+}
+
+/// Where a call of a wrapper stands.
+#[derive(Clone, Copy, Debug)]
+pub enum Phase {
+    /// Outside an attempt.
+    Ready,
+    /// In an attempt.
+    Open,
+    /// In an attempt that met a conflict.
+    Doomed,
+    /// After the commit.
+    Closed,
+}

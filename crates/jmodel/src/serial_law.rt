@@ -1,0 +1,22 @@
+//! The law that ties a history to calls made one after another.
+ghost use Rattle.jmodel.specs.SerialLaw.{SerialLaw};
+
+/// Along a legal list of explained entries, the original methods, called one after another from the opening state, give
+/// each entry's answer, and the last words stand for the last state.
+pub fn serial_law()
+    ensures { SerialLaw }
+{}
+
+ghost use Rattle.jmodel.specs.OpeningLaw.{OpeningLaw};
+
+/// The words that a run begins with stand for the state that it begins with.
+pub fn opening_law()
+    ensures { OpeningLaw }
+{}
+
+ghost use Rattle.jmodel.specs.LinkedLaw.{LinkedLaw};
+
+/// A class of the form that is built so far means a program of straight-line methods, each of them marked.
+pub fn linked_law()
+    ensures { LinkedLaw }
+{}

@@ -1,0 +1,35 @@
+//! Types of the places of a frame (JVM Specification, Java SE 7, section 4.10.1.2).
+use crate::bytes::Bytes;
+
+/// The type of one place.
+#[derive(Debug, Drop)]
+pub enum VType {
+    Int,
+    Long,
+    /// The second place of a long.
+    Second,
+    Null,
+    /// A class, or an array by its descriptor.
+    Ref(Bytes),
+    /// What `new` at this pc has made, before its constructor has run.
+    Uninit(u16),
+    /// `this` in a constructor, before another constructor has run.
+    UninitThis,
+    Top,
+}
+
+/// The types before one instruction.
+#[derive(Debug, Drop)]
+pub struct TypeEntry {
+    pub pc: u16,
+    pub locals: Vec<VType>,
+    pub stack: Vec<VType>,
+    /// Whether `this` has been built.
+    pub built: bool,
+}
+
+/// The entries of a method, in order of pc.
+#[derive(Debug, Drop)]
+pub struct Typing {
+    pub entries: Vec<TypeEntry>,
+}

@@ -1,0 +1,90 @@
+-- Runs, step by step.
+use Rattle.std.proofs.Common.{◌≡◌, ℕ, Bool, List, [], ◌∷◌, ◌++◌, Result, Ok, Err, ◌⊎◌, inl, inr, refl, ap, ◌∙◌}
+use Rattle.jmodel.specs.declared.op.Phase.TheVariants.{Closed}
+use Rattle.jmodel.specs.declared.op.Asking.{Asking}
+use Rattle.jmodel.specs.declared.op.Asking.TheVariants.{Go, Turn, Enter, Return, Throw, Ask}
+use Rattle.jmodel.specs.declared.op.Request.{Request}
+use Rattle.jmodel.specs.declared.op.Request.TheVariants as request
+use Rattle.jmodel.specs.declared.value.Answer.TheVariants.{Returned}
+use Rattle.jmodel.specs.Program.{Program}
+use Rattle.jmodel.specs.Step.{Frames, Asked, Fails, step}
+use Rattle.jmodel.specs.Attempt.{Log, Bounds, Meter, Run, On, Ended, Stuck, Reply, Gives, on_request, on_asked, next_run, run, Comes}
+use Rattle.machine.specs.declared.failure.Failure.{Failure}
+use Rattle.machine.specs.declared.failure.Failure.TheVariants as failure
+use Rattle.jmodel.specs.History.{Entry}
+use Rattle.machine.specs.declared.running.Running.{Running}
+use Rattle.machine.specs.Running.{Holds, IsFinished, IsCommit}
+use Rattle.machine.specs.Meets.{IsStep}
+
+run-append : (P : Program) (B : Bounds) (us vs : List Reply) (c : Run) → run P B (us ++ vs) c ≡ run P B vs (run P B us c)
+run-append P B [] vs c = refl
+run-append P B (u ∷ us) vs c = run-append P B us vs (next_run P B u c)
+
+-- a run from c to d, and one from there on
+pub comes_trans : (P : Program) (B : Bounds) (c d e : Run) → Comes P B c d → Comes P B d e → Comes P B c e
+comes_trans P B c d e (us, p) (vs, q) = (us ++ vs, run-append P B us vs c ∙ rw p q)
+
+pub comes_here : (P : Program) (B : Bounds) (c : Run) → Comes P B c c
+comes_here P B c = ([], refl)
+
+pub comes_next : (P : Program) (B : Bounds) (c d : Run) (v : Reply) → next_run P B v c ≡ d → Comes P B c d
+comes_next P B c d v e = (v ∷ [], e)
+
+-- one more step
+pub comes_on : (P : Program) (B : Bounds) (c d e : Run) (v : Reply) → Comes P B c d → next_run P B v d ≡ e → Comes P B c e
+comes_on P B c d e v h p = comes_trans P B c d e h (comes_next P B d e v p)
+
+-- a step after the commit
+abbrev pub after_commit : Log → Log → Meter → Frames → Result Asking Failure → Run
+after_commit w r m gs (Ok Go) = On Closed gs m w r
+after_commit w r m gs (Ok (Return x)) = Ended (Returned x) m w r
+after_commit w r m gs result = Stuck
+
+closed_request : (P : Program) (B : Bounds) (q : Request) (v : Reply) (fs : Frames) (m : Meter) (w r : Log) → on_request P B q Closed v fs m w r ≡ Stuck
+closed_request P B (request.Get p t) v fs m w r = refl
+closed_request P B (request.Put p x) v fs m w r = refl
+closed_request P B (request.Begin n) v fs m w r = refl
+closed_request P B (request.Look p) v fs m w r = refl
+closed_request P B (request.Read p t) v fs m w r = refl
+closed_request P B (request.Write p x) v fs m w r = refl
+closed_request P B request.Commit v fs m w r = refl
+closed_request P B request.Rollback v fs m w r = refl
+
+-- after the commit an instruction that asks for anything is stuck
+pub closed_step : (P : Program) (B : Bounds) (fs gs : Frames) (m : Meter) (w r : Log) (a : Asking) → IsStep (Ok a) gs (step P fs)
+    → next_run P B (Gives 0) (On Closed fs m w r) ≡ after_commit w r m gs (Ok a)
+closed_step P B fs gs m w r Go e = ap (λ (x : Asked). on_asked P B x Closed (Gives 0) m w r) e
+closed_step P B fs gs m w r Turn e = ap (λ (x : Asked). on_asked P B x Closed (Gives 0) m w r) e
+closed_step P B fs gs m w r (Enter deep) e = ap (λ (x : Asked). on_asked P B x Closed (Gives 0) m w r) e
+closed_step P B fs gs m w r (Return x) e = ap (λ (x : Asked). on_asked P B x Closed (Gives 0) m w r) e
+closed_step P B fs gs m w r (Throw o) e = ap (λ (x : Asked). on_asked P B x Closed (Gives 0) m w r) e
+closed_step P B fs gs m w r (Ask q) e = ap (λ (x : Asked). on_asked P B x Closed (Gives 0) m w r) e ∙ closed_request P B q (Gives 0) gs m w r
+
+-- a step that fails is stuck
+pub fails : (P : Program) (B : Bounds) (fs : Frames) (m : Meter) (w r : Log) → step P fs ≡ Fails → next_run P B (Gives 0) (On Closed fs m w r) ≡ Stuck
+fails P B fs m w r e = ap (λ (x : Asked). on_asked P B x Closed (Gives 0) m w r) e
+
+-- a run after the commit ends on an error
+pub finish_fails : (P : Program) (B : Bounds) (c : Run) (fs gs : Frames) (m : Meter) (w r : Log) (e : Failure) → Comes P B c (On Closed fs m w r)
+    → IsStep (Err e) gs (step P fs) → IsFinished P B c m w r (Err e)
+finish_fails P B c fs gs m w r failure.Wrong h e = comes_on P B c _ _ (Gives 0) h (fails P B fs m w r e)
+finish_fails P B c fs gs m w r failure.NoMemory h e = tt
+
+-- a commit whose call has no value
+pub commit_fails : (P : Program) (B : Bounds) (c : Reply → Run) (allows : Entry → Type 0) (S : List Entry → ℕ → Log → Log → Type 0) (h : List Entry) (n used : ℕ) (r w : Log) (a : Running) (m : Meter) (e : Failure)
+    → IsFinished P B (c (Gives 0)) m w r (Err e) → Holds (S h) n a.stage a.tried r w → IsCommit P B c allows S h n used r w a (Err e)
+commit_fails P B c allows S h n used r w a m failure.Wrong f s = (s, f)
+commit_fails P B c allows S h n used r w a m failure.NoMemory f s =
+    record { conflicts = s.conflicts; reads = r; writes = w; later = s.later; stands = s.stands; idle = s.idle }
+
+-- what isn't Go and isn't Return is stuck
+pub closed_stuck : (P : Program) (B : Bounds) (fs gs : Frames) (m : Meter) (w r : Log) (a : Asking)
+    → (a ≡ Turn) ⊎ (((x : Bool) × (a ≡ Enter x)) ⊎ (((x : ℕ) × (a ≡ Throw x)) ⊎ ((x : Request) × (a ≡ Ask x))))
+    → IsStep (Ok a) gs (step P fs) → next_run P B (Gives 0) (On Closed fs m w r) ≡ Stuck
+closed_stuck P B fs gs m w r a k e = closed_step P B fs gs m w r a e ∙ is_stuck k
+  where
+    is_stuck : (a ≡ Turn) ⊎ (((x : Bool) × (a ≡ Enter x)) ⊎ (((x : ℕ) × (a ≡ Throw x)) ⊎ ((x : Request) × (a ≡ Ask x)))) → after_commit w r m gs (Ok a) ≡ Stuck
+    is_stuck (inl q) = rw q refl
+    is_stuck (inr (inl q)) = rw q.1 refl
+    is_stuck (inr (inr (inl q))) = rw q.1 refl
+    is_stuck (inr (inr (inr q))) = rw q.1 refl

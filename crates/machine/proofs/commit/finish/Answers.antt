@@ -1,0 +1,26 @@
+use Rattle.std.proofs.Common.{◌∷◌}
+use Rattle.std.proofs.lemmas.Result.{err_from_is_err_and}
+use Rattle.jmodel.specs.Attempt.{Gives}
+use Rattle.jmodel.specs.declared.op.Asking.TheVariants.{Go, Return}
+use Rattle.machine.proofs.Comes.{comes_on, closed_step, closed_stuck, finish_fails}
+use Rattle.machine.proofs.commit.finish.Goals as goal
+
+pub returns-in_err-step : goal.returns-in_err-step
+returns-in_err-step c = λ B m w r.
+    let p = err_from_is_err_and c.from_residual.result c.from_residual.ensures.1 in
+    rw (p.1, p.2) (finish_fails c.args.program.now B _ (c.loop.frame ∷ c.loop.callers) (c.step.new.frame ∷ c.step.new.callers) m w r _ (c.loop.invariant B m w r) c.in_err-step.ensures.step)
+
+pub returns-in-Return : goal.returns-in-Return
+returns-in-Return c = λ B m w r.
+    comes_on _ _ _ _ _ (Gives 0) (c.loop.invariant B m w r)
+    (closed_step c.args.program.now B (c.loop.frame ∷ c.loop.callers) (c.step.new.frame ∷ c.step.new.callers) m w r (Return c.in-Return.value) (rw c.in-Return.is at c.in_ok-step.ensures.step))
+
+pub returns-in-Turn : goal.returns-in-Turn
+returns-in-Turn c = λ B m w r.
+    comes_on _ _ _ _ _ (Gives 0) (c.loop.invariant B m w r)
+    (closed_stuck c.args.program.now B (c.loop.frame ∷ c.loop.callers) (c.step.new.frame ∷ c.step.new.callers) m w r c.in_ok-step.field-0 c.in-Turn.is c.in_ok-step.ensures.step)
+
+pub loop-preserved : goal.loop-preserved
+loop-preserved c = λ B m w r.
+    comes_on _ _ _ _ _ (Gives 0) (c.loop.invariant B m w r)
+    (closed_step c.args.program.now B (c.loop.frame ∷ c.loop.callers) (c.step.new.frame ∷ c.step.new.callers) m w r Go (rw c.in-Go.is at c.in_ok-step.ensures.step))

@@ -1,0 +1,28 @@
+use Rattle.machine.proofs.frame.Frame.act.Goals as goal
+
+pub returns-in-Constant-clause-does : goal.returns-in-Constant-clause-does
+returns-in-Constant-clause-does c = rw c.in-Constant.is (c.constant.ensures.does c.args.program.now)
+
+pub returns-in-Load-clause-does : goal.returns-in-Load-clause-does
+returns-in-Load-clause-does c = rw c.in-Load.is (c.load.ensures.does c.args.program.now)
+
+pub returns-in-Store-clause-does : goal.returns-in-Store-clause-does
+returns-in-Store-clause-does c = rw c.in-Store.is (c.store.ensures.does c.args.program.now)
+
+pub returns-in-Binary-clause-does : goal.returns-in-Binary-clause-does
+returns-in-Binary-clause-does c = rw c.in-Binary.is (c.binary.ensures.does c.args.program.now)
+
+pub returns-in-Negate-clause-does : goal.returns-in-Negate-clause-does
+returns-in-Negate-clause-does c = rw c.in-Negate.is (c.negate.ensures.does c.args.program.now)
+
+pub returns-in-Branch-clause-does : goal.returns-in-Branch-clause-does
+returns-in-Branch-clause-does c = rw c.in-Branch.is (c.branch-self.ensures.does c.args.program.now)
+
+pub returns-in-ReturnValue-clause-does : goal.returns-in-ReturnValue-clause-does
+returns-in-ReturnValue-clause-does c = rw c.in-ReturnValue.is (c.return_value.ensures.does c.args.program.now)
+
+pub returns-in-Throw-clause-does : goal.returns-in-Throw-clause-does
+returns-in-Throw-clause-does c = rw c.in-Throw.is (c.throw.ensures.does c.args.program.now)
+
+pub returns-in-GetContext-clause-does : goal.returns-in-GetContext-clause-does
+returns-in-GetContext-clause-does c = rw c.in-GetContext.is (c.get_context.ensures.does c.args.program.now)

@@ -1,0 +1,49 @@
+-- What functions of the machine say of an instruction's meaning.
+use Rattle.std.specs.Prelude.{◌≡◌, ◌+◌, ◌<◌, ◌^◌, [], Result, Ok, Err}
+use Rattle.jmodel.specs.declared.op.Doing.{Doing}
+use Rattle.jmodel.specs.declared.op.Doing.TheVariants as doing
+use Rattle.jmodel.specs.declared.op.Request.{Request}
+use Rattle.jmodel.specs.declared.op.Request.TheVariants.{Look, Read, Write}
+use Rattle.jmodel.specs.declared.op.Asking.{Asking}
+use Rattle.jmodel.specs.declared.op.Asking.TheVariants.{Return, Throw, Ask}
+use Rattle.jmodel.specs.Step.{Did, Does, Wrong, Frame, Frames, Asked, Asks, Fails}
+use Rattle.machine.specs.declared.failure.Failure.{Failure}
+use Rattle.machine.specs.declared.failure.Failure.TheVariants as failure
+
+-- memory may be short at any instruction
+abbrev pub Meets : Result Doing Failure → Frame → Did → Type 0
+Meets (Ok d) f x = x ≡ Does d f
+Meets (Err failure.Wrong) f x = x ≡ Wrong
+Meets (Err failure.NoMemory) f x = Unit {0}
+
+-- what is looked for isn't there, whatever would be done with it
+abbrev pub Lacks : {K : Type 0} → Failure → (K → Did) → Type 0
+Lacks {K} e on = (e ≡ failure.Wrong) × ((k : K) → on k ≡ Wrong)
+
+-- after the last frame none is left
+abbrev pub IsAsked : Asking → Frames → Asked → Type 0
+IsAsked (Return v) fs x = x ≡ Asks (Return v) []
+IsAsked (Throw o) fs x = x ≡ Asks (Throw o) []
+IsAsked a fs x = x ≡ Asks a fs
+
+-- memory may be short at any step
+abbrev pub IsStep : Result Asking Failure → Frames → Asked → Type 0
+IsStep (Ok a) fs x = IsAsked a fs x
+IsStep (Err failure.Wrong) fs x = x ≡ Fails
+IsStep (Err failure.NoMemory) fs x = Unit {0}
+
+-- the place that a request names has an address of 64 bits
+abbrev pub HasAddress : Request → Type 0
+HasAddress (Look p) = p.object + p.index < 2 ^ 64
+HasAddress (Read p t) = p.object + p.index < 2 ^ 64
+HasAddress (Write p x) = p.object + p.index < 2 ^ 64
+HasAddress q = Unit {0}
+
+abbrev pub CanDo : Doing → Type 0
+CanDo (doing.Ask q) = HasAddress q
+CanDo d = Unit {0}
+
+-- the instruction after the one that asks has a number
+abbrev pub CanAsk : Asking → Frame → Type 0
+CanAsk (Ask q) f = HasAddress q × (f.pc + 1 < 2 ^ 64)
+CanAsk a f = Unit {0}

@@ -1,0 +1,21 @@
+//! The machine that runs the calls of a program, each as a transaction over an engine.
+#![tactic(auto)]
+
+pub mod callers;
+pub mod commit;
+pub mod engine;
+pub mod failure;
+pub mod frame;
+pub mod machine;
+pub mod running;
+pub mod solo;
+pub mod stack;
+pub mod step;
+pub mod value;
+
+pub use engine::{Conflict, Engine, TxEnd};
+pub use machine::{Limits, Machine, Stuck};
+pub use solo::Solo;
+
+#[cfg(test)]
+mod tests;

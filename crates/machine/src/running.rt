@@ -1,0 +1,352 @@
+//! A call on its way: what it asks of the engine, step by step.
+ghost use Rattle.std.specs.Prelude.{◌≡◌, ◌≢◌, ◌<◌, ◌+◌, ◌^◌, ℕ, List, [], ◌∷◌, IfOk};
+ghost use Rattle.jmodel.specs.Attempt.{Log, Bounds, On, address, next_run, on_request, entered, unwound};
+ghost use Rattle.jmodel.specs.Program.{Program as JProgram};
+ghost use Rattle.jmodel.specs.History.{Entry};
+ghost use Rattle.jmodel.specs.declared.op.Request.TheVariants as request;
+ghost use Rattle.jmodel.specs.Step.{unwinds};
+ghost use Rattle.machine.specs.declared.running.Stage.TheVariants as stage;
+ghost use Rattle.jmodel.specs.declared.op.Phase.TheVariants as phase;
+ghost use Rattle.machine.specs.Meets.{HasAddress};
+ghost use Rattle.machine.specs.Machine.{bounds_of};
+ghost use Rattle.machine.specs.Running.{at, frames, meter, phase_of, Holds, IsWithin, IsTurn};
+
+use crate::callers::Callers;
+use crate::engine::{Engine, TxEnd};
+use crate::failure::Failure;
+use crate::frame::Frame;
+use crate::machine::Limits;
+use crate::stack::Locals;
+use crate::step::{step, unwind};
+use crate::value::value_of;
+use hierarchy::program::Program;
+use jmodel::op::{Asking, Place, Request, Slot, WordType};
+use jmodel::value::Value;
+use std::alloc::Global;
+
+/// Where a call stands before its commit.
+#[derive(Clone, Copy, Debug)]
+pub enum Stage {
+    /// Outside an attempt.
+    Ready,
+    /// In an attempt.
+    Open,
+    /// In an attempt that met a conflict.
+    Doomed,
+}
+
+/// What is to be done after a step.
+#[derive(Clone, Copy, Debug)]
+pub enum Todo {
+    Go,
+    /// The attempt is to be committed.
+    Commit,
+    /// The turns are used up.
+    Budget,
+    /// There are too many frames.
+    Depth,
+    /// The attempts are used up.
+    Spent,
+}
+
+/// A call on its way.
+#[derive(Drop)]
+pub struct Running {
+    pub stage: Stage,
+    pub frame: Frame,
+    pub callers: Callers,
+    /// The turns that are left.
+    pub turns: u64,
+    /// The attempts begun.
+    pub tried: u64,
+}
+
+impl Running {
+    ghost use Rattle.machine.specs.Running.{IsStarted};
+
+    /// A call of a method, or `Wrong` where the program has none of this number.
+    pub fn start(
+        alloc: Global,
+        program: &Program,
+        method: usize,
+        args: &[Value],
+    ) -> Result<Self, Failure>
+        ensures { (used : ℕ) → IsStarted program.now method args.now used result }
+    {
+        let entry = program.method(method).ok_or(Failure::Wrong)?.entry();
+        let locals = Locals::of_values(alloc, args)?;
+        Ok(Running {
+            stage: Stage::Ready,
+            frame: Frame::start(alloc, method, entry, locals)?,
+            callers: Callers::new(alloc),
+            turns: 0,
+            tried: 0,
+        })
+    }
+}
+
+impl Running {
+    ghost use Rattle.jmodel.specs.Step.{resumed};
+    ghost use Rattle.jmodel.specs.Value.{pushed};
+    ghost use Rattle.machine.specs.Running.{Lands};
+
+    /// Counts a turn, before the test whether there are too many frames.
+    fn count(&mut self, deep: bool) -> Result<Todo, Failure>
+        ensures run { (used : ℕ) (r w : Log)
+            → Lands (entered (phase_of self.old.stage) deep (frames self.old) (meter self.old used) w r) self.new used w r result }
+        ensures no_commit { result ≢ Ok Todo.Commit }
+        ensures not_spent { result ≢ Ok Todo.Spent }
+        ensures stage { self.new.stage ≡ self.old.stage }
+        ensures tried { self.new.tried ≡ self.old.tried }
+    {
+        if !matches!(self.stage, Stage::Open) {
+            return Err(Failure::Wrong);
+        }
+        if self.turns == 0 {
+            return Ok(Todo::Budget);
+        }
+        if deep {
+            return Ok(Todo::Depth);
+        }
+        self.turns -= 1;
+        Ok(Todo::Go)
+    }
+
+    /// Goes on to the next instruction, with a slot on the stack.
+    fn resume(&mut self, slot: Slot) -> Result<Todo, Failure>
+        requires { self.old.frame.pc + 1 < 2 ^ 64 }
+        ensures run { (used : ℕ) (r w : Log)
+            → Lands (On (phase_of self.old.stage) (resumed (slot ∷ []) (frames self.old)) (meter self.old used) w r) self.new used w r result }
+        ensures go { IfOk result (λ todo. todo ≡ Todo.Go) }
+        ensures stage { self.new.stage ≡ self.old.stage }
+        ensures tried { self.new.tried ≡ self.old.tried }
+    {
+        self.frame.resume(slot)?;
+        Ok(Todo::Go)
+    }
+
+    /// Goes on to the next instruction, with a value on the stack.
+    fn resume_with(&mut self, value: Value) -> Result<Todo, Failure>
+        requires { self.old.frame.pc + 1 < 2 ^ 64 }
+        ensures run { (used : ℕ) (r w : Log)
+            → Lands (On (phase_of self.old.stage) (resumed (pushed value []) (frames self.old)) (meter self.old used) w r) self.new used w r result }
+        ensures go { IfOk result (λ todo. todo ≡ Todo.Go) }
+        ensures stage { self.new.stage ≡ self.old.stage }
+        ensures tried { self.new.tried ≡ self.old.tried }
+    {
+        self.frame.resume_with(value)?;
+        Ok(Todo::Go)
+    }
+
+    /// Throws the conflict, which ends the attempt's reads and writes.
+    fn doom(&mut self, program: &Program) -> Result<Todo, Failure>
+        ensures run { (used : ℕ) (r w : Log)
+            → Lands (unwound (unwinds program.now 1 (frames self.old)) (meter self.old used) w r) self.new used w r result }
+        ensures go { IfOk result (λ todo. todo ≡ Todo.Go) }
+        ensures stage { self.new.stage ≡ stage.Doomed }
+        ensures tried { self.new.tried ≡ self.old.tried }
+    {
+        self.stage = Stage::Doomed;
+        match unwind(program, CONFLICT, &mut self.frame, &mut self.callers)? {
+            Asking::Go => Ok(Todo::Go),
+            _ => Err(Failure::Wrong),
+        }
+    }
+}
+
+/// The reference of the exception that a conflict throws.
+const CONFLICT: u64 = 1;
+
+/// The address of a place.
+fn address(place: Place) -> u64
+    requires { place.object + place.index < 2 ^ 64 }
+    ensures { result ≡ address place }
+{
+    place.object + place.index
+}
+
+impl Running {
+    /// Begins an attempt, if there may be one more.
+    fn begin<E: Engine>(
+        &mut self,
+        limits: Limits,
+        engine: &mut E,
+        retries: i32,
+    ) -> Result<Todo, Failure>
+        requires stage { self.old.stage ≡ stage.Ready }
+        requires next { self.old.frame.pc + 1 < 2 ^ 64 }
+        ensures run { (h : List Entry) (n used : ℕ) (r w : Log) → Holds (E.stands engine.old h) n stage.Ready self.old.tried r w
+            → (P : JProgram) → IsTurn (λ v. on_request P (bounds_of limits) (request.Begin retries) phase.Ready v (frames self.old) (meter self.old used) w r)
+            (Holds (E.stands engine.new h) n self.new.stage self.new.tried) used self.new result }
+        ensures no_commit { result ≢ Ok Todo.Commit }
+        ensures spent { result ≡ Ok Todo.Spent → self.new.stage ≡ stage.Ready }
+        ensures ticks { (t : ℕ) → IsWithin t limits.attempts (E.clock engine.old) self.old.stage self.old.tried
+            → IsWithin t limits.attempts (E.clock engine.new) self.new.stage self.new.tried }
+    {
+        let most = u64::try_from(retries).unwrap_or(0).min(limits.attempts);
+        if self.tried >= most {
+            return Ok(Todo::Spent);
+        }
+        engine.begin();
+        self.stage = Stage::Open;
+        self.turns = limits.budget;
+        self.tried += 1;
+        self.frame.advance();
+        Ok(Todo::Go)
+    }
+
+    /// Before a read.
+    fn look<E: Engine>(
+        &mut self,
+        program: &Program,
+        engine: &mut E,
+        place: Place,
+    ) -> Result<Todo, Failure>
+        requires stage { self.old.stage ≡ stage.Open }
+        requires next { self.old.frame.pc + 1 < 2 ^ 64 }
+        requires address { place.object + place.index < 2 ^ 64 }
+        ensures run { (h : List Entry) (n used : ℕ) (r w : Log) → Holds (E.stands engine.old h) n stage.Open self.old.tried r w
+            → (B : Bounds) → IsTurn (λ v. on_request program.now B (request.Look place) phase.Open v (frames self.old) (meter self.old used) w r)
+            (Holds (E.stands engine.new h) n self.new.stage self.new.tried) used self.new result }
+        ensures go { IfOk result (λ todo. todo ≡ Todo.Go) }
+        ensures ticks { (t attempts : ℕ) → IsWithin t attempts (E.clock engine.old) self.old.stage self.old.tried
+            → IsWithin t attempts (E.clock engine.new) self.new.stage self.new.tried }
+    {
+        match engine.before_read(address(place)) {
+            Ok(()) => {
+                self.frame.advance();
+                Ok(Todo::Go)
+            }
+            Err(_) => self.doom(program),
+        }
+    }
+
+    /// A read: what the engine vouches for goes onto the stack.
+    fn read<E: Engine>(
+        &mut self,
+        program: &Program,
+        engine: &mut E,
+        place: Place,
+        word_type: WordType,
+    ) -> Result<Todo, Failure>
+        requires stage { self.old.stage ≡ stage.Open }
+        requires next { self.old.frame.pc + 1 < 2 ^ 64 }
+        requires address { place.object + place.index < 2 ^ 64 }
+        ensures run { (h : List Entry) (n used : ℕ) (r w : Log) → Holds (E.stands engine.old h) n stage.Open self.old.tried r w
+            → (B : Bounds) → IsTurn (λ v. on_request program.now B (request.Read place word_type) phase.Open v (frames self.old) (meter self.old used) w r)
+            (Holds (E.stands engine.new h) n self.new.stage self.new.tried) used self.new result }
+        ensures go { IfOk result (λ todo. todo ≡ Todo.Go) }
+        ensures ticks { (t attempts : ℕ) → IsWithin t attempts (E.clock engine.old) self.old.stage self.old.tried
+            → IsWithin t attempts (E.clock engine.new) self.new.stage self.new.tried }
+    {
+        let address = address(place);
+        let raw = engine.raw(address);
+        match engine.on_read(address, raw) {
+            Ok(word) => self.resume_with(value_of(word_type, word)),
+            Err(TxEnd::Conflict(_)) => self.doom(program),
+            Err(TxEnd::NoMemory) => Err(Failure::NoMemory),
+        }
+    }
+
+    /// A write.
+    fn write<E: Engine>(
+        &mut self,
+        program: &Program,
+        engine: &mut E,
+        place: Place,
+        word: u64,
+    ) -> Result<Todo, Failure>
+        requires stage { self.old.stage ≡ stage.Open }
+        requires next { self.old.frame.pc + 1 < 2 ^ 64 }
+        requires address { place.object + place.index < 2 ^ 64 }
+        ensures run { (h : List Entry) (n used : ℕ) (r w : Log) → Holds (E.stands engine.old h) n stage.Open self.old.tried r w
+            → (B : Bounds) → IsTurn (λ v. on_request program.now B (request.Write place word) phase.Open v (frames self.old) (meter self.old used) w r)
+            (Holds (E.stands engine.new h) n self.new.stage self.new.tried) used self.new result }
+        ensures go { IfOk result (λ todo. todo ≡ Todo.Go) }
+        ensures ticks { (t attempts : ℕ) → IsWithin t attempts (E.clock engine.old) self.old.stage self.old.tried
+            → IsWithin t attempts (E.clock engine.new) self.new.stage self.new.tried }
+    {
+        match engine.on_write(address(place), word) {
+            Ok(()) => {
+                self.frame.advance();
+                Ok(Todo::Go)
+            }
+            Err(TxEnd::Conflict(_)) => self.doom(program),
+            Err(TxEnd::NoMemory) => Err(Failure::NoMemory),
+        }
+    }
+
+    /// Rolls back an attempt that met a conflict.
+    fn rollback<E: Engine>(&mut self, engine: &mut E) -> Result<Todo, Failure>
+        requires stage { self.old.stage ≡ stage.Doomed }
+        requires next { self.old.frame.pc + 1 < 2 ^ 64 }
+        ensures run { (h : List Entry) (n used : ℕ) (r w : Log) → Holds (E.stands engine.old h) n stage.Doomed self.old.tried r w
+            → (P : JProgram) (B : Bounds) → IsTurn (λ v. on_request P B request.Rollback phase.Doomed v (frames self.old) (meter self.old used) w r)
+            (Holds (E.stands engine.new h) n self.new.stage self.new.tried) used self.new result }
+        ensures go { IfOk result (λ todo. todo ≡ Todo.Go) }
+        ensures ticks { (t attempts : ℕ) → IsWithin t attempts (E.clock engine.old) self.old.stage self.old.tried
+            → IsWithin t attempts (E.clock engine.new) self.new.stage self.new.tried }
+    {
+        engine.rollback();
+        self.stage = Stage::Ready;
+        self.frame.advance();
+        Ok(Todo::Go)
+    }
+
+    /// Serves what an instruction asks.
+    fn serve<E: Engine>(
+        &mut self,
+        program: &Program,
+        limits: Limits,
+        engine: &mut E,
+        request: Request,
+    ) -> Result<Todo, Failure>
+        requires { HasAddress request × (self.old.frame.pc + 1 < 2 ^ 64) }
+        ensures run { (h : List Entry) (n used : ℕ) (r w : Log) → Holds (E.stands engine.old h) n self.old.stage self.old.tried r w
+            → IsTurn (λ v. on_request program.now (bounds_of limits) request (phase_of self.old.stage) v (frames self.old) (meter self.old used) w r)
+            (Holds (E.stands engine.new h) n self.new.stage self.new.tried) used self.new result }
+        ensures ticks { (t : ℕ) → IsWithin t limits.attempts (E.clock engine.old) self.old.stage self.old.tried
+            → IsWithin t limits.attempts (E.clock engine.new) self.new.stage self.new.tried }
+        ensures open { result ≡ Ok Todo.Commit → self.new.stage ≡ stage.Open }
+        ensures next { result ≡ Ok Todo.Commit → self.new.frame.pc + 1 < 2 ^ 64 }
+        ensures spent { result ≡ Ok Todo.Spent → self.new.stage ≡ stage.Ready }
+    {
+        match (request, self.stage) {
+            (Request::Begin(retries), Stage::Ready) => self.begin(limits, engine, retries),
+            (Request::Get(..), Stage::Open) => self.resume(Slot::Loaded),
+            (Request::Look(place), Stage::Open) => self.look(program, engine, place),
+            (Request::Read(place, word_type), Stage::Open) => {
+                self.read(program, engine, place, word_type)
+            }
+            (Request::Write(place, word), Stage::Open) => self.write(program, engine, place, word),
+            (Request::Commit, Stage::Open) => Ok(Todo::Commit),
+            (Request::Rollback, Stage::Doomed) => self.rollback(engine),
+            _ => Err(Failure::Wrong),
+        }
+    }
+
+    /// One step, and what is to be done then.
+    pub fn turn<E: Engine>(
+        &mut self,
+        alloc: Global,
+        program: &Program,
+        limits: Limits,
+        engine: &mut E,
+    ) -> Result<Todo, Failure>
+        ensures run { (h : List Entry) (n used : ℕ) (r w : Log) → Holds (E.stands engine.old h) n self.old.stage self.old.tried r w
+            → IsTurn (λ v. next_run program.now (bounds_of limits) v (at self.old used w r)) (Holds (E.stands engine.new h) n self.new.stage self.new.tried) used self.new result }
+        ensures ticks { (t : ℕ) → IsWithin t limits.attempts (E.clock engine.old) self.old.stage self.old.tried
+            → IsWithin t limits.attempts (E.clock engine.new) self.new.stage self.new.tried }
+        ensures open { result ≡ Ok Todo.Commit → self.new.stage ≡ stage.Open }
+        ensures next { result ≡ Ok Todo.Commit → self.new.frame.pc + 1 < 2 ^ 64 }
+        ensures spent { result ≡ Ok Todo.Spent → self.new.stage ≡ stage.Ready }
+    {
+        match step(alloc, program, &mut self.frame, &mut self.callers)? {
+            Asking::Go => Ok(Todo::Go),
+            Asking::Turn => self.count(false),
+            Asking::Enter(deep) => self.count(deep),
+            Asking::Return(_) | Asking::Throw(_) => Err(Failure::Wrong),
+            Asking::Ask(request) => self.serve(program, limits, engine, request),
+        }
+    }
+}

@@ -1,0 +1,167 @@
+//! An engine for one thread, which keeps the writes of an attempt back until its commit.
+ghost use Rattle.std.specs.Prelude.{List, [], ℕ, ◌≡◌};
+ghost use Rattle.jmodel.specs.History.{Entry};
+
+use crate::engine::{Conflict, Engine, TxEnd};
+use jmodel::op::Access;
+use jmodel::value::Stamp;
+use std::alloc::Global;
+use std::marker::{Brand, PhantomData};
+
+/// What a history began with, and what its entries keep to. A caller picks both for its proof.
+pub trait Origin {
+    ghost first: { List ℕ };
+
+    ghost rule: { Entry → Type 0 };
+}
+
+impl Origin for Brand {
+    ghost first = { [] };
+
+    ghost rule = { λ _. Unit {0} };
+}
+
+/// The engine over a plain vector of words. It never answers `Conflict`.
+#[derive(Drop)]
+pub struct Solo<K> {
+    words: Vec<u64>,
+    /// How many updates were committed.
+    clock: u64,
+    writes: Vec<Access>,
+    of: PhantomData<K>,
+}
+
+impl<K: Origin> Engine for Solo<K> {
+    ghost use Rattle.machine.specs.Serial.{StandsFor};
+
+    ghost stands = { λ s h n r w. StandsFor K.rule K.first s.words.items s.clock s.writes.items h n r w };
+
+    ghost allows = { K.rule };
+
+    ghost clock = { λ s. s.clock };
+
+    fn begin(&mut self) {
+        self.writes.clear();
+    }
+
+    fn before_read(&mut self, _address: u64) -> Result<(), Conflict> {
+        Ok(())
+    }
+
+    fn raw(&mut self, address: u64) -> u64 {
+        self.word(address)
+    }
+
+    fn on_read(&mut self, address: u64, _raw: u64) -> Result<u64, TxEnd> {
+        Ok(match self.written(address) {
+            Some(word) => word,
+            None => self.word(address),
+        })
+    }
+
+    // A word beyond the end of memory isn't there.
+    fn on_write(&mut self, address: u64, word: u64) -> Result<(), TxEnd> {
+        if address as usize >= self.words.len()
+            || self.writes.push(Access { address, word }).is_err()
+        {
+            return Err(TxEnd::NoMemory);
+        }
+        Ok(())
+    }
+
+    fn commit(&mut self) -> Result<Stamp, TxEnd> {
+        if self.writes.is_empty() {
+            return Ok(Stamp {
+                at: self.clock,
+                update: false,
+            });
+        }
+        write_all(&mut self.words, &self.writes);
+        self.writes.clear();
+        self.clock += 1;
+        Ok(Stamp {
+            at: self.clock,
+            update: true,
+        })
+    }
+
+    fn finish_refused(&mut self) -> Stamp {
+        self.writes.clear();
+        Stamp {
+            at: self.clock,
+            update: false,
+        }
+    }
+
+    fn rollback(&mut self) {
+        self.writes.clear();
+    }
+
+    fn ticks(&self) -> u64 {
+        self.clock
+    }
+}
+
+impl<K> Solo<K> {
+    ghost use Rattle.std.specs.Prelude.{reverse, slice_index};
+    ghost use Rattle.jmodel.specs.Attempt.{written};
+
+    /// The attempt's last write of an address. Looks through the attempt's writes from the last.
+    fn written(&self, address: u64) -> Option<u64>
+        ensures { result ≡ written (reverse self.now.writes.items) address }
+    {
+        self.writes
+            .iter()
+            .rev()
+            .find(|l| l.address == address)
+            .map(|l| l.word)
+    }
+
+    /// The word at an address, 0 beyond the end.
+    fn word(&self, address: u64) -> u64
+        ensures { result ≡ slice_index self.now.words.items address }
+    {
+        self.words.get(address as usize).copied().unwrap_or(0)
+    }
+
+    /// The words.
+    pub fn into_words(self) -> Vec<u64>
+        ensures { result ≡ self.words }
+    {
+        self.words
+    }
+}
+
+impl<K: Origin> Solo<K> {
+    ghost use Rattle.machine.specs.Serial.{StandsFor};
+
+    /// The engine over these words, with no history. No memory.
+    pub fn new(alloc: Global, words: Vec<u64>) -> Self
+        requires { words.items ≡ K.first }
+        ensures stands { StandsFor K.rule K.first result.words.items result.clock result.writes.items [] 0 [] [] }
+        ensures clock { result.clock ≡ 0 }
+    {
+        Solo {
+            words,
+            clock: 0,
+            writes: Vec::new(alloc),
+            of: PhantomData,
+        }
+    }
+}
+
+ghost use Rattle.std.specs.Prelude.{reverse, All, ◌<◌, length};
+ghost use Rattle.jmodel.specs.declared.op.Access.{Access as JAccess};
+ghost use Rattle.machine.specs.Serial.{applied};
+
+/// Writes these words in turn.
+fn write_all(words: &mut Vec<u64>, writes: &[Access])
+    ensures { words.new.items ≡ applied (reverse writes.now) words.old.items }
+{
+    for l in writes {
+        let at = l.address as usize;
+        if at < words.len() {
+            words[at] = l.word;
+        }
+    }
+}

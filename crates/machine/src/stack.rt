@@ -1,0 +1,272 @@
+//! The operand stack and the locals of a frame.
+ghost use Rattle.std.specs.Prelude.{◌≡◌, List, [], ◌∷◌, IfOk, MatchOption, OnErr, OnOk, MatchResult, IfErr, reverse};
+ghost use Rattle.jmodel.specs.declared.op.Slot.{Slot as Item};
+
+use crate::failure::Failure;
+use jmodel::op::Slot;
+use jmodel::value::Value;
+use std::alloc::{AllocError, Global};
+use std::marker::Model;
+
+/// The operand stack of a frame.
+#[derive(Drop)]
+pub struct Stack {
+    items: Vec<Slot>,
+}
+
+impl Model for Stack {
+    ghost Value = { List Item };
+
+    // the topmost first
+    ghost view = { λ s. reverse s.items.items };
+}
+
+impl Stack {
+    ghost use Rattle.std.specs.Prelude.{◌++◌};
+    ghost use Rattle.jmodel.specs.Value.{pushed};
+
+    /// An empty stack. No memory.
+    pub fn new(alloc: Global) -> Self
+        ensures { result ≡ [] }
+    {
+        Stack {
+            items: Vec::new(alloc),
+        }
+    }
+
+    /// The same slots on a stack of their own.
+    pub fn copy(&self, alloc: Global) -> Result<Self, AllocError>
+        ensures { IfOk result (λ s. s ≡ self.now) }
+    {
+        Ok(Stack {
+            items: Vec::from_slice(alloc, self.items.as_slice())?,
+        })
+    }
+
+    /// The slots, the topmost first.
+    pub fn into_items(self) -> Vec<Slot>
+        ensures { result.items ≡ self }
+    {
+        let mut items = self.items;
+        items.reverse();
+        items
+    }
+
+    /// Puts a slot on top.
+    pub fn push(&mut self, slot: Slot) -> Result<(), AllocError>
+        ensures { OnOk result (self.new ≡ slot ∷ self.old) }
+    {
+        self.items.push(slot)?;
+        Ok(())
+    }
+
+    /// Puts a value on top, a long in two slots.
+    pub fn push_value(&mut self, value: Value) -> Result<(), AllocError>
+        ensures { OnOk result (self.new ≡ pushed value self.old) }
+    {
+        match value {
+            Value::Int(x) => self.push(Slot::Int(x)),
+            Value::Long(x) => {
+                self.push(Slot::Long(x))?;
+                self.push(Slot::Second)
+            }
+            Value::Ref(object) => self.push(Slot::Ref(object)),
+        }
+    }
+
+    /// Drops all slots.
+    pub fn clear(&mut self)
+        ensures { self.new ≡ [] }
+    {
+        self.items.clear();
+    }
+
+    /// Takes the topmost slot, if there is one.
+    pub fn pop(&mut self) -> Option<Slot>
+        ensures { MatchOption result ((self.old ≡ []) × (self.new ≡ [])) (λ v. self.old ≡ v ∷ self.new) }
+    {
+        self.items.pop()
+    }
+}
+
+impl Stack {
+    ghost use Rattle.machine.specs.Meets.{Lacks};
+    ghost use Rattle.machine.specs.declared.failure.Failure.TheVariants as failure;
+    ghost use Rattle.jmodel.specs.Step.{on_top, on_int, on_ref, on_long, on_context, on_loaded};
+
+    /// The topmost slot, or `Wrong` where there is none.
+    pub fn take(&mut self) -> Result<Slot, Failure>
+        ensures take { MatchResult result (λ v. self.old ≡ v ∷ self.new) (λ e. Lacks e (on_top self.old)) }
+        ensures none { IfErr result (λ _. self.old ≡ []) }
+    {
+        self.pop().ok_or(Failure::Wrong)
+    }
+
+    /// The topmost slot, an int, or `Wrong` where there is none.
+    pub fn take_int(&mut self) -> Result<i32, Failure>
+        ensures { MatchResult result (λ x. self.old ≡ Slot.Int x ∷ self.new) (λ e. Lacks e (on_int self.old)) }
+    {
+        let Slot::Int(x) = self.take()? else {
+            return Err(Failure::Wrong);
+        };
+        Ok(x)
+    }
+
+    /// The topmost slot, a reference, or `Wrong` where there is none.
+    pub fn take_ref(&mut self) -> Result<u64, Failure>
+        ensures { MatchResult result (λ o. self.old ≡ Slot.Ref o ∷ self.new) (λ e. Lacks e (on_ref self.old)) }
+    {
+        let Slot::Ref(object) = self.take()? else {
+            return Err(Failure::Wrong);
+        };
+        Ok(object)
+    }
+
+    /// The topmost two slots, a long, or `Wrong` where there is none.
+    pub fn take_long(&mut self) -> Result<i64, Failure>
+        ensures { MatchResult result (λ x. self.old ≡ Slot.Second ∷ Slot.Long x ∷ self.new) (λ e. Lacks e (on_long self.old)) }
+    {
+        let Slot::Second = self.take()? else {
+            return Err(Failure::Wrong);
+        };
+        let Slot::Long(x) = self.take()? else {
+            return Err(Failure::Wrong);
+        };
+        Ok(x)
+    }
+
+    /// The topmost slot, the context, or `Wrong` where there is none.
+    pub fn take_context(&mut self) -> Result<(), Failure>
+        ensures { MatchResult result (λ _. self.old ≡ Slot.Context ∷ self.new) (λ e. Lacks e (on_context self.old)) }
+    {
+        match self.take()? {
+            Slot::Context => Ok(()),
+            _ => Err(Failure::Wrong),
+        }
+    }
+
+    /// The topmost slot, what a plain load gave, or `Wrong` where there is none.
+    pub fn take_loaded(&mut self) -> Result<(), Failure>
+        ensures { MatchResult result (λ _. self.old ≡ Slot.Loaded ∷ self.new) (λ e. Lacks e (on_loaded self.old)) }
+    {
+        match self.take()? {
+            Slot::Loaded => Ok(()),
+            _ => Err(Failure::Wrong),
+        }
+    }
+}
+
+impl Stack {
+    ghost use Rattle.machine.specs.declared.failure.Failure.TheVariants as failure;
+    ghost use Rattle.jmodel.specs.Step.{take_args, Took, TooFew};
+
+    /// The topmost slots as the arguments of a call, or `Wrong` where there are too few.
+    pub fn take_args(&mut self, alloc: Global, count: usize) -> Result<Locals, Failure>
+        ensures { MatchResult result (λ args. take_args count [] self.old ≡ Took args self.new) (λ e. e ≡ failure.Wrong → take_args count [] self.old ≡ TooFew) }
+    {
+        let mut args = Stack::new(alloc);
+        for _ in 0..count {
+            let v = self.take()?;
+            args.push(v)?;
+        }
+        Ok(Locals::of_args(args))
+    }
+}
+
+/// The locals of a frame, the parameters first.
+#[derive(Drop)]
+pub struct Locals {
+    items: Vec<Slot>,
+}
+
+impl Model for Locals {
+    ghost Value = { List Item };
+
+    ghost view = { λ l. l.items.items };
+}
+
+impl Locals {
+    ghost use Rattle.std.specs.Prelude.{slice_get, slice_set, length, ◌<◌, ◌≤◌, MatchBool, ◌++◌, replicate};
+    ghost use Rattle.std.specs.List.{flat_map};
+    ghost use Rattle.jmodel.specs.Value.{slots_of};
+
+    /// The locals of arguments, of which the first was topmost. No memory.
+    pub fn of_args(args: Stack) -> Self
+        ensures { result ≡ args }
+    {
+        Locals {
+            items: args.into_items(),
+        }
+    }
+
+    /// The locals of argument values, a long in two slots.
+    pub fn of_values(alloc: Global, args: &[Value]) -> Result<Self, AllocError>
+        ensures { IfOk result (λ l. l ≡ flat_map slots_of args.now) }
+    {
+        let mut locals = Locals {
+            items: Vec::new(alloc),
+        };
+        for value in args {
+            locals.push_value(*value)?;
+        }
+        Ok(locals)
+    }
+
+    /// The same slots in locals of their own.
+    pub fn copy(&self, alloc: Global) -> Result<Self, AllocError>
+        ensures { IfOk result (λ l. l ≡ self.now) }
+    {
+        Ok(Locals {
+            items: Vec::from_slice(alloc, self.items.as_slice())?,
+        })
+    }
+
+    fn push(&mut self, slot: Slot) -> Result<(), AllocError>
+        ensures { OnOk result (self.new ≡ self.old ++ slot ∷ []) }
+    {
+        self.items.push(slot)?;
+        Ok(())
+    }
+
+    fn push_value(&mut self, value: Value) -> Result<(), AllocError>
+        ensures { OnOk result (self.new ≡ self.old ++ slots_of value) }
+    {
+        match value {
+            Value::Int(x) => self.push(Slot::Int(x)),
+            Value::Long(x) => {
+                self.push(Slot::Long(x))?;
+                self.push(Slot::Second)
+            }
+            Value::Ref(object) => self.push(Slot::Ref(object)),
+        }
+    }
+
+    /// Adds so many locals in which nothing was stored.
+    pub fn add_empty(&mut self, count: usize) -> Result<(), AllocError>
+        ensures { OnOk result (self.new ≡ self.old ++ replicate count Slot.Empty) }
+    {
+        for _ in 0..count {
+            self.push(Slot::Empty)?;
+        }
+        Ok(())
+    }
+
+    /// The slot of a local, if there is one of this number.
+    pub fn get(&self, i: usize) -> Option<Slot>
+        ensures { result ≡ slice_get self.now i }
+    {
+        self.items.get(i).copied()
+    }
+
+    /// Whether there is such a local; it then holds the slot.
+    pub fn set(&mut self, i: usize, slot: Slot) -> bool
+        ensures { MatchBool result ((i < length self.old) × (self.new ≡ slice_set self.old i slot)) (length self.old ≤ i) }
+    {
+        if i < self.items.len() {
+            self.items[i] = slot;
+            true
+        } else {
+            false
+        }
+    }
+}

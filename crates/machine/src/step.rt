@@ -1,0 +1,124 @@
+//! One step of the machine: an instruction, and what it does to the frames.
+ghost use Rattle.std.specs.Prelude.{◌≡◌, ◌∷◌, [], nat_lt, IfOk, ◌+◌, ◌<◌, ◌^◌};
+ghost use Rattle.jmodel.specs.Step.{Frames, step, jumps, invokes, gives, unwinds, depth};
+ghost use Rattle.jmodel.specs.Program.{method_at};
+ghost use Rattle.machine.specs.Meets.{IsStep, IsAsked, CanAsk};
+
+use crate::callers::Callers;
+use crate::failure::Failure;
+use crate::frame::Frame;
+use hierarchy::program::Program;
+use jmodel::op::{Asking, Doing};
+use jmodel::value::Value;
+use std::alloc::Global;
+use std::mem;
+
+/// The most frames that count.
+const MOST_FRAMES: usize = 200;
+
+/// One step. `Wrong` where the code isn't well formed.
+pub fn step(
+    alloc: Global,
+    program: &Program,
+    frame: &mut Frame,
+    callers: &mut Callers,
+) -> Result<Asking, Failure>
+    ensures step { IsStep result (frame.new ∷ callers.new) (step program.now (frame.old ∷ callers.old)) }
+    ensures can { IfOk result (λ a. CanAsk a frame.new) }
+{
+    let op = program.op(frame.method, frame.pc).ok_or(Failure::Wrong)?;
+    match frame.act(program, op)? {
+        Doing::Next => {
+            frame.advance();
+            Ok(Asking::Go)
+        }
+        Doing::Jump(to) => Ok(jump(program, to, frame)),
+        Doing::Invoke(method) => invoke(alloc, program, method, frame, callers),
+        Doing::Give(value) => give(value, frame, callers),
+        Doing::Throw(exception) => unwind(program, exception, frame, callers),
+        Doing::Ask(request) => Ok(Asking::Ask(request)),
+    }
+}
+
+/// Jumps. A jump back in code whose turns count is a turn.
+fn jump(program: &Program, to: usize, frame: &mut Frame) -> Asking
+    ensures step { (fs : Frames) → IsAsked result (frame.new ∷ fs) (jumps program.now to frame.old fs) }
+    ensures can { CanAsk result frame.new }
+{
+    let counts = to <= frame.pc && frame.is_counted(program);
+    frame.jump(to);
+    if counts { Asking::Turn } else { Asking::Go }
+}
+
+/// Enters a method, whose arguments it takes from the stack.
+fn invoke(
+    alloc: Global,
+    program: &Program,
+    method: usize,
+    frame: &mut Frame,
+    callers: &mut Callers,
+) -> Result<Asking, Failure>
+    requires { frame.old.pc + 1 < 2 ^ 64 }
+    ensures step { IsStep result (frame.new ∷ callers.new) (invokes program.now (method_at program.now method) method frame.old callers.old) }
+    ensures can { IfOk result (λ a. CanAsk a frame.new) }
+{
+    let entry = program.method(method).ok_or(Failure::Wrong)?.entry();
+    let args = frame.stack.take_args(alloc, entry.params)?;
+    let entered = Frame::start(alloc, method, entry, args)?;
+    callers.push(mem::replace(frame, entered))?;
+    Ok(if entry.counted {
+        Asking::Enter(is_too_deep(program, frame, callers))
+    } else {
+        Asking::Go
+    })
+}
+
+/// Whether too many frames count.
+fn is_too_deep(program: &Program, frame: &Frame, callers: &Callers) -> bool
+    ensures { result ≡ nat_lt 200 (depth program.now (frame.now ∷ callers.now)) }
+{
+    let below = callers.depth(program);
+    if frame.is_counted(program) {
+        MOST_FRAMES <= below
+    } else {
+        MOST_FRAMES < below
+    }
+}
+
+/// Leaves the frame, and gives its caller a value or none.
+fn give(value: Option<Value>, frame: &mut Frame, callers: &mut Callers) -> Result<Asking, Failure>
+    ensures step { IsStep result (frame.new ∷ callers.new) (gives value callers.old) }
+    ensures can { IfOk result (λ a. CanAsk a frame.new) }
+{
+    let Some(caller) = callers.pop() else {
+        return Ok(Asking::Return(value));
+    };
+    *frame = caller;
+    match value {
+        Some(value) => frame.resume_with(value)?,
+        None => frame.advance(),
+    }
+    Ok(Asking::Go)
+}
+
+/// Goes to the innermost handler of an exception.
+pub fn unwind(
+    program: &Program,
+    exception: u64,
+    frame: &mut Frame,
+    callers: &mut Callers,
+) -> Result<Asking, Failure>
+    ensures step { IsStep result (frame.new ∷ callers.new) (unwinds program.now exception (frame.old ∷ callers.old)) }
+    ensures can { IfOk result (λ a. CanAsk a frame.new) }
+{
+    loop {
+        if let Some(at) = program.catch(frame.method, frame.pc, exception) {
+            frame.enter_handler(exception)?;
+            return Ok(jump(program, at, frame));
+        }
+        match callers.pop() {
+            Some(caller) => *frame = caller,
+            None => return Ok(Asking::Throw(exception)),
+        }
+    }
+}

@@ -1,0 +1,19 @@
+pub mod Blocks
+pub mod Grow
+pub mod Front
+mod Counter
+pub mod Grown
+pub mod Added
+pub mod Ops
+pub mod Coded
+pub mod Puts
+pub mod Whole
+pub mod Kept
+pub mod Positions
+pub mod CopyCode
+pub mod Old
+pub mod Names
+pub mod Tables
+pub mod Methods
+pub mod CopyMethods
+pub mod Assembled

@@ -1,0 +1,252 @@
+-- What members name is in every pool that is grown from the one that was left.
+use Rattle.std.proofs.Common.{◌≡◌, ℕ, ℤ, ◌<◌, List, [], ◌∷◌, Some, Ok, refl, subst}
+use Rattle.std.specs.Prelude.{codes, pos}
+use Rattle.std.specs.Int.{w64, cast_signed}
+use Rattle.jmodel.specs.ClassFile.{Pool, Attribute, Member, code_spelling}
+use Rattle.jmodel.specs.Pool.{utf8}
+use Rattle.jmodel.specs.Program.{Field}
+use Rattle.jmodel.specs.Decoding.{integer, long_named, long_value}
+use Rattle.const_pool.proofs.Takes.{bind_ok, ok_is, fine}
+use Rattle.rewriter.specs.declared.accessors.Accessors.{Accessors}
+use Rattle.rewriter.specs.declared.wrappers.Opening.{Opening}
+use Rattle.rewriter.specs.declared.wrappers.Ending.{Ending}
+use Rattle.rewriter.specs.Adding.{add_utf8, add_integer, add_long, add_class, add_field, add_method}
+use Rattle.rewriter.specs.Members.{high, low, typed_name, constant_value, address_name, address_member, base_member, place_refs, look_refs, read_refs, getter_code, getter_body, setter_code, setter_body, accessor, added_method, getter_of, setter_of, accessors_of, getter_name, setter_name, getter_type, setter_type, context_class, opening_of, ending_of}
+use Rattle.rewriter.proofs.Grown.{Grown, grown_trans, utf8_grown, class_grown, field_grown, method_grown, integer_grown, long_grown}
+use Rattle.rewriter.proofs.Added.{Says, utf8_added, Counts, integer_added, Measures, long_added, NamesClass, class_added, IsFieldName, field_added, IsMethodName, method_added}
+use Rattle.rewriter.proofs.Ops.{rejoined}
+
+pub record Puts {X : Type 0} (Facts : Pool → X → Type 0) (pool : Pool) (r : X × Pool) : Type 0 where
+  pub grown : Grown pool r.1
+  pub facts : (Z : Pool) → Grown r.1 Z → Facts Z r.0
+
+pub puts_more : {X Y : Type 0} (A : Pool → X → Type 0) (B : Pool → Y → Type 0) (pool : Pool) (a : X × Pool) (b : Y × Pool) → Puts A pool a → Puts B a.1 b → Puts (λ Z y. A Z a.0 × B Z y) pool b
+puts_more A B pool a b p q = record { grown = grown_trans pool a.1 b.1 p.grown q.grown; facts = λ Z g. (p.facts Z (grown_trans a.1 b.1 Z q.grown g), q.facts Z g) }
+
+pub puts_end : {X Y : Type 0} (A : Pool → X → Type 0) (B : Pool → Y → Type 0) (pool : Pool) (a : X × Pool) (y : Y) (r : Y × Pool) → ((Z : Pool) → A Z a.0 → B Z y) → Puts A pool a → fine (y, a.1) ≡ fine r → Puts B pool r
+puts_end A B pool a y r f p e = subst (Puts B pool) (ok_is (y, a.1) r e) (record { grown = p.grown; facts = λ Z g. f Z (p.facts Z g) })
+
+abbrev pub IsTyped : List ℕ → List ℕ → Pool → ℕ × ℕ → Type 0
+IsTyped name type Z p = (utf8 Z p.0 ≡ Some name) × (utf8 Z p.1 ≡ Some type)
+
+pub utf8_puts : (text : List ℕ) (pool : Pool) (r : ℕ × Pool) → add_utf8 text pool ≡ Ok r → Puts (Says text) pool r
+utf8_puts text pool r e = let a = utf8_added text pool r e in record { grown = a.grown; facts = λ Z g. utf8_grown r.1 Z g r.0 text a.means }
+
+pub typed_puts : (name type : List ℕ) (pool : Pool) (r : (ℕ × ℕ) × Pool) → typed_name name type pool ≡ Ok r → Puts (IsTyped name type) pool r
+unfolding typed_name
+typed_puts name type pool r e =
+    let a = bind_ok _ _ r e in
+    let b = bind_ok _ _ r a.2 in
+    puts_end _ (IsTyped name type) pool b.0 (a.0.0, b.0.0) r (λ Z f. f) (puts_more (Says name) (Says type) pool a.0 b.0 (utf8_puts name pool a.0 a.1) (utf8_puts type a.0.1 b.0 b.1)) b.2
+
+long_puts : (n : ℤ) (pool : Pool) (r : ℕ × Pool) → add_long n pool ≡ Ok r → Puts (Measures n) pool r
+long_puts n pool r e = let a = long_added n pool r e in record { grown = a.grown; facts = λ Z g. long_grown r.1 Z g r.0 n a.means }
+
+integer_puts : (n : ℤ) (pool : Pool) (r : ℕ × Pool) → add_integer n pool ≡ Ok r → Puts (Counts n) pool r
+integer_puts n pool r e = let a = integer_added n pool r e in record { grown = a.grown; facts = λ Z g. integer_grown r.1 Z g r.0 n a.means }
+
+-- a class, at an index that isn't 0
+abbrev pub IsClassAt : List ℕ → Pool → ℕ → Type 0
+IsClassAt name Z i = NamesClass name Z i × (0 < i) × (i < 65535)
+
+pub class_puts : (name : List ℕ) (pool : Pool) (r : ℕ × Pool) → add_class name pool ≡ Ok r → Puts (IsClassAt name) pool r
+class_puts name pool r e = let a = class_added name pool r e in record { grown = a.grown; facts = λ Z g. (class_grown r.1 Z g r.0 name a.means, a.some, a.few) }
+
+field_puts : (class name descriptor : List ℕ) (pool : Pool) (r : ℕ × Pool) → add_field class name descriptor pool ≡ Ok r → Puts (IsFieldName class name descriptor) pool r
+field_puts class name descriptor pool r e = let a = field_added class name descriptor pool r e in record { grown = a.grown; facts = λ Z g. field_grown r.1 Z g r.0 _ a.means }
+
+pub method_puts : (class name descriptor : List ℕ) (pool : Pool) (r : ℕ × Pool) → add_method class name descriptor pool ≡ Ok r → Puts (IsMethodName class name descriptor) pool r
+method_puts class name descriptor pool r e = let a = method_added class name descriptor pool r e in record { grown = a.grown; facts = λ Z g. method_grown r.1 Z g r.0 _ a.means }
+
+-- ---- fields
+
+abbrev pub HasConstant : ℤ → Pool → Attribute → Type 0
+HasConstant n Z a = (utf8 Z a.name ≡ Some (codes "ConstantValue")) × (long_named Z a.bytes ≡ Some n)
+
+constant_puts : (n : ℤ) (pool : Pool) (r : Attribute × Pool) → constant_value n pool ≡ Ok r → Puts (HasConstant n) pool r
+unfolding constant_value
+constant_puts n pool r e =
+    let a = bind_ok _ _ r e in
+    let b = bind_ok _ _ r a.2 in
+    puts_end _ (HasConstant n) pool b.0 (record { name = a.0.0; bytes = high b.0.0 ∷ low b.0.0 ∷ [] }) r (λ Z f. (f.0, rw (rejoined b.0.0) f.1))
+    (puts_more (Says (codes "ConstantValue")) (Measures n) pool a.0 b.0 (utf8_puts (codes "ConstantValue") pool a.0 a.1) (long_puts n a.0.1 b.0 b.1)) b.2
+
+pub record IsAddress (f : Field) (Z : Pool) (m : Member) : Type 0 where
+  pub named : utf8 Z m.name ≡ Some (address_name f)
+  pub typed : utf8 Z m.descriptor ≡ Some (codes "J")
+  pub value : long_value Z m ≡ Some (cast_signed w64 f.place.index)
+
+pub address_puts : (f : Field) (pool : Pool) (r : Member × Pool) → address_member f pool ≡ Ok r → Puts (IsAddress f) pool r
+unfolding address_member
+address_puts f pool r e =
+    let a = bind_ok _ _ r e in
+    let b = bind_ok _ _ r a.2 in
+    puts_end _ (IsAddress f) pool b.0 (record { flags = 0x1019; name = a.0.0.0; descriptor = a.0.0.1; attributes = b.0.0 ∷ [] }) r
+    (λ Z h. let x = h.1.0 in record { named = h.0.0; typed = h.0.1; value = rw x h.1.1 })
+    (puts_more (IsTyped (address_name f) (codes "J")) (HasConstant (cast_signed w64 f.place.index)) pool a.0 b.0 (typed_puts (address_name f) (codes "J") pool a.0 a.1) (constant_puts (cast_signed w64 f.place.index) a.0.1 b.0 b.1)) b.2
+
+pub base_grows : (pool : Pool) (r : Member × Pool) → base_member pool ≡ Ok r → Grown pool r.1
+unfolding base_member
+base_grows pool r e =
+    let a = bind_ok _ _ r e in
+    let t = typed_puts (codes "__CLASS_BASE__") (codes "Ljava/lang/Object;") pool a.0 a.1 in
+    let is = ok_is _ r a.2 in
+    subst (λ (x : Member × Pool). Grown pool x.1) is t.grown
+
+-- ---- accessors
+
+module _ (own : List ℕ) (f : Field) where
+  abbrev pub ArePlaces : Pool → ℕ × ℕ → Type 0
+  ArePlaces Z p = IsFieldName own (codes "__CLASS_BASE__") (codes "Ljava/lang/Object;") Z p.0 × IsFieldName own (address_name f) (codes "J") Z p.1
+
+  places_put : (pool : Pool) (r : (ℕ × ℕ) × Pool) → place_refs own f pool ≡ Ok r → Puts ArePlaces pool r
+  unfolding place_refs
+  places_put pool r e =
+      let a = bind_ok _ _ r e in
+      let b = bind_ok _ _ r a.2 in
+      puts_end _ ArePlaces pool b.0 (a.0.0, b.0.0) r (λ Z h. h)
+      (puts_more (IsFieldName own (codes "__CLASS_BASE__") (codes "Ljava/lang/Object;")) (IsFieldName own (address_name f) (codes "J")) pool a.0 b.0 (field_puts _ _ _ pool a.0 a.1) (field_puts _ _ _ a.0.1 b.0 b.1)) b.2
+
+  abbrev pub IsLook : Pool → (ℕ × ℕ) × ℕ → Type 0
+  IsLook Z x = ArePlaces Z x.0 × IsMethodName context_class (codes "beforeReadAccess") (codes "(Ljava/lang/Object;J)V") Z x.1
+
+  look_puts : (pool : Pool) (r : ((ℕ × ℕ) × ℕ) × Pool) → look_refs own f pool ≡ Ok r → Puts IsLook pool r
+  unfolding look_refs
+  look_puts pool r e =
+      let a = bind_ok _ _ r e in
+      let b = bind_ok _ _ r a.2 in
+      puts_end _ IsLook pool b.0 (a.0.0, b.0.0) r (λ Z h. h)
+      (puts_more ArePlaces (IsMethodName context_class (codes "beforeReadAccess") (codes "(Ljava/lang/Object;J)V")) pool a.0 b.0 (places_put pool a.0 a.1) (method_puts _ _ _ a.0.1 b.0 b.1)) b.2
+
+  abbrev pub IsRead : Pool → ℕ × ℕ → Type 0
+  IsRead Z x = IsFieldName own f.name (codes "I") Z x.0 × IsMethodName context_class (codes "onReadAccess") (codes "(Ljava/lang/Object;IJ)I") Z x.1
+
+  read_puts : (pool : Pool) (r : (ℕ × ℕ) × Pool) → read_refs own f pool ≡ Ok r → Puts IsRead pool r
+  unfolding read_refs
+  read_puts pool r e =
+      let a = bind_ok _ _ r e in
+      let b = bind_ok _ _ r a.2 in
+      puts_end _ IsRead pool b.0 (a.0.0, b.0.0) r (λ Z h. h)
+      (puts_more (IsFieldName own f.name (codes "I")) (IsMethodName context_class (codes "onReadAccess") (codes "(Ljava/lang/Object;IJ)I")) pool a.0 b.0 (field_puts _ _ _ pool a.0 a.1) (method_puts _ _ _ a.0.1 b.0 b.1)) b.2
+
+  pub record IsGetterBody (Z : Pool) (bytes : List ℕ) : Type 0 where
+    pub look : (ℕ × ℕ) × ℕ
+    pub read : ℕ × ℕ
+    pub is : bytes ≡ code_spelling (getter_code look.0 look.1 read.0 read.1)
+    pub looks : IsLook Z look
+    pub reads : IsRead Z read
+
+  getter_body_puts : (pool : Pool) (r : List ℕ × Pool) → getter_body own f pool ≡ Ok r → Puts IsGetterBody pool r
+  unfolding getter_body
+  getter_body_puts pool r e =
+      let a = bind_ok _ _ r e in
+      let b = bind_ok _ _ r a.2 in
+      puts_end _ IsGetterBody pool b.0 (code_spelling (getter_code a.0.0.0 a.0.0.1 b.0.0.0 b.0.0.1)) r (λ Z h. record { look = a.0.0; read = b.0.0; is = refl; looks = h.0; reads = h.1 })
+      (puts_more IsLook IsRead pool a.0 b.0 (look_puts pool a.0 a.1) (read_puts a.0.1 b.0 b.1)) b.2
+
+  pub record IsSetterBody (Z : Pool) (bytes : List ℕ) : Type 0 where
+    pub places : ℕ × ℕ
+    pub write : ℕ
+    pub is : bytes ≡ code_spelling (setter_code places write)
+    pub are : ArePlaces Z places
+    pub writes : IsMethodName context_class (codes "onWriteAccess") (codes "(Ljava/lang/Object;IJ)V") Z write
+
+  setter_body_puts : (pool : Pool) (r : List ℕ × Pool) → setter_body own f pool ≡ Ok r → Puts IsSetterBody pool r
+  unfolding setter_body
+  setter_body_puts pool r e =
+      let a = bind_ok _ _ r e in
+      let b = bind_ok _ _ r a.2 in
+      puts_end _ IsSetterBody pool b.0 (code_spelling (setter_code a.0.0 b.0.0)) r (λ Z h. record { places = a.0.0; write = b.0.0; is = refl; are = h.0; writes = h.1 })
+      (puts_more ArePlaces (IsMethodName context_class (codes "onWriteAccess") (codes "(Ljava/lang/Object;IJ)V")) pool a.0 b.0 (places_put pool a.0 a.1) (method_puts _ _ _ a.0.1 b.0 b.1)) b.2
+
+pub record IsAccessor (name type bytes : List ℕ) (Z : Pool) (m : Member) : Type 0 where
+  pub n : ℕ
+  pub t : ℕ
+  pub c : ℕ
+  pub is : m ≡ added_method 0x1009 n t c bytes
+  pub named : utf8 Z n ≡ Some name
+  pub typed : utf8 Z t ≡ Some type
+  pub coded : utf8 Z c ≡ Some (codes "Code")
+
+accessor_puts : (name type bytes : List ℕ) (pool : Pool) (r : Member × Pool) → accessor name type bytes pool ≡ Ok r → Puts (IsAccessor name type bytes) pool r
+unfolding accessor
+accessor_puts name type bytes pool r e =
+    let a = bind_ok _ _ r e in
+    let b = bind_ok _ _ r a.2 in
+    puts_end _ (IsAccessor name type bytes) pool b.0 (added_method 0x1009 a.0.0.0 a.0.0.1 b.0.0 bytes) r (λ Z h. record { n = a.0.0.0; t = a.0.0.1; c = b.0.0; is = refl; named = h.0.0; typed = h.0.1; coded = h.1 })
+    (puts_more (IsTyped name type) (Says (codes "Code")) pool a.0 b.0 (typed_puts name type pool a.0 a.1) (utf8_puts (codes "Code") a.0.1 b.0 b.1)) b.2
+
+module _ (own : List ℕ) (f : Field) where
+  pub record IsGetter (Z : Pool) (m : Member) : Type 0 where
+    pub bytes : List ℕ
+    pub body : IsGetterBody own f Z bytes
+    pub method : IsAccessor (getter_name f) getter_type bytes Z m
+
+  getter_puts : (pool : Pool) (r : Member × Pool) → getter_of own f pool ≡ Ok r → Puts IsGetter pool r
+  unfolding getter_of
+  getter_puts pool r e =
+      let a = bind_ok _ _ r e in
+      let p = puts_more (IsGetterBody own f) (IsAccessor (getter_name f) getter_type a.0.0) pool a.0 r (getter_body_puts own f pool a.0 a.1) (accessor_puts (getter_name f) getter_type a.0.0 a.0.1 r a.2) in
+      record { grown = p.grown; facts = λ Z g. let h = p.facts Z g in record { bytes = a.0.0; body = h.0; method = h.1 } }
+
+  pub record IsSetter (Z : Pool) (m : Member) : Type 0 where
+    pub bytes : List ℕ
+    pub body : IsSetterBody own f Z bytes
+    pub method : IsAccessor (setter_name f) setter_type bytes Z m
+
+  setter_puts : (pool : Pool) (r : Member × Pool) → setter_of own f pool ≡ Ok r → Puts IsSetter pool r
+  unfolding setter_of
+  setter_puts pool r e =
+      let a = bind_ok _ _ r e in
+      let p = puts_more (IsSetterBody own f) (IsAccessor (setter_name f) setter_type a.0.0) pool a.0 r (setter_body_puts own f pool a.0 a.1) (accessor_puts (setter_name f) setter_type a.0.0 a.0.1 r a.2) in
+      record { grown = p.grown; facts = λ Z g. let h = p.facts Z g in record { bytes = a.0.0; body = h.0; method = h.1 } }
+
+  pub record AreAccessors (Z : Pool) (a : Accessors) : Type 0 where
+    pub getter : IsGetter Z a.getter
+    pub setter : IsSetter Z a.setter
+
+  pub accessors_put : (pool : Pool) (r : Accessors × Pool) → accessors_of own f pool ≡ Ok r → Puts AreAccessors pool r
+  unfolding accessors_of
+  accessors_put pool r e =
+      let a = bind_ok _ _ r e in
+      let b = bind_ok _ _ r a.2 in
+      puts_end _ AreAccessors pool b.0 (record { getter = a.0.0; setter = b.0.0 }) r (λ Z h. record { getter = h.0; setter = h.1 })
+      (puts_more IsGetter IsSetter pool a.0 b.0 (getter_puts pool a.0 a.1) (setter_puts a.0.1 b.0 b.1)) b.2
+
+-- ---- what wrappers name
+
+pub record IsOpening (n : ℕ) (Z : Pool) (a : Opening) : Type 0 where
+  pub get_is : IsMethodName (codes "org/deuce/transaction/ContextDelegator") (codes "getInstance") (codes "()Lorg/deuce/transaction/Context;") Z a.get
+  pub number_is : integer Z a.number ≡ Some (pos n)
+  pub retries_is : integer Z a.retries ≡ Some (pos 2147483647)
+  pub init_is : IsMethodName context_class (codes "init") (codes "(II)V") Z a.init
+
+pub opening_puts : (n : ℕ) (pool : Pool) (r : Opening × Pool) → opening_of n pool ≡ Ok r → Puts (IsOpening n) pool r
+unfolding opening_of
+opening_puts n pool r e =
+    let a = bind_ok _ _ r e in
+    let b = bind_ok _ _ r a.2 in
+    let c = bind_ok _ _ r b.2 in
+    let d = bind_ok _ _ r c.2 in
+    puts_end _ (IsOpening n) pool d.0 (record { get = a.0.0; number = b.0.0; retries = c.0.0; init = d.0.0 }) r (λ Z h. record { get_is = h.0; number_is = h.1.0; retries_is = h.1.1.0; init_is = h.1.1.1 })
+    (puts_more (IsMethodName (codes "org/deuce/transaction/ContextDelegator") (codes "getInstance") (codes "()Lorg/deuce/transaction/Context;")) _ pool a.0 d.0 (method_puts _ _ _ pool a.0 a.1)
+    (puts_more (Counts (pos n)) _ a.0.1 b.0 d.0 (integer_puts _ a.0.1 b.0 b.1)
+    (puts_more (Counts (pos 2147483647)) (IsMethodName context_class (codes "init") (codes "(II)V")) b.0.1 c.0 d.0 (integer_puts _ b.0.1 c.0 c.1) (method_puts _ _ _ c.0.1 d.0 d.1)))) d.2
+
+pub record IsEnding (own name : List ℕ) (Z : Pool) (a : Ending) : Type 0 where
+  pub duplicate_is : IsMethodName own name getter_type Z a.duplicate
+  pub commit_is : IsMethodName context_class (codes "commit") (codes "()Z") Z a.commit
+  pub rollback_is : IsMethodName context_class (codes "rollback") (codes "()V") Z a.rollback
+  pub conflict_is : IsClassAt (codes "org/deuce/transaction/TransactionException") Z a.conflict
+
+pub ending_puts : (own name : List ℕ) (pool : Pool) (r : Ending × Pool) → ending_of own name pool ≡ Ok r → Puts (IsEnding own name) pool r
+unfolding ending_of
+ending_puts own name pool r e =
+    let a = bind_ok _ _ r e in
+    let b = bind_ok _ _ r a.2 in
+    let c = bind_ok _ _ r b.2 in
+    let d = bind_ok _ _ r c.2 in
+    puts_end _ (IsEnding own name) pool d.0 (record { duplicate = a.0.0; commit = b.0.0; rollback = c.0.0; conflict = d.0.0 }) r (λ Z h. record { duplicate_is = h.0; commit_is = h.1.0; rollback_is = h.1.1.0; conflict_is = h.1.1.1 })
+    (puts_more (IsMethodName own name getter_type) _ pool a.0 d.0 (method_puts _ _ _ pool a.0 a.1)
+    (puts_more (IsMethodName context_class (codes "commit") (codes "()Z")) _ a.0.1 b.0 d.0 (method_puts _ _ _ a.0.1 b.0 b.1)
+    (puts_more (IsMethodName context_class (codes "rollback") (codes "()V")) (IsClassAt (codes "org/deuce/transaction/TransactionException")) b.0.1 c.0 d.0 (method_puts _ _ _ b.0.1 c.0 c.1) (class_puts _ c.0.1 d.0 d.1)))) d.2

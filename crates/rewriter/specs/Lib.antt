@@ -1,0 +1,4 @@
+pub mod Adding
+pub mod Meaning
+pub mod Members
+pub mod Rewritten

@@ -1,0 +1,83 @@
+-- The rewriting of a class, part after part.
+use Rattle.std.specs.Prelude.{◌≡◌, ℕ, ◌+◌, List, [], ◌∷◌, ◌++◌, Result, Ok}
+use Rattle.std.specs.List.{flat_map}
+use Rattle.jmodel.specs.declared.refusal.Refusal.{Refusal}
+use Rattle.jmodel.specs.ClassFile.{Member, Pool, ClassFile}
+use Rattle.jmodel.specs.Program.{Field, Program}
+use Rattle.jmodel.specs.Decoding.{own_name}
+use Rattle.jmodel.specs.Reading.{◌>>=◌}
+use Rattle.rewriter.specs.Members.{address_member, base_member, accessors_of, calls_of, duplicate_of, wrapper_of}
+use Rattle.rewriter.specs.declared.accessors.Accessors.{Accessors}
+
+-- what each item gives, the first with number n, one after another
+abbrev pub grow_from : {A B : Type 0} → (ℕ → A → Pool → Result (B × Pool) Refusal) → ℕ → List A → Pool → Result (List B × Pool) Refusal
+grow_from f n [] pool = Ok ([], pool)
+grow_from f n (x ∷ xs) pool = do
+  first ← f n x pool
+  others ← grow_from f (n + 1) xs first.1
+  Ok (first.0 ∷ others.0, others.1)
+
+-- the field for the static base, where the class has a static field
+abbrev pub bases : List Field → Pool → Result (List Member × Pool) Refusal
+bases [] pool = Ok ([], pool)
+bases (f ∷ fs) pool = base_member pool >>= λ base. Ok (base.0 ∷ [], base.1)
+
+abbrev pub both_of : Accessors → List Member
+both_of a = a.getter ∷ a.setter ∷ []
+
+-- the fields that are added
+unfoldable pub added_fields : Program → Pool → Result (List Member × Pool) Refusal
+added_fields P pool = do
+  addresses ← grow_from (λ n f. address_member f) 0 P.fields pool
+  base ← bases P.fields addresses.1
+  Ok (addresses.0 ++ base.0, base.1)
+
+-- the duplicates, with the accessors that they call
+unfoldable pub duplicates : Program → ClassFile → Pool → Result (List Member × Pool) Refusal
+duplicates P c pool = do
+  calls ← grow_from (calls_of P (own_name c)) 0 P.fields pool
+  grow_from (duplicate_of P c calls.0) 0 c.methods calls.1
+
+-- the methods that are added: accessors, then duplicates
+unfoldable pub added_methods : Program → ClassFile → Pool → Result (List Member × Pool) Refusal
+added_methods P c pool = do
+  accessors ← grow_from (λ n f. accessors_of (own_name c) f) 0 P.fields pool
+  copies ← duplicates P c accessors.1
+  Ok (flat_map both_of accessors.0 ++ copies.0, copies.1)
+
+-- wrappers in place of the old methods, behind them those that are added, whose entries come first
+unfoldable pub new_methods : Program → ClassFile → Pool → Result (List Member × Pool) Refusal
+new_methods P c pool = do
+  added ← added_methods P c pool
+  wrappers ← grow_from (wrapper_of c) 0 c.methods added.1
+  Ok (wrappers.0 ++ added.0, wrappers.1)
+
+-- the rewritten class
+unfoldable pub rewritten_class : Program → ClassFile → Result ClassFile Refusal
+rewritten_class P c = do
+  fields ← added_fields P c.pool
+  methods ← new_methods P c fields.1
+  Ok (record {
+    minor = c.minor;
+    major = c.major;
+    pool = methods.1;
+    flags = c.flags;
+    this_class = c.this_class;
+    super_class = c.super_class;
+    interfaces = c.interfaces;
+    fields = c.fields ++ fields.0;
+    methods = methods.0;
+    attributes = c.attributes;
+  })
+
+-- A class that keeps what another has: its pool and its fields are fronts, and all else but the methods is the same.
+pub record Keeps (old new : ClassFile) : Type 0 where
+  pub pool : (more : Pool) × (new.pool ≡ old.pool ++ more)
+  pub fields : (more : List Member) × (new.fields ≡ old.fields ++ more)
+  pub minor : new.minor ≡ old.minor
+  pub major : new.major ≡ old.major
+  pub flags : new.flags ≡ old.flags
+  pub this_class : new.this_class ≡ old.this_class
+  pub super_class : new.super_class ≡ old.super_class
+  pub interfaces : new.interfaces ≡ old.interfaces
+  pub attributes : new.attributes ≡ old.attributes

@@ -1,0 +1,233 @@
+//! Accessors: a getter and a setter for each static int field, over the context.
+ghost use Rattle.std.specs.Prelude.{◌≡◌, IfOk, codes};
+ghost use Rattle.rewriter.specs.Adding.{Grows, add_field as with_field, add_method as with_method};
+ghost use Rattle.rewriter.specs.Members.{place_refs as places, look_refs as looks, read_refs as reads, getter_body as getter_bytes, setter_body as setter_bytes, accessor as added_accessor, getter_of as getter, setter_of as setter, accessors_of as both, added_method as method_of, context_class, getter_code as code_of_getter, setter_code as code_of_setter};
+ghost use Rattle.jmodel.specs.ClassFile.{code_spelling};
+
+use crate::adding::{add_field, add_method, add_utf8};
+use crate::bytes::{high, low, spelled};
+use crate::fields::{address_name, getter_name, setter_name, typed_name};
+use const_pool::{Attribute, Member, Pool};
+use hierarchy::Field;
+use jmodel::{Bytes, Halt};
+use std::alloc::{AllocError, Global};
+
+/// The accessors of a field.
+#[derive(Debug, Drop)]
+pub struct Accessors {
+    pub getter: Member,
+    pub setter: Member,
+}
+
+/// The index of a method of the context.
+pub fn add_context_call(
+    alloc: Global,
+    pool: &mut Pool,
+    name: &[u8],
+    descriptor: &[u8],
+) -> Result<u16, Halt>
+    ensures { Grows (λ n. n) result pool.new (with_method context_class name.now descriptor.now pool.old) }
+{
+    add_method(
+        alloc,
+        pool,
+        b"org/deuce/transaction/Context",
+        name,
+        descriptor,
+    )
+}
+
+/// A method that is added, with these indexes of its name, its descriptor and the text Code.
+pub fn added_method(
+    alloc: Global,
+    flags: u16,
+    name: u16,
+    descriptor: u16,
+    code: u16,
+    bytes: Bytes,
+) -> Result<Member, AllocError>
+    ensures { IfOk result (λ m. m ≡ method_of flags name descriptor code bytes) }
+{
+    let mut attributes = Vec::new(alloc);
+    attributes.push(Attribute { name: code, bytes })?;
+    Ok(Member {
+        flags,
+        name,
+        descriptor,
+        attributes,
+    })
+}
+
+// The static base of the class, and the place of a field of it.
+#[tactic(auto, unfolding(crate::specs::Members::place_refs))]
+fn place_refs(alloc: Global, pool: &mut Pool, own: &[u8], field: &Field) -> Result<(u16, u16), Halt>
+    ensures { Grows (λ p. p) result pool.new (places own.now field.now pool.old) }
+{
+    let name = address_name(alloc, field)?;
+    let base = add_field(alloc, pool, own, b"__CLASS_BASE__", b"Ljava/lang/Object;")?;
+    let address = add_field(alloc, pool, own, name.as_slice(), b"J")?;
+    Ok((base, address))
+}
+
+fn add_own_field(alloc: Global, pool: &mut Pool, own: &[u8], field: &Field) -> Result<u16, Halt>
+    ensures { Grows (λ n. n) result pool.new (with_field own.now field.now.name (codes "I") pool.old) }
+{
+    add_field(alloc, pool, own, field.name().as_slice(), b"I")
+}
+
+// Before the read, the plain load, after the read.
+fn getter_code(
+    alloc: Global,
+    p: (u16, u16),
+    before: u16,
+    field: u16,
+    after: u16,
+) -> Result<Bytes, AllocError>
+    ensures { IfOk result (λ b. b ≡ code_spelling (code_of_getter p before field after)) }
+{
+    let base = p.0;
+    let address = p.1;
+    let code = [
+        42,
+        178,
+        high(base),
+        low(base),
+        178,
+        high(address),
+        low(address),
+        182,
+        high(before),
+        low(before),
+        42,
+        178,
+        high(base),
+        low(base),
+        178,
+        high(field),
+        low(field),
+        178,
+        high(address),
+        low(address),
+        182,
+        high(after),
+        low(after),
+        172,
+    ];
+    spelled(alloc, 5, 1, &code, &[])
+}
+
+// What a getter names up to the call before the read.
+#[tactic(auto, unfolding(crate::specs::Members::look_refs))]
+fn look_refs(
+    alloc: Global,
+    pool: &mut Pool,
+    own: &[u8],
+    field: &Field,
+) -> Result<((u16, u16), u16), Halt>
+    ensures { Grows (λ p. p) result pool.new (looks own.now field.now pool.old) }
+{
+    let p = place_refs(alloc, pool, own, field)?;
+    let before = add_context_call(alloc, pool, b"beforeReadAccess", b"(Ljava/lang/Object;J)V")?;
+    Ok((p, before))
+}
+
+// The field, and the call after the read.
+#[tactic(auto, unfolding(crate::specs::Members::read_refs))]
+fn read_refs(alloc: Global, pool: &mut Pool, own: &[u8], field: &Field) -> Result<(u16, u16), Halt>
+    ensures { Grows (λ p. p) result pool.new (reads own.now field.now pool.old) }
+{
+    let loaded = add_own_field(alloc, pool, own, field)?;
+    let after = add_context_call(alloc, pool, b"onReadAccess", b"(Ljava/lang/Object;IJ)I")?;
+    Ok((loaded, after))
+}
+
+#[tactic(auto, unfolding(crate::specs::Members::getter_body))]
+fn getter_body(alloc: Global, pool: &mut Pool, own: &[u8], field: &Field) -> Result<Bytes, Halt>
+    ensures { Grows (λ b. b) result pool.new (getter_bytes own.now field.now pool.old) }
+{
+    let (p, before) = look_refs(alloc, pool, own, field)?;
+    let (loaded, after) = read_refs(alloc, pool, own, field)?;
+    Ok(getter_code(alloc, p, before, loaded, after)?)
+}
+
+// In place of the store.
+fn setter_code(alloc: Global, p: (u16, u16), write: u16) -> Result<Bytes, AllocError>
+    ensures { IfOk result (λ b. b ≡ code_spelling (code_of_setter p write)) }
+{
+    let base = p.0;
+    let address = p.1;
+    let code = [
+        43,
+        178,
+        high(base),
+        low(base),
+        26,
+        178,
+        high(address),
+        low(address),
+        182,
+        high(write),
+        low(write),
+        177,
+    ];
+    spelled(alloc, 5, 2, &code, &[])
+}
+
+#[tactic(auto, unfolding(crate::specs::Members::setter_body))]
+fn setter_body(alloc: Global, pool: &mut Pool, own: &[u8], field: &Field) -> Result<Bytes, Halt>
+    ensures { Grows (λ b. b) result pool.new (setter_bytes own.now field.now pool.old) }
+{
+    let p = place_refs(alloc, pool, own, field)?;
+    let write = add_context_call(alloc, pool, b"onWriteAccess", b"(Ljava/lang/Object;IJ)V")?;
+    Ok(setter_code(alloc, p, write)?)
+}
+
+#[tactic(auto, unfolding(crate::specs::Members::accessor))]
+fn accessor(
+    alloc: Global,
+    pool: &mut Pool,
+    name: &[u8],
+    descriptor: &[u8],
+    bytes: Bytes,
+) -> Result<Member, Halt>
+    ensures { Grows (λ m. m) result pool.new (added_accessor name.now descriptor.now bytes pool.old) }
+{
+    let (named, typed) = typed_name(alloc, pool, name, descriptor)?;
+    let code = add_utf8(alloc, pool, b"Code")?;
+    Ok(added_method(alloc, 0x1009, named, typed, code, bytes)?)
+}
+
+#[tactic(auto, unfolding(crate::specs::Members::getter_of))]
+fn getter_of(alloc: Global, pool: &mut Pool, own: &[u8], field: &Field) -> Result<Member, Halt>
+    ensures { Grows (λ m. m) result pool.new (getter own.now field.now pool.old) }
+{
+    let name = getter_name(alloc, field)?;
+    let body = getter_body(alloc, pool, own, field)?;
+    let descriptor = b"(Lorg/deuce/transaction/Context;)I";
+    accessor(alloc, pool, name.as_slice(), descriptor, body)
+}
+
+#[tactic(auto, unfolding(crate::specs::Members::setter_of))]
+fn setter_of(alloc: Global, pool: &mut Pool, own: &[u8], field: &Field) -> Result<Member, Halt>
+    ensures { Grows (λ m. m) result pool.new (setter own.now field.now pool.old) }
+{
+    let name = setter_name(alloc, field)?;
+    let body = setter_body(alloc, pool, own, field)?;
+    let descriptor = b"(ILorg/deuce/transaction/Context;)V";
+    accessor(alloc, pool, name.as_slice(), descriptor, body)
+}
+
+/// The getter and the setter of a field of the class `own`.
+#[tactic(auto, unfolding(crate::specs::Members::accessors_of))]
+pub fn accessors_of(
+    alloc: Global,
+    pool: &mut Pool,
+    own: &[u8],
+    field: &Field,
+) -> Result<Accessors, Halt>
+    ensures { Grows (λ a. a) result pool.new (both own.now field.now pool.old) }
+{
+    let getter = getter_of(alloc, pool, own, field)?;
+    let setter = setter_of(alloc, pool, own, field)?;
+    Ok(Accessors { getter, setter })
+}

@@ -1,0 +1,19 @@
+//! The rewriting of classes: accessors, duplicates and wrappers (Korland, Shavit, Felber, MULTIPROG 2010, in this
+//! project's form).
+#![tactic(auto)]
+
+mod accessors;
+mod adding;
+mod bytes;
+mod copies;
+mod duplicates;
+mod fields;
+mod meaning;
+mod rewriting;
+mod wrappers;
+
+pub use meaning::rewriting_law;
+pub use rewriting::rewrite;
+
+#[cfg(test)]
+mod tests;

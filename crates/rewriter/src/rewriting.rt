@@ -1,0 +1,207 @@
+//! The rewriting of a class, part after part.
+ghost use Rattle.std.specs.Prelude.{◌≡◌, IfOk};
+ghost use Rattle.std.specs.List.{flat_map};
+ghost use Rattle.jmodel.specs.Reading.{Gives};
+ghost use Rattle.jmodel.specs.Decoding.{own_name as own_name_of};
+ghost use Rattle.rewriter.specs.Adding.{Grows};
+ghost use Rattle.rewriter.specs.Members.{address_member as address, accessors_of as accessors, calls_of as calls_for, duplicate_of as duplicate, wrapper_of as wrapper};
+ghost use Rattle.rewriter.specs.Rewritten.{grow_from, bases as base_of, both_of, added_fields as all_fields, duplicates as all_duplicates, added_methods as all_added, new_methods as all_methods, rewritten_class, Keeps};
+
+use crate::accessors::{Accessors, accessors_of};
+use crate::copies::{copy_attributes, copy_members, copy_pool};
+use crate::duplicates::{Calls, calls_of, duplicate_of};
+use crate::fields::{address_member, base_member};
+use crate::wrappers::wrapper_of;
+use const_pool::{ClassFile, Member, Pool};
+use hierarchy::symbols::own_name;
+use hierarchy::{Field, Program};
+use jmodel::Halt;
+use std::alloc::{AllocError, Global};
+
+fn addresses(alloc: Global, pool: &mut Pool, fields: &[Field]) -> Result<Vec<Member>, Halt>
+    ensures { Grows (λ v. v.items) result pool.new (grow_from (λ n f. address f) 0 fields.now pool.old) }
+{
+    let mut members = Vec::new(alloc);
+    for field in fields {
+        members.push(address_member(alloc, pool, field)?)?;
+    }
+    Ok(members)
+}
+
+// The field for the static base, where the class has a static field.
+fn bases(alloc: Global, pool: &mut Pool, fields: &[Field]) -> Result<Vec<Member>, Halt>
+    ensures { Grows (λ v. v.items) result pool.new (base_of fields.now pool.old) }
+{
+    let mut members = Vec::new(alloc);
+    if !fields.is_empty() {
+        members.push(base_member(alloc, pool)?)?;
+    }
+    Ok(members)
+}
+
+#[tactic(auto, unfolding(crate::specs::Rewritten::added_fields))]
+fn added_fields(alloc: Global, pool: &mut Pool, original: &Program) -> Result<Vec<Member>, Halt>
+    ensures { Grows (λ v. v.items) result pool.new (all_fields original.now pool.old) }
+{
+    let mut members = addresses(alloc, pool, original.fields())?;
+    let mut base = bases(alloc, pool, original.fields())?;
+    members.append(&mut base)?;
+    Ok(members)
+}
+
+fn all_accessors(
+    alloc: Global,
+    pool: &mut Pool,
+    own: &[u8],
+    fields: &[Field],
+) -> Result<Vec<Accessors>, Halt>
+    ensures { Grows (λ v. v.items) result pool.new (grow_from (λ n f. accessors own.now f) 0 fields.now pool.old) }
+{
+    let mut members = Vec::new(alloc);
+    for field in fields {
+        members.push(accessors_of(alloc, pool, own, field)?)?;
+    }
+    Ok(members)
+}
+
+fn all_calls(
+    alloc: Global,
+    pool: &mut Pool,
+    original: &Program,
+    own: &[u8],
+    fields: &[Field],
+) -> Result<Vec<Calls>, Halt>
+    ensures { Grows (λ v. v.items) result pool.new (grow_from (calls_for original.now own.now) 0 fields.now pool.old) }
+{
+    let mut calls = Vec::new(alloc);
+    for (number, field) in fields.iter().enumerate() {
+        calls.push(calls_of(alloc, pool, original, own, number, field)?)?;
+    }
+    Ok(calls)
+}
+
+fn duplicate_each(
+    alloc: Global,
+    pool: &mut Pool,
+    original: &Program,
+    class: &ClassFile,
+    calls: &[Calls],
+    methods: &[Member],
+) -> Result<Vec<Member>, Halt>
+    ensures { Grows (λ v. v.items) result pool.new (grow_from (duplicate original.now class.now calls.now) 0 methods.now pool.old) }
+{
+    let mut members = Vec::new(alloc);
+    for (number, method) in methods.iter().enumerate() {
+        let member = duplicate_of(alloc, pool, original, class, calls, number, method)?;
+        members.push(member)?;
+    }
+    Ok(members)
+}
+
+// The duplicates, with the accessors that they call.
+#[tactic(auto, unfolding(crate::specs::Rewritten::duplicates))]
+fn duplicates(
+    alloc: Global,
+    pool: &mut Pool,
+    original: &Program,
+    class: &ClassFile,
+) -> Result<Vec<Member>, Halt>
+    ensures { Grows (λ v. v.items) result pool.new (all_duplicates original.now class.now pool.old) }
+{
+    let calls = all_calls(alloc, pool, original, own_name(class), original.fields())?;
+    let methods = class.methods.as_slice();
+    duplicate_each(alloc, pool, original, class, calls.as_slice(), methods)
+}
+
+fn wrappers(
+    alloc: Global,
+    pool: &mut Pool,
+    class: &ClassFile,
+    methods: &[Member],
+) -> Result<Vec<Member>, Halt>
+    ensures { Grows (λ v. v.items) result pool.new (grow_from (wrapper class.now) 0 methods.now pool.old) }
+{
+    let mut members = Vec::new(alloc);
+    for (number, method) in methods.iter().enumerate() {
+        members.push(wrapper_of(alloc, pool, class, number, method)?)?;
+    }
+    Ok(members)
+}
+
+// The getters and the setters, one behind the other.
+fn in_order(alloc: Global, list: Vec<Accessors>) -> Result<Vec<Member>, AllocError>
+    ensures { IfOk result (λ v. v.items ≡ flat_map both_of list.items) }
+{
+    let mut members = Vec::new(alloc);
+    for both in list {
+        members.push(both.getter)?;
+        members.push(both.setter)?;
+    }
+    Ok(members)
+}
+
+// The methods that are added: accessors, then duplicates.
+#[tactic(auto, unfolding(crate::specs::Rewritten::added_methods))]
+fn added_methods(
+    alloc: Global,
+    pool: &mut Pool,
+    original: &Program,
+    class: &ClassFile,
+) -> Result<Vec<Member>, Halt>
+    ensures { Grows (λ v. v.items) result pool.new (all_added original.now class.now pool.old) }
+{
+    let accessors = all_accessors(alloc, pool, own_name(class), original.fields())?;
+    let mut copies = duplicates(alloc, pool, original, class)?;
+    let mut members = in_order(alloc, accessors)?;
+    members.append(&mut copies)?;
+    Ok(members)
+}
+
+#[tactic(auto, unfolding(crate::specs::Rewritten::new_methods))]
+fn new_methods(
+    alloc: Global,
+    pool: &mut Pool,
+    original: &Program,
+    class: &ClassFile,
+) -> Result<Vec<Member>, Halt>
+    ensures { Grows (λ v. v.items) result pool.new (all_methods original.now class.now pool.old) }
+{
+    let mut added = added_methods(alloc, pool, original, class)?;
+    let mut members = wrappers(alloc, pool, class, class.methods.as_slice())?;
+    members.append(&mut added)?;
+    Ok(members)
+}
+
+#[tactic(auto, unfolding(crate::specs::Rewritten::rewritten_class))]
+fn rewritten(alloc: Global, class: &ClassFile, original: &Program) -> Result<ClassFile, Halt>
+    ensures { Gives (λ c. c) result (rewritten_class original.now class.now) }
+{
+    let mut pool = copy_pool(alloc, &class.pool)?;
+    let mut fields = copy_members(alloc, class.fields.as_slice())?;
+    let mut added = added_fields(alloc, &mut pool, original)?;
+    let methods = new_methods(alloc, &mut pool, original, class)?;
+    fields.append(&mut added)?;
+    Ok(ClassFile {
+        minor: class.minor,
+        major: class.major,
+        pool,
+        flags: class.flags,
+        this_class: class.this_class,
+        super_class: class.super_class,
+        interfaces: Vec::from_slice(alloc, class.interfaces.as_slice())?,
+        fields,
+        methods,
+        attributes: copy_attributes(alloc, class.attributes.as_slice())?,
+    })
+}
+
+/// The rewriting of a class over the program that it means: a field for the place of each static field and one for the
+/// static base, accessors, a duplicate of each method, and a wrapper in its place. The old pool is a front of the new one,
+/// to which only needed entries are added. Refused as PoolFull, CodeTooLarge or TooManyPlaces where a part passes its limit,
+/// and as BadCode where a method has no good Code; the caller names the class and the method.
+pub fn rewrite(alloc: Global, class: &ClassFile, original: &Program) -> Result<ClassFile, Halt>
+    ensures exact { Gives (λ c. c) result (rewritten_class original.now class.now) }
+    ensures keeps { IfOk result (Keeps class.now) }
+{
+    rewritten(alloc, class, original)
+}
