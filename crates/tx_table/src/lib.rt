@@ -1,0 +1,14 @@
+//! The table of shared words: a clock, stripes and a heap, which change in single atomic steps under one rule.
+#![tactic(auto)]
+
+pub mod law;
+pub mod laws;
+pub mod opening;
+pub mod reading;
+pub mod shared;
+pub mod writing;
+
+pub use shared::{Conflict, Pass, Shared, Story};
+
+#[cfg(test)]
+mod tests;
