@@ -1,5 +1,12 @@
+ghost use Rattle.std.specs.Prelude.{◌≡◌, IfOk};
+
+mod compiled;
+
 use super::*;
-use const_pool::{ClassFile, Pool};
+use class_reader::read_class;
+use compiled::{BOX, POINT, SHAPE};
+use jmodel::{Bytes, Halt};
+use std::alloc::Global;
 use std::test::*;
 
 // The smallest class: two names, two classes.
@@ -9,26 +16,36 @@ const SMALLEST: [u8; 43] = [
     0x02, 0x00, 0x04, 0x00, 0x00, 0x00, 0x00, 0x00, 0x00, 0x00, 0x00,
 ];
 
+// A class as it is read is written with the bytes that were read.
+fn written_again(alloc: Global, bytes: &[u8]) -> Result<Bytes, Halt>
+    ensures { IfOk result (λ b. b ≡ bytes.now) }
+{
+    let class = read_class(alloc, bytes)?;
+    let bytes = write_class(alloc, &class)?;
+    Ok(bytes)
+}
+
 #[test]
 fn smallest(rt: HostRuntime) -> Result<(), Fail> {
-    let mut pool = Pool::new(rt.alloc());
-    let this_class = pool.add_class(b"A").ok().ok_or("room")?;
-    let super_class = pool.add_class(b"Object").ok().ok_or("room")?;
-    let class = ClassFile {
-        minor: 0,
-        major: 49,
-        pool,
-        flags: 0x21,
-        this_class,
-        super_class,
-        interfaces: Vec::new(rt.alloc()),
-        fields: Vec::new(rt.alloc()),
-        methods: Vec::new(rt.alloc()),
-        attributes: Vec::new(rt.alloc()),
-    };
-    assert_eq!(rt; class.this_class, 2);
-    assert_eq!(rt; class.super_class, 4);
-    let bytes = write_class(rt.alloc(), &class).ok().ok_or("memory")?;
+    let class = read_class(rt.alloc(), &SMALLEST)?;
+    assert_eq!(rt; (class.this_class, class.super_class), (2, 4));
+    let bytes = written_again(rt.alloc(), &SMALLEST)?;
     assert_eq!(rt; bytes.as_slice(), SMALLEST.as_slice());
+    Ok(())
+}
+
+// A class with a constructor, an interface with constants, and a generic class with an exception handler, an inner class
+// and tables for debuggers.
+#[test]
+fn compiled_classes(rt: HostRuntime) -> Result<(), Fail> {
+    assert_eq!(rt;
+        written_again(rt.alloc(), &POINT)?.as_slice(),
+        POINT.as_slice()
+    );
+    assert_eq!(rt;
+        written_again(rt.alloc(), &SHAPE)?.as_slice(),
+        SHAPE.as_slice()
+    );
+    assert_eq!(rt; written_again(rt.alloc(), &BOX)?.as_slice(), BOX.as_slice());
     Ok(())
 }
