@@ -66,3 +66,15 @@ named_at vs names i x less is h =
 -- two readings of one text are one
 pub same_data : (o : Option Data) (a b : Data) → o ≡ Some a → o ≡ Some b → a ≡ b
 same_data o a b p q = cc
+
+same_calls : (a b : List (List ℕ)) → map call_data a ≡ map call_data b → a ≡ b
+same_calls [] [] h = refl
+same_calls [] (y ∷ ys) h = cc
+same_calls (x ∷ xs) [] h = cc
+same_calls (x ∷ xs) (y ∷ ys) h = let rest : xs ≡ ys = same_calls xs ys cc in cc
+
+-- a script names one list of methods
+pub same_names : (bytes : List ℕ) (a b : List (List ℕ)) → IsScript bytes a → IsScript bytes b → a ≡ b
+same_names bytes a b p q =
+    let same : p.script ≡ q.script = same_data _ _ _ p.script_is q.script_is in
+    same_calls a b (same_items _ _ (one_calls q.script _ _ (rw same at p.calls) q.calls))

@@ -7,3 +7,5 @@ pub mod Serially
 pub mod Numbered
 pub mod Reading
 pub mod Running
+pub mod Folders
+pub mod Failing

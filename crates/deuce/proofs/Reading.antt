@@ -1,18 +1,21 @@
 -- Files that were read whole.
-use Rattle.std.proofs.Common.{Bor, ◌≡◌, ℕ, suc, ◌≤◌, List, length, min, Option, Some, None, refl, sym, ap, ◌∙◌, take, arith}
+use Rattle.std.proofs.Common.{Bor, ◌≡◌, ℕ, suc, ◌≤◌, List, length, min, Option, Some, None, refl, sym, subst, ap, ◌∙◌, take, arith}
 use Rattle.std.specs.Prelude.{option_map}
 use Rattle.std.proofs.lemmas.List.{length-take, take_all}
 use Rattle.deuce_io.specs.Files.{Files, inside}
 use Rattle.deuce.specs.declared.inputs.Inputs.{Inputs}
 use Rattle.deuce.specs.Headline.{IsRun}
-use Rattle.std.specs.Prelude.{String}
+use Rattle.jmodel.specs.declared.refusal.Refusal.{Refusal}
+use Rattle.deuce.specs.declared.run.RunEnd.TheVariants as ends
+use Rattle.std.specs.Prelude.{String, string_bytes, codes}
+use Rattle.jmodel.specs.Output.{◌and◌, refusal_text, error_text}
 use Rattle.std.specs.declared.alloc.Global.{Global}
 use Rattle.deuce_io.specs.Fault.{Call}
 use Rattle.deuce.specs.declared.words.Command.{Command}
 use Rattle.deuce.specs.declared.words.Command.TheVariants.{Run}
 use Rattle.deuce.specs.declared.outcome.Outcome.{Outcome}
-use Rattle.deuce.specs.declared.outcome.Outcome.TheVariants.{Journal, Usage, Outside, NotBuilt}
-use Rattle.deuce.specs.Ending.{IsFrontOf, Holds, AreInputs, IsJournalOf, IsJournalOfWords, IsOutcome, IsTextOf, Appends, status_of}
+use Rattle.deuce.specs.declared.outcome.Outcome.TheVariants.{Journal, Usage, BadClass, Outside, NotBuilt}
+use Rattle.deuce.specs.Ending.{IsFrontOf, Holds, AreInputs, IsJournalOf, IsFileFault, IsBadClass, IsNotRun, EndsRun, IsJournalOfWords, IsBadClassOfWords, IsOutcome, IsTextOf, Appends, status_of}
 
 whole : (most limit : ℕ) (o : Option (List ℕ)) (bytes : List ℕ) → most ≡ suc limit → option_map (take most) o ≡ Some bytes → length bytes ≤ limit → o ≡ Some bytes
 whole most limit None bytes m e le = absurd (cc)
@@ -38,14 +41,51 @@ journal_of files dir script inputs text a c s run = record {
   run = run;
 }
 
+-- a fault of what was read is one of the class file
+pub bad_class : (files : Option Files) (dir script : List ℕ) (inputs : Inputs) (r : Refusal) → AreInputs files dir script inputs → IsFileFault inputs.class r
+    → IsBadClass files dir (string_bytes inputs.path) r
+bad_class files dir script inputs r a fault = record {
+  name = a.name;
+  class_file = a.class_file;
+  class_path = a.class_path;
+  bytes = inputs.class;
+  front = subst (λ (p : List ℕ). IsFrontOf files p 1048577 inputs.class) (sym a.class_path) a.class;
+  fault = fault;
+}
+
+-- what was read could not be run
+pub not_run : (files : Option Files) (dir script : List ℕ) (inputs : Inputs) → AreInputs files dir script inputs → EndsRun inputs.class inputs.script ends.NotBuilt → IsNotRun files dir script
+not_run files dir script inputs a h = record {
+  name = a.name;
+  class_file = a.class_file;
+  class_bytes = inputs.class;
+  class = holds files (inside dir a.name) 1048577 1048576 inputs.class refl a.class h.0;
+  file = h.1;
+  spells = h.2;
+  script_bytes = inputs.script;
+  script_front = a.script_bytes;
+  not = h.3;
+}
+
 -- what was printed with status 0 is a run's journal
 pub journal_printed : (words : List (String Global)) (files : Option Files) (before now : ℕ) (last : Option Call) (o : Outcome) (printed : List ℕ) (old new : Option (List ℕ)) (status : ℕ)
     → IsOutcome words files before now last o → status ≡ status_of o → IsTextOf o printed → Appends old new printed → status ≡ 0
     → (text : List ℕ) × IsJournalOfWords words files text × Appends old new text
 journal_printed words files before now last (Journal text) printed old new status h s is all z = (text, h, rw is at all)
 journal_printed words files before now last Usage printed old new status h s is all z = absurd (omega (arith, s, z))
+journal_printed words files before now last (BadClass path refusal) printed old new status h s is all z = absurd (omega (arith, s, z))
 journal_printed words files before now last (Outside path) printed old new status h s is all z = absurd (omega (arith, s, z))
 journal_printed words files before now last NotBuilt printed old new status h s is all z = absurd (omega (arith, s, z))
+
+-- what was printed with status 3 is a fault of the class file
+pub fault_printed : (words : List (String Global)) (files : Option Files) (before now : ℕ) (last : Option Call) (o : Outcome) (printed : List ℕ) (old new : Option (List ℕ)) (status : ℕ)
+    → IsOutcome words files before now last o → status ≡ status_of o → IsTextOf o printed → Appends old new printed → status ≡ 3
+    → (path : List ℕ) × (r : Refusal) × IsBadClassOfWords words files path r × Appends old new (error_text (codes "3") (path and refusal_text r))
+fault_printed words files before now last (Journal text) printed old new status h s is all z = absurd (omega (arith, s, z))
+fault_printed words files before now last Usage printed old new status h s is all z = absurd (omega (arith, s, z))
+fault_printed words files before now last (BadClass path refusal) printed old new status h s is all z = (string_bytes path, refusal, h, rw is at all)
+fault_printed words files before now last (Outside path) printed old new status h s is all z = absurd (omega (arith, s, z))
+fault_printed words files before now last NotBuilt printed old new status h s is all z = absurd (omega (arith, s, z))
 
 -- the one command there is
 pub one_command : (cmd : Command) → (d : Bor (List ℕ)) × (s : Bor (List ℕ)) × (cmd ≡ Run d s)

@@ -1,5 +1,5 @@
 -- What a run promises: its answers are those of the original methods, called one after another.
-use Rattle.std.specs.Prelude.{◌≡◌, ℕ, suc, List, [], ◌∷◌, length, map, filter, position, Option, Some, None, Bool, true, false, not, bytes_eq}
+use Rattle.std.specs.Prelude.{◌≡◌, ◌≤◌, Ok, ℕ, suc, List, [], ◌∷◌, length, map, filter, position, Option, Some, None, Bool, true, false, not, bytes_eq}
 use Rattle.jmodel.specs.declared.name.MethodName.{MethodName}
 use Rattle.jmodel.specs.declared.value.Answer.{Answer}
 use Rattle.jmodel.specs.declared.value.Answer.TheVariants.{NoMemory}
@@ -15,6 +15,7 @@ use Rattle.jmodel.specs.Serial.{Serial}
 use Rattle.jmodel.specs.Decoding.{each}
 use Rattle.jmodel.specs.Linking.{linked}
 use Rattle.jmodel.specs.Output.{journal_text}
+use Rattle.rewriter.specs.Rewritten.{rewritten_class}
 use Rattle.deuce.specs.Script.{IsScript}
 
 -- the turns of a call
@@ -79,6 +80,19 @@ pub record AreCalls (P : Program) (opening : State) (numbers : List ℕ) (text :
   pub after : State
   pub serial : Serial P budget opening (map call_of (filter is_placed (made_from 0 numbers answers)))
       (map (λ (c : Made). c.answer) (filter is_placed (made_from 0 numbers answers))) after
+
+-- The script can be run on the class: that is of the form that is built so far, the script's calls are those of its
+-- methods, and the rewriting of the class passes no limit of a class file.
+pub record CanRun (file : ClassFile) (script : List ℕ) : Type 0 where
+  pub program : Program
+  pub links : linked file ≡ Some program
+  pub within : length script ≤ 16777216
+  pub names : List (List ℕ)
+  pub is_script : IsScript script names
+  pub numbers : List ℕ
+  pub numbered : each (method_number program) names ≡ Some numbers
+  pub instrumented : ClassFile
+  pub rewrites : rewritten_class program file ≡ Ok instrumented
 
 -- The text is the journal of a run of a script on a class file: each call of the script once, in the script's order.
 pub record IsRun (class script text : List ℕ) : Type 0 where

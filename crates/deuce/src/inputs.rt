@@ -1,7 +1,8 @@
 //! What a run reads from its folder.
 ghost use Rattle.std.specs.Prelude.{◌≡◌, IfOk, IfErr, IfSome, string_bytes};
-ghost use Rattle.std.specs.Bool.{OnTrue};
-ghost use Rattle.deuce.specs.Ending.{IsClassFileName, AreInputs, EndsInRun, IsOutsideAt};
+ghost use Rattle.std.specs.Prelude.{◌↔◌, ℕ, List, Contains, IsTrue, MatchOption};
+ghost use Rattle.deuce_io.specs.Files.{NoRepeats, seen_items};
+ghost use Rattle.deuce.specs.Ending.{IsClassFileName, IsOneClass, AreInputs, EndsInRun, IsOutsideAt};
 
 use deuce_io::{Folder, IoEnd, Item};
 use jmodel::Bytes;
@@ -16,6 +17,8 @@ pub const SCRIPT_LIMIT: usize = 16_777_216;
 /// The class file and the script of a run, each with at most one byte over its limit.
 #[derive(Drop)]
 pub struct Inputs {
+    /// The path of the class file.
+    pub path: String,
     pub class: Bytes,
     pub script: Bytes,
 }
@@ -49,7 +52,7 @@ pub fn read_inputs<F: Folder>(
     script: &str,
 ) -> Result<Inputs, InputEnd>
     ensures inputs { IfOk result (AreInputs (F.files folder.old) dir.now script.now) }
-    ensures cause { IfErr result (EndsInRun dir.now script.now (F.faults folder.old) (F.faults folder.new) (F.failed folder.new)) }
+    ensures cause { IfErr result (EndsInRun (F.files folder.old) dir.now script.now (F.faults folder.old) (F.faults folder.new) (F.failed folder.new)) }
 {
     let items = match folder.list(dir) {
         Ok(items) => items,
@@ -67,7 +70,11 @@ pub fn read_inputs<F: Folder>(
         Ok(bytes) => bytes,
         Err(end) => return Err(outside(alloc, end, script)),
     };
-    Ok(Inputs { class, script })
+    Ok(Inputs {
+        path,
+        class,
+        script,
+    })
 }
 
 /// The end of a run whose call of the folder at this path ended so.
@@ -85,7 +92,8 @@ fn outside(alloc: Global, end: IoEnd, path: &str) -> InputEnd
 
 /// The name of the one class file, where there is no folder and no second class file.
 fn class_file(items: &[Item]) -> Option<&str>
-    ensures { IfSome result (λ name. IsClassFileName name.now) }
+    ensures named { IfSome result (λ name. IsClassFileName name.now) }
+    ensures one { NoRepeats (seen_items items.now) → MatchOption result ((name : List ℕ) → IsOneClass (Contains (seen_items items.now)) name → ⊥) (λ name. IsOneClass (Contains (seen_items items.now)) name.now) }
 {
     let mut found = None;
     for item in items {
@@ -104,7 +112,7 @@ fn class_file(items: &[Item]) -> Option<&str>
 }
 
 fn is_class_file(name: &str) -> bool
-    ensures { OnTrue result (IsClassFileName name.now) }
+    ensures { IsTrue result ↔ IsClassFileName name.now }
 {
     name.as_bytes().ends_with(b".class")
 }

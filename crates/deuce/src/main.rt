@@ -7,6 +7,7 @@ mod lane;
 mod numbers;
 mod outcome;
 mod print;
+mod refusal;
 mod run;
 mod script;
 mod text;

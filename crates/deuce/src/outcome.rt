@@ -1,8 +1,10 @@
 //! How a command ends, before anything is written.
-ghost use Rattle.std.specs.Prelude.{IfOk};
+ghost use Rattle.std.specs.Prelude.{◌≡◌, IfOk, codes};
+ghost use Rattle.jmodel.specs.Output.{◌and◌, refusal_text, error_text};
 ghost use Rattle.deuce.specs.Ending.{IsTextOf};
 
-use jmodel::Bytes;
+use crate::refusal::push_refusal;
+use jmodel::{Bytes, Refusal};
 use std::alloc::{AllocError, Global};
 
 /// How a command ends.
@@ -12,10 +14,23 @@ pub enum Outcome {
     Journal(Bytes),
     /// The words were of no form.
     Usage,
+    /// The file at this path is no class file, with the first fault.
+    BadClass { path: String, refusal: Refusal },
     /// A list or a read of the folder failed at this path.
     Outside(String),
     /// The folder or the script isn't of the form that is built so far.
     NotBuilt,
+}
+
+fn bad_class_line(alloc: Global, path: &str, refusal: &Refusal) -> Result<Bytes, AllocError>
+    ensures { IfOk result (λ line. line ≡ error_text (codes "3") (path.now and refusal_text refusal.now)) }
+{
+    let mut line = Bytes::from_slice(alloc, b"error 3 ")?;
+    line.extend_from_slice(path.as_bytes())?;
+    line.push(b' ')?;
+    push_refusal(alloc, &mut line, refusal)?;
+    line.push(b'\n')?;
+    Ok(line)
 }
 
 /// The text that is printed.
@@ -25,6 +40,7 @@ pub fn text_of(alloc: Global, outcome: Outcome) -> Result<Bytes, AllocError>
     match outcome {
         Outcome::Journal(text) => Ok(text),
         Outcome::Usage => Bytes::from_slice(alloc, b"error 2 usage\n"),
+        Outcome::BadClass { path, refusal } => bad_class_line(alloc, path.as_str(), &refusal),
         Outcome::Outside(path) => {
             let line = format!(in alloc; "error 8 {path}\n")?;
             Bytes::from_slice(alloc, line.as_bytes())
@@ -44,6 +60,7 @@ impl Outcome {
         match self {
             Outcome::Journal(_) => 0,
             Outcome::Usage => 2,
+            Outcome::BadClass { .. } => 3,
             Outcome::Outside(_) => 8,
             Outcome::NotBuilt => 12,
         }

@@ -132,13 +132,71 @@ fn what_fails_outside_is_named(rt: HostRuntime) -> Result<(), Fail> {
     Ok(())
 }
 
+/// Whether a run on a class file is refused with this fault.
+fn is_fault(alloc: Global, class: &[u8], fault: &str) -> Result<bool, IoEnd> {
+    let line = format!(in alloc; "error 3 d/Counter.class {fault}\n")?;
+    runs(alloc, class, ONE_CALL, 3, line.as_str())
+}
+
+/// Whether a run on a class file ends as one that has a fault.
+fn is_faulty(alloc: Global, class: &[u8]) -> Result<bool, IoEnd> {
+    let words = words_of(alloc, ["run", "d", "s"].as_slice())?;
+    let mut folder = folder_of(alloc, class, ONE_CALL)?;
+    let mut out = MemSink::new(alloc, 64);
+    let status = deuce(alloc, words.as_slice(), &mut folder, &mut out);
+    let line = out.written.as_slice();
+    Ok(status == 3 && line.starts_with(b"error 3 d/Counter.class 1 Truncated "))
+}
+
 #[test]
-fn a_front_of_a_class_is_not_built(rt: HostRuntime) -> Result<(), Fail> {
+fn a_front_of_a_class_is_truncated(rt: HostRuntime) -> Result<(), Fail> {
     let alloc = rt.alloc();
     let class = COUNTER.as_slice();
     for len in 0..class.len() {
-        assert!(rt; runs(alloc, &class[..len], ONE_CALL, 12, "error 12 NotBuilt\n")?);
+        assert!(rt; is_faulty(alloc, &class[..len])?);
     }
+    assert!(rt; is_fault(alloc, &class[..3], "1 Truncated 0")?);
+    assert!(rt; is_fault(alloc, &class[..20], "1 Truncated 16")?);
+    assert!(rt; is_fault(alloc, &class[..200], "1 Truncated 199")?);
+    Ok(())
+}
+
+#[test]
+fn a_byte_behind_a_class_is_told(rt: HostRuntime) -> Result<(), Fail> {
+    let alloc = rt.alloc();
+    let mut class = Vec::from_slice(alloc, COUNTER.as_slice())?;
+    class.push(0)?;
+    assert!(rt; is_fault(alloc, class.as_slice(), "10 Trailing 201")?);
+    Ok(())
+}
+
+#[test]
+fn a_pop_in_place_of_the_return_is_not_built(rt: HostRuntime) -> Result<(), Fail> {
+    let mut class = COUNTER;
+    class[182] = 0x57;
+    assert!(rt;
+        runs(
+            rt.alloc(),
+            class.as_slice(),
+            ONE_CALL,
+            12,
+            "error 12 NotBuilt\n"
+        )?
+    );
+    Ok(())
+}
+
+#[test]
+fn a_second_file_or_a_folder_is_not_built(rt: HostRuntime) -> Result<(), Fail> {
+    let alloc = rt.alloc();
+    for path in ["d/Other.class", "d/e/f"].as_slice() {
+        let mut folder = folder_of(alloc, COUNTER.as_slice(), ONE_CALL)?;
+        folder.put(path, COUNTER.as_slice())?;
+        assert!(rt; gives(alloc, folder, 12, "error 12 NotBuilt\n")?);
+    }
+    let mut folder = folder_of(alloc, COUNTER.as_slice(), NO_PHASES)?;
+    folder.put("d/notes", b"".as_slice())?;
+    assert!(rt; gives(alloc, folder, 0, "history 0\nunplaced 0\n")?);
     Ok(())
 }
 
@@ -157,7 +215,7 @@ fn scripts_of_no_form_are_not_built(rt: HostRuntime) -> Result<(), Fail> {
     Ok(())
 }
 
-/// Whether a run of one call on a class ends: with its answer, or as not built.
+/// Whether a run of one call on a class ends: with its answer, with a fault of the file, or as not built.
 fn ends(alloc: Global, class: &[u8]) -> Result<bool, IoEnd> {
     let words = words_of(alloc, ["run", "d", "s"].as_slice())?;
     let mut folder = folder_of(alloc, class, ONE_CALL)?;
@@ -166,6 +224,7 @@ fn ends(alloc: Global, class: &[u8]) -> Result<bool, IoEnd> {
     let written = out.written.as_slice();
     Ok(match status {
         0 => written.starts_with(b"history 1\n"),
+        3 => written.starts_with(b"error 3 d/Counter.class "),
         12 => written == b"error 12 NotBuilt\n".as_slice(),
         _ => false,
     })
@@ -186,9 +245,106 @@ fn each_flip_of_a_bit_ends(rt: HostRuntime) -> Result<(), Fail> {
 }
 
 #[test]
-fn a_file_over_the_limit_is_not_built(rt: HostRuntime) -> Result<(), Fail> {
+fn a_file_over_the_limit_is_told(rt: HostRuntime) -> Result<(), Fail> {
     let alloc = rt.alloc();
     let class = vec![in alloc; 0u8; 1_048_577]?;
+    assert!(rt; is_fault(alloc, class.as_slice(), "30 OverLimit file 1048577")?);
+    Ok(())
+}
+
+/// Counter's class file with other code in `inc`, of less than 128 bytes, and room for so many values on the stack.
+fn with_code(alloc: Global, stack: u8, code: &[u8]) -> Result<Vec<u8>, AllocError> {
+    let length = (code.len() % 128) as u8;
+    let mut class = Vec::from_slice(alloc, &COUNTER[..161])?;
+    class.extend_from_slice(&[0, 0, 0, 12 + length, 0, stack, 0, 0, 0, 0, 0, length])?;
+    class.extend_from_slice(code)?;
+    class.extend_from_slice(&COUNTER[183..])?;
+    Ok(class)
+}
+
+/// Whether a call of `inc` with this code on a stack of four gives this answer.
+fn answers(alloc: Global, code: &[u8], answer: &str) -> Result<bool, IoEnd> {
+    let class = with_code(alloc, 4, code)?;
+    let text = format!(in alloc; "history 1\n0 0 0 Counter.inc()I {answer}\nunplaced 0\n")?;
+    runs(alloc, class.as_slice(), ONE_CALL, 0, text.as_str())
+}
+
+#[test]
+fn constants_and_the_stack(rt: HostRuntime) -> Result<(), Fail> {
+    let alloc = rt.alloc();
+    // nop; iconst_m1, iconst_0 and iconst_5; bipush and sipush at both ends
+    assert!(rt; answers(alloc, &[0x00, 0x04, 0xac], "1")?);
+    assert!(rt; answers(alloc, &[0x02, 0xac], "-1")?);
+    assert!(rt; answers(alloc, &[0x03, 0xac], "0")?);
+    assert!(rt; answers(alloc, &[0x08, 0xac], "5")?);
+    assert!(rt; answers(alloc, &[0x10, 0x80, 0xac], "-128")?);
+    assert!(rt; answers(alloc, &[0x10, 0x7f, 0xac], "127")?);
+    assert!(rt; answers(alloc, &[0x11, 0x80, 0x00, 0xac], "-32768")?);
+    assert!(rt; answers(alloc, &[0x11, 0x7f, 0xfe, 0xac], "32766")?);
+    // 2, 3, pop; 3, dup, isub
+    assert!(rt; answers(alloc, &[0x05, 0x06, 0x57, 0xac], "2")?);
+    assert!(rt; answers(alloc, &[0x06, 0x59, 0x64, 0xac], "0")?);
+    Ok(())
+}
+
+#[test]
+fn arithmetic_wraps(rt: HostRuntime) -> Result<(), Fail> {
+    let alloc = rt.alloc();
+    // 3 - 5, 3 + 5, 3 * 5, -3
+    assert!(rt; answers(alloc, &[0x06, 0x08, 0x64, 0xac], "-2")?);
+    assert!(rt; answers(alloc, &[0x06, 0x08, 0x60, 0xac], "8")?);
+    assert!(rt; answers(alloc, &[0x06, 0x08, 0x68, 0xac], "15")?);
+    assert!(rt; answers(alloc, &[0x06, 0x74, 0xac], "-3")?);
+    // 16384 * 16384 * 4 is 1073741824; added to itself it is -2147483648
+    let least = [0x11, 0x40, 0x00, 0x59, 0x68, 0x07, 0x68, 0x59, 0x60];
+    assert!(rt;
+        answers(
+            alloc,
+            &[0x11, 0x40, 0x00, 0x59, 0x68, 0x07, 0x68, 0xac],
+            "1073741824"
+        )?
+    );
+    assert!(rt; ends_in(alloc, least.as_slice(), &[], "-2147483648")?);
+    // less 1, and negated
+    assert!(rt; ends_in(alloc, least.as_slice(), &[0x04, 0x64], "2147483647")?);
+    assert!(rt; ends_in(alloc, least.as_slice(), &[0x74], "-2147483648")?);
+    // (32767 + 13574) squared is 2147488281
+    let square = [0x11, 0x7f, 0xff, 0x11, 0x35, 0x06, 0x60, 0x59, 0x68];
+    assert!(rt; ends_in(alloc, square.as_slice(), &[], "-2147479015")?);
+    Ok(())
+}
+
+/// Whether code and more of it, with a return behind both, give this answer.
+fn ends_in(alloc: Global, code: &[u8], more: &[u8], answer: &str) -> Result<bool, IoEnd> {
+    let mut whole = Vec::from_slice(alloc, code)?;
+    whole.extend_from_slice(more)?;
+    whole.push(0xac)?;
+    answers(alloc, whole.as_slice(), answer)
+}
+
+#[test]
+fn a_field_is_read_and_written_twice(rt: HostRuntime) -> Result<(), Fail> {
+    let alloc = rt.alloc();
+    // n = n + 1; n = n + n + 5; return n
+    let code = [
+        0xb2, 0, 10, 0x04, 0x60, 0xb3, 0, 10, 0xb2, 0, 10, 0xb2, 0, 10, 0x60, 0x08, 0x60, 0xb3, 0,
+        10, 0xb2, 0, 10, 0xac,
+    ];
+    let class = with_code(alloc, 2, code.as_slice())?;
+    let text =
+        "history 3\n0 0 0 Counter.inc()I 7\n0 0 1 Counter.inc()I 21\n0 0 2 Counter.inc()I 49\nunplaced 0\n";
+    assert!(rt; runs(alloc, class.as_slice(), THREE_CALLS, 0, text)?);
+    Ok(())
+}
+
+#[test]
+fn a_stack_too_small_is_not_built(rt: HostRuntime) -> Result<(), Fail> {
+    let alloc = rt.alloc();
+    let code = [0x04, 0x05, 0x60, 0xac];
+    let class = with_code(alloc, 1, code.as_slice())?;
     assert!(rt; runs(alloc, class.as_slice(), ONE_CALL, 12, "error 12 NotBuilt\n")?);
+    let class = with_code(alloc, 2, code.as_slice())?;
+    let text = "history 1\n0 0 0 Counter.inc()I 3\nunplaced 0\n";
+    assert!(rt; runs(alloc, class.as_slice(), ONE_CALL, 0, text)?);
     Ok(())
 }

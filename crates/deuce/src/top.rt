@@ -1,15 +1,15 @@
 //! The top call: all that the program does.
 ghost use Rattle.std.specs.Prelude.{◌≡◌, ◌⊎◌, ℕ, List, IfOk, codes, string_bytes};
 ghost use Rattle.deuce_io.specs.Fault.{Rose};
-ghost use Rattle.jmodel.specs.Output.{error_text};
+ghost use Rattle.jmodel.specs.declared.refusal.Refusal.{Refusal};
+ghost use Rattle.jmodel.specs.Output.{◌and◌, refusal_text, error_text};
 ghost use Rattle.deuce.specs.Command.{IsNoCommand};
-ghost use Rattle.deuce.specs.Ending.{IsOutcome, IsJournalOfWords, FailedOutside, Appends, status_of};
+ghost use Rattle.deuce.specs.Ending.{IsOutcome, IsJournalOfWords, IsBadClassOfWords, IsNotBuilt, FailedOutside, Appends, status_of};
 
 use crate::inputs::{InputEnd, read_inputs};
 use crate::outcome::{Outcome, text_of};
 use crate::print::print;
-use crate::run::run;
-use crate::script::ScriptEnd;
+use crate::run::{RunEnd, run};
 use crate::words::{Command, command_of};
 use deuce_io::{Folder, IoEnd, Sink};
 use jmodel::NoMemory;
@@ -21,10 +21,11 @@ use std::alloc::Global;
 /// |---|---|
 /// | 0 | the journal of the run was written whole |
 /// | 2 | the words are none of the forms |
+/// | 3 | the file is no class file; its path and its first fault are printed |
 /// | 8 | a list or a read of this run failed |
 /// | 9 | the sink failed; a front of the output was written |
 /// | 10 | memory ran out |
-/// | 12 | the folder or the script isn't of the form that is built so far |
+/// | 12 | the folder hasn't one class file alone, or the class or the script isn't of the form that is built so far |
 pub fn deuce<F: Folder, O: Sink>(alloc: Global, words: &[String], folder: &mut F, out: &mut O) -> u8
     // Where the words are of no form, that is said, unless it can't be written or memory runs out.
     ensures no_form { IsNoCommand words.now → (result ≡ 2) ⊎ ((result ≡ 9) ⊎ (result ≡ 10)) }
@@ -33,6 +34,14 @@ pub fn deuce<F: Folder, O: Sink>(alloc: Global, words: &[String], folder: &mut F
     // What was written, where the sink tells it.
     ensures journal { result ≡ 0 → (text : List ℕ) × IsJournalOfWords words.now (F.files folder.old) text × Appends (O.written out.old) (O.written out.new) text }
     ensures usage_line { result ≡ 2 → Appends (O.written out.old) (O.written out.new) (error_text (codes "2") (codes "usage")) }
+
+    // The one class file has this fault.
+    ensures bad_class { result ≡ 3 → (path : List ℕ) × (refusal : Refusal)
+        × IsBadClassOfWords words.now (F.files folder.old) path refusal
+        × Appends (O.written out.old) (O.written out.new) (error_text (codes "3") (path and refusal_text refusal)) }
+
+    // The folder hasn't one class file alone, or the script can't be run on that.
+    ensures not_built { result ≡ 12 → IsNotBuilt words.now (F.files folder.old) }
     ensures not_built_line { result ≡ 12 → Appends (O.written out.old) (O.written out.new) (error_text (codes "12") (codes "NotBuilt")) }
 
     // A fault of the folder is one of this run's calls, and its path is printed; a fault of the sink is the sink's.
@@ -41,7 +50,7 @@ pub fn deuce<F: Folder, O: Sink>(alloc: Global, words: &[String], folder: &mut F
         × Appends (O.written out.old) (O.written out.new) (error_text (codes "8") path) }
     ensures sink { result ≡ 9 → Rose (O.faults out.old) (O.faults out.new) }
 
-    ensures statuses { (result ≡ 0) ⊎ ((result ≡ 2) ⊎ ((result ≡ 8) ⊎ ((result ≡ 9) ⊎ ((result ≡ 10) ⊎ (result ≡ 12))))) }
+    ensures statuses { (result ≡ 0) ⊎ ((result ≡ 2) ⊎ ((result ≡ 3) ⊎ ((result ≡ 8) ⊎ ((result ≡ 9) ⊎ ((result ≡ 10) ⊎ (result ≡ 12)))))) }
 {
     let Ok(outcome) = outcome_of(alloc, words, folder) else {
         return 10;
@@ -76,7 +85,11 @@ fn outcome_of<F: Folder>(
     };
     match run(alloc, inputs.class.as_slice(), inputs.script.as_slice()) {
         Ok(text) => Ok(Outcome::Journal(text)),
-        Err(ScriptEnd::NotBuilt) => Ok(Outcome::NotBuilt),
-        Err(ScriptEnd::NoMemory) => Err(NoMemory),
+        Err(RunEnd::BadClass(refusal)) => Ok(Outcome::BadClass {
+            path: inputs.path,
+            refusal,
+        }),
+        Err(RunEnd::NotBuilt) => Ok(Outcome::NotBuilt),
+        Err(RunEnd::NoMemory) => Err(NoMemory),
     }
 }

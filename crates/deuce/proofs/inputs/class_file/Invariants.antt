@@ -1,6 +1,6 @@
-use Rattle.std.specs.Prelude.{IfSome}
-use Rattle.deuce.specs.Ending.{IsClassFileName}
+use Rattle.deuce_io.specs.Files.{seen_items}
+use Rattle.deuce.proofs.Folders.{HasNoFolder, IsFound}
 use Rattle.deuce.proofs.inputs.class_file.Given as goal
 
 abbrev pub invariant-loop-item : goal.invariant-loop-item
-invariant-loop-item l = IfSome l.found (λ name. IsClassFileName name.now)
+invariant-loop-item l = HasNoFolder (seen_items l.items) l.item-index × IsFound (seen_items l.items) l.item-index l.found
