@@ -2,15 +2,15 @@
 ghost use Rattle.std.specs.Prelude.{◌≡◌, false, codes};
 ghost use Rattle.jmodel.specs.Reading.{Gives, Fails, items_at};
 ghost use Rattle.jmodel.specs.ClassRules.{is_named as named, has_no_code as no_code};
-ghost use Rattle.jmodel.specs.ClassFileReading.{judge as judged, method_attribute_at as method_attribute, method_attributes_at as method_attributes, method_at as method, members_at as members};
+ghost use Rattle.jmodel.specs.ClassFileReading.{judge as judged, method_attribute_at as method_attribute, method_attributes_at as method_attributes, method_at as method, members_at as members, full_name as name_of};
 ghost use Rattle.const_pool.specs.Uses.{uses_of};
 ghost use Rattle.class_reader.specs.Heads.{no_method};
 ghost use Rattle.jmodel.specs.declared.refusal.Refusal.TheVariants.{BadCode};
 
-use crate::members::{full_name, member_head_at};
+use crate::members::{MemberHead, full_name, member_head_at};
 use const_pool::fields::u2_at;
 use const_pool::{Attribute, Code, Descriptors, Member, Pool, attribute_at};
-use jmodel::{Bytes, Halt, Refusal};
+use jmodel::{Halt, Refusal};
 use std::alloc::Global;
 
 fn is_named_code(pool: &Pool, a: &Attribute) -> bool
@@ -29,34 +29,34 @@ fn has_no_code(flags: u16) -> bool
     flags & 0x500 != 0
 }
 
-fn bad_code(alloc: Global, who: &Bytes) -> Halt
-    ensures { Fails result (no_method (BadCode who.now)) }
+fn bad_code(alloc: Global, pool: &Pool, head: MemberHead) -> Halt
+    ensures { Fails result (no_method (BadCode (name_of pool.now head.name head.descriptor))) }
 {
-    match who.copy(alloc) {
+    match full_name(alloc, pool, head.name, head.descriptor) {
         Ok(name) => Halt::Refused(Refusal::BadCode(name)),
         Err(_) => Halt::NoMemory,
     }
 }
 
-// Whether a Code attribute is found by now. There is one, in its form, of a method that has code.
+// Whether a Code attribute of the method is found by now. There is one, in its form, where the method has code.
 fn judge(
     alloc: Global,
     pool: &Pool,
+    head: MemberHead,
     none: bool,
-    who: &Bytes,
     found: bool,
     a: &Attribute,
 ) -> Result<bool, Halt>
-    ensures { Gives (λ x. x) result (judged pool.now none who.now found a.now) }
+    ensures { Gives (λ x. x) result (judged pool.now none (name_of pool.now head.name head.descriptor) found a.now) }
 {
     if !is_named_code(pool, a) {
         return Ok(found);
     }
     if none || found {
-        return Err(bad_code(alloc, who));
+        return Err(bad_code(alloc, pool, head));
     }
     match Code::read(alloc, pool, a.bytes.as_slice()) {
-        None => Err(bad_code(alloc, who)),
+        None => Err(bad_code(alloc, pool, head)),
         Some(Err(_)) => Err(Halt::NoMemory),
         Some(Ok(_)) => Ok(true),
     }
@@ -65,20 +65,20 @@ fn judge(
 fn attribute_list(
     alloc: Global,
     pool: &Pool,
+    head: MemberHead,
     none: bool,
-    who: &Bytes,
     bytes: &[u8],
     count: u16,
     start: usize,
 ) -> Result<(Vec<Attribute>, bool, usize), Halt>
-    ensures { Gives (λ x. (x.0.items, record { found = x.1; at = x.2 })) result (items_at (method_attribute pool.now none who.now bytes.now) count (record { found = false; at = start })) }
+    ensures { Gives (λ x. (x.0.items, record { found = x.1; at = x.2 })) result (items_at (method_attribute pool.now none (name_of pool.now head.name head.descriptor) bytes.now) count (record { found = false; at = start })) }
 {
     let mut items = Vec::new(alloc);
     let mut at = start;
     let mut found = false;
     for _ in 0..count {
         let (item, after) = attribute_at(alloc, pool, bytes, at)?;
-        found = judge(alloc, pool, none, who, found, &item)?;
+        found = judge(alloc, pool, head, none, found, &item)?;
         items.push(item)?;
         at = after;
     }
@@ -89,19 +89,19 @@ fn attribute_list(
 fn method_attributes_at(
     alloc: Global,
     pool: &Pool,
+    head: MemberHead,
     none: bool,
-    who: &Bytes,
     bytes: &[u8],
     at: usize,
 ) -> Result<(Vec<Attribute>, usize), Halt>
-    ensures { Gives (λ x. (x.0.items, x.1)) result (method_attributes pool.now none who.now bytes.now at) }
+    ensures { Gives (λ x. (x.0.items, x.1)) result (method_attributes pool.now none (name_of pool.now head.name head.descriptor) bytes.now at) }
 {
     let (count, at) = u2_at(bytes, at)?;
-    let (attributes, found, after) = attribute_list(alloc, pool, none, who, bytes, count, at)?;
+    let (attributes, found, after) = attribute_list(alloc, pool, head, none, bytes, count, at)?;
     if none || found {
         return Ok((attributes, after));
     }
-    Err(bad_code(alloc, who))
+    Err(bad_code(alloc, pool, head))
 }
 
 #[tactic(auto, unfolding(jmodel::specs::ClassFileReading::method_at))]
@@ -116,9 +116,8 @@ fn method_at(
     ensures { Gives (λ x. x) result (method pool.now bytes.now at) }
 {
     let (head, at) = member_head_at(pool, known, true, bytes, at)?;
-    let who = full_name(alloc, pool, head.name, head.descriptor)?;
     let none = has_no_code(head.flags);
-    let (attributes, after) = method_attributes_at(alloc, pool, none, &who, bytes, at)?;
+    let (attributes, after) = method_attributes_at(alloc, pool, head, none, bytes, at)?;
     let member = Member {
         flags: head.flags,
         name: head.name,

@@ -1,5 +1,6 @@
 use super::*;
 use jmodel::{Bytes, Halt, Refusal};
+use std::alloc::Global;
 use std::test::*;
 
 // A class with a field, a method that is marked, and its code.
@@ -19,48 +20,190 @@ const COUNTER: [u8; 201] = [
     0x06, 0x00, 0x01, 0x00, 0x0d, 0x00, 0x00, 0x00, 0x00,
 ];
 
-fn refusal(r: Result<const_pool::ClassFile, Halt>) -> Option<Refusal> {
-    match r {
-        Err(Halt::Refused(refusal)) => Some(refusal),
+// Two fields and two abstract methods of one name, by two entries, each of another type.
+const TWINS: [u8; 91] = *b"\xca\xfe\xba\xbe\x00\x00\x00\x31\
+    \x00\x09\x07\x00\x02\x01\x00\x01A\x01\x00\x01I\x01\x00\x01n\x01\x00\x01n\x01\x00\x01J\x01\x00\x03()V\x01\x00\x03()I\
+    \x04\x21\x00\x01\x00\x01\x00\x00\
+    \x00\x02\x00\x00\x00\x04\x00\x03\x00\x00\x00\x00\x00\x05\x00\x06\x00\x00\
+    \x00\x02\x04\x00\x00\x04\x00\x07\x00\x00\x04\x00\x00\x05\x00\x08\x00\x00\
+    \x00\x00";
+
+// A refusal's number and the number that it names.
+fn place(refusal: &Refusal) -> (u8, i64) {
+    let place = match refusal {
+        Refusal::Truncated(at) | Refusal::BadTag(at) | Refusal::BadUtf8(at) => *at,
+        Refusal::BadIndex(i) | Refusal::WrongKind(i) | Refusal::BadDescriptor(i) => *i,
+        Refusal::BadVersion(major) => *major,
+        Refusal::Trailing(at) => *at,
+        _ => 0,
+    };
+    (refusal.number(), place)
+}
+
+fn fault(alloc: Global, bytes: &[u8]) -> Option<(u8, i64)> {
+    match read_class(alloc, bytes) {
+        Err(Halt::Refused(refusal)) => Some(place(&refusal)),
         _ => None,
     }
 }
 
+// The member that a refusal names.
+fn blamed(alloc: Global, bytes: &[u8]) -> Option<(u8, Bytes)> {
+    match read_class(alloc, bytes) {
+        Err(Halt::Refused(Refusal::BadCode(name))) => Some((11, name)),
+        Err(Halt::Refused(Refusal::Doubled(name))) => Some((12, name)),
+        _ => None,
+    }
+}
+
+fn changed(alloc: Global, at: usize, byte: u8) -> Option<(u8, i64)> {
+    let mut bytes = COUNTER;
+    if let Some(b) = bytes.get_mut(at) {
+        *b = byte;
+    }
+    fault(alloc, &bytes)
+}
+
+fn changed_code(alloc: Global, at: usize, byte: u8) -> Option<(u8, Bytes)> {
+    let mut bytes = COUNTER;
+    if let Some(b) = bytes.get_mut(at) {
+        *b = byte;
+    }
+    blamed(alloc, &bytes)
+}
+
 #[test]
 fn counter(rt: HostRuntime) -> Result<(), Fail> {
-    let class = read_class(rt.alloc(), &COUNTER).ok().ok_or("a class")?;
-    assert_eq!(rt; class.major, 49);
+    let class = read_class(rt.alloc(), &COUNTER)?;
+    assert_eq!(rt; (class.minor, class.major), (0, 49));
     assert_eq!(rt; class.flags, 0x21);
     assert_eq!(rt; class.pool.entries().len(), 13);
-    assert_eq!(rt; class.fields.len(), 1);
-    assert_eq!(rt; class.methods.len(), 1);
+    assert!(rt; class.interfaces.is_empty());
     let name = class.pool.class_name(class.this_class).ok_or("a name")?;
     assert_eq!(rt; name.as_slice(), b"Counter".as_slice());
+    let name = class.pool.class_name(class.super_class).ok_or("a name")?;
+    assert_eq!(rt; name.as_slice(), b"java/lang/Object".as_slice());
+    assert_eq!(rt; class.fields.len(), 1);
+    let field = &class.fields[0];
+    assert_eq!(rt; (field.flags, field.name, field.descriptor), (8, 5, 6));
+    assert!(rt; field.attributes.is_empty());
+    assert_eq!(rt; class.methods.len(), 1);
+    let method = &class.methods[0];
+    assert_eq!(rt; (method.flags, method.name, method.descriptor), (9, 7, 8));
+    assert_eq!(rt; method.attributes.len(), 2);
+    assert_eq!(rt;
+        (method.attributes[0].name, method.attributes[1].name),
+        (9, 12)
+    );
+    assert_eq!(rt; method.attributes[1].bytes.as_slice(), &COUNTER[193..199]);
+    assert!(rt; class.attributes.is_empty());
     Ok(())
 }
 
-// A cut file has a field that isn't wholly there.
+// One byte of the file is another: in what stands before the pool, in the pool, in the class's names, in its field, in its
+// method and in the method's attributes.
 #[test]
-fn prefixes(rt: HostRuntime) {
-    for len in 0..201usize {
-        assert!(rt;
-            matches!(
-                refusal(read_class(rt.alloc(), &COUNTER[..len])),
-                Some(Refusal::Truncated(_))
-            )
+fn refuses_one_byte(rt: HostRuntime) {
+    for (at, byte, number, place) in [
+        (3, 0, 8, 0),
+        (7, 0x32, 9, 50),
+        (7, 0x33, 9, 51),
+        (6, 1, 9, 305),
+        (10, 2, 2, 10),
+        (16, 0, 5, 16),
+        (12, 0, 3, 0),
+        (12, 1, 4, 1),
+        (12, 14, 3, 14),
+        (16, 0x5b, 6, 2),
+        (16, 0x3b, 4, 1),
+        (134, 0, 3, 0),
+        (134, 2, 4, 2),
+        (136, 0, 3, 0),
+        (136, 5, 4, 5),
+        (144, 1, 4, 1),
+        (146, 0, 3, 0),
+        (146, 8, 6, 8),
+        (156, 6, 6, 6),
+        (160, 3, 4, 3),
+        (188, 14, 3, 14),
+    ] {
+        assert_eq!(rt;
+            changed(rt.alloc(), at, byte),
+            Some((number, place)),
+            "{byte} at {at}"
         );
     }
 }
 
+// The method is native, is abstract, has no Code, has two, or has one with a length that isn't its own.
 #[test]
-fn one_byte_more(rt: HostRuntime) -> Result<(), Fail> {
+fn refuses_code(rt: HostRuntime) -> Result<(), Fail> {
+    for (at, byte) in [(151, 1), (151, 4), (160, 7), (188, 9), (172, 9)] {
+        let (number, name) = changed_code(rt.alloc(), at, byte).ok_or("a refusal")?;
+        assert_eq!(rt; number, 11, "{byte} at {at}");
+        assert_eq!(rt; name.as_slice(), b"inc()I".as_slice(), "{byte} at {at}");
+    }
+    Ok(())
+}
+
+#[test]
+fn refuses_doubled(rt: HostRuntime) -> Result<(), Fail> {
+    let alloc = rt.alloc();
+    assert!(rt; read_class(alloc, &TWINS).is_ok());
+    let mut fields = TWINS;
+    fields[68] = 3;
+    let (number, name) = blamed(alloc, &fields).ok_or("a refusal")?;
+    assert_eq!(rt; number, 12);
+    assert_eq!(rt; name.as_slice(), b"nI".as_slice());
+    let mut methods = TWINS;
+    methods[86] = 7;
+    let (number, name) = blamed(alloc, &methods).ok_or("a refusal")?;
+    assert_eq!(rt; number, 12);
+    assert_eq!(rt; name.as_slice(), b"n()V".as_slice());
+    // Fields are told before methods, and what follows the class before both.
+    fields[86] = 7;
+    let (_, name) = blamed(alloc, &fields).ok_or("a refusal")?;
+    assert_eq!(rt; name.as_slice(), b"nI".as_slice());
+    let mut longer = Bytes::from_slice(alloc, &fields)?;
+    longer.push(0)?;
+    assert_eq!(rt; fault(alloc, longer.as_slice()), Some((10, 91)));
+    Ok(())
+}
+
+fn cut(alloc: Global, len: usize) -> Option<(u8, i64)> {
+    fault(alloc, &COUNTER[..len.min(COUNTER.len())])
+}
+
+// A cut file has a field that isn't wholly there. The bytes of an attribute are one field.
+#[test]
+fn refuses_what_is_cut(rt: HostRuntime) {
+    for len in 0..201usize {
+        assert!(rt;
+            matches!(cut(rt.alloc(), len), Some((1, _))),
+            "of length {len}"
+        );
+    }
+    for (len, place) in [
+        (0, 0),
+        (3, 0),
+        (5, 4),
+        (7, 6),
+        (9, 8),
+        (10, 10),
+        (20, 16),
+        (134, 133),
+        (140, 139),
+        (170, 165),
+        (200, 199),
+    ] {
+        assert_eq!(rt; cut(rt.alloc(), len), Some((1, place)), "of length {len}");
+    }
+}
+
+#[test]
+fn refuses_one_byte_more(rt: HostRuntime) -> Result<(), Fail> {
     let mut bytes = Bytes::from_slice(rt.alloc(), &COUNTER)?;
     bytes.push(0)?;
-    assert!(rt;
-        matches!(
-            refusal(read_class(rt.alloc(), bytes.as_slice())),
-            Some(Refusal::Trailing(201))
-        )
-    );
+    assert_eq!(rt; fault(rt.alloc(), bytes.as_slice()), Some((10, 201)));
     Ok(())
 }

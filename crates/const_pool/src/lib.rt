@@ -23,3 +23,6 @@ pub use jmodel::{Constant, FieldType, Handler};
 pub use pool::Pool;
 pub use references::{Descriptors, want_descriptor};
 pub use signature::Descriptor;
+
+#[cfg(test)]
+mod tests;
