@@ -12,21 +12,24 @@ fn utf8(alloc: Global, text: &[u8]) -> Result<Constant, AllocError> {
 }
 
 fn counter_pool(alloc: Global) -> Result<Pool, AllocError> {
-    let mut entries = Vec::new(alloc);
-    entries.push(Constant::Class(2))?;
-    entries.push(utf8(alloc, b"Counter")?)?;
-    entries.push(Constant::Class(4))?;
-    entries.push(utf8(alloc, b"java/lang/Object")?)?;
-    for text in [b"n".as_slice(), b"I", b"inc", b"()I", b"Code"] {
-        entries.push(utf8(alloc, text)?)?;
-    }
-    entries.push(Constant::Field { class: 1, pair: 11 })?;
-    entries.push(Constant::NameAndType {
-        name: 5,
-        descriptor: 6,
-    })?;
-    entries.push(utf8(alloc, b"RuntimeVisibleAnnotations")?)?;
-    entries.push(utf8(alloc, b"Lorg/deuce/Atomic;")?)?;
+    let entries = vec![in alloc;
+        Constant::Class(2),
+        utf8(alloc, b"Counter")?,
+        Constant::Class(4),
+        utf8(alloc, b"java/lang/Object")?,
+        utf8(alloc, b"n")?,
+        utf8(alloc, b"I")?,
+        utf8(alloc, b"inc")?,
+        utf8(alloc, b"()I")?,
+        utf8(alloc, b"Code")?,
+        Constant::Field { class: 1, pair: 11 },
+        Constant::NameAndType {
+            name: 5,
+            descriptor: 6,
+        },
+        utf8(alloc, b"RuntimeVisibleAnnotations")?,
+        utf8(alloc, b"Lorg/deuce/Atomic;")?,
+    ]?;
     Ok(Pool::from_entries(entries))
 }
 
