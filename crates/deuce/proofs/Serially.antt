@@ -2,8 +2,6 @@
 use Rattle.std.proofs.Common.{◌≡◌, ℕ, ◌+◌, ◌≤◌, List, [], ◌∷◌, length, map, Bool, true, false, not, ◌&&◌, nat_le, nat_eq, Option, Some, refl, sym, ◌∙◌, ap, subst, arith}
 use Rattle.std.specs.Prelude.{filter, if◌then◌else◌, ◌==◌, None}
 use Rattle.std.specs.List.{AllByRecursion, list_all}
-use Rattle.std.proofs.lemmas.Bool.Decides.{nat_tests}
-use Rattle.std.proofs.lemmas.List.Filters.{length-filter_both}
 use Rattle.jmodel.specs.declared.value.Answer.{Answer}
 use Rattle.jmodel.specs.declared.journal.Line.{Line}
 use Rattle.jmodel.specs.ClassFile.{ClassFile}
@@ -11,10 +9,10 @@ use Rattle.jmodel.specs.Program.{Program}
 use Rattle.jmodel.specs.History.{Call, Entry, Words, overlaid, AreEntries, used_with}
 use Rattle.jmodel.specs.Meaning.{Explains}
 use Rattle.jmodel.specs.Serial.{Serial}
-use Rattle.jmodel.specs.Layout.{statics, is_static, bases_end, opening_words, opening_state, at_address}
-use Rattle.jmodel.specs.Linking.{linked, is_form_class, are_form_fields, is_form_field, have_own_names}
+use Rattle.jmodel.specs.Layout.{statics, bases_end, opening_words, opening_state, at_address}
+use Rattle.jmodel.specs.Linking.{linked, is_form_class, are_form_fields}
 use Rattle.jmodel.specs.Output.{journal_text}
-use Rattle.jmodel.proofs.Linked.{links}
+use Rattle.jmodel.proofs.Linked.{links, few_statics}
 use Rattle.jmodel.proofs.Opening.{opens}
 use Rattle.jmodel.proofs.SerialProof.{serial_of}
 use Rattle.machine.specs.Serial.{IsSerial, StandsFor, word_in}
@@ -30,13 +28,8 @@ chosen true x y h = refl
 chosen false x y h = cc
 
 -- the static fields of a class of the form are few
-few_words : (c : ClassFile) → are_form_fields c.pool c.fields ≡ true → bases_end (c ∷ []) ≤ region_words
-few_words c h =
-    let all = both (nat_le (length c.fields) 100 && list_all (is_form_field c.pool) c.fields) (have_own_names c.pool c.fields) h in
-    let few = (both (nat_le (length c.fields) 100) (list_all (is_form_field c.pool) c.fields) all.0).0 in
-    let n : length c.fields ≤ 100 = grind (arith, nat_tests) in
-    let k : length (statics c) ≤ 100 = omega (arith, n, length-filter_both is_static (λ m. not (is_static m)) (λ m. refl) c.fields) in
-    go (not (length (statics c) == 0)) k
+few_words : (c : ClassFile) → are_form_fields c ≡ true → bases_end (c ∷ []) ≤ region_words
+few_words c h = go (not (length (statics c) == 0)) (few_statics c h)
   where
     go : (b : Bool) → length (statics c) ≤ 100 → 2 + (0 + (if b then length (statics c) + 1 else 0)) ≤ region_words
     go true k = omega (arith, k)

@@ -1,5 +1,5 @@
 -- What each item gives, as a loop collects it.
-use Rattle.std.proofs.Common.{◌≡◌, ℕ, suc, ◌+◌, ◌≤◌, ◌<◌, List, [], ◌∷◌, ◌++◌, length, drop, get_or, Option, Some, None, refl, sym, ap, ◌∙◌, append_assoc, add-one, drop-cons}
+use Rattle.std.proofs.Common.{◌≡◌, ℕ, suc, ◌+◌, ◌≤◌, ◌<◌, List, [], ◌∷◌, ◌++◌, length, map, drop, get_or, Option, Some, None, Bor, refl, sym, ap, ◌∙◌, append_assoc, add-one, drop-cons}
 use Rattle.std.proofs.lemmas.List.{append-nil, drop_all}
 use Rattle.jmodel.specs.Decoding.{in_front, each}
 use Rattle.hierarchy.specs.declared.outcome.BuildEnd.{BuildEnd}
@@ -54,3 +54,12 @@ module _ {A B : Type 0} (f : A → Option B) where
   is_done front xs i total le so_far =
       let one : with_front front (each f (drop i xs)) ≡ Some (front ++ []) = ap (λ (ys : List A). with_front front (each f ys)) (drop_all i xs le) in
       sym so_far ∙ one ∙ ap (λ (ys : List B). Some ys) (append-nil front)
+
+-- what is seen behind references
+pub each_seen : {A B : Type 0} (f : A → Option B) (xs : List (Bor A)) → each (λ x. f x.now) xs ≡ each f (map (λ x. x.now) xs)
+each_seen f [] = refl
+each_seen f (x ∷ xs) = ap (in_front (f x.now)) (each_seen f xs)
+
+pub map_seen : {A B : Type 0} (f : A → B) (xs : List (Bor A)) → map (λ x. f x.now) xs ≡ map f (map (λ x. x.now) xs)
+map_seen f [] = refl
+map_seen {A} {B} f (x ∷ xs) = ap (λ (ys : List B). f x.now ∷ ys) (map_seen f xs)

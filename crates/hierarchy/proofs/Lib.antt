@@ -1,3 +1,4 @@
 pub mod Parts
 pub mod Each
 pub mod Straight
+pub mod Relinked

@@ -1,5 +1,11 @@
 -- What building a program answers.
 use Rattle.std.specs.Prelude.{◌≡◌, Option, Some, None, Result, Ok, Err}
+use Rattle.std.specs.Prelude.{ℕ, ◌-◌, List, length, take, drop, Bool, true, false, nat_le, if◌then◌else◌}
+use Rattle.std.specs.Borrow.{Bor}
+use Rattle.jmodel.specs.ClassFile.{Member}
+use Rattle.jmodel.specs.Program.{Method}
+use Rattle.jmodel.specs.Decoding.{Symbols, each}
+use Rattle.jmodel.specs.Linking.{method_of, joined}
 use Rattle.hierarchy.specs.declared.outcome.BuildEnd.{BuildEnd}
 use Rattle.hierarchy.specs.declared.outcome.BuildEnd.TheVariants.{NotBuilt, NoMemory}
 
@@ -12,3 +18,9 @@ Ends NoMemory meaning = Unit {0}
 abbrev pub Builds : {X Y : Type 0} → (X → Y) → Result X BuildEnd → Option Y → Type 0
 Builds view (Ok x) meaning = meaning ≡ Some (view x)
 Builds view (Err e) meaning = Ends e meaning
+
+-- the methods of a rewritten class, seen behind references: the last n, which are duplicates, count
+abbrev pub relinked_seen : Symbols → ℕ → List (Bor Member) → Option (List Method)
+relinked_seen s n ms = if nat_le n (length ms)
+    then joined (each (λ m. method_of s false m.now) (take (length ms - n) ms)) (each (λ m. method_of s true m.now) (drop (length ms - n) ms))
+    else None

@@ -1,18 +1,19 @@
 //! Programs of class files.
-ghost use Rattle.std.specs.Prelude.{◌≡◌, [], ◌∷◌, map, IfOk};
-ghost use Rattle.hierarchy.specs.Built.{Builds};
+ghost use Rattle.std.specs.Prelude.{◌≡◌, [], ◌∷◌, length, map, IfOk};
+ghost use Rattle.hierarchy.specs.Built.{Builds, relinked_seen};
 ghost use Rattle.jmodel.specs.Source.{IsStraightProgram};
-ghost use Rattle.jmodel.specs.Layout.{fields_from, statics, opening_words as all_opening_words};
+ghost use Rattle.jmodel.specs.Layout.{fields_from, statics, opening_word as first_word, opening_words as all_opening_words};
 ghost use Rattle.jmodel.specs.Decoding.{each};
-ghost use Rattle.jmodel.specs.Linking.{original_fields, symbols_of, method_of as meaning, linked_method as linked_one, linked as linked_program, relinked_methods, relinked};
+ghost use Rattle.jmodel.specs.Linking.{original_fields, symbols_of, method_of as meaning, linked_method as linked_one, linked as linked_program, program_methods as methods_of_program, relinked_methods, relinked};
 
-use crate::form::is_form_class;
+use crate::constants::int_value;
+use crate::form::{is_form_class, program_methods};
 use crate::meaning::Symbols;
 use crate::method::{linked_method, method_of};
 use crate::outcome::BuildEnd;
 use crate::program::{Field, Method, Program};
 use crate::symbols::{is_static, names_of, own_name, text};
-use const_pool::{ClassFile, Member};
+use const_pool::{ClassFile, Member, Pool};
 use jmodel::Bytes;
 use jmodel::op::{Place, WordType};
 use std::alloc::{AllocError, Global};
@@ -46,8 +47,8 @@ fn fields_of(alloc: Global, class: &ClassFile) -> Result<Vec<Field>, AllocError>
     Ok(fields)
 }
 
-/// The words of memory before the first call: two that hold 0, the header of the static base, and a 0 for each static
-/// field. A class without static fields has no static base.
+/// The words of memory before the first call: two that hold 0, the header of the static base, and a word for each static
+/// field: its constant, where it has one, else 0. A class without static fields has no static base.
 pub fn opening_words(alloc: Global, class: &ClassFile) -> Result<Vec<u64>, AllocError>
     ensures { IfOk result (λ v. v.items ≡ all_opening_words (class.now ∷ [])) }
 {
@@ -60,14 +61,21 @@ pub fn opening_words(alloc: Global, class: &ClassFile) -> Result<Vec<u64>, Alloc
     Ok(words)
 }
 
-// A 0 for each static field.
+// The word that a static int field holds at first: its constant with the sign in all 64 bits, or 0.
+fn opening_word(pool: &Pool, field: &Member) -> u64
+    ensures { result ≡ first_word pool.now field.now }
+{
+    (int_value(pool, field).unwrap_or(0) as i64).cast_unsigned()
+}
+
+// A word for each static field.
 fn static_words(alloc: Global, class: &ClassFile) -> Result<Vec<u64>, AllocError>
-    ensures { IfOk result (λ v. v.items ≡ map (λ m. 0) (statics class.now)) }
+    ensures { IfOk result (λ v. v.items ≡ map (first_word class.now.pool) (statics class.now)) }
 {
     let mut words = Vec::new(alloc);
     for member in &class.fields {
         if is_static(member) {
-            words.push(0)?;
+            words.push(opening_word(&class.pool, member))?;
         }
     }
     Ok(words)
@@ -98,9 +106,9 @@ fn copies(alloc: Global, fields: &[Field]) -> Result<Vec<Field>, AllocError>
 fn linked_each(
     alloc: Global,
     symbols: &Symbols,
-    methods: &[Member],
+    methods: &[&Member],
 ) -> Result<Vec<Method>, BuildEnd>
-    ensures { Builds (λ v. v.items) result (each (linked_one symbols.now) methods.now) }
+    ensures { Builds (λ v. v.items) result (each (λ m. linked_one symbols.now m.now) methods.now) }
 {
     let mut built = Vec::new(alloc);
     for method in methods {
@@ -114,24 +122,24 @@ fn linked_methods(
     class: &ClassFile,
     fields: &[Field],
 ) -> Result<Vec<Method>, BuildEnd>
-    ensures { Builds (λ v. v.items) result (each (linked_one (symbols_of class.now fields.now)) class.now.methods) }
+    ensures { Builds (λ v. v.items) result (each (linked_one (symbols_of class.now fields.now)) (methods_of_program class.now)) }
 {
-    let methods = names_of(alloc, class)?;
+    let methods = program_methods(alloc, class)?;
     let symbols = Symbols {
         class,
         fields,
-        methods,
+        methods: names_of(alloc, class, methods.as_slice())?,
     };
-    linked_each(alloc, &symbols, class.methods.as_slice())
+    linked_each(alloc, &symbols, methods.as_slice())
 }
 
 fn methods_of(
     alloc: Global,
     symbols: &Symbols,
     counted: bool,
-    methods: &[Member],
+    methods: &[&Member],
 ) -> Result<Vec<Method>, BuildEnd>
-    ensures { Builds (λ v. v.items) result (each (meaning symbols.now counted) methods.now) }
+    ensures { Builds (λ v. v.items) result (each (λ m. meaning symbols.now counted m.now) methods.now) }
 {
     let mut built = Vec::new(alloc);
     for method in methods {
@@ -145,9 +153,9 @@ fn rewritten_methods(
     alloc: Global,
     symbols: &Symbols,
     count: usize,
-    methods: &[Member],
+    methods: &[&Member],
 ) -> Result<Vec<Method>, BuildEnd>
-    ensures { Builds (λ v. v.items) result (relinked_methods symbols.now count methods.now) }
+    ensures { Builds (λ v. v.items) result (relinked_seen symbols.now count methods.now) }
 {
     if methods.len() < count {
         return Err(BuildEnd::NotBuilt);
@@ -157,6 +165,24 @@ fn rewritten_methods(
     let mut duplicates = methods_of(alloc, symbols, true, &methods[first..])?;
     built.append(&mut duplicates)?;
     Ok(built)
+}
+
+// The methods of a rewritten class over its original's program.
+fn relinked_of(
+    alloc: Global,
+    class: &ClassFile,
+    original: &Program,
+) -> Result<Vec<Method>, BuildEnd>
+    ensures { Builds (λ v. v.items) result (relinked_methods (symbols_of class.now original.now.fields) (length original.now.methods) (methods_of_program class.now)) }
+{
+    let methods = program_methods(alloc, class)?;
+    let symbols = Symbols {
+        class,
+        fields: original.fields(),
+        methods: names_of(alloc, class, methods.as_slice())?,
+    };
+    let count = original.methods().len();
+    rewritten_methods(alloc, &symbols, count, methods.as_slice())
 }
 
 // The program of a class of the form.
@@ -173,8 +199,9 @@ fn linked(alloc: Global, class: &ClassFile) -> Result<Program, BuildEnd>
 
 impl Program {
     /// The program of an original class. NotBuilt exactly where the class isn't of the form that is known so far, which is
-    /// temporary: one class right under Object, whose fields are static ints and whose methods are static, marked as atomic
-    /// without elements, and take nothing and give an int by straight-line code.
+    /// temporary: one class right under Object, whose static fields are ints, whose methods that are marked as atomic are
+    /// static, marked without elements, and take nothing and give an int by straight-line code, and which has no static
+    /// initialiser. The program has the static fields and the marked methods.
     pub fn build(alloc: Global, class: &ClassFile) -> Result<Program, BuildEnd>
         ensures built { Builds (λ p. p) result (linked_program class.now) }
         ensures straight { IfOk result IsStraightProgram }
@@ -190,15 +217,7 @@ impl Program {
     ) -> Result<Program, BuildEnd>
         ensures { Builds (λ p. p) result (relinked original.now class.now) }
     {
-        let names = names_of(alloc, class)?;
-        let symbols = Symbols {
-            class,
-            fields: original.fields(),
-            methods: names,
-        };
-        let methods = class.methods.as_slice();
-        let count = original.methods().len();
-        let built = rewritten_methods(alloc, &symbols, count, methods)?;
+        let built = relinked_of(alloc, class, original)?;
         let fields = copies(alloc, original.fields())?;
         Ok(Program::new(fields, built))
     }

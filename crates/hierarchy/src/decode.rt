@@ -1,6 +1,7 @@
 //! The instructions of code, one after another (JVM Specification, Java SE 7, section 4.7.3 and chapter 6).
 ghost use Rattle.std.specs.Prelude.{◌≡◌, IfOk};
-ghost use Rattle.jmodel.specs.Decoding.{operand_bytes as bytes_of, operand as operand_of, pair_number as number_of, instructions as split_code};
+ghost use Rattle.jmodel.specs.Decoding.{operand_bytes as bytes_of, operand as operand_of, instructions as split_code};
+ghost use Rattle.jmodel.specs.Constants.{pair_number as number_of};
 
 use std::alloc::{AllocError, Global};
 use std::marker::Model;

@@ -1,16 +1,19 @@
 //! The form of the classes of which programs are built so far: straight-line int code of static methods without
 //! parameters. Temporary: the form grows until it has every program that is accepted.
-ghost use Rattle.std.specs.Prelude.{◌≡◌, ◌≤◌, map, bytes_eq};
+ghost use Rattle.std.specs.Prelude.{◌≡◌, ◌≤◌, length, filter, map, bytes_eq, codes, not, if◌then◌else◌, IfOk};
+ghost use Rattle.jmodel.specs.Pool.{utf8};
+ghost use Rattle.jmodel.specs.ClassRules.{same_text};
 ghost use Rattle.std.specs.List.{list_all, list_any};
 ghost use Rattle.jmodel.specs.Source.{takes as taken, leaves as left, is_return as returns};
-ghost use Rattle.jmodel.specs.Layout.{library as library_names};
-ghost use Rattle.jmodel.specs.Linking.{has_part as part_of, is_reserved as reserved, is_form_constant as form_constant, is_form_field as form_field, is_plain_mark as plain_mark, is_mark as mark, is_code as code_attribute, is_code_and_mark as code_and_mark, is_special as special, is_form_method as form_method, same_name as name_of_both, have_own_names as own_names, is_free_name as free_name, are_form_fields as form_fields, are_form_methods as form_methods, is_form_head as form_head, is_form_class as form_class, is_form_code as form_code, is_form_op as form_op, is_straight_within as straight_within};
+ghost use Rattle.jmodel.specs.Layout.{library as library_names, is_static as static_member};
+ghost use Rattle.jmodel.specs.Linking.{has_part as part_of, is_reserved as reserved, is_form_constant as form_constant, is_form_field as form_field, is_plain_mark as plain_mark, is_mark as mark, is_marked as marked, takes_context as with_context, is_program_method as program_method, program_methods as methods_of_program, is_form_attribute as form_attribute, is_special as special, is_form_atomic as form_atomic, is_form_method as form_method, is_free_name as free_name, are_form_fields as form_fields, are_form_methods as form_methods, is_form_head as form_head, is_form_class as form_class, is_form_code as form_code, is_form_op as form_op, is_straight_within as straight_within};
 
 use crate::decode::pair_number;
 use crate::symbols::{equal, is_named, is_static, is_text, own_name, text};
 use const_pool::{Attribute, ClassFile, Code, Constant, Member, Pool};
 use jmodel::op::{Op, Rearrange};
 use jmodel::value::Value;
+use std::alloc::{AllocError, Global};
 
 fn has_part(part: &[u8], text: &[u8]) -> bool
     ensures { result ≡ part_of part.now text.now }
@@ -40,18 +43,16 @@ fn is_form_constant(entry: &Constant) -> bool
 {
     match entry {
         Constant::Utf8(text) => !is_reserved(text.as_slice()),
-        Constant::Class(_) | Constant::Field { .. } | Constant::NameAndType { .. } => true,
-        _ => false,
+        _ => true,
     }
 }
 
+// A static field is an int with a name of moderate size.
 fn is_form_field(pool: &Pool, field: &Member) -> bool
     ensures { result ≡ form_field pool.now field.now }
 {
-    is_static(field)
-        && is_text(pool.utf8(field.descriptor), b"I")
-        && text(pool, field.name).len() <= 1000
-        && field.attributes.is_empty()
+    !is_static(field)
+        || is_text(pool.utf8(field.descriptor), b"I") && text(pool, field.name).len() <= 1000
 }
 
 // The mark without elements, alone.
@@ -64,27 +65,65 @@ fn is_plain_mark(pool: &Pool, bytes: &[u8]) -> bool
     }
 }
 
-/// Whether an attribute marks its method as atomic and says no more.
-pub fn is_mark(pool: &Pool, attribute: &Attribute) -> bool
+// Whether an attribute marks its method as atomic and says no more.
+fn is_mark(pool: &Pool, attribute: &Attribute) -> bool
     ensures { result ≡ mark pool.now attribute.now }
 {
     is_named(pool, b"RuntimeVisibleAnnotations", attribute)
         && is_plain_mark(pool, attribute.bytes.as_slice())
 }
 
-fn is_code(pool: &Pool, attribute: &Attribute) -> bool
-    ensures { result ≡ code_attribute pool.now attribute.now }
+/// Whether a method is marked as atomic.
+pub fn is_marked(pool: &Pool, method: &Member) -> bool
+    ensures { result ≡ marked pool.now method.now }
 {
-    is_named(pool, b"Code", attribute)
+    method.attributes.iter().any(|a| is_mark(pool, a))
 }
 
-fn is_code_and_mark(pool: &Pool, attributes: &[Attribute]) -> bool
-    ensures { result ≡ code_and_mark pool.now attributes.now }
+// Whether a method has the descriptor of an accessor or a duplicate.
+fn takes_context(pool: &Pool, method: &Member) -> bool
+    ensures { result ≡ with_context pool.now method.now }
 {
-    match attributes {
-        [a, b] => is_code(pool, a) && is_mark(pool, b) || is_mark(pool, a) && is_code(pool, b),
-        _ => false,
+    let descriptor = pool.utf8(method.descriptor);
+    is_text(descriptor, b"(Lorg/deuce/transaction/Context;)I")
+        || is_text(descriptor, b"(ILorg/deuce/transaction/Context;)V")
+}
+
+/// Whether a method is one of the program that its class means: it is marked, or takes a transaction's context.
+pub fn is_program_method(pool: &Pool, method: &Member) -> bool
+    ensures { result ≡ program_method pool.now method.now }
+{
+    is_marked(pool, method) || takes_context(pool, method)
+}
+
+/// The methods of a class that its program has, in the order of the file.
+pub fn program_methods<'a>(
+    alloc: Global,
+    class: &'a ClassFile,
+) -> Result<Vec<&'a Member>, AllocError>
+    ensures { IfOk result (λ v. map (λ b. b.now) v.items ≡ methods_of_program class.now) }
+{
+    let mut methods = Vec::new(alloc);
+    for method in &class.methods {
+        if is_program_method(&class.pool, method) {
+            methods.push(method)?;
+        }
     }
+    Ok(methods)
+}
+
+// Of annotations that a running program sees, the mark alone.
+fn is_form_attribute(pool: &Pool, attribute: &Attribute) -> bool
+    ensures { result ≡ form_attribute pool.now attribute.now }
+{
+    !is_named(pool, b"RuntimeVisibleAnnotations", attribute)
+        || is_plain_mark(pool, attribute.bytes.as_slice())
+}
+
+fn each_is_attribute(pool: &Pool, attributes: &[Attribute]) -> bool
+    ensures { result ≡ list_all (form_attribute pool.now) attributes.now }
+{
+    attributes.iter().all(|a| is_form_attribute(pool, a))
 }
 
 fn is_special(name: &[u8]) -> bool
@@ -93,38 +132,30 @@ fn is_special(name: &[u8]) -> bool
     name.starts_with(b"<")
 }
 
-fn is_form_method(pool: &Pool, method: &Member) -> bool
-    ensures { result ≡ form_method pool.now method.now }
+// A static method without parameters that gives an int, with code and without a monitor.
+fn is_form_atomic(pool: &Pool, method: &Member) -> bool
+    ensures { result ≡ form_atomic pool.now method.now }
 {
     method.flags & 0x528 == 8
         && is_text(pool.utf8(method.descriptor), b"()I")
         && !is_special(text(pool, method.name))
-        && is_code_and_mark(pool, method.attributes.as_slice())
 }
 
-fn same_name(pool: &Pool, a: &Member, b: &Member) -> bool
-    ensures { result ≡ name_of_both pool.now a.now b.now }
+// A method that isn't one of the program may be anything but a static initialiser.
+fn is_form_kind(pool: &Pool, method: &Member) -> bool
+    ensures { result ≡ (if program_method pool.now method.now then form_atomic pool.now method.now else not (same_text (utf8 pool.now method.now.name) (codes "<clinit>"))) }
 {
-    equal(text(pool, b.name), text(pool, a.name))
-}
-
-fn is_repeated(pool: &Pool, member: &Member, others: &[Member]) -> bool
-    ensures { result ≡ list_any (name_of_both pool.now member.now) others.now }
-{
-    others.iter().any(|m| same_name(pool, member, m))
-}
-
-fn have_own_names(pool: &Pool, members: &[Member]) -> bool
-    ensures { result ≡ own_names pool.now members.now }
-{
-    let mut rest = members;
-    while let [first, others @ ..] = rest {
-        if is_repeated(pool, first, others) {
-            return false;
-        }
-        rest = others;
+    if is_program_method(pool, method) {
+        is_form_atomic(pool, method)
+    } else {
+        !is_text(pool.utf8(method.name), b"<clinit>")
     }
-    true
+}
+
+fn is_form_method(pool: &Pool, method: &Member) -> bool
+    ensures { result ≡ form_method pool.now method.now }
+{
+    each_is_attribute(pool, method.attributes.as_slice()) && is_form_kind(pool, method)
 }
 
 fn library() -> [&'static [u8]; 20]
@@ -173,10 +204,17 @@ fn each_is_field(pool: &Pool, fields: &[Member]) -> bool
     fields.iter().all(|m| is_form_field(pool, m))
 }
 
-fn are_form_fields(pool: &Pool, fields: &[Member]) -> bool
-    ensures { result ≡ form_fields pool.now fields.now }
+fn count_statics(fields: &[Member]) -> usize
+    ensures { result ≡ length (filter static_member fields.now) }
 {
-    fields.len() <= 100 && each_is_field(pool, fields) && have_own_names(pool, fields)
+    fields.iter().filter(|m| is_static(m)).count()
+}
+
+fn are_form_fields(class: &ClassFile) -> bool
+    ensures { result ≡ form_fields class.now }
+{
+    let fields = class.fields.as_slice();
+    count_statics(fields) <= 100 && each_is_field(&class.pool, fields)
 }
 
 fn each_is_method(pool: &Pool, methods: &[Member]) -> bool
@@ -185,10 +223,20 @@ fn each_is_method(pool: &Pool, methods: &[Member]) -> bool
     methods.iter().all(|m| is_form_method(pool, m))
 }
 
-fn are_form_methods(pool: &Pool, methods: &[Member]) -> bool
-    ensures { result ≡ form_methods pool.now methods.now }
+fn count_program(pool: &Pool, methods: &[Member]) -> usize
+    ensures { result ≡ length (filter (program_method pool.now) methods.now) }
 {
-    methods.len() <= 100 && each_is_method(pool, methods) && have_own_names(pool, methods)
+    methods
+        .iter()
+        .filter(|m| is_program_method(pool, m))
+        .count()
+}
+
+fn are_form_methods(class: &ClassFile) -> bool
+    ensures { result ≡ form_methods class.now }
+{
+    let methods = class.methods.as_slice();
+    count_program(&class.pool, methods) <= 100 && each_is_method(&class.pool, methods)
 }
 
 fn each_is_constant(entries: &[Constant]) -> bool
@@ -208,22 +256,16 @@ fn is_form_head(class: &ClassFile) -> bool
             b"java/lang/Object",
         )
         && class.interfaces.is_empty()
-        && class.attributes.is_empty()
 }
 
 /// Whether a class is of the form, but for its code.
 pub fn is_form_class(class: &ClassFile) -> bool
     ensures { result ≡ form_class class.now }
 {
-    let pool = &class.pool;
-    let entries = pool.entries();
-    let fields = class.fields.as_slice();
-    let methods = class.methods.as_slice();
-    entries.len() < 1000
-        && each_is_constant(entries)
+    each_is_constant(class.pool.entries())
         && is_form_head(class)
-        && are_form_fields(pool, fields)
-        && are_form_methods(pool, methods)
+        && are_form_fields(class)
+        && are_form_methods(class)
 }
 
 /// Whether a Code is of the form, but for its instructions.
@@ -234,7 +276,6 @@ pub fn is_form_code(code: &Code) -> bool
         && code.max_stack <= 1000
         && code.max_locals <= 1000
         && code.handlers.is_empty()
-        && code.attributes.is_empty()
 }
 
 // How many slots an instruction of the form takes from the stack.

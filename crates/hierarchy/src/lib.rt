@@ -2,6 +2,7 @@
 #![tactic(auto)]
 
 mod build;
+mod constants;
 pub mod decode;
 mod form;
 mod meaning;
@@ -12,6 +13,7 @@ pub mod reference;
 pub mod symbols;
 
 pub use build::opening_words;
+pub use form::{is_program_method, program_methods};
 pub use outcome::BuildEnd;
 pub use program::{Field, Method, Program};
 

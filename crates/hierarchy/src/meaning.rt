@@ -1,12 +1,13 @@
 //! What instructions mean, with every name resolved (JVM Specification, Java SE 7, chapter 6).
 ghost use Rattle.std.specs.Prelude.{◌≡◌, find, option_copied};
-ghost use Rattle.jmodel.specs.Decoding.{integer as integer_of, long_named as long_of, long_value as long_value_of, is_member as is_member_of, is_field_of as is_same_field, is_method_of as is_same_method, field_number as number_of_field, method_number as number_of_method, long_field as long_field_of, is_base as is_base_of, is_called as is_call_of, is_get_context as is_context_getter, short_local_op as short_local, simple_op as simple, number_op as number, is_target as leads, target as target_of, jump_op as jump, get_op as get, put_op as put, static_call_op as static_call, context_op as context_call, virtual_call_op as virtual_call, pool_op as pooled, operand_op as with_operand, op_of as meaning};
+ghost use Rattle.jmodel.specs.Decoding.{is_member as is_member_of, is_field_of as is_same_field, is_method_of as is_same_method, field_number as number_of_field, method_number as number_of_method, long_field as long_field_of, is_base as is_base_of, is_called as is_call_of, is_get_context as is_context_getter, short_local_op as short_local, simple_op as simple, number_op as number, is_target as leads, target as target_of, jump_op as jump, get_op as get, put_op as put, static_call_op as static_call, context_op as context_call, virtual_call_op as virtual_call, pool_op as pooled, operand_op as with_operand, op_of as meaning};
 
-use crate::decode::{Instruction, operand_bytes, pair_number};
+use crate::constants::{integer, long_value};
+use crate::decode::{Instruction, operand_bytes};
 use crate::program::Field;
 use crate::reference::{Reference, field_reference, method_reference};
-use crate::symbols::{equal, find_attribute, is_text, own_name, same};
-use const_pool::{ClassFile, Constant, Member, Pool};
+use crate::symbols::{equal, is_text, own_name, same};
+use const_pool::{ClassFile, Member, Pool};
 use jmodel::MethodName;
 use jmodel::op::{Binary, ContextCall, Op, Rearrange, Test, WordType};
 use jmodel::value::Value;
@@ -26,37 +27,6 @@ impl<'a> Model for Symbols<'a> {
     ghost Value = { Form };
 
     ghost view = { λ s. record { class = s.class.now; fields = s.fields.now; methods = s.methods.items } };
-}
-
-// The int of an entry of the pool.
-fn integer(pool: &Pool, i: u16) -> Option<i32>
-    ensures { result ≡ integer_of pool.now i }
-{
-    match pool.entry(i) {
-        Some(Constant::Integer(n)) => Some(*n),
-        _ => None,
-    }
-}
-
-// The long that an attribute of two bytes names.
-fn long_named(pool: &Pool, bytes: &[u8]) -> Option<i64>
-    ensures { result ≡ long_of pool.now bytes.now }
-{
-    match bytes {
-        [a, b] => match pool.entry(pair_number(*a, *b)) {
-            Some(Constant::Long(n)) => Some(*n),
-            _ => None,
-        },
-        _ => None,
-    }
-}
-
-// The constant of a long field.
-fn long_value(pool: &Pool, field: &Member) -> Option<i64>
-    ensures { result ≡ long_value_of pool.now field.now }
-{
-    let found = find_attribute(pool, b"ConstantValue", field.attributes.as_slice())?;
-    long_named(pool, found.bytes.as_slice())
 }
 
 fn is_member(pool: &Pool, name: &[u8], descriptor: &[u8], member: &Member) -> bool

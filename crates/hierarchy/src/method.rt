@@ -1,19 +1,18 @@
 //! What methods mean, with their instructions and exception entries by number.
 ghost use Rattle.std.specs.Prelude.{◌≡◌, Some, [], IfOk, length};
-ghost use Rattle.std.specs.List.{list_any};
 ghost use Rattle.hierarchy.specs.Built.{Builds};
 ghost use Rattle.jmodel.specs.Layout.{text_or_none};
 ghost use Rattle.jmodel.specs.Pool.{utf8};
 ghost use Rattle.jmodel.specs.Decoding.{each, ops_of as all_ops};
-ghost use Rattle.jmodel.specs.Linking.{index_at as index_of, end_at as end_of, catches_of as caught, catch_of as one_catch, shape_of as shape, code_in as code_of_member, is_mark as mark, retries_of as retries, make_method as made, coded_method as coded, method_of as meaning, straight as straight_ops, form_method as formed, linked_method as linked_one};
+ghost use Rattle.jmodel.specs.Linking.{index_at as index_of, end_at as end_of, catches_of as caught, catch_of as one_catch, shape_of as shape, code_in as code_of_member, retries_of as retries, make_method as made, coded_method as coded, method_of as meaning, straight as straight_ops, form_method as formed, linked_method as linked_one};
 
 use crate::decode::{Instruction, instructions};
-use crate::form::{is_form_code, is_mark, is_straight_within};
+use crate::form::{is_form_code, is_marked, is_straight_within};
 use crate::meaning::{Symbols, op_of};
 use crate::outcome::BuildEnd;
 use crate::program::Method;
 use crate::symbols::{equal, find_attribute, is_text, name_of, text};
-use const_pool::{Attribute, Code, Handler, Member, Pool};
+use const_pool::{Code, Handler, Member, Pool};
 use jmodel::op::{Catch, Catches, Op};
 use std::alloc::{AllocError, Global};
 use std::marker::Model;
@@ -148,17 +147,11 @@ fn code_in(alloc: Global, pool: &Pool, method: &Member) -> Result<Code, BuildEnd
     }
 }
 
-fn is_marked(pool: &Pool, attributes: &[Attribute]) -> bool
-    ensures { result ≡ list_any (mark pool.now) attributes.now }
-{
-    attributes.iter().any(|a| is_mark(pool, a))
-}
-
 // How many attempts a method may make, where it is marked.
 fn retries_of(pool: &Pool, method: &Member) -> Option<i32>
     ensures { result ≡ retries pool.now method.now }
 {
-    if is_marked(pool, method.attributes.as_slice()) {
+    if is_marked(pool, method) {
         Some(i32::MAX)
     } else {
         None

@@ -85,12 +85,16 @@ pub fn name_of(alloc: Global, class: &ClassFile, method: &Member) -> Result<Meth
     })
 }
 
-/// The names of all methods of the class, in the order of the file.
-pub fn names_of(alloc: Global, class: &ClassFile) -> Result<Vec<MethodName>, AllocError>
-    ensures { IfOk result (λ v. v.items ≡ map (method_name_of class.now) class.now.methods) }
+/// The names of methods of the class.
+pub fn names_of(
+    alloc: Global,
+    class: &ClassFile,
+    methods: &[&Member],
+) -> Result<Vec<MethodName>, AllocError>
+    ensures { IfOk result (λ v. v.items ≡ map (λ m. method_name_of class.now m.now) methods.now) }
 {
     let mut names = Vec::new(alloc);
-    for method in &class.methods {
+    for method in methods {
         names.push(name_of(alloc, class, method)?)?;
     }
     Ok(names)

@@ -12,21 +12,24 @@ fn utf8(alloc: Global, text: &[u8]) -> Result<Constant, AllocError> {
 }
 
 fn counter_pool(alloc: Global) -> Result<Pool, AllocError> {
-    let mut entries = Vec::new(alloc);
-    entries.push(Constant::Class(2))?;
-    entries.push(utf8(alloc, b"Counter")?)?;
-    entries.push(Constant::Class(4))?;
-    entries.push(utf8(alloc, b"java/lang/Object")?)?;
-    for text in [b"n".as_slice(), b"I", b"inc", b"()I", b"Code"] {
-        entries.push(utf8(alloc, text)?)?;
-    }
-    entries.push(Constant::Field { class: 1, pair: 11 })?;
-    entries.push(Constant::NameAndType {
-        name: 5,
-        descriptor: 6,
-    })?;
-    entries.push(utf8(alloc, b"RuntimeVisibleAnnotations")?)?;
-    entries.push(utf8(alloc, b"Lorg/deuce/Atomic;")?)?;
+    let entries = vec![in alloc;
+        Constant::Class(2),
+        utf8(alloc, b"Counter")?,
+        Constant::Class(4),
+        utf8(alloc, b"java/lang/Object")?,
+        utf8(alloc, b"n")?,
+        utf8(alloc, b"I")?,
+        utf8(alloc, b"inc")?,
+        utf8(alloc, b"()I")?,
+        utf8(alloc, b"Code")?,
+        Constant::Field { class: 1, pair: 11 },
+        Constant::NameAndType {
+            name: 5,
+            descriptor: 6,
+        },
+        utf8(alloc, b"RuntimeVisibleAnnotations")?,
+        utf8(alloc, b"Lorg/deuce/Atomic;")?,
+    ]?;
     Ok(Pool::from_entries(entries))
 }
 
@@ -73,6 +76,113 @@ fn counter(alloc: Global, code: &[u8; 10]) -> Result<ClassFile, AllocError> {
     })
 }
 
+// The entries of the pool that the Java compiler of Eclipse makes of Counter with `-1.5 -g`: a tag, two indexes, a text.
+const COMPILED: [(u8, u16, u16, &str); 23] = [
+    (7, 2, 0, ""),
+    (1, 0, 0, "Counter"),
+    (7, 4, 0, ""),
+    (1, 0, 0, "java/lang/Object"),
+    (1, 0, 0, "n"),
+    (1, 0, 0, "I"),
+    (1, 0, 0, "<init>"),
+    (1, 0, 0, "()V"),
+    (1, 0, 0, "Code"),
+    (10, 3, 11, ""),
+    (12, 7, 8, ""),
+    (1, 0, 0, "LineNumberTable"),
+    (1, 0, 0, "LocalVariableTable"),
+    (1, 0, 0, "this"),
+    (1, 0, 0, "LCounter;"),
+    (1, 0, 0, "inc"),
+    (1, 0, 0, "()I"),
+    (1, 0, 0, "RuntimeVisibleAnnotations"),
+    (1, 0, 0, "Lorg/deuce/Atomic;"),
+    (9, 1, 21, ""),
+    (12, 5, 6, ""),
+    (1, 0, 0, "SourceFile"),
+    (1, 0, 0, "Counter.java"),
+];
+
+fn entry(alloc: Global, tag: u8, a: u16, b: u16, text: &str) -> Result<Constant, AllocError> {
+    match tag {
+        7 => Ok(Constant::Class(a)),
+        9 => Ok(Constant::Field { class: a, pair: b }),
+        10 => Ok(Constant::Method { class: a, pair: b }),
+        12 => Ok(Constant::NameAndType {
+            name: a,
+            descriptor: b,
+        }),
+        _ => utf8(alloc, text.as_bytes()),
+    }
+}
+
+fn compiled_pool(alloc: Global) -> Result<Pool, AllocError> {
+    let mut pool = Pool::new(alloc);
+    for (tag, a, b, text) in COMPILED.iter() {
+        if pool.entries().len() < 65534 {
+            pool.push(entry(alloc, *tag, *a, *b, text)?)?;
+        }
+    }
+    Ok(pool)
+}
+
+fn attribute(alloc: Global, name: u16, bytes: &[u8]) -> Result<Attribute, AllocError> {
+    Ok(Attribute {
+        name,
+        bytes: Bytes::from_slice(alloc, bytes)?,
+    })
+}
+
+const CONSTRUCTOR: [u8; 47] = [
+    0, 1, 0, 1, 0, 0, 0, 5, 42, 183, 0, 10, 177, 0, 0, 0, 2, 0, 12, 0, 0, 0, 6, 0, 1, 0, 0, 0, 2,
+    0, 13, 0, 0, 0, 12, 0, 1, 0, 0, 0, 5, 0, 14, 0, 15, 0, 0,
+];
+
+const INCREMENT: [u8; 42] = [
+    0, 2, 0, 0, 0, 0, 0, 10, 178, 0, 20, 4, 96, 89, 179, 0, 20, 172, 0, 0, 0, 2, 0, 12, 0, 0, 0, 6,
+    0, 1, 0, 0, 0, 7, 0, 13, 0, 0, 0, 2, 0, 0,
+];
+
+fn compiled_methods(alloc: Global) -> Result<Vec<Member>, AllocError> {
+    let constructor = Member {
+        flags: 1,
+        name: 7,
+        descriptor: 8,
+        attributes: vec![in alloc; attribute(alloc, 9, &CONSTRUCTOR)?]?,
+    };
+    let inc = Member {
+        flags: 9,
+        name: 16,
+        descriptor: 17,
+        attributes: vec![in alloc;
+            attribute(alloc, 18, &[0, 1, 0, 19, 0, 0])?,
+            attribute(alloc, 9, &INCREMENT)?,
+        ]?,
+    };
+    Ok(vec![in alloc; constructor, inc]?)
+}
+
+fn compiled(alloc: Global) -> Result<ClassFile, AllocError> {
+    let n = Member {
+        flags: 8,
+        name: 5,
+        descriptor: 6,
+        attributes: Vec::new(alloc),
+    };
+    Ok(ClassFile {
+        minor: 0,
+        major: 49,
+        pool: compiled_pool(alloc)?,
+        flags: 0x21,
+        this_class: 1,
+        super_class: 3,
+        interfaces: Vec::new(alloc),
+        fields: vec![in alloc; n]?,
+        methods: compiled_methods(alloc)?,
+        attributes: vec![in alloc; attribute(alloc, 22, &[0, 23])?]?,
+    })
+}
+
 #[test]
 fn builds_counter(rt: HostRuntime) {
     let alloc = rt.alloc();
@@ -106,4 +216,62 @@ fn links_a_class_over_a_program(rt: HostRuntime) {
     let again = Program::rebuilt(alloc, &class, &program).expect(&rt, "a program");
     assert!(&rt; again.is_counted(0));
     assert!(&rt; matches!(again.op(0, 4), Some(Op::PutStatic(0))));
+}
+
+// The constructor isn't one of the program's methods.
+#[test]
+fn builds_a_compiled_class(rt: HostRuntime) {
+    let alloc = rt.alloc();
+    let class = compiled(alloc).expect(&rt, "memory");
+    let program = Program::build(alloc, &class).expect(&rt, "a program");
+    assert_eq!(&rt; program.methods().len(), 1);
+    assert!(&rt; matches!(program.op(0, 0), Some(Op::GetStatic(0))));
+    assert!(&rt; matches!(program.op(0, 5), Some(Op::ReturnValue)));
+}
+
+#[test]
+fn refuses_a_static_initialiser(rt: HostRuntime) {
+    let alloc = rt.alloc();
+    let mut class = compiled(alloc).expect(&rt, "memory");
+    let text = utf8(alloc, b"<clinit>").expect(&rt, "memory");
+    class
+        .methods
+        .push(Member {
+            flags: 8,
+            name: 24,
+            descriptor: 8,
+            attributes: Vec::new(alloc),
+        })
+        .expect(&rt, "memory");
+    assert!(&rt; class.pool.entries().len() < 65534);
+    class.pool.push(text).expect(&rt, "memory");
+    assert!(&rt; matches!(Program::build(alloc, &class), Err(BuildEnd::NotBuilt)));
+}
+
+// A constant of -7 is the field's first word.
+#[test]
+fn opens_with_a_constant(rt: HostRuntime) {
+    let alloc = rt.alloc();
+    let mut class = compiled(alloc).expect(&rt, "memory");
+    let text = utf8(alloc, b"ConstantValue").expect(&rt, "memory");
+    assert!(&rt; class.pool.entries().len() < 65533);
+    class.pool.push(text).expect(&rt, "memory");
+    assert!(&rt; class.pool.entries().len() < 65534);
+    class.pool.push(Constant::Integer(-7)).expect(&rt, "memory");
+    let value = attribute(alloc, 24, &[0, 25]).expect(&rt, "memory");
+    let mut attributes = Vec::new(alloc);
+    attributes.push(value).expect(&rt, "memory");
+    class
+        .fields
+        .push(Member {
+            flags: 8,
+            name: 14,
+            descriptor: 6,
+            attributes,
+        })
+        .expect(&rt, "memory");
+    let program = Program::build(alloc, &class).expect(&rt, "a program");
+    assert_eq!(&rt; program.fields().len(), 2);
+    let words = opening_words(alloc, &class).expect(&rt, "memory");
+    assert!(&rt; words.as_slice() == [0, 0, 22 << 32, 0, 0xffff_ffff_ffff_fff9].as_slice());
 }

@@ -21,5 +21,6 @@ pub mod Completes
 pub mod LawExamples
 pub mod Preserves
 pub mod Sound
+pub mod Constants
 pub mod Linked
 pub mod Counter

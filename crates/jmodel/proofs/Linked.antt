@@ -1,6 +1,6 @@
 -- What is linked is a program of straight-line methods, each of them marked.
 use Rattle.std.proofs.Common.{◌≡◌, ℕ, ℤ, zero, suc, ◌+◌, ◌-◌, ◌<◌, ◌≤◌, List, [], ◌∷◌, ◌++◌, length, map, slice_get, Bool, true, false, not, ◌&&◌, ◌||◌, nat_le, nat_eq, nat_lt, Option, Some, None, refl, sym, ◌∙◌, ap, subst, arith}
-use Rattle.std.specs.Prelude.{if◌then◌else◌, pos, option_map, option_and_then, position, ◌==◌, ◌^◌, ◌%◌, ◌-ℤ◌, FitsSigned}
+use Rattle.std.specs.Prelude.{if◌then◌else◌, codes, filter, pos, option_map, option_and_then, position, ◌==◌, ◌^◌, ◌%◌, ◌-ℤ◌, FitsSigned}
 use Rattle.std.specs.List.{AllByRecursion, list_all, list_any}
 use Rattle.std.proofs.lemmas.Bool.Decides.{nat_tests}
 use Rattle.std.proofs.lemmas.List.Quantifiers.{position-Some}
@@ -16,15 +16,17 @@ use Rattle.jmodel.specs.declared.op.ContextCall.TheVariants as context
 use Rattle.std.specs.Int.{w8, w16, w32, cast_signed}
 use Rattle.std.proofs.lemmas.Int.{ints}
 use Rattle.jmodel.specs.ClassFile.{Attribute, Member, Pool, ClassFile, Code}
-use Rattle.jmodel.specs.Pool.{MemberName, field_name, method_name}
+use Rattle.std.proofs.lemmas.Slice.Eq.{bytes_eq-Decides}
+use Rattle.jmodel.specs.Pool.{utf8, MemberName, field_name, method_name}
+use Rattle.jmodel.specs.ClassRules.{same_text}
+use Rattle.jmodel.specs.Constants.{integer}
 use Rattle.jmodel.specs.Program.{Field, Method, Program}
 use Rattle.jmodel.specs.Source.{IsSourceOp, IsSourceMethod, IsSourceField, IsSource, IsStraight, IsStraightProgram, is_straight, is_plain, is_return, takes, leaves}
-use Rattle.jmodel.specs.Decoding.{Instruction, Symbols, operand_bytes, simple_op, short_local_op, number_op, jump_op, target, get_op, put_op, static_call_op, context_op, virtual_call_op, pool_op, operand_op, op_of, ops_of, instructions, name_of, in_front, each, field_number, method_number, is_field_of, long_field, integer, integer_in}
-use Rattle.jmodel.specs.declared.class_file.Constant.{Constant}
-use Rattle.jmodel.specs.declared.class_file.Constant.TheVariants as constants
-use Rattle.jmodel.specs.Linking.{is_form_op, is_form_constant, are_form_fields, are_form_methods, is_code_and_mark, is_code, is_form_field, have_own_names, is_straight_within, straight, form_method, linked_method, is_form_code, is_form_class, is_form_method, is_mark, linked, code_in, make_method, original_fields, symbols_of, retries_of}
+use Rattle.jmodel.specs.Decoding.{Instruction, Symbols, operand_bytes, simple_op, short_local_op, number_op, jump_op, target, get_op, put_op, static_call_op, context_op, virtual_call_op, pool_op, operand_op, op_of, ops_of, instructions, name_of, in_front, each, field_number, method_number, is_field_of, long_field}
+use Rattle.jmodel.specs.Linking.{is_form_op, are_form_fields, is_form_field, is_form_atomic, is_form_attribute, is_straight_within, straight, form_method, linked_method, is_form_code, is_form_class, is_form_method, are_form_methods, is_marked, takes_context, is_program_method, program_methods, linked, code_in, make_method, original_fields, symbols_of, retries_of}
 use Rattle.jmodel.specs.Layout.{fields_from, fields_of, statics, base_of, is_static}
 use Rattle.jmodel.specs.LinkedLaw.{IsMarked, IsLinked}
+use Rattle.jmodel.proofs.Constants.{IsSmall, integer_small}
 
 -- both tests hold
 both : (a b : Bool) → (a && b) ≡ true → (a ≡ true) × (b ≡ true)
@@ -142,28 +144,24 @@ context_fine n m =
 virtual_fine : (n : ℕ) (m : MemberName) → Fine n (virtual_call_op m)
 virtual_fine n m = either n _ _ None (context_fine n m) (nothing n)
 
--- the form's pools have no Integer
-abbrev HasNoInteger : Symbols → Type 0
-HasNoInteger s = (i : ℕ) → integer s.class.pool i ≡ None
+int_fine : (n : ℕ) (o : Option ℤ) → IsSmall o → Fine n (option_map (λ x. op.Constant (value.Int x)) o)
+int_fine n None h = nothing n
+int_fine n (Some x) h = leaf n _ h
 
-no_load : (n : ℕ) (o : Option ℤ) → o ≡ None → Fine n (option_map (λ x. op.Constant (value.Int x)) o)
-no_load n None h = nothing n
-no_load n (Some x) h = cc
-
-pool_fine : (s : Symbols) (c i : ℕ) → HasNoInteger s → Fine (length s.fields) (pool_op s c i)
-pool_fine s c i none =
+pool_fine : (s : Symbols) (c i : ℕ) → Fine (length s.fields) (pool_op s c i)
+pool_fine s c i =
     let n = length s.fields in
-    either n _ _ _ (no_load n (integer s.class.pool i) (none i))
+    either n _ _ _ (int_fine n (integer s.class.pool i) (integer_small s.class.pool i))
     (either n _ _ _ (chained n (get_op s) (field_name s.class.pool i) (get_fine s))
     (either n _ _ _ (chained n (put_op s) (field_name s.class.pool i) (put_fine s))
     (either n _ _ _ (chained n virtual_call_op (method_name s.class.pool i) (virtual_fine n))
     (either n _ _ None (chained n (static_call_op s) (method_name s.class.pool i) (static_fine n s)) (nothing n)))))
 
-operand_fine : (s : Symbols) (is : List Instruction) (pc c n : ℕ) → HasNoInteger s → Fine (length s.fields) (operand_op s is pc c n)
-operand_fine s is pc c n none = either _ _ _ _ (jump_fine _ is pc c n) (either _ _ _ _ (pool_fine s c n none) (number_fine _ c n))
+operand_fine : (s : Symbols) (is : List Instruction) (pc c n : ℕ) → Fine (length s.fields) (operand_op s is pc c n)
+operand_fine s is pc c n = either _ _ _ _ (jump_fine _ is pc c n) (either _ _ _ _ (pool_fine s c n) (number_fine _ c n))
 
-op_fine : (s : Symbols) (is : List Instruction) (i : Instruction) → HasNoInteger s → Fine (length s.fields) (op_of s is i)
-op_fine s is i none = either _ _ _ _ (simple_fine _ i.opcode) (chained _ _ i.operand (λ n. operand_fine s is i.pc i.opcode n none))
+op_fine : (s : Symbols) (is : List Instruction) (i : Instruction) → Fine (length s.fields) (op_of s is i)
+op_fine s is i = either _ _ _ _ (simple_fine _ i.opcode) (chained _ _ i.operand (λ n. operand_fine s is i.pc i.opcode n))
 
 -- ---- lists of what each gives
 
@@ -270,8 +268,8 @@ all_true : {A : Type 0} (xs : List A) → list_all (λ x. true) xs ≡ true
 all_true [] = refl
 all_true (x ∷ xs) = all_true xs
 
-bound_ops : (s : Symbols) (is : List Instruction) (ops : List Op) → HasNoInteger s → ops_of s is ≡ Some ops → AllByRecursion (IsBound (length s.fields)) ops
-bound_ops s is ops none h = each_all (op_of s is) (λ x. true) (IsBound (length s.fields)) (λ i o t e. (let f = op_fine s is i none in rw e at f).fine) is ops (all_true is) h
+bound_ops : (s : Symbols) (is : List Instruction) (ops : List Op) → ops_of s is ≡ Some ops → AllByRecursion (IsBound (length s.fields)) ops
+bound_ops s is ops h = each_all (op_of s is) (λ x. true) (IsBound (length s.fields)) (λ i o t e. (let f = op_fine s is i in rw e at f).fine) is ops (all_true is) h
 
 -- ---- methods
 
@@ -312,17 +310,55 @@ means_of s m k h = go (code_in s.class.pool m) h
     go None h = cc
     go (Some code) h = last code (ops_of s (instructions code.code)) refl (chosen (is_form_code code) _ k h).1
 
-marked_pair : (x ma mb y : Bool) → ((x && mb) || (ma && y)) ≡ true → (ma || (mb || false)) ≡ true
-marked_pair x true mb y h = refl
-marked_pair x false true y h = refl
-marked_pair true false false y h = cc
-marked_pair false false false y h = cc
+same_is : (o : Option (List ℕ)) (t : List ℕ) → same_text o t ≡ true → o ≡ Some t
+same_is None t h = cc
+same_is (Some x) t h = ap Some ((bytes_eq-Decides x t).0 h)
 
-marked_any : (pool : Pool) (xs : List Attribute) → is_code_and_mark pool xs ≡ true → list_any (is_mark pool) xs ≡ true
-marked_any pool [] h = cc
-marked_any pool (a ∷ []) h = cc
-marked_any pool (a ∷ b ∷ []) h = marked_pair (is_code pool a) (is_mark pool a) (is_mark pool b) (is_code pool b) h
-marked_any pool (a ∷ b ∷ c ∷ xs) h = cc
+marked_alone : (a b : Bool) → b ≡ false → (a || b) ≡ true → a ≡ true
+marked_alone true b h k = refl
+marked_alone false b h k = absurd cc
+
+-- of the program's methods an original class has the marked ones
+pub program_marked : (pool : Pool) (m : Member) → is_program_method pool m ≡ true → is_form_atomic pool m ≡ true → is_marked pool m ≡ true
+program_marked pool m h form =
+    let t = same_is (utf8 pool m.descriptor) (codes "()I") (both _ _ (both _ _ form).0).1 in
+    let none : takes_context pool m ≡ false = rw t refl in
+    marked_alone (is_marked pool m) (takes_context pool m) none h
+
+-- a method of the program is of the form
+abbrev pub is_form_program : Pool → Member → Bool
+is_form_program pool m = is_program_method pool m && is_form_method pool m
+
+pub filter_keeps : {A : Type 0} (p : A → Bool) (x : A) (xs : List A) → p x ≡ true → filter p (x ∷ xs) ≡ x ∷ filter p xs
+filter_keeps p x xs e = rw e refl
+
+pub filter_drops : {A : Type 0} (p : A → Bool) (x : A) (xs : List A) → p x ≡ false → filter p (x ∷ xs) ≡ filter p xs
+filter_drops p x xs e = rw e refl
+
+form_where : (pool : Pool) (ms : List Member) → list_all (is_form_method pool) ms ≡ true → list_all (is_form_program pool) (filter (is_program_method pool) ms) ≡ true
+form_where pool [] h = refl
+form_where pool (m ∷ ms) h = let a = both _ _ h in go (is_program_method pool m) refl a.0 (form_where pool ms a.1)
+  where
+    go : (b : Bool) → is_program_method pool m ≡ b → is_form_method pool m ≡ true → list_all (is_form_program pool) (filter (is_program_method pool) ms) ≡ true
+        → list_all (is_form_program pool) (filter (is_program_method pool) (m ∷ ms)) ≡ true
+    go true e t r =
+        let Fine : List Member → Type 0 = λ l. list_all (is_form_program pool) l ≡ true in
+        subst Fine (sym (filter_keeps (is_program_method pool) m ms e)) (both_true _ _ (both_true _ _ e t) r)
+    go false e t r =
+        let Fine : List Member → Type 0 = λ l. list_all (is_form_program pool) l ≡ true in
+        subst Fine (sym (filter_drops (is_program_method pool) m ms e)) r
+
+pub form_methods : (c : ClassFile) → are_form_methods c ≡ true → list_all (is_form_program c.pool) (program_methods c) ≡ true
+form_methods c h = form_where c.pool c.methods (both (nat_le (length (program_methods c)) 100) (list_all (is_form_method c.pool) c.methods) h).1
+
+-- what the form says of a method of the program
+pub form_atomic : (pool : Pool) (m : Member) → is_form_program pool m ≡ true → (is_form_atomic pool m ≡ true) × (is_marked pool m ≡ true)
+form_atomic pool m h =
+    let a = both (is_program_method pool m) (is_form_method pool m) h in
+    let t = (both (list_all (is_form_attribute pool) m.attributes) (if is_program_method pool m then is_form_atomic pool m else not (same_text (utf8 pool m.name) (codes "<clinit>"))) a.1).1 in
+    let is = a.0 in
+    let atomic : is_form_atomic pool m ≡ true = rw is at t in
+    (atomic, program_marked pool m a.0 atomic)
 
 -- what a linked method keeps
 record IsMethodOf (P : Program) (k : Method) : Type 0 where
@@ -330,12 +366,11 @@ record IsMethodOf (P : Program) (k : Method) : Type 0 where
   straight_method : IsStraight k
   marked : IsMarked k
 
-method_of : (P : Program) (s : Symbols) (m : Member) (k : Method) → P.fields ≡ s.fields → HasNoInteger s → is_form_method s.class.pool m ≡ true → linked_method s m ≡ Some k
-    → IsMethodOf P k
-method_of P s m k same none form h =
+method_of : (P : Program) (s : Symbols) (m : Member) (k : Method) → P.fields ≡ s.fields → is_form_program s.class.pool m ≡ true → linked_method s m ≡ Some k → IsMethodOf P k
+method_of P s m k same form h =
     let means = means_of s m k h in
-    let bound = bound_ops s (instructions means.code.code) means.ops none means.told in
-    let mark : list_any (is_mark s.class.pool) m.attributes ≡ true = marked_any s.class.pool m.attributes (both _ _ form).1 in
+    let bound = bound_ops s (instructions means.code.code) means.ops means.told in
+    let mark = (form_atomic s.class.pool m form).1 in
     rw means.is (record {
       source = record {
         counted = refl;
@@ -354,29 +389,6 @@ fields_source c j [] h = tt
 fields_source c j (m ∷ ms) h =
     (record { object = omega arith; index = omega arith; address = omega (arith, h) }, fields_source c (suc j) ms (omega (arith, h)))
 
-no_integer_at : (pool : Pool) (i : ℕ) → list_all is_form_constant pool ≡ true → option_and_then integer_in (slice_get pool i) ≡ None
-no_integer_at [] i h = refl
-no_integer_at (k ∷ ks) zero h = go k (both _ _ h).0
-  where
-    go : (k : Constant) → is_form_constant k ≡ true → integer_in k ≡ None
-    go (constants.Integer n) h = cc
-    go (constants.Utf8 n) h = refl
-    go (constants.Float n) h = refl
-    go (constants.Long n) h = refl
-    go (constants.Double n) h = refl
-    go (constants.Class n) h = refl
-    go (constants.Text n) h = refl
-    go (constants.Field n p) h = refl
-    go (constants.Method n p) h = refl
-    go (constants.InterfaceMethod n p) h = refl
-    go (constants.NameAndType n p) h = refl
-    go constants.Second h = refl
-no_integer_at (k ∷ ks) (suc i) h = no_integer_at ks i (both _ _ h).1
-
-no_integer : (pool : Pool) → list_all is_form_constant pool ≡ true → (i : ℕ) → integer pool i ≡ None
-no_integer pool h zero = refl
-no_integer pool h (suc i) = no_integer_at pool i h
-
 split_methods : (P : Program) (ks : List Method) → AllByRecursion (IsMethodOf P) ks
     → AllByRecursion (IsSourceMethod P) ks × AllByRecursion IsStraight ks × AllByRecursion IsMarked ks
 split_methods P [] h = (tt, tt, tt)
@@ -384,32 +396,27 @@ split_methods P (k ∷ ks) h =
     let r = split_methods P ks h.1 in
     ((h.0.source, r.0), (h.0.straight_method, r.1), (h.0.marked, r.2))
 
-few_statics : (c : ClassFile) → are_form_fields c.pool c.fields ≡ true → length (statics c) ≤ 1000
-few_statics c h =
-    let all = both (nat_le (length c.fields) 100 && list_all (is_form_field c.pool) c.fields) (have_own_names c.pool c.fields) h in
-    let few = (both (nat_le (length c.fields) 100) (list_all (is_form_field c.pool) c.fields) all.0).0 in
-    let n : length c.fields ≤ 100 = grind (arith, nat_tests) in
-    omega (arith, n, length-filter_both is_static (λ m. not (is_static m)) (λ m. refl) c.fields)
+pub few_statics : (c : ClassFile) → are_form_fields c ≡ true → length (statics c) ≤ 100
+few_statics c h = let few = (both (nat_le (length (statics c)) 100) (list_all (is_form_field c.pool) c.fields) h).0 in grind (arith, nat_tests)
 
 pub links : (c : ClassFile) (P : Program) → linked c ≡ Some P → IsLinked c P
 links c P h =
     let t = chosen (is_form_class c) _ P h in
     let e = both _ _ t.0 in
     let d = both _ _ e.0 in
-    let b = both _ _ (both _ _ d.0).0 in
-    go (each (linked_method (symbols_of c (original_fields c))) c.methods) refl t.1 d.1 (both _ _ (both _ _ e.1).0).1 b.1
+    go (each (linked_method (symbols_of c (original_fields c))) (program_methods c)) refl t.1 d.1 (form_methods c e.1)
   where
     s : Symbols
     s = symbols_of c (original_fields c)
 
-    go : (o : Option (List Method)) → each (linked_method (symbols_of c (original_fields c))) c.methods ≡ o
+    go : (o : Option (List Method)) → each (linked_method (symbols_of c (original_fields c))) (program_methods c) ≡ o
         → option_map (λ ms. record { fields = original_fields c; methods = ms }) o ≡ Some P
-        → are_form_fields c.pool c.fields ≡ true → list_all (is_form_method c.pool) c.methods ≡ true → list_all is_form_constant c.pool ≡ true → IsLinked c P
-    go None is h fields methods pool = cc
-    go (Some ms) is h fields methods pool =
+        → are_form_fields c ≡ true → list_all (is_form_program c.pool) (program_methods c) ≡ true → IsLinked c P
+    go None is h fields methods = cc
+    go (Some ms) is h fields methods =
         let same : P ≡ record { fields = original_fields c; methods = ms } = cc in
-        let all = each_all (linked_method (symbols_of c (original_fields c))) (is_form_method c.pool) (IsMethodOf P)
-        (λ m k form e. method_of P (symbols_of c (original_fields c)) m k (ap (λ (p : Program). p.fields) same) (no_integer c.pool pool) form e) c.methods ms methods is in
+        let all = each_all (linked_method (symbols_of c (original_fields c))) (is_form_program c.pool) (IsMethodOf P)
+        (λ m k form e. method_of P (symbols_of c (original_fields c)) m k (ap (λ (p : Program). p.fields) same) form e) (program_methods c) ms methods is in
         let parts = split_methods P ms all in
         let members : P.methods ≡ ms = ap (λ (p : Program). p.methods) same in
         let statics_are : P.fields ≡ original_fields c = ap (λ (p : Program). p.fields) same in

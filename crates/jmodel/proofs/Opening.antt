@@ -1,46 +1,52 @@
--- The opening words stand for the opening state: one static base, all of whose fields are 0.
-use Rattle.std.proofs.Common.{◌≡◌, ℕ, zero, suc, ◌+◌, ◌/◌, ◌%◌, ◌<◌, ◌≤◌, List, [], ◌∷◌, ◌++◌, length, map, Bool, true, false, not, nat_eq, nat_lt, Some, None, refl, arith, slice_index, slice_get, lit<}
-use Rattle.std.specs.Prelude.{if◌then◌else◌, pos, ◌==◌}
+-- The opening words stand for the opening state: one static base, whose fields hold their constants.
+use Rattle.std.proofs.Common.{◌≡◌, ℕ, zero, suc, ◌+◌, ◌/◌, ◌%◌, ◌<◌, ◌≤◌, List, [], ◌∷◌, ◌++◌, length, map, Bool, true, false, not, nat_eq, nat_lt, Some, None, refl, ap, ◌∙◌, arith, slice_index, slice_get}
+use Rattle.std.specs.Prelude.{if◌then◌else◌, ◌==◌, IsSomeAnd}
 use Rattle.std.specs.List.{AllByRecursion}
 use Rattle.std.proofs.lemmas.Bool.Decides.{nat_tests}
 use Rattle.std.proofs.Math.Nat.{mod-eq_of_lt, div-eq_of_lt}
 use Rattle.std.proofs.lemmas.List.{length-map}
 use Rattle.jmodel.specs.declared.value.Value.{Value}
-use Rattle.jmodel.specs.declared.value.Value.TheVariants.{Int}
-use Rattle.jmodel.specs.ClassFile.{Member, ClassFile}
+use Rattle.jmodel.specs.declared.op.WordType.TheVariants as word
+use Rattle.jmodel.specs.ClassFile.{Member, Pool, ClassFile}
+use Rattle.jmodel.specs.Value.{IsOfType}
 use Rattle.jmodel.specs.Program.{Program}
 use Rattle.jmodel.specs.State.{Object, State}
 use Rattle.jmodel.specs.History.{Words}
-use Rattle.jmodel.specs.Layout.{statics, statics_object, has_base, fields_from, fields_of, bases_end, opening_words, opening_state, at_address}
+use Rattle.jmodel.specs.Layout.{opening_value, opening_word, statics, statics_object, has_base, fields_from, fields_of, bases_end, opening_words, opening_state, at_address}
 use Rattle.jmodel.specs.Meaning.{header, AreLaid, IsLaid, IsInRegion, IsFieldHeld, Represents}
+use Rattle.jmodel.proofs.Constants.{opening_small}
 
-abbrev zeros : List Member → List ℕ
-zeros ms = map (λ m. 0) ms
+module _ (pool : Pool) where
+  abbrev image_of : List Member → List ℕ
+  image_of ms = map (opening_word pool) ms
 
-abbrev values : List Member → List Value
-values ms = map (λ m. Int (pos 0)) ms
+  abbrev values : List Member → List Value
+  values ms = map (opening_value pool) ms
 
-read_zeros : (ms : List Member) (i : ℕ) → slice_index (zeros ms ++ []) i ≡ 0
-read_zeros [] i = refl
-read_zeros (m ∷ ms) zero = refl
-read_zeros (m ∷ ms) (suc i) = read_zeros ms i
+  -- behind the fields all words are 0
+  read_past : (ms : List Member) (i : ℕ) → length ms ≤ i → slice_index (image_of ms ++ []) i ≡ 0
+  read_past [] i h = refl
+  read_past (m ∷ ms) zero h = absurd (omega (arith, h))
+  read_past (m ∷ ms) (suc i) h = read_past ms i (omega (arith, h))
 
-get_values : (ms : List Member) (i : ℕ) → i < length ms → slice_get (values ms) i ≡ Some (Int (pos 0))
-get_values [] i h = absurd (omega (arith, h))
-get_values (m ∷ ms) zero h = refl
-get_values (m ∷ ms) (suc i) h = get_values ms i (omega (arith, h))
+  get_values : (ms : List Member) (i : ℕ) → i < length ms → IsSomeAnd (slice_get (values ms) i) (IsOfType word.Int)
+  get_values [] i h = absurd (omega (arith, h))
+  get_values (m ∷ ms) zero h = opening_small pool m
+  get_values (m ∷ ms) (suc i) h = get_values ms i (omega (arith, h))
 
--- values that are 0 lie wherever words are 0
-zeros_laid : (words : Words) (a : ℕ) (ms : List Member) → ((i : ℕ) → a ≤ i → words i ≡ 0) → AreLaid words a (values ms)
-zeros_laid words a [] h = tt
-zeros_laid words a (m ∷ ms) h = (h a (omega arith), zeros_laid words (a + 1) ms (λ i le. h i (omega arith)))
+  -- values lie where the words are theirs
+  words_laid : (words : Words) (a : ℕ) (ms : List Member) → ((i : ℕ) → words (a + i) ≡ slice_index (image_of ms ++ []) i) → AreLaid words a (values ms)
+  words_laid words a [] h = tt
+  words_laid words a (m ∷ ms) h =
+      let here : a ≡ a + 0 = omega arith in
+      (ap words here ∙ h 0, words_laid words (a + 1) ms (λ i. let next : a + 1 + i ≡ a + suc i = omega arith in ap words next ∙ h (suc i)))
 
 module _ (c : ClassFile) where
   abbrev object : Object
   object = statics_object (c ∷ []) 0 c
 
   abbrev image : Bool → List ℕ
-  image b = if b then header object ∷ zeros (statics c) else []
+  image b = if b then header object ∷ image_of c.pool (statics c) else []
 
   abbrev words_at : Bool → Words
   words_at b = at_address (0 ∷ 0 ∷ (image b ++ []))
@@ -54,11 +60,15 @@ module _ (c : ClassFile) where
     used = λ region. if nat_eq region 0 then 2 + (0 + taken b) else 0;
   }
 
-  beyond : (i : ℕ) → 3 ≤ i → words_at true i ≡ 0
+  -- behind the static base
+  beyond : (i : ℕ) → 3 + length (statics c) ≤ i → words_at true i ≡ 0
   beyond zero h = absurd (omega (arith, h))
   beyond (suc zero) h = absurd (omega (arith, h))
   beyond (suc (suc zero)) h = absurd (omega (arith, h))
-  beyond (suc (suc (suc i))) h = read_zeros (statics c) i
+  beyond (suc (suc (suc i))) h = read_past c.pool (statics c) i (omega (arith, h))
+
+  within : (i : ℕ) → words_at true (3 + i) ≡ slice_index (image_of c.pool (statics c) ++ []) i
+  within i = let at : 3 + i ≡ suc (suc (suc i)) = omega arith in ap (words_at true) at
 
   short : (i : ℕ) → words_at false i ≡ 0
   short zero = refl
@@ -74,14 +84,14 @@ module _ (c : ClassFile) where
       go true e h = (refl, grind (arith, nat_tests), cc)
       go false e h = cc
 
-  many : length (values (statics c)) ≡ length (statics c)
+  many : length (values c.pool (statics c)) ≡ length (statics c)
   many = length-map _ _
 
   laid_at : (b : Bool) (r : ℕ) (o : Object) → (state_at b).objects r ≡ Some o → IsLaid (words_at b) r o
   laid_at false r o h = cc
   laid_at true r o h =
       let k = known true r o h in
-      rw (k.1, k.2) (record { header_lies = refl; values_lie = zeros_laid (words_at true) 3 (statics c) beyond })
+      rw (k.1, k.2) (record { header_lies = refl; values_lie = words_laid c.pool (words_at true) 3 (statics c) within })
 
   region_at : (b : Bool) (size r : ℕ) (o : Object) → 2 + (0 + taken b) ≤ size → (state_at b).objects r ≡ Some o → IsInRegion size (state_at b).used r o
   region_at false size r o room h = cc
@@ -114,7 +124,7 @@ module _ (c : ClassFile) where
   held_from : (j : ℕ) (ms : List Member) → j + length ms ≤ length (statics c) → AllByRecursion (IsFieldHeld (state_at true)) (fields_from (c ∷ []) 0 c (suc j) ms ++ [])
   held_from j [] h = tt
   held_from j (m ∷ ms) h =
-      (rw (get_values (statics c) j (omega (arith, h))) (record { sfits = lit< tt }), held_from (suc j) ms (omega (arith, h)))
+      (get_values c.pool (statics c) j (omega (arith, h)), held_from (suc j) ms (omega (arith, h)))
 
   held_at : (b : Bool) → has_base c ≡ b → AllByRecursion (IsFieldHeld (state_at b)) (fields_from (c ∷ []) 0 c 1 (statics c) ++ [])
   held_at true is = held_from 0 (statics c) (omega arith)

@@ -15,6 +15,7 @@ use Rattle.jmodel.specs.declared.op.WordType.TheVariants as word
 use Rattle.jmodel.specs.ClassFile.{Attribute, Member, Pool, ClassFile}
 use Rattle.jmodel.specs.Pool.{entry, utf8, class_name, MemberName, field_name, method_name}
 use Rattle.jmodel.specs.ClassRules.{same_text, is_named}
+use Rattle.jmodel.specs.Constants.{pair_number, integer, long_value}
 use Rattle.jmodel.specs.Program.{Field}
 use Rattle.jmodel.specs.Layout.{text_or_none, base_of}
 
@@ -32,10 +33,6 @@ operand_bytes c =
     if (c == 16) || (nat_le 21 c && nat_le c 25) || (nat_le 54 c && nat_le c 58) then 1
     else if (c == 17) || (c == 19) || (nat_le 153 c && nat_le c 168) || (nat_le 178 c && nat_le c 184) then 2
     else 0
-
--- the number that two bytes make
-abbrev pub pair_number : ℕ → ℕ → ℕ
-pair_number a b = a * 256 + b
 
 -- the number that up to two bytes at the front make
 abbrev pub operand : ℕ → List ℕ → Option ℕ
@@ -81,27 +78,6 @@ is_method_of m k = bytes_eq k.name m.name && bytes_eq k.descriptor m.descriptor 
 -- the number of a method
 abbrev pub method_number : List MethodName → MemberName → Option ℕ
 method_number methods m = position (is_method_of m) methods
-
-abbrev pub integer_in : Constant → Option ℤ
-integer_in (constants.Integer n) = Some n
-integer_in c = None
-
-abbrev pub integer : Pool → ℕ → Option ℤ
-integer pool i = option_and_then integer_in (entry pool i)
-
-abbrev pub long_in : Constant → Option ℤ
-long_in (constants.Long n) = Some n
-long_in c = None
-
--- the value that an attribute of two bytes names
-abbrev pub long_named : Pool → List ℕ → Option ℤ
-long_named pool [] = None
-long_named pool (a ∷ []) = None
-long_named pool (a ∷ b ∷ []) = option_and_then long_in (entry pool (pair_number a b))
-long_named pool (a ∷ b ∷ c ∷ bs) = None
-
-abbrev pub long_value : Pool → Member → Option ℤ
-long_value pool m = option_and_then (λ (a : Attribute). long_named pool a.bytes) (find (is_named pool (codes "ConstantValue")) m.attributes)
 
 abbrev pub is_member : Pool → List ℕ → List ℕ → Member → Bool
 is_member pool name descriptor m = same_text (utf8 pool m.name) name && same_text (utf8 pool m.descriptor) descriptor

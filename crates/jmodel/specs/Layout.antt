@@ -1,9 +1,12 @@
 -- Where the fixed parts of memory lie, and the state before the first call.
-use Rattle.std.specs.Prelude.{ℕ, suc, pos, ◌+◌, List, [], ◌∷◌, ◌++◌, length, map, take, filter, sum_by, Option, Some, None, Bool, not, nat_eq, ◌==◌, if◌then◌else◌, codes, bit_and, slice_index}
+use Rattle.std.specs.Prelude.{ℕ, ℤ, suc, pos, ◌+◌, List, [], ◌∷◌, ◌++◌, length, map, take, filter, sum_by, Option, Some, None, Bool, not, nat_eq, ◌==◌, if◌then◌else◌, codes, bit_and, slice_index, unwrap_or}
+use Rattle.jmodel.specs.declared.value.Value.{Value}
 use Rattle.jmodel.specs.declared.value.Value.TheVariants.{Int}
 use Rattle.jmodel.specs.declared.op.WordType.TheVariants as word
-use Rattle.jmodel.specs.ClassFile.{Member, ClassFile}
+use Rattle.jmodel.specs.ClassFile.{Member, Pool, ClassFile}
 use Rattle.jmodel.specs.Pool.{utf8, class_name}
+use Rattle.jmodel.specs.Value.{word_of}
+use Rattle.jmodel.specs.Constants.{int_value}
 use Rattle.jmodel.specs.Program.{Field}
 use Rattle.jmodel.specs.State.{Object, State}
 use Rattle.jmodel.specs.Meaning.{header}
@@ -64,9 +67,16 @@ abbrev pub fields_of : List ClassFile → ℕ → List ClassFile → List Field
 fields_of classes n [] = []
 fields_of classes n (c ∷ cs) = fields_from classes n c 1 (statics c) ++ fields_of classes (suc n) cs
 
--- the object of a class's static fields, each 0 at first
+-- the int that a static field holds at first: its constant, where it has one, else 0
+abbrev pub opening_int : Pool → Member → ℤ
+opening_int pool m = unwrap_or (int_value pool m) (pos 0)
+
+abbrev pub opening_value : Pool → Member → Value
+opening_value pool m = Int (opening_int pool m)
+
+-- the object of a class's static fields
 abbrev pub statics_object : List ClassFile → ℕ → ClassFile → Object
-statics_object classes n c = record { type = base_type classes n; values = map (λ m. Int (pos 0)) (statics c) }
+statics_object classes n c = record { type = base_type classes n; values = map (opening_value c.pool) (statics c) }
 
 abbrev pub base_at : List ClassFile → ℕ → List ClassFile → ℕ → Option Object
 base_at classes n [] reference = None
@@ -81,8 +91,12 @@ opening_state classes = record {
   used = λ region. if nat_eq region 0 then bases_end classes else 0;
 }
 
+-- the word that a static field holds at first
+abbrev pub opening_word : Pool → Member → ℕ
+opening_word pool m = word_of (opening_value pool m)
+
 abbrev pub base_image : List ClassFile → ℕ → ClassFile → List ℕ
-base_image classes n c = if has_base c then header (statics_object classes n c) ∷ map (λ m. 0) (statics c) else []
+base_image classes n c = if has_base c then header (statics_object classes n c) ∷ map (opening_word c.pool) (statics c) else []
 
 abbrev pub base_images : List ClassFile → ℕ → List ClassFile → List ℕ
 base_images classes n [] = []

@@ -4,6 +4,7 @@ pub mod Descriptor
 pub mod ClassFile
 pub mod Pool
 pub mod ClassRules
+pub mod Constants
 pub mod Value
 pub mod Program
 pub mod Step

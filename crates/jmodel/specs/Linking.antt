@@ -1,6 +1,6 @@
 -- What a class means as a program: original classes of a temporary form, and rewritten ones. The form has the straight-line
 -- int code of static methods without parameters.
-use Rattle.std.specs.Prelude.{ℕ, ℤ, pos, ◌+◌, ◌-◌, List, [], ◌∷◌, ◌++◌, length, map, take, drop, Option, Some, None, Bool, true, false, not, ◌==◌, ◌&&◌, ◌||◌, nat_lt, nat_le, nat_eq, if◌then◌else◌, codes, bytes_eq, bit_and, find, position, option_map, option_and_then, is_some}
+use Rattle.std.specs.Prelude.{ℕ, ℤ, pos, ◌+◌, ◌-◌, List, [], ◌∷◌, ◌++◌, length, map, filter, take, drop, Option, Some, None, Bool, true, false, not, ◌==◌, ◌&&◌, ◌||◌, nat_lt, nat_le, nat_eq, if◌then◌else◌, codes, bytes_eq, bit_and, find, position, option_map, option_and_then, is_some}
 use Rattle.std.specs.List.{list_any, list_all, starts_with}
 use Rattle.jmodel.specs.declared.class_file.Constant.{Constant}
 use Rattle.jmodel.specs.declared.class_file.Constant.TheVariants as constants
@@ -18,8 +18,9 @@ use Rattle.jmodel.specs.ClassReading.{code_of}
 use Rattle.jmodel.specs.Program.{Field, Method, Program}
 use Rattle.jmodel.specs.Rewriting.{context_type}
 use Rattle.jmodel.specs.Source.{takes, leaves, is_return}
-use Rattle.jmodel.specs.Layout.{library, is_static, text_or_none, fields_of}
-use Rattle.jmodel.specs.Decoding.{Instruction, pair_number, instructions, Symbols, own_name, name_of, each, ops_of}
+use Rattle.jmodel.specs.Layout.{library, is_static, statics, text_or_none, fields_of}
+use Rattle.jmodel.specs.Constants.{pair_number}
+use Rattle.jmodel.specs.Decoding.{Instruction, instructions, Symbols, own_name, name_of, each, ops_of}
 
 -- ---- exception entries, by numbers of instructions
 
@@ -68,9 +69,12 @@ is_plain_mark pool bs = false
 abbrev pub is_mark : Pool → Attribute → Bool
 is_mark pool a = is_named pool (codes "RuntimeVisibleAnnotations") a && is_plain_mark pool a.bytes
 
+abbrev pub is_marked : Pool → Member → Bool
+is_marked pool m = list_any (is_mark pool) m.attributes
+
 -- a mark that names no number of attempts allows 2147483647
 abbrev pub retries_of : Pool → Member → Option ℤ
-retries_of pool m = if list_any (is_mark pool) m.attributes then Some (pos 2147483647) else None
+retries_of pool m = if is_marked pool m then Some (pos 2147483647) else None
 
 abbrev pub make_method : Symbols → Bool → Member → ℕ → Option Shape → Option (List Op) → Option (List Catch) → Option Method
 make_method s counted m locals (Some shape) (Some ops) (Some catches) = Some (record {
@@ -93,6 +97,18 @@ coded_method s counted m k = let is = instructions k.code in
 abbrev pub method_of : Symbols → Bool → Member → Option Method
 method_of s counted m = option_and_then (coded_method s counted m) (code_in s.class.pool m)
 
+-- whether a method has the descriptor of an accessor or a duplicate, which take a transaction's context
+abbrev pub takes_context : Pool → Member → Bool
+takes_context pool m = same_text (utf8 pool m.descriptor) (codes "(" ++ context_type ++ codes ")I") || same_text (utf8 pool m.descriptor) (codes "(I" ++ context_type ++ codes ")V")
+
+-- Whether a method is one of the program that a class means: it is marked, or takes a context. What is neither can't be
+-- called from the code that a program has so far.
+abbrev pub is_program_method : Pool → Member → Bool
+is_program_method pool m = is_marked pool m || takes_context pool m
+
+abbrev pub program_methods : ClassFile → List Member
+program_methods c = filter (is_program_method c.pool) c.methods
+
 -- ---- the form
 
 abbrev pub has_part : List ℕ → List ℕ → Bool
@@ -104,67 +120,55 @@ abbrev pub is_reserved : List ℕ → Bool
 is_reserved text = has_part (codes "org/deuce/transaction/") text || has_part (codes "__ADDRESS__") text || has_part (codes "__Getter$") text
     || has_part (codes "__Setter$") text || has_part (codes "__CLASS_BASE__") text || has_part (codes "__CLINIT__") text
 
--- texts without such parts, classes, fields, and pairs of name and type
+-- a text without such parts, or any other entry
 abbrev pub is_form_constant : Constant → Bool
 is_form_constant (constants.Utf8 text) = not (is_reserved text)
-is_form_constant (constants.Class name) = true
-is_form_constant (constants.Field class pair) = true
-is_form_constant (constants.NameAndType name descriptor) = true
-is_form_constant c = false
+is_form_constant c = true
 
 abbrev pub is_empty : {A : Type 0} → List A → Bool
 is_empty xs = length xs == 0
 
--- a static int field without attributes, whose name has at most 1000 bytes
+-- an int whose name has at most 1000 bytes, where the field is static
 abbrev pub is_form_field : Pool → Member → Bool
-is_form_field pool m = is_static m && same_text (utf8 pool m.descriptor) (codes "I") && nat_le (length (text_or_none (utf8 pool m.name))) 1000 && is_empty m.attributes
+is_form_field pool m = not (is_static m) || same_text (utf8 pool m.descriptor) (codes "I") && nat_le (length (text_or_none (utf8 pool m.name))) 1000
 
-abbrev pub is_code : Pool → Attribute → Bool
-is_code pool a = is_named pool (codes "Code") a
-
-abbrev pub is_code_and_mark : Pool → List Attribute → Bool
-is_code_and_mark pool [] = false
-is_code_and_mark pool (a ∷ []) = false
-is_code_and_mark pool (a ∷ b ∷ []) = is_code pool a && is_mark pool b || is_mark pool a && is_code pool b
-is_code_and_mark pool (a ∷ b ∷ c ∷ rest) = false
+-- an attribute of a method: of annotations that a running program sees, the mark alone
+abbrev pub is_form_attribute : Pool → Attribute → Bool
+is_form_attribute pool a = not (is_named pool (codes "RuntimeVisibleAnnotations") a) || is_plain_mark pool a.bytes
 
 -- the names of static initialisers and constructors begin so, 60
 abbrev pub is_special : List ℕ → Bool
 is_special name = starts_with nat_eq name (60 ∷ [])
 
 -- A static method without parameters that gives an int; of the flags 0008, 0020, 0100 and 0400 the first alone is set.
+abbrev pub is_form_atomic : Pool → Member → Bool
+is_form_atomic pool m = nat_eq (bit_and m.flags 0x528) 8 && same_text (utf8 pool m.descriptor) (codes "()I") && not (is_special (text_or_none (utf8 pool m.name)))
+
+-- a method that isn't one of the program may be anything but a static initialiser
 abbrev pub is_form_method : Pool → Member → Bool
-is_form_method pool m = nat_eq (bit_and m.flags 0x528) 8 && same_text (utf8 pool m.descriptor) (codes "()I")
-    && not (is_special (text_or_none (utf8 pool m.name))) && is_code_and_mark pool m.attributes
-
-abbrev pub same_name : Pool → Member → Member → Bool
-same_name pool a b = bytes_eq (text_or_none (utf8 pool b.name)) (text_or_none (utf8 pool a.name))
-
-abbrev pub have_own_names : Pool → List Member → Bool
-have_own_names pool [] = true
-have_own_names pool (m ∷ ms) = not (list_any (same_name pool m) ms) && have_own_names pool ms
+is_form_method pool m = list_all (is_form_attribute pool) m.attributes && (if is_program_method pool m then is_form_atomic pool m else not (same_text (utf8 pool m.name) (codes "<clinit>")))
 
 -- a class's name that no class of the library has
 abbrev pub is_free_name : List ℕ → Bool
 is_free_name name = not (list_any (bytes_eq name) library)
 
-abbrev pub are_form_fields : Pool → List Member → Bool
-are_form_fields pool ms = nat_le (length ms) 100 && list_all (is_form_field pool) ms && have_own_names pool ms
+abbrev pub are_form_fields : ClassFile → Bool
+are_form_fields c = nat_le (length (statics c)) 100 && list_all (is_form_field c.pool) c.fields
 
-abbrev pub are_form_methods : Pool → List Member → Bool
-are_form_methods pool ms = nat_le (length ms) 100 && list_all (is_form_method pool) ms && have_own_names pool ms
+abbrev pub are_form_methods : ClassFile → Bool
+are_form_methods c = nat_le (length (program_methods c)) 100 && list_all (is_form_method c.pool) c.methods
 
 -- a class, no interface, 0200, that stands right under Object
 abbrev pub is_form_head : ClassFile → Bool
 is_form_head c = nat_eq (bit_and c.flags 0x200) 0 && is_free_name (own_name c) && same_text (class_name c.pool c.super_class) (codes "java/lang/Object")
-    && is_empty c.interfaces && is_empty c.attributes
+    && is_empty c.interfaces
 
 abbrev pub is_form_class : ClassFile → Bool
-is_form_class c = nat_lt (length c.pool) 1000 && list_all is_form_constant c.pool && is_form_head c && are_form_fields c.pool c.fields && are_form_methods c.pool c.methods
+is_form_class c = list_all is_form_constant c.pool && is_form_head c && are_form_fields c && are_form_methods c
 
--- a Code of moderate size without exception entries and attributes
+-- a Code of moderate size without exception entries
 abbrev pub is_form_code : Code → Bool
-is_form_code k = nat_le (length k.code) 10000 && nat_le k.max_stack 1000 && nat_le k.max_locals 1000 && is_empty k.handlers && is_empty k.attributes
+is_form_code k = nat_le (length k.code) 10000 && nat_le k.max_stack 1000 && nat_le k.max_locals 1000 && is_empty k.handlers
 
 -- what may stand before the return
 abbrev pub is_form_op : Op → Bool
@@ -198,7 +202,7 @@ linked_method s m = option_and_then (form_method s m) (code_in s.class.pool m)
 -- ---- programs
 
 abbrev pub symbols_of : ClassFile → List Field → Symbols
-symbols_of c fields = record { class = c; fields = fields; methods = map (name_of c) c.methods }
+symbols_of c fields = record { class = c; fields = fields; methods = map (name_of c) (program_methods c) }
 
 abbrev pub original_fields : ClassFile → List Field
 original_fields c = fields_of (c ∷ []) 0 (c ∷ [])
@@ -206,7 +210,7 @@ original_fields c = fields_of (c ∷ []) 0 (c ∷ [])
 -- the program of an original class of the form; other classes have none
 abbrev pub linked : ClassFile → Option Program
 linked c = if is_form_class c
-    then option_map (λ ms. record { fields = original_fields c; methods = ms }) (each (linked_method (symbols_of c (original_fields c))) c.methods)
+    then option_map (λ ms. record { fields = original_fields c; methods = ms }) (each (linked_method (symbols_of c (original_fields c))) (program_methods c))
     else None
 
 -- a class of the form
@@ -225,4 +229,4 @@ relinked_methods s n ms = if nat_le n (length ms)
 
 -- the program of a rewritten class, over its original's
 abbrev pub relinked : Program → ClassFile → Option Program
-relinked P c = option_map (λ ms. record { fields = P.fields; methods = ms }) (relinked_methods (symbols_of c P.fields) (length P.methods) c.methods)
+relinked P c = option_map (λ ms. record { fields = P.fields; methods = ms }) (relinked_methods (symbols_of c P.fields) (length P.methods) (program_methods c))

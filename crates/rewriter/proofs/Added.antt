@@ -11,7 +11,7 @@ use Rattle.jmodel.specs.declared.refusal.Refusal.TheVariants.{PoolFull}
 use Rattle.jmodel.specs.ClassFile.{Pool}
 use Rattle.jmodel.specs.Pool.{entry, utf8, text_in, class_name, pair, pair_in, MemberName, field_name, method_name}
 use Rattle.jmodel.specs.ClassRules.{same_text}
-use Rattle.jmodel.specs.Decoding.{integer, integer_in, long_in}
+use Rattle.jmodel.specs.Constants.{as_int, integer, integer_in, long_in}
 use Rattle.jmodel.specs.Reading.{◌>>=◌}
 use Rattle.jmodel.proofs.Places.{get_back}
 use Rattle.const_pool.proofs.Takes.{bind_ok, want_ok, guard_ok, ok_is}
@@ -102,7 +102,7 @@ utf8_added text pool r e = go (position (is_utf8 text) pool) refl e where
 -- ---- numbers
 
 abbrev pub Counts : ℤ → Pool → ℕ → Type 0
-Counts n pool i = integer pool i ≡ Some n
+Counts n pool i = integer pool i ≡ Some (as_int n)
 
 abbrev pub Measures : ℤ → Pool → ℕ → Type 0
 Measures n pool i = option_and_then long_in (entry pool i) ≡ Some n
@@ -110,8 +110,8 @@ Measures n pool i = option_and_then long_in (entry pool i) ≡ Some n
 pub integer_added : (n : ℤ) (pool : Pool) (r : ℕ × Pool) → add_integer n pool ≡ Ok r → Added (Counts n) pool r
 unfolding add_integer
 integer_added n pool r e = go (position (is_integer n) pool) refl e where
-  read : (c : Constant) → is_integer n c ≡ true → integer_in c ≡ Some n
-  read (constants.Integer m) h = ap Some ((Decides-int_eq m n).0 h)
+  read : (c : Constant) → is_integer n c ≡ true → integer_in c ≡ Some (as_int n)
+  read (constants.Integer m) h = ap (λ (x : ℤ). Some (as_int x)) ((Decides-int_eq m n).0 h)
   read c h = cc
 
   go : (o : Option ℕ) → position (is_integer n) pool ≡ o → integer_if o n pool ≡ Ok r → Added (Counts n) pool r

@@ -9,16 +9,16 @@ use Rattle.jmodel.specs.ClassRules.{IsClassFile}
 use Rattle.jmodel.specs.Program.{Field, Method, Program}
 use Rattle.jmodel.specs.Rewriting.{accessors, getter_method, setter_method, old_method, old_methods, next_id, wrapper_method, duplicate_method, rewritten}
 use Rattle.jmodel.specs.Decoding.{Symbols, own_name, in_front, each}
-use Rattle.jmodel.specs.Linking.{symbols_of, method_of, linked, relinked_methods, relinked}
+use Rattle.jmodel.specs.Linking.{symbols_of, method_of, program_methods, linked, relinked_methods, relinked}
 use Rattle.rewriter.specs.declared.accessors.Accessors.{Accessors}
 use Rattle.rewriter.specs.declared.duplicates.Calls.{Calls}
 use Rattle.rewriter.specs.Rewritten.{both_of, rewritten_class}
 use Rattle.rewriter.proofs.Puts.{AreAccessors}
 use Rattle.rewriter.proofs.CopyCode.{each_append, each_length}
 use Rattle.rewriter.proofs.Whole.{Each, AreCalls, IsWrapped, IsCopyOf, rewrites}
-use Rattle.rewriter.proofs.Old.{AllOld, original}
+use Rattle.rewriter.proofs.Old.{AllOld, AreNamed, original}
 use Rattle.rewriter.proofs.Names.{AreOwn}
-use Rattle.rewriter.proofs.Tables.{Known, AreNamed, AreGood, good, owned, named, olds}
+use Rattle.rewriter.proofs.Tables.{Known, AreLawful, AreGood, good, owned, named, lawful, olds, wrappers, wrapped, parts}
 use Rattle.rewriter.proofs.Methods.{getter_is, setter_is, wrapper_is}
 use Rattle.rewriter.proofs.CopyMethods.{copy_is}
 
@@ -34,16 +34,16 @@ front : {B : Type 0} (o : Option B) (os : Option (List B)) (y : B) (ys : List B)
 front o os y ys p q = rw (p, q) refl
 
 module _ (c new : ClassFile) (P : Program) (K : Known c new P) where
-  wrappers_each : (n : ℕ) (ms W : List Member) (ks : List Method) → Each (λ Z n m x. IsWrapped c Z n m x) new.pool n ms W → AllOld c P.fields ms ks → AreNamed c.pool ms → ((j : ℕ) → slice_get P.methods (n + j) ≡ slice_get ks j)
-      → each (method_of (symbols_of new P.fields) false) W ≡ Some (old_methods P n n ks)
-  wrappers_each n [] [] [] w h a r = refl
-  wrappers_each n [] [] (k ∷ ks) w h a r = absurd h
-  wrappers_each n [] (x ∷ W) ks w h a r = absurd w
-  wrappers_each n (m ∷ ms) [] ks w h a r = absurd w
-  wrappers_each n (m ∷ ms) (x ∷ W) [] w h a r = absurd h
-  wrappers_each n (m ∷ ms) (x ∷ W) (k ∷ ks) w h a r =
-      let one = wrapper_is c new P K n m x k a.0.0 a.0.1 (here P.methods n k ks r) h.0 w.0 in
-      let more = wrappers_each (n + 1) ms W ks w.1 h.1 a.1 (behind P.methods n k ks r) in
+  wrappers_each : (n : ℕ) (ms W : List Member) (ks : List Method) → Each (λ Z n m x. IsWrapped c Z n m x) new.pool n ms W → AllOld c P.fields ms ks → AreNamed c.pool ms → AreLawful c.pool ms
+      → ((j : ℕ) → slice_get P.methods (n + j) ≡ slice_get ks j) → each (method_of (symbols_of new P.fields) false) W ≡ Some (old_methods P n n ks)
+  wrappers_each n [] [] [] w h a l r = refl
+  wrappers_each n [] [] (k ∷ ks) w h a l r = absurd h
+  wrappers_each n [] (x ∷ W) ks w h a l r = absurd w
+  wrappers_each n (m ∷ ms) [] ks w h a l r = absurd w
+  wrappers_each n (m ∷ ms) (x ∷ W) [] w h a l r = absurd h
+  wrappers_each n (m ∷ ms) (x ∷ W) (k ∷ ks) w h a l r =
+      let one = wrapper_is c new P K n m x k a.0.0 a.0.1 (here P.methods n k ks r) h.0 l.0 w.0 in
+      let more = wrappers_each (n + 1) ms W ks w.1 h.1 a.1 l.1 (behind P.methods n k ks r) in
       let marked : k.retries ≡ Some (pos 2147483647) = ap (λ (y : Method). y.retries) h.0.is in
       let step = add-one n in
       let list : old_methods P n n (k ∷ ks) ≡ wrapper_method P n n (pos 2147483647) k ∷ old_methods P (suc n) (suc n) ks = ap (λ (o : Option ℤ). old_method P n n o k ∷ old_methods P (next_id o n) (suc n) ks) marked in
@@ -118,13 +118,13 @@ law c new P rules L e =
     let s = symbols_of new P.fields in
     let from_zero : (j : ℕ) → slice_get P.methods (0 + j) ≡ slice_get P.methods j = λ j. let z : 0 + j ≡ j = omega arith in ap (slice_get P.methods) z in
     let fields_zero : (j : ℕ) → slice_get P.fields (0 + j) ≡ slice_get P.fields j = λ j. let z : 0 + j ≡ j = omega arith in ap (slice_get P.fields) z in
-    let w = wrappers_each c new P K 0 c.methods M.wrappers P.methods M.each (olds c new P K) (named c new P K) from_zero in
+    let w = wrappers_each c new P K 0 (program_methods c) (wrappers c new P K) P.methods (wrapped c new P K) (olds c new P K) (named c new P K) (lawful c new P K) from_zero in
     let a = accessors_each c new P K 0 P.fields N.accessors N.each (good c new P K) (owned c new P K) fields_zero in
-    let d = copies_each c new P K L N.copied.calls N.copied.called 0 c.methods N.copies P.methods N.copied.each (olds c new P K) (named c new P K) from_zero in
-    let fronts = each_append (method_of (symbols_of new P.fields) false) M.wrappers (flat_map both_of N.accessors) (old_methods P 0 0 P.methods) (accessors 0 P.fields) w a in
-    let list : new.methods ≡ (M.wrappers ++ flat_map both_of N.accessors) ++ N.copies = M.are ∙ ap (λ (l : List Member). M.wrappers ++ l) N.are ∙ sym (append_assoc M.wrappers (flat_map both_of N.accessors) N.copies) in
+    let d = copies_each c new P K L N.copied.calls N.copied.called 0 (program_methods c) N.copies P.methods N.copied.each (olds c new P K) (named c new P K) from_zero in
+    let fronts = each_append (method_of (symbols_of new P.fields) false) (wrappers c new P K) (flat_map both_of N.accessors) (old_methods P 0 0 P.methods) (accessors 0 P.fields) w a in
+    let list : program_methods new ≡ (wrappers c new P K ++ flat_map both_of N.accessors) ++ N.copies = parts c new P K ∙ sym (append_assoc (wrappers c new P K) (flat_map both_of N.accessors) N.copies) in
     let len : length N.copies ≡ length P.methods = each_length (method_of (symbols_of new P.fields) true) N.copies (map (duplicate_method P) P.methods) d ∙ map_length (duplicate_method P) P.methods in
-    let done : relinked_methods (symbols_of new P.fields) (length P.methods) new.methods ≡ Some ((old_methods P 0 0 P.methods ++ accessors 0 P.fields) ++ map (duplicate_method P) P.methods) =
+    let done : relinked_methods (symbols_of new P.fields) (length P.methods) (program_methods new) ≡ Some ((old_methods P 0 0 P.methods ++ accessors 0 P.fields) ++ map (duplicate_method P) P.methods) =
     ap (relinked_methods (symbols_of new P.fields) (length P.methods)) list
-    ∙ relinked_as (symbols_of new P.fields) (M.wrappers ++ flat_map both_of N.accessors) N.copies (old_methods P 0 0 P.methods ++ accessors 0 P.fields) (map (duplicate_method P) P.methods) (length P.methods) len fronts d in
+    ∙ relinked_as (symbols_of new P.fields) (wrappers c new P K ++ flat_map both_of N.accessors) N.copies (old_methods P 0 0 P.methods ++ accessors 0 P.fields) (map (duplicate_method P) P.methods) (length P.methods) len fronts d in
     ap (option_map (λ (ms : List Method). program P.fields ms)) done

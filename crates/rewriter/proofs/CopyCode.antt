@@ -13,11 +13,12 @@ use Rattle.jmodel.specs.Program.{Program}
 use Rattle.jmodel.specs.Rewriting.{getter, setter, block, block_len, block_at, catch}
 use Rattle.jmodel.specs.declared.op.Catches.TheVariants.{Conflict}
 use Rattle.jmodel.specs.Linking.{index_at, catch_of}
-use Rattle.jmodel.specs.Decoding.{Instruction, Symbols, operand_bytes, pair_number, split, instructions, static_call_op, op_of, in_front, each, ops_of}
+use Rattle.jmodel.specs.Constants.{pair_number}
+use Rattle.jmodel.specs.Decoding.{Instruction, Symbols, operand_bytes, split, instructions, static_call_op, op_of, in_front, each, ops_of}
 use Rattle.rewriter.specs.declared.duplicates.Calls.{Calls}
 use Rattle.rewriter.specs.Members.{high, low, getter_in, setter_in, call_bytes, number_bytes, same_bytes, block_bytes, blocks_from, duplicate_code}
 use Rattle.rewriter.proofs.Ops.{rejoined}
-use Rattle.rewriter.proofs.Kept.{is_same, HasNoInteger, op_kept, op_whole}
+use Rattle.rewriter.proofs.Kept.{is_same, KeepsInts, op_kept, op_whole}
 use Rattle.rewriter.proofs.Positions.{any_append, At, at_position, at_here, at_behind}
 
 abbrev pub is_at : ℕ → Instruction → Bool
@@ -75,8 +76,8 @@ few_bytes c = go _ _
     go false false = omega arith
 
 -- an instruction as it lay in the code
-same_copied : (s0 s : Symbols) (all : List Instruction) (i : Instruction) (o : Op) (pc : ℕ) → HasNoInteger s0 → is_same o ≡ true → op_of s0 all i ≡ Some o → Copied s pc (same_bytes i) (o ∷ [])
-same_copied s0 s all i o pc none same h = by_operand i.operand h
+same_copied : (s0 s : Symbols) (all : List Instruction) (i : Instruction) (o : Op) (pc : ℕ) → KeepsInts s0 s → is_same o ≡ true → op_of s0 all i ≡ Some o → Copied s pc (same_bytes i) (o ∷ [])
+same_copied s0 s all i o pc ints same h = by_operand i.operand h
   where
     c : ℕ
     c = i.opcode
@@ -99,7 +100,7 @@ same_copied s0 s all i o pc none same h = by_operand i.operand h
         record {
           list = it ∷ [];
           splits = λ rest. rw e (ap (λ (k : ℕ). it ∷ split k 0 rest) len);
-          means = λ is. let z = op_kept s0 s all is i.pc pc i.opcode n (low n) o none (omega arith) (λ is17. let w : operand_bytes i.opcode ≡ 2 = ap operand_bytes is17 in absurd (omega (arith, w, e))) same t in rw z refl;
+          means = λ is. let z = op_kept s0 s all is i.pc pc i.opcode n (low n) o ints (omega arith) (λ two. absurd (omega (arith, two, e))) same t in rw z refl;
           below = λ q le. let a = not_at pc q (omega (arith, le)) in rw a refl;
         }
     made n (suc (suc k)) e t =
@@ -109,7 +110,7 @@ same_copied s0 s all i o pc none same h = by_operand i.operand h
         record {
           list = it ∷ [];
           splits = λ rest. rw two (ap (λ (k : ℕ). it ∷ split k 0 rest) len);
-          means = λ is. let z = op_kept s0 s all is i.pc pc i.opcode n (pair_number (high n) (low n)) o none (ap (λ (x : ℕ). x % 256) (rejoined n)) (λ is17. rejoined n) same t in rw z refl;
+          means = λ is. let z = op_kept s0 s all is i.pc pc i.opcode n (pair_number (high n) (low n)) o ints (ap (λ (x : ℕ). x % 256) (rejoined n)) (λ two. rejoined n) same t in rw z refl;
           below = λ q le. let a = not_at pc q (omega (arith, le)) in rw a refl;
         }
 
@@ -131,15 +132,15 @@ pub record CallsMean (s : Symbols) (P : Program) (calls : List Calls) (ops : Lis
   pub gets : (j f : ℕ) → slice_get ops j ≡ Some (op.GetStatic f) → option_and_then (static_call_op s) (method_name s.class.pool (getter_in (slice_get calls f))) ≡ Some (op.InvokeStatic (getter P f))
   pub puts : (j f : ℕ) → slice_get ops j ≡ Some (op.PutStatic f) → option_and_then (static_call_op s) (method_name s.class.pool (setter_in (slice_get calls f))) ≡ Some (op.InvokeStatic (setter P f))
 
-module _ (s0 s : Symbols) (P : Program) (calls : List Calls) (ops : List Op) (at : ℕ → ℕ) (all : List Instruction) (none : HasNoInteger s0) (C : CallsMean s P calls ops) where
+module _ (s0 s : Symbols) (P : Program) (calls : List Calls) (ops : List Op) (at : ℕ → ℕ) (all : List Instruction) (ints : KeepsInts s0 s) (C : CallsMean s P calls ops) where
   block_copied : (n pc : ℕ) (i : Instruction) (o : Op) → slice_get ops n ≡ Some o → is_block_op o ≡ true → op_of s0 all i ≡ Some o → Copied s pc (block_bytes calls (Some o) i) (block P 0 at o)
   block_copied n pc i (op.GetStatic f) e h t = call_copied s pc (getter_in (slice_get calls f)) (getter P f) (C.gets n f e)
   block_copied n pc i (op.PutStatic f) e h t = call_copied s pc (setter_in (slice_get calls f)) (setter P f) (C.puts n f e)
-  block_copied n pc i (op.Constant (value.Int x)) e h t = same_copied s0 s all i _ pc none refl t
-  block_copied n pc i (op.Rearrange r) e h t = same_copied s0 s all i _ pc none refl t
-  block_copied n pc i (op.Binary b) e h t = same_copied s0 s all i _ pc none refl t
-  block_copied n pc i op.Negate e h t = same_copied s0 s all i _ pc none refl t
-  block_copied n pc i op.ReturnValue e h t = same_copied s0 s all i _ pc none refl t
+  block_copied n pc i (op.Constant (value.Int x)) e h t = same_copied s0 s all i _ pc ints refl t
+  block_copied n pc i (op.Rearrange r) e h t = same_copied s0 s all i _ pc ints refl t
+  block_copied n pc i (op.Binary b) e h t = same_copied s0 s all i _ pc ints refl t
+  block_copied n pc i op.Negate e h t = same_copied s0 s all i _ pc ints refl t
+  block_copied n pc i op.ReturnValue e h t = same_copied s0 s all i _ pc ints refl t
   block_copied n pc i o e h t = absurd cc
 
   two_true : (a b : Bool) → (a && b) ≡ true → (a ≡ true) × (b ≡ true)

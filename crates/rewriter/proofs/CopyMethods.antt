@@ -16,12 +16,12 @@ use Rattle.jmodel.specs.Linking.{symbols_of, method_of, catch_of, linked}
 use Rattle.jmodel.proofs.Linked.{links}
 use Rattle.rewriter.specs.declared.duplicates.Calls.{Calls}
 use Rattle.rewriter.specs.Members.{added_method, getter_type, gets, puts, is_read, is_written, getter_in, setter_in, blocks_from, duplicate_code, duplicate_flags, ops_in}
-use Rattle.rewriter.proofs.Grown.{utf8_grown}
+use Rattle.rewriter.proofs.Grown.{utf8_grown, integer_grown}
 use Rattle.rewriter.proofs.Coded.{no_attributes, AddedFacts, added_means}
 use Rattle.rewriter.proofs.CopyCode.{is_block_op, each_length, Copied, CallsMean, blocks_copied, some_blocks, stub_ops, stub_catches, blocks_end}
 use Rattle.rewriter.proofs.Whole.{Each, AreCalls, IsCopy, IsCopyOf}
-use Rattle.rewriter.proofs.Old.{IsOld, original_method, no_integer}
-use Rattle.rewriter.proofs.Tables.{Known, own_same, form, calls_getter, calls_setter}
+use Rattle.rewriter.proofs.Old.{IsOld, original_method}
+use Rattle.rewriter.proofs.Tables.{Known, own_same, calls_getter, calls_setter}
 
 each_at : {A B : Type 0} (Facts : Pool → ℕ → A → B → Type 0) (Z : Pool) (n : ℕ) (xs : List A) (ys : List B) (i : ℕ) (x : A) → Each Facts Z n xs ys → slice_get xs i ≡ Some x → (y : B) × (slice_get ys i ≡ Some y) × Facts Z (n + i) x y
 each_at Facts Z n [] ys i x h e = absurd cc
@@ -106,7 +106,7 @@ module _ (c new : ClassFile) (P : Program) (K : Known c new P) (L : linked c ≡
       (subst (λ (y : Code). each (op_of (symbols_of c P.fields) (instructions y.code)) (instructions y.code) ≡ Some h.ops) same_code h.ops_are) in
       let fine : list_all is_block_op ops ≡ true = subst (λ (y : List Op). list_all is_block_op y ≡ true) same_ops h.blocks in
       let copied : Copied (symbols_of new P.fields) 0 (blocks_from calls ops 0 (instructions code.code)) (flat_map (block P 0 (block_at ops)) ops) =
-      blocks_copied (symbols_of c P.fields) (symbols_of new P.fields) P calls ops (block_at ops) (instructions code.code) (no_integer c P.fields (form c new P K).pool) C 0 0 (instructions code.code) ops
+      blocks_copied (symbols_of c P.fields) (symbols_of new P.fields) P calls ops (block_at ops) (instructions code.code) (λ i x e. integer_grown c.pool new.pool K.rewritten.grown i x e) C 0 0 (instructions code.code) ops
       (λ j. let z : 0 + j ≡ j = omega arith in ap (slice_get ops) z) told fine in
       let some_op : 0 < length ops = subst (λ (y : List Op). 0 < length y) same_ops h.some in
       let lens : length (instructions code.code) ≡ length ops = each_length (op_of (symbols_of c P.fields) (instructions code.code)) (instructions code.code) ops told in

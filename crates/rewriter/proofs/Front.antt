@@ -12,14 +12,14 @@ use Rattle.jmodel.specs.declared.refusal.Halt.{Halt}
 use Rattle.jmodel.specs.ClassFile.{Pool, Member, ClassFile, Code}
 use Rattle.jmodel.specs.Program.{Field, Program}
 use Rattle.jmodel.specs.Reading.{◌>>=◌, Gives}
-use Rattle.jmodel.specs.Linking.{code_in}
+use Rattle.jmodel.specs.Linking.{code_in, is_program_method, program_methods}
 use Rattle.jmodel.specs.Layout.{text_or_none}
 use Rattle.jmodel.specs.Pool.{utf8}
 use Rattle.jmodel.specs.Decoding.{own_name, instructions}
 use Rattle.rewriter.specs.declared.duplicates.Calls.{Calls}
 use Rattle.rewriter.specs.Adding.{index_of, put, put_wide, is_utf8, put_utf8, utf8_if, add_utf8, is_integer, integer_if, add_integer, is_long, long_if, add_long, is_class, put_class, class_if, add_class, is_pair, put_pair, pair_if, add_pair, is_field, put_field, field_if, add_field, is_method, put_method, method_if, add_method}
 use Rattle.rewriter.specs.Members.{context_class, getter_type, setter_type, getter_name, setter_name, address_name, typed_name, constant_value, address_member, base_member, place_refs, look_refs, read_refs, getter_body, setter_body, accessor, getter_of, setter_of, accessors_of, is_read, is_written, method_if_needed, getter_call, setter_call, calls_of, blocks_from, duplicate_body, coded_duplicate, duplicate_if, ops_in, duplicate_of, opening_of, ending_of, wrapper_of}
-use Rattle.rewriter.specs.Rewritten.{grow_from, bases, added_fields, duplicates, added_methods, new_methods, rewritten_class, Keeps}
+use Rattle.rewriter.specs.Rewritten.{grow_from, replaced, number_behind, old_from, bases, added_fields, duplicates, added_methods, new_methods, rewritten_class, Keeps}
 
 -- one pool is a front of another
 abbrev pub Extends : Pool → Pool → Type 0
@@ -330,7 +330,7 @@ duplicates_grow : (P : Program) (c : ClassFile) (pool : Pool) → Grown pool (du
 unfolding duplicates
 duplicates_grow P c pool =
     after pool (grow_from (calls_of P (own_name c)) 0 P.fields pool) _ (grow_from_grows (calls_of P (own_name c)) (λ n f q. calls_of_grows P (own_name c) n f q) 0 P.fields pool) (λ a.
-    grow_from_grows (duplicate_of P c a.0) (λ n m q. duplicate_if_grows (code_in c.pool m) a.0 (ops_in (slice_get P.methods n)) m q) 0 c.methods a.1)
+    grow_from_grows (duplicate_of P c a.0) (λ n m q. duplicate_if_grows (code_in c.pool m) a.0 (ops_in (slice_get P.methods n)) m q) 0 (program_methods c) a.1)
 
 added_methods_grow : (P : Program) (c : ClassFile) (pool : Pool) → Grown pool (added_methods P c pool)
 unfolding added_methods
@@ -338,11 +338,19 @@ added_methods_grow P c pool =
     after pool (grow_from (λ n f. accessors_of (own_name c) f) 0 P.fields pool) _ (grow_from_grows (λ n f. accessors_of (own_name c) f) (λ n f q. accessors_of_grows (own_name c) f q) 0 P.fields pool) (λ a.
     after a.1 (duplicates P c a.1) _ (duplicates_grow P c a.1) (λ b. given _ b.1))
 
+replaced_grows : (c : ClassFile) (n : ℕ) (m : Member) (pool : Pool) → Grown pool (replaced c n m pool)
+replaced_grows c n m pool = either pool (is_program_method c.pool m) _ _ (wrapper_of_grows c n m pool) (given m pool)
+
+old_from_grows : (c : ClassFile) (n : ℕ) (ms : List Member) (pool : Pool) → Grown pool (old_from c n ms pool)
+old_from_grows c n [] pool = given [] pool
+old_from_grows c n (m ∷ ms) pool =
+    after pool (replaced c n m pool) _ (replaced_grows c n m pool) (λ a. after a.1 (old_from c (number_behind c.pool n m) ms a.1) _ (old_from_grows c (number_behind c.pool n m) ms a.1) (λ b. given _ b.1))
+
 new_methods_grow : (P : Program) (c : ClassFile) (pool : Pool) → Grown pool (new_methods P c pool)
 unfolding new_methods
 new_methods_grow P c pool =
     after pool (added_methods P c pool) _ (added_methods_grow P c pool) (λ a.
-    after a.1 (grow_from (wrapper_of c) 0 c.methods a.1) _ (grow_from_grows (wrapper_of c) (λ n m q. wrapper_of_grows c n m q) 0 c.methods a.1) (λ b. given _ b.1))
+    after a.1 (old_from c 0 c.methods a.1) _ (old_from_grows c 0 c.methods a.1) (λ b. given _ b.1))
 
 abbrev KeepsIn : ClassFile → Result ClassFile Refusal → Type 0
 KeepsIn c (Ok d) = Keeps c d

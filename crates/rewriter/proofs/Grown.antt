@@ -6,7 +6,7 @@ use Rattle.jmodel.specs.declared.class_file.Constant.{Constant}
 use Rattle.jmodel.specs.declared.class_file.Constant.TheVariants as constants
 use Rattle.jmodel.specs.ClassFile.{Pool}
 use Rattle.jmodel.specs.Pool.{entry, utf8, text_in, class_name, name_in, both, pair, pair_in, MemberName, named, field_name, field_in, method_name, method_in}
-use Rattle.jmodel.specs.Decoding.{integer, integer_in, long_in}
+use Rattle.jmodel.specs.Constants.{integer, integer_in, long_in}
 use Rattle.jmodel.proofs.Places.{get_front}
 
 pub record Grown (a b : Pool) : Type 0 where

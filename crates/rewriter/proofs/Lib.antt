@@ -13,6 +13,7 @@ pub mod Positions
 pub mod CopyCode
 pub mod Old
 pub mod Names
+pub mod Marks
 pub mod Tables
 pub mod Methods
 pub mod CopyMethods

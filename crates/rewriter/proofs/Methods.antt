@@ -1,22 +1,21 @@
 -- What the methods of a rewritten class mean: accessors and wrappers.
-use Rattle.std.proofs.Common.{◌≡◌, ℕ, ◌<◌, Bool, true, false, ◌&&◌, ◌||◌, List, [], ◌∷◌, length, map, Some, refl, sym, ap, ◌∙◌, arith, ne_eqb, inl, inr}
-use Rattle.std.specs.Prelude.{codes, pos, slice_get, find, option_and_then, nat_eq}
-use Rattle.std.specs.List.{list_any}
+use Rattle.std.proofs.Common.{◌≡◌, ℕ, ◌<◌, Bool, true, false, ◌&&◌, ◌||◌, List, [], ◌∷◌, length, map, Option, Some, None, refl, sym, ap, ◌∙◌, arith, ne_eqb, inl, inr}
+use Rattle.std.specs.Prelude.{codes, pos, slice_get, nat_eq}
+use Rattle.std.specs.List.{AllByRecursion}
 use Rattle.jmodel.specs.declared.op.WordType.TheVariants as word
 use Rattle.jmodel.specs.declared.op.Catches.TheVariants.{Conflict, Any}
-use Rattle.jmodel.specs.ClassFile.{Attribute, Member, Pool, ClassFile, Code, code_spelling}
+use Rattle.jmodel.specs.ClassFile.{Member, ClassFile, Code, code_spelling}
 use Rattle.jmodel.specs.Pool.{utf8, class_name}
 use Rattle.jmodel.specs.Program.{Field, Method, Program}
-use Rattle.jmodel.specs.ClassRules.{IsCode, is_named, same_text}
-use Rattle.jmodel.specs.ClassReading.{code_of}
+use Rattle.jmodel.specs.ClassRules.{IsAttribute, IsCode}
 use Rattle.jmodel.specs.Rewriting.{getter_method, setter_method, wrapper_method, duplicate, catch}
-use Rattle.jmodel.specs.Decoding.{own_name, pair_number, instructions, each}
-use Rattle.jmodel.specs.Linking.{symbols_of, method_of, is_mark, is_code, is_plain_mark, is_code_and_mark, catch_of}
+use Rattle.jmodel.specs.Decoding.{own_name, instructions, each}
+use Rattle.jmodel.specs.Linking.{symbols_of, method_of, catch_of}
 use Rattle.rewriter.specs.declared.wrappers.Opening.{Opening}
 use Rattle.rewriter.specs.declared.wrappers.Ending.{Ending}
-use Rattle.rewriter.specs.Members.{added_method, getter_code, setter_code, wrapper_code, getter_name, setter_name, getter_type, setter_type, address_name, with_bytes, with_code}
-use Rattle.rewriter.proofs.Grown.{Grown, utf8_grown}
-use Rattle.rewriter.proofs.Added.{two_true, same_text_is}
+use Rattle.rewriter.specs.Members.{added_method, getter_code, setter_code, wrapper_code, getter_name, setter_name, getter_type, setter_type, address_name, with_code}
+use Rattle.rewriter.proofs.Grown.{utf8_grown}
+use Rattle.rewriter.proofs.Marks.{code_swapped, mark_swapped}
 use Rattle.rewriter.proofs.Ops.{GetterFacts, getter_means, SetterFacts, setter_means, WrapperFacts, wrapper_means}
 use Rattle.rewriter.proofs.Coded.{no_attributes, code_back, AddedFacts, added_means, CodedFacts, coded_means}
 use Rattle.rewriter.proofs.Puts.{IsGetter, IsSetter}
@@ -24,51 +23,6 @@ use Rattle.rewriter.proofs.Whole.{IsWrapped}
 use Rattle.rewriter.proofs.Old.{IsOld, original_method}
 use Rattle.rewriter.proofs.Names.{wanted}
 use Rattle.rewriter.proofs.Tables.{Known, own_same, gets_base, gets_address, gets_field, calls_copy}
-
--- ---- a Code in place of another, beside a mark
-
-plain_grown : (a b : Pool) → Grown a b → (bytes : List ℕ) → is_plain_mark a bytes ≡ true → is_plain_mark b bytes ≡ true
-plain_grown a b g (n ∷ m ∷ x ∷ y ∷ p ∷ q ∷ []) h =
-    let t = two_true (nat_eq n 0 && nat_eq m 1 && nat_eq p 0 && nat_eq q 0) (same_text (utf8 a (pair_number x y)) (codes "Lorg/deuce/Atomic;")) h in
-    let u = utf8_grown a b g (pair_number x y) (codes "Lorg/deuce/Atomic;") (same_text_is _ _ t.1) in
-    let f = t.0 in
-    rw u (rw f refl)
-plain_grown a b g bs h = cc
-
-pub record Swapped (Z : Pool) (bytes : List ℕ) (xs : List Attribute) : Type 0 where
-  pub code : option_and_then (λ (a : Attribute). code_of Z a.bytes) (find (is_named Z (codes "Code")) xs) ≡ code_of Z bytes
-  pub mark : list_any (is_mark Z) xs ≡ true
-
-module _ (pool Z : Pool) (G : Grown pool Z) (bytes : List ℕ) where
-  code_first : (a b : Attribute) → is_code pool a ≡ true → is_mark pool b ≡ true → Swapped Z bytes (with_bytes pool bytes a ∷ with_bytes pool bytes b ∷ [])
-  code_first a b h k =
-      let t = two_true (is_named pool (codes "RuntimeVisibleAnnotations") b) (is_plain_mark pool b.bytes) k in
-      let pa = same_text_is (utf8 pool a.name) (codes "Code") h in
-      let pb = same_text_is (utf8 pool b.name) (codes "RuntimeVisibleAnnotations") t.0 in
-      let za = utf8_grown pool Z G a.name (codes "Code") pa in
-      let zb = utf8_grown pool Z G b.name (codes "RuntimeVisibleAnnotations") pb in
-      let plain = plain_grown pool Z G b.bytes t.1 in
-      record { code = rw pa (rw za refl); mark = rw pa (rw pb (rw za (rw zb (rw plain refl)))) }
-
-  mark_first : (a b : Attribute) → is_mark pool a ≡ true → is_code pool b ≡ true → Swapped Z bytes (with_bytes pool bytes a ∷ with_bytes pool bytes b ∷ [])
-  mark_first a b k h =
-      let t = two_true (is_named pool (codes "RuntimeVisibleAnnotations") a) (is_plain_mark pool a.bytes) k in
-      let pb = same_text_is (utf8 pool b.name) (codes "Code") h in
-      let pa = same_text_is (utf8 pool a.name) (codes "RuntimeVisibleAnnotations") t.0 in
-      let zb = utf8_grown pool Z G b.name (codes "Code") pb in
-      let za = utf8_grown pool Z G a.name (codes "RuntimeVisibleAnnotations") pa in
-      let plain = plain_grown pool Z G a.bytes t.1 in
-      record { code = rw pa (rw pb (rw za (rw zb refl))); mark = rw pa (rw za (rw plain refl)) }
-
-  pub swapped : (xs : List Attribute) → is_code_and_mark pool xs ≡ true → Swapped Z bytes (map (with_bytes pool bytes) xs)
-  swapped [] h = absurd cc
-  swapped (a ∷ []) h = absurd cc
-  swapped (a ∷ b ∷ c ∷ xs) h = absurd cc
-  swapped (a ∷ b ∷ []) h = go (is_code pool a && is_mark pool b) refl h
-    where
-      go : (v : Bool) → (is_code pool a && is_mark pool b) ≡ v → (v || is_mark pool a && is_code pool b) ≡ true → Swapped Z bytes (with_bytes pool bytes a ∷ with_bytes pool bytes b ∷ [])
-      go true e t = let f = two_true (is_code pool a) (is_mark pool b) e in code_first a b f.0 f.1
-      go false e t = let f = two_true (is_mark pool a) (is_code pool b) t in mark_first a b f.0 f.1
 
 module _ (c new : ClassFile) (P : Program) (K : Known c new P) where
   pub getter_is : (i : ℕ) (f : Field) (m : Member) → slice_get P.fields i ≡ Some f → f.class ≡ own_name c → f.type ≡ word.Int → f.place.object ≡ 2 → IsGetter (own_name c) f new.pool m
@@ -138,9 +92,9 @@ module _ (c new : ClassFile) (P : Program) (K : Known c new P) where
       → each (catch_of new.pool (instructions (wrapper_code a e).code) (length (wrapper_code a e).code)) (wrapper_code a e).handlers ≡ Some (catch 6 8 14 Conflict ∷ catch 6 8 18 Any ∷ [])
   wrapper_catches a e some is = let there : nat_eq e.conflict 0 ≡ false = ne_eqb e.conflict 0 (λ z. omega arith) in rw (there, is) refl
 
-  pub wrapper_is : (n : ℕ) (m x : Member) (k : Method) (t : List ℕ) → utf8 c.pool m.name ≡ Some t → slice_get P.methods n ≡ Some k → IsOld c P.fields m k → IsWrapped c new.pool n m x
+  pub wrapper_is : (n : ℕ) (m x : Member) (k : Method) (t : List ℕ) → utf8 c.pool m.name ≡ Some t → slice_get P.methods n ≡ Some k → IsOld c P.fields m k → AllByRecursion (IsAttribute c.pool) m.attributes → IsWrapped c new.pool n m x
       → method_of (symbols_of new P.fields) false x ≡ Some (wrapper_method P n n (pos 2147483647) k)
-  wrapper_is n m x k t named at h w =
+  wrapper_is n m x k t named at h lawful w =
       let code : Code = wrapper_code w.opening w.ending in
       let name_is : k.name.name ≡ t = ap (λ (y : Method). y.name.name) h.is ∙ rw named refl in
       let facts : WrapperFacts (symbols_of new P.fields) n (duplicate P n) w.opening w.ending = record {
@@ -171,11 +125,11 @@ module _ (c new : ClassFile) (P : Program) (K : Known c new P) where
         );
         attributes = no_attributes new.pool;
       } in
-      let S = swapped c.pool new.pool K.rewritten.grown (code_spelling (wrapper_code w.opening w.ending)) m.attributes h.attributes in
-      let mark = S.mark in
+      let swapped = code_swapped c.pool new.pool K.rewritten.grown (code_spelling (wrapper_code w.opening w.ending)) m.attributes h.code lawful h.coded in
+      let mark = mark_swapped c.pool new.pool K.rewritten.grown (code_spelling (wrapper_code w.opening w.ending)) m.attributes h.marked in
       let coded : CodedFacts (symbols_of new P.fields) (with_code c.pool (code_spelling (wrapper_code w.opening w.ending)) m) (wrapper_code w.opening w.ending) t (codes "()I") (record { params = 0; gives = true })
       (wrapper_method P n n (pos 2147483647) (original_method c m h.code h.ops)).ops (catch 6 8 14 Conflict ∷ catch 6 8 18 Any ∷ []) (Some (pos 2147483647)) = record {
-        code = S.code ∙ code_back new.pool (wrapper_code w.opening w.ending) rules;
+        code = swapped ∙ code_back new.pool (wrapper_code w.opening w.ending) rules;
         named = utf8_grown c.pool new.pool K.rewritten.grown m.name t named;
         typed = utf8_grown c.pool new.pool K.rewritten.grown m.descriptor (codes "()I") h.typed;
         shaped = refl;

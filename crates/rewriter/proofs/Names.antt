@@ -7,7 +7,8 @@ use Rattle.jmodel.specs.declared.name.MethodName.{MethodName}
 use Rattle.jmodel.specs.ClassFile.{Member, Pool}
 use Rattle.jmodel.specs.Pool.{MemberName}
 use Rattle.jmodel.specs.Program.{Field, Method}
-use Rattle.jmodel.specs.Decoding.{is_field_of, field_number, is_method_of, method_number, is_member, long_value}
+use Rattle.jmodel.specs.Constants.{long_value}
+use Rattle.jmodel.specs.Decoding.{is_field_of, field_number, is_method_of, method_number, is_member}
 use Rattle.jmodel.specs.Linking.{has_part}
 use Rattle.rewriter.specs.Members.{getter_name, setter_name, getter_type, setter_type, address_name}
 use Rattle.rewriter.proofs.Positions.{At, at_position, at_here, at_next, at_behind, at_front, same, differ, apart, first_fails, second_fails, all_pass, ends_differ, no_such_end}

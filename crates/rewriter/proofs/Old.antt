@@ -1,6 +1,6 @@
 -- What a linked class has: its fields, and of each method its code and its mark.
 use Rattle.std.proofs.Common.{◌≡◌, ℕ, zero, suc, ◌+◌, ◌-◌, ◌<◌, ◌≤◌, Bool, true, false, not, ◌&&◌, ◌||◌, List, [], ◌∷◌, length, map, Option, Some, None, refl, sym, ap, ◌∙◌, subst, arith}
-use Rattle.std.specs.Prelude.{if◌then◌else◌, option_map, option_and_then, nat_le, pos, slice_get, codes, bytes_eq, filter}
+use Rattle.std.specs.Prelude.{if◌then◌else◌, option_map, option_and_then, nat_le, pos, slice_get, slice_index_or, codes, bytes_eq}
 use Rattle.std.specs.List.{list_all, list_any}
 use Rattle.std.proofs.lemmas.Bool.Decides.{nat_tests}
 use Rattle.jmodel.specs.declared.op.Op.{Op}
@@ -12,11 +12,13 @@ use Rattle.jmodel.specs.ClassFile.{Attribute, Member, Pool, ClassFile, Code}
 use Rattle.jmodel.specs.Pool.{utf8, text_in}
 use Rattle.jmodel.specs.Program.{Field, Method, Program}
 use Rattle.jmodel.specs.Source.{is_return, takes, leaves}
-use Rattle.jmodel.specs.Layout.{text_or_none, is_static}
-use Rattle.jmodel.specs.Decoding.{Symbols, name_of, in_front, each, ops_of, instructions, integer_in}
-use Rattle.jmodel.specs.Linking.{is_form_op, is_straight_within, straight, is_form_code, make_method, form_method, linked_method, is_form_class, is_form_method, is_form_field, is_form_constant, is_reserved, have_own_names, same_name, is_code, is_mark, is_code_and_mark, symbols_of, original_fields, linked, code_in}
+use Rattle.jmodel.specs.Layout.{text_or_none}
+use Rattle.jmodel.specs.ClassRules.{IsSameMember, AreDistinct}
+use Rattle.jmodel.specs.Decoding.{Symbols, name_of, in_front, each, ops_of, instructions}
+use Rattle.jmodel.specs.Linking.{is_form_op, is_straight_within, straight, is_form_code, make_method, form_method, linked_method, is_form_class, is_form_method, is_form_field, is_form_constant, is_reserved, is_marked, program_methods, symbols_of, original_fields, linked, code_in}
+use Rattle.jmodel.proofs.Linked.{is_form_program, form_methods, form_atomic}
 use Rattle.rewriter.proofs.Added.{two_true, same_text_is}
-use Rattle.rewriter.proofs.Kept.{HasNoInteger}
+use Rattle.rewriter.proofs.Positions.{differ}
 use Rattle.rewriter.proofs.CopyCode.{is_block_op}
 
 chosen : {A : Type 0} (b : Bool) (x : Option A) (y : A) → (if b then x else None) ≡ Some y → (b ≡ true) × (x ≡ Some y)
@@ -31,15 +33,15 @@ some_is x y e = cc
 
 pub record Original (c : ClassFile) (P : Program) : Type 0 where
   pub form : is_form_class c ≡ true
-  pub methods : each (linked_method (symbols_of c (original_fields c))) c.methods ≡ Some P.methods
+  pub methods : each (linked_method (symbols_of c (original_fields c))) (program_methods c) ≡ Some P.methods
   pub fields : P.fields ≡ original_fields c
 
 pub original : (c : ClassFile) (P : Program) → linked c ≡ Some P → Original c P
 original c P h =
     let t = chosen (is_form_class c) _ P h in
-    go (each (linked_method (symbols_of c (original_fields c))) c.methods) refl t.0 t.1
+    go (each (linked_method (symbols_of c (original_fields c))) (program_methods c)) refl t.0 t.1
   where
-    go : (o : Option (List Method)) → each (linked_method (symbols_of c (original_fields c))) c.methods ≡ o → is_form_class c ≡ true
+    go : (o : Option (List Method)) → each (linked_method (symbols_of c (original_fields c))) (program_methods c) ≡ o → is_form_class c ≡ true
         → option_map (λ ms. record { fields = original_fields c; methods = ms }) o ≡ Some P → Original c P
     go None is f h = cc
     go (Some ms) is f h =
@@ -51,33 +53,17 @@ original c P h =
 pub record Form (c : ClassFile) : Type 0 where
   pub pool : list_all is_form_constant c.pool ≡ true
   pub fields : list_all (is_form_field c.pool) c.fields ≡ true
-  pub own_fields : have_own_names c.pool c.fields ≡ true
   pub methods : list_all (is_form_method c.pool) c.methods ≡ true
-  pub own_methods : have_own_names c.pool c.methods ≡ true
+  pub program : list_all (is_form_program c.pool) (program_methods c) ≡ true
 
 pub form_of : (c : ClassFile) → is_form_class c ≡ true → Form c
 form_of c h =
     let e = two_true _ _ h in
     let d = two_true _ _ e.0 in
-    let b = two_true _ _ (two_true _ _ d.0).0 in
-    let f = two_true _ _ d.1 in
-    let m = two_true _ _ e.1 in
-    record { pool = b.1; fields = (two_true _ _ f.0).1; own_fields = f.1; methods = (two_true _ _ m.0).1; own_methods = m.1 }
+    let b = two_true _ _ d.0 in
+    record { pool = b.0; fields = (two_true _ _ d.1).1; methods = (two_true _ _ e.1).1; program = form_methods c e.1 }
 
 -- ---- texts of the pool
-
-no_integer_in : (k : Constant) → is_form_constant k ≡ true → integer_in k ≡ None
-no_integer_in (constants.Integer n) h = cc
-no_integer_in k h = refl
-
-no_integer_at : (pool : Pool) (i : ℕ) → list_all is_form_constant pool ≡ true → option_and_then integer_in (slice_get pool i) ≡ None
-no_integer_at [] i h = refl
-no_integer_at (k ∷ ks) zero h = no_integer_in k (two_true _ _ h).0
-no_integer_at (k ∷ ks) (suc i) h = no_integer_at ks i (two_true _ _ h).1
-
-pub no_integer : (c : ClassFile) (fields : List Field) → list_all is_form_constant c.pool ≡ true → HasNoInteger (symbols_of c fields)
-no_integer c fields h zero = refl
-no_integer c fields h (suc i) = no_integer_at c.pool i h
 
 not_true : (b : Bool) → not b ≡ true → b ≡ false
 not_true true h = cc
@@ -141,21 +127,9 @@ pub record IsOld (c : ClassFile) (fields : List Field) (m : Member) (k : Method)
   pub stack : code.max_stack ≤ 1000
   pub locals : code.max_locals ≤ 1000
   pub typed : utf8 c.pool m.descriptor ≡ Some (codes "()I")
-  pub attributes : is_code_and_mark c.pool m.attributes ≡ true
+  pub marked : is_marked c.pool m ≡ true
 
-marked_pair : (x ma mb y : Bool) → ((x && mb) || (ma && y)) ≡ true → (ma || (mb || false)) ≡ true
-marked_pair x true mb y h = refl
-marked_pair x false true y h = refl
-marked_pair true false false y h = cc
-marked_pair false false false y h = cc
-
-pub marked_any : (pool : Pool) (xs : List Attribute) → is_code_and_mark pool xs ≡ true → list_any (is_mark pool) xs ≡ true
-marked_any pool [] h = cc
-marked_any pool (a ∷ []) h = cc
-marked_any pool (a ∷ b ∷ []) h = marked_pair (is_code pool a) (is_mark pool a) (is_mark pool b) (is_code pool b) h
-marked_any pool (a ∷ b ∷ c ∷ xs) h = cc
-
-old_of : (c : ClassFile) (fields : List Field) (m : Member) (k : Method) → is_form_method c.pool m ≡ true → linked_method (symbols_of c fields) m ≡ Some k → IsOld c fields m k
+old_of : (c : ClassFile) (fields : List Field) (m : Member) (k : Method) → is_form_program c.pool m ≡ true → linked_method (symbols_of c fields) m ≡ Some k → IsOld c fields m k
 old_of c fields m k form h = go (code_in c.pool m) refl h
   where
     s : Symbols
@@ -170,10 +144,10 @@ old_of c fields m k form h = go (code_in c.pool m) refl h
             → make_method (symbols_of c fields) true m code.max_locals (Some (record { params = 0; gives = true })) (if b then Some os else None) (Some []) ≡ Some k → IsOld c fields m k
         choose false q h = cc
         choose true q h =
-            let f = two_true _ _ form in
+            let f = form_atomic c.pool m form in
             let g = two_true _ _ (two_true _ _ f.0).0 in
-            let mark = marked_any c.pool m.attributes f.1 in
-            let a = two_true _ _ (two_true _ _ (two_true _ _ fits).0).0 in
+            let mark = f.1 in
+            let a = two_true _ _ (two_true _ _ fits).0 in
             let b = two_true (nat_le (length code.code) 10000) (nat_le code.max_stack 1000) a.0 in
             let t1 : nat_le code.max_stack 1000 ≡ true = b.1 in
             let t2 : nat_le code.max_locals 1000 ≡ true = a.1 in
@@ -190,13 +164,13 @@ old_of c fields m k form h = go (code_in c.pool m) refl h
               stack = s1;
               locals = s2;
               typed = same_text_is (utf8 c.pool m.descriptor) (codes "()I") g.1;
-              attributes = f.1;
+              marked = mark;
             }
           where
             small : (n : ℕ) → nat_le n 1000 ≡ true → n ≤ 1000
             small n t = grind (arith, nat_tests)
 
-            is_original : list_any (is_mark c.pool) m.attributes ≡ true → make_method (symbols_of c fields) true m code.max_locals (Some (record { params = 0; gives = true })) (Some os) (Some []) ≡ Some k → k ≡ original_method c m code os
+            is_original : is_marked c.pool m ≡ true → make_method (symbols_of c fields) true m code.max_locals (Some (record { params = 0; gives = true })) (Some os) (Some []) ≡ Some k → k ≡ original_method c m code os
             is_original mark h =
                 let made : make_method (symbols_of c fields) true m code.max_locals (Some (record { params = 0; gives = true })) (Some os) (Some []) ≡ Some (original_method c m code os) = rw mark refl in
                 let both = sym h ∙ made in
@@ -212,7 +186,7 @@ AllOld c fields [] (k ∷ ks) = ⊥
 AllOld c fields (m ∷ ms) [] = ⊥
 AllOld c fields (m ∷ ms) (k ∷ ks) = IsOld c fields m k × AllOld c fields ms ks
 
-pub all_old : (c : ClassFile) (fields : List Field) (ms : List Member) (ks : List Method) → list_all (is_form_method c.pool) ms ≡ true → each (linked_method (symbols_of c fields)) ms ≡ Some ks → AllOld c fields ms ks
+pub all_old : (c : ClassFile) (fields : List Field) (ms : List Member) (ks : List Method) → list_all (is_form_program c.pool) ms ≡ true → each (linked_method (symbols_of c fields)) ms ≡ Some ks → AllOld c fields ms ks
 all_old c fields [] [] f e = tt
 all_old c fields [] (k ∷ ks) f e = absurd cc
 all_old c fields (m ∷ ms) ks f e = go (linked_method (symbols_of c fields) m) refl (each (linked_method (symbols_of c fields)) ms) (λ zs t. all_old c fields ms zs (two_true _ _ f).1 t) refl e
@@ -234,24 +208,34 @@ AreApart (x ∷ xs) = (list_any (λ y. bytes_eq y x) xs ≡ false) × AreApart x
 abbrev pub text_name : Pool → Member → List ℕ
 text_name pool m = text_or_none (utf8 pool m.name)
 
-any_name : (pool : Pool) (m : Member) (ms : List Member) → list_any (same_name pool m) ms ≡ false → list_any (λ y. bytes_eq y (text_name pool m)) (map (text_name pool) ms) ≡ false
-any_name pool m [] h = refl
-any_name pool m (x ∷ ms) h = go (same_name pool m x) h (λ t. any_name pool m ms t)
-  where
-    go : (b : Bool) → (b || list_any (same_name pool m) ms) ≡ false → (list_any (same_name pool m) ms ≡ false → list_any (λ y. bytes_eq y (text_name pool m)) (map (text_name pool) ms) ≡ false)
-        → (b || list_any (λ y. bytes_eq y (text_name pool m)) (map (text_name pool) ms)) ≡ false
-    go true h r = cc
-    go false h r = r h
+abbrev pub AreNamed : Pool → List Member → Type 0
+AreNamed pool [] = Unit {0}
+AreNamed pool (m ∷ ms) = ((t : List ℕ) × (utf8 pool m.name ≡ Some t)) × AreNamed pool ms
 
-pub own_apart : (pool : Pool) (ms : List Member) → have_own_names pool ms ≡ true → AreApart (map (text_name pool) ms)
-own_apart pool [] h = tt
-own_apart pool (m ∷ ms) h = let t = two_true _ _ h in (any_name pool m ms (not_true _ t.0), own_apart pool ms t.1)
+abbrev pub AreTyped : List ℕ → Pool → List Member → Type 0
+AreTyped d pool [] = Unit {0}
+AreTyped d pool (m ∷ ms) = (utf8 pool m.descriptor ≡ Some d) × AreTyped d pool ms
 
--- ---- fields
+or_none : (a b : Bool) → a ≡ false → b ≡ false → (a || b) ≡ false
+or_none true b h k = h
+or_none false b h k = k
 
-pub all_static : (pool : Pool) (ms : List Member) → list_all (is_form_field pool) ms ≡ true → filter is_static ms ≡ ms
-all_static pool [] h = refl
-all_static pool (m ∷ ms) h =
-    let a = two_true _ _ h in
-    let s : is_static m ≡ true = (two_true _ _ (two_true _ _ (two_true _ _ a.0).0).0).0 in
-    rw s (ap (λ (l : List Member). m ∷ l) (all_static pool ms a.1))
+module _ (pool : Pool) (d : List ℕ) where
+  none_named : (m : Member) (t : List ℕ) → utf8 pool m.name ≡ Some t → utf8 pool m.descriptor ≡ Some d → (ms : List Member)
+      → ((j : ℕ) (e : Member) → j < length ms → IsSameMember pool m (slice_index_or ms j e) → ⊥) → AreTyped d pool ms → AreNamed pool ms
+      → list_any (λ y. bytes_eq y (text_name pool m)) (map (text_name pool) ms) ≡ false
+  none_named m t named typed [] D T N = refl
+  none_named m t named typed (x ∷ ms) D T N =
+      let there : text_name pool x ≡ N.0.0 = ap text_or_none N.0.1 in
+      let here : text_name pool m ≡ t = ap text_or_none named in
+      or_none _ _
+      (differ (text_name pool x) (text_name pool m) (λ same. let texts : t ≡ N.0.0 = sym here ∙ sym same ∙ there in D 0 x (omega arith) (named ∙ ap Some texts ∙ sym N.0.1, typed ∙ sym T.0)))
+      (none_named m t named typed ms (λ j e less. D (suc j) e (omega (arith, less))) T.1 N.1)
+
+  -- members of one descriptor have names of their own
+  pub own_apart : (ms : List Member) → AreDistinct pool ms → AreTyped d pool ms → AreNamed pool ms → AreApart (map (text_name pool) ms)
+  own_apart [] D T N = tt
+  own_apart (m ∷ ms) D T N = (
+    none_named m N.0.0 N.0.1 T.0 ms (λ j e less. D 0 (suc j) e (omega arith) (omega (arith, less))) T.1 N.1,
+    own_apart ms (λ i j e less last. D (suc i) (suc j) e (omega (arith, less)) (omega (arith, last))) T.1 N.1,
+  )

@@ -6,7 +6,8 @@ use Rattle.jmodel.specs.declared.op.WordType.TheVariants as word
 use Rattle.jmodel.specs.Pool.{class_name, MemberName, field_name, method_name}
 use Rattle.jmodel.specs.Program.{Field}
 use Rattle.jmodel.specs.Rewriting.{base, offset, getter_method, setter_method, entry_code, begin_code, body_code, end_code, conflict_code, exception_code}
-use Rattle.jmodel.specs.Decoding.{pair_number, instructions, Symbols, ops_of, get_op, static_call_op, integer}
+use Rattle.jmodel.specs.Constants.{pair_number, integer}
+use Rattle.jmodel.specs.Decoding.{instructions, Symbols, ops_of, get_op, static_call_op}
 use Rattle.rewriter.specs.declared.wrappers.Opening.{Opening}
 use Rattle.rewriter.specs.declared.wrappers.Ending.{Ending}
 use Rattle.rewriter.specs.Members.{high, low, getter_code, setter_code, wrapper_code, context_class}

@@ -1,11 +1,13 @@
 -- What members name is in every pool that is grown from the one that was left.
-use Rattle.std.proofs.Common.{◌≡◌, ℕ, ℤ, ◌<◌, List, [], ◌∷◌, Some, Ok, refl, subst}
-use Rattle.std.specs.Prelude.{codes, pos}
+use Rattle.std.proofs.Common.{◌≡◌, ℕ, ℤ, ◌<◌, ◌≤◌, List, [], ◌∷◌, Some, Ok, refl, ap, ◌∙◌, subst, arith}
+use Rattle.std.specs.Prelude.{codes, pos, option_and_then}
 use Rattle.std.specs.Int.{w64, cast_signed}
+use Rattle.std.proofs.lemmas.Int.{ints}
 use Rattle.jmodel.specs.ClassFile.{Pool, Attribute, Member, code_spelling}
 use Rattle.jmodel.specs.Pool.{utf8}
 use Rattle.jmodel.specs.Program.{Field}
-use Rattle.jmodel.specs.Decoding.{integer, long_named, long_value}
+use Rattle.jmodel.specs.Constants.{as_int, integer, long_in, named_entry, long_value}
+use Rattle.jmodel.proofs.Moved.{narrow}
 use Rattle.const_pool.proofs.Takes.{bind_ok, ok_is, fine}
 use Rattle.rewriter.specs.declared.accessors.Accessors.{Accessors}
 use Rattle.rewriter.specs.declared.wrappers.Opening.{Opening}
@@ -43,7 +45,7 @@ long_puts : (n : ℤ) (pool : Pool) (r : ℕ × Pool) → add_long n pool ≡ Ok
 long_puts n pool r e = let a = long_added n pool r e in record { grown = a.grown; facts = λ Z g. long_grown r.1 Z g r.0 n a.means }
 
 integer_puts : (n : ℤ) (pool : Pool) (r : ℕ × Pool) → add_integer n pool ≡ Ok r → Puts (Counts n) pool r
-integer_puts n pool r e = let a = integer_added n pool r e in record { grown = a.grown; facts = λ Z g. integer_grown r.1 Z g r.0 n a.means }
+integer_puts n pool r e = let a = integer_added n pool r e in record { grown = a.grown; facts = λ Z g. integer_grown r.1 Z g r.0 (as_int n) a.means }
 
 -- a class, at an index that isn't 0
 abbrev pub IsClassAt : List ℕ → Pool → ℕ → Type 0
@@ -61,7 +63,7 @@ method_puts class name descriptor pool r e = let a = method_added class name des
 -- ---- fields
 
 abbrev pub HasConstant : ℤ → Pool → Attribute → Type 0
-HasConstant n Z a = (utf8 Z a.name ≡ Some (codes "ConstantValue")) × (long_named Z a.bytes ≡ Some n)
+HasConstant n Z a = (utf8 Z a.name ≡ Some (codes "ConstantValue")) × (option_and_then long_in (named_entry Z a.bytes) ≡ Some n)
 
 constant_puts : (n : ℤ) (pool : Pool) (r : Attribute × Pool) → constant_value n pool ≡ Ok r → Puts (HasConstant n) pool r
 unfolding constant_value
@@ -221,14 +223,17 @@ pub record IsOpening (n : ℕ) (Z : Pool) (a : Opening) : Type 0 where
   pub retries_is : integer Z a.retries ≡ Some (pos 2147483647)
   pub init_is : IsMethodName context_class (codes "init") (codes "(II)V") Z a.init
 
-pub opening_puts : (n : ℕ) (pool : Pool) (r : Opening × Pool) → opening_of n pool ≡ Ok r → Puts (IsOpening n) pool r
+small_number : (n : ℕ) → n ≤ 2147483647 → as_int (pos n) ≡ pos n
+small_number n h = narrow (pos n) (omega (arith, ints, h))
+
+pub opening_puts : (n : ℕ) (pool : Pool) (r : Opening × Pool) → n ≤ 65535 → opening_of n pool ≡ Ok r → Puts (IsOpening n) pool r
 unfolding opening_of
-opening_puts n pool r e =
+opening_puts n pool r few e =
     let a = bind_ok _ _ r e in
     let b = bind_ok _ _ r a.2 in
     let c = bind_ok _ _ r b.2 in
     let d = bind_ok _ _ r c.2 in
-    puts_end _ (IsOpening n) pool d.0 (record { get = a.0.0; number = b.0.0; retries = c.0.0; init = d.0.0 }) r (λ Z h. record { get_is = h.0; number_is = h.1.0; retries_is = h.1.1.0; init_is = h.1.1.1 })
+    puts_end _ (IsOpening n) pool d.0 (record { get = a.0.0; number = b.0.0; retries = c.0.0; init = d.0.0 }) r (λ Z h. record { get_is = h.0; number_is = h.1.0 ∙ ap Some (small_number n (omega (arith, few))); retries_is = h.1.1.0 ∙ ap Some (small_number 2147483647 (omega arith)); init_is = h.1.1.1 })
     (puts_more (IsMethodName (codes "org/deuce/transaction/ContextDelegator") (codes "getInstance") (codes "()Lorg/deuce/transaction/Context;")) _ pool a.0 d.0 (method_puts _ _ _ pool a.0 a.1)
     (puts_more (Counts (pos n)) _ a.0.1 b.0 d.0 (integer_puts _ a.0.1 b.0 b.1)
     (puts_more (Counts (pos 2147483647)) (IsMethodName context_class (codes "init") (codes "(II)V")) b.0.1 c.0 d.0 (integer_puts _ b.0.1 c.0 c.1) (method_puts _ _ _ c.0.1 d.0 d.1)))) d.2

@@ -1,29 +1,36 @@
 -- What names stand for in a rewritten class.
-use Rattle.std.proofs.Common.{◌≡◌, ℕ, zero, suc, ◌+◌, Bool, true, false, ◌&&◌, ◌||◌, List, [], ◌∷◌, ◌++◌, map, Option, Some, None, refl, sym, ap, ◌∙◌, subst}
-use Rattle.std.specs.Prelude.{codes, bytes_eq, slice_get, find, option_and_then, IsSome, IsSomeAnd}
+use Rattle.std.proofs.Common.{◌≡◌, ℕ, zero, suc, ◌+◌, Bool, true, false, not, ◌&&◌, ◌||◌, List, [], ◌∷◌, ◌++◌, length, map, Option, Some, None, refl, sym, ap, ◌∙◌, subst}
+use Rattle.std.specs.Prelude.{codes, bytes_eq, slice_get, find, filter, nat_le, option_and_then, IsSome, IsSomeAnd}
 use Rattle.std.specs.Int.{w64, cast_signed}
 use Rattle.std.specs.List.{list_any, list_all, flat_map, AllByRecursion}
 use Rattle.std.proofs.lemmas.List.Concat.{flat_map-cons}
+use Rattle.std.proofs.lemmas.List.Kept.{AllPairs-filter}
+use Rattle.std.proofs.lemmas.List.Folds.{list_all-append}
+use Rattle.std.proofs.lemmas.List.Elements.{filter-append}
 use Rattle.jmodel.specs.declared.name.MethodName.{MethodName}
 use Rattle.jmodel.specs.declared.op.Op.TheVariants as op
 use Rattle.jmodel.specs.declared.op.WordType.TheVariants as word
-use Rattle.jmodel.specs.ClassFile.{Member, Pool, ClassFile}
+use Rattle.jmodel.specs.ClassFile.{Member, Pool, ClassFile, code_spelling}
 use Rattle.jmodel.specs.Pool.{utf8, class_name}
-use Rattle.jmodel.specs.ClassRules.{IsClassFile, IsMethod, same_text}
+use Rattle.jmodel.specs.ClassRules.{IsAttribute, IsClassFile, IsField, IsMethod, IsSameMember, same_text}
 use Rattle.jmodel.specs.Program.{Field, Method, Program}
-use Rattle.jmodel.specs.Layout.{text_or_none, fields_from}
+use Rattle.jmodel.specs.Layout.{text_or_none, fields_from, is_static, statics}
 use Rattle.jmodel.specs.Rewriting.{base, offset, getter, setter, duplicate}
-use Rattle.jmodel.specs.Decoding.{Symbols, own_name, name_of, get_op, static_call_op, is_member, long_value}
-use Rattle.jmodel.specs.Linking.{has_part, symbols_of, original_fields, is_form_field, is_reserved}
+use Rattle.jmodel.specs.Constants.{long_value}
+use Rattle.jmodel.specs.Decoding.{Symbols, own_name, name_of, get_op, static_call_op, is_member}
+use Rattle.jmodel.specs.Linking.{has_part, symbols_of, original_fields, is_marked, takes_context, is_program_method, program_methods, is_form_field, is_form_method, is_reserved}
 use Rattle.rewriter.specs.declared.accessors.Accessors.{Accessors}
-use Rattle.rewriter.specs.Members.{getter_name, setter_name, getter_type, setter_type, address_name}
-use Rattle.rewriter.specs.Rewritten.{both_of}
+use Rattle.rewriter.specs.declared.duplicates.Calls.{Calls}
+use Rattle.rewriter.specs.Members.{getter_name, setter_name, getter_type, setter_type, address_name, wrapper_code, with_code}
+use Rattle.rewriter.specs.Rewritten.{number_behind, both_of}
 use Rattle.rewriter.proofs.Grown.{utf8_grown, class_grown}
+use Rattle.jmodel.proofs.Linked.{filter_keeps, filter_drops, form_atomic}
 use Rattle.rewriter.proofs.Added.{two_true, same_text_is}
-use Rattle.rewriter.proofs.Positions.{same, find_behind}
-use Rattle.rewriter.proofs.Old.{Original, Form, form_of, AllOld, all_old, AreApart, own_apart, all_static, text_name, free_text}
+use Rattle.rewriter.proofs.Positions.{same, find_behind, no_such_end}
+use Rattle.rewriter.proofs.Old.{Original, Form, form_of, AllOld, all_old, AreNamed, AreTyped, AreApart, own_apart, text_name, free_text}
 use Rattle.rewriter.proofs.Puts.{AreAccessors}
-use Rattle.rewriter.proofs.Whole.{Each, IsWrapped, IsCopyOf, Rewrites}
+use Rattle.rewriter.proofs.Marks.{or_first, or_later, mark_swapped, stays_out}
+use Rattle.rewriter.proofs.Whole.{Each, IsWrapped, EachReplaced, IsCopyOf, Rewrites}
 use Rattle.rewriter.proofs.Names.{wanted, name_as, old_names, accessor_names, copy_names, all_names, field_names, method_names, getter_number, setter_number, copy_number, number_of_field, AreOwn, address_found}
 
 the_and : (o : Option (List ℕ)) (Q : List ℕ → Type 0) → IsSomeAnd o Q → (x : List ℕ) × (o ≡ Some x)
@@ -34,13 +41,52 @@ the_some : (o : Option (List ℕ)) → IsSome o → (x : List ℕ) × (o ≡ Som
 the_some None h = absurd cc
 the_some (Some x) h = (x, refl)
 
-abbrev pub AreNamed : Pool → List Member → Type 0
-AreNamed pool [] = Unit {0}
-AreNamed pool (m ∷ ms) = ((t : List ℕ) × (utf8 pool m.name ≡ Some t)) × AreNamed pool ms
+named_methods : (pool : Pool) (ms : List Member) → AllByRecursion (IsMethod pool) ms → AreNamed pool ms
+named_methods pool [] h = tt
+named_methods pool (m ∷ ms) h = (the_some (utf8 pool m.name) h.0.member.named, named_methods pool ms h.1)
 
-named_all : (pool : Pool) (ms : List Member) → AllByRecursion (IsMethod pool) ms → AreNamed pool ms
-named_all pool [] h = tt
-named_all pool (m ∷ ms) h = (the_some (utf8 pool m.name) h.0.member.named, named_all pool ms h.1)
+named_fields : (pool : Pool) (ms : List Member) → AllByRecursion (IsField pool) ms → AreNamed pool ms
+named_fields pool [] h = tt
+named_fields pool (m ∷ ms) h = (the_some (utf8 pool m.name) h.0.named, named_fields pool ms h.1)
+
+named_where : (pool : Pool) (p : Member → Bool) (ms : List Member) → AreNamed pool ms → AreNamed pool (filter p ms)
+named_where pool p [] h = tt
+named_where pool p (m ∷ ms) h = go (p m) refl (named_where pool p ms h.1)
+  where
+    go : (b : Bool) → p m ≡ b → AreNamed pool (filter p ms) → AreNamed pool (filter p (m ∷ ms))
+    go true e rest = rw e (h.0, rest)
+    go false e rest = rw e rest
+
+-- the attributes of a member are named by texts
+abbrev pub AreLawful : Pool → List Member → Type 0
+AreLawful pool ms = AllByRecursion (λ (m : Member). AllByRecursion (IsAttribute pool) m.attributes) ms
+
+lawful_where : (pool : Pool) (p : Member → Bool) (ms : List Member) → AreLawful pool ms → AreLawful pool (filter p ms)
+lawful_where pool p [] h = tt
+lawful_where pool p (m ∷ ms) h = go (p m) refl (lawful_where pool p ms h.1)
+  where
+    go : (b : Bool) → p m ≡ b → AreLawful pool (filter p ms) → AreLawful pool (filter p (m ∷ ms))
+    go true e rest = rw e (h.0, rest)
+    go false e rest = rw e rest
+
+lawful_methods : (pool : Pool) (ms : List Member) → AllByRecursion (IsMethod pool) ms → AreLawful pool ms
+lawful_methods pool [] h = tt
+lawful_methods pool (m ∷ ms) h = (h.0.member.attributes.each, lawful_methods pool ms h.1)
+
+typed_statics : (pool : Pool) (ms : List Member) → list_all (is_form_field pool) ms ≡ true → AreTyped (codes "I") pool (filter is_static ms)
+typed_statics pool [] h = tt
+typed_statics pool (m ∷ ms) h = let a = two_true _ _ h in go (is_static m) refl a.0 (typed_statics pool ms a.1)
+  where
+    go : (b : Bool) → is_static m ≡ b → (not b || same_text (utf8 pool m.descriptor) (codes "I") && nat_le (length (text_or_none (utf8 pool m.name))) 1000) ≡ true
+        → AreTyped (codes "I") pool (filter is_static ms) → AreTyped (codes "I") pool (filter is_static (m ∷ ms))
+    go true e t r = rw e (same_text_is (utf8 pool m.descriptor) (codes "I") (two_true _ _ t).0, r)
+    go false e t r = rw e r
+
+typed_methods : (c : ClassFile) (fields : List Field) (ms : List Member) (ks : List Method) → AllOld c fields ms ks → AreTyped (codes "()I") c.pool ms
+typed_methods c fields [] [] h = tt
+typed_methods c fields [] (k ∷ ks) h = absurd h
+typed_methods c fields (m ∷ ms) [] h = absurd h
+typed_methods c fields (m ∷ ms) (k ∷ ks) h = (h.0.typed, typed_methods c fields ms ks h.1)
 
 abbrev pub AreGood : List Field → Type 0
 AreGood [] = Unit {0}
@@ -62,6 +108,10 @@ map_append : {A B : Type 0} (f : A → B) (xs ys : List A) → map f (xs ++ ys) 
 map_append f [] ys = refl
 map_append {A} {B} f (x ∷ xs) ys = ap (λ (l : List B). f x ∷ l) (map_append f xs ys)
 
+and_true : (a b : Bool) → a ≡ true → b ≡ true → (a && b) ≡ true
+and_true true b p q = q
+and_true false b p q = p
+
 third_fails : (a b d : Bool) → d ≡ false → (a && b && d) ≡ false
 third_fails true true d h = h
 third_fails true false d h = refl
@@ -74,6 +124,10 @@ or_parts false b h = (refl, h)
 -- a text without reserved parts has no name of a getter
 no_getter : (text : List ℕ) → is_reserved text ≡ false → has_part (codes "__Getter$") text ≡ false
 no_getter text h = (or_parts _ _ (or_parts _ _ (or_parts _ _ (or_parts _ _ h).0).0).0).1
+
+-- nor that of an address
+no_address : (text : List ℕ) → is_reserved text ≡ false → has_part (codes "__ADDRESS__") text ≡ false
+no_address text h = (or_parts _ _ (or_parts _ _ (or_parts _ _ (or_parts _ _ (or_parts _ _ h).0).0).0).0).1
 
 -- what is known of the class, its program and the rewritten class
 pub record Known (c new : ClassFile) (P : Program) : Type 0 where
@@ -99,25 +153,34 @@ module _ (c new : ClassFile) (P : Program) (K : Known c new P) where
       let where_is = K.rewritten.this_class in
       ap text_or_none (ap (class_name new.pool) where_is ∙ later ∙ sym old)
 
-  fields_are : P.fields ≡ fields_from (c ∷ []) 0 c 1 c.fields ++ []
-  fields_are = K.original.fields ∙ ap (λ (ms : List Member). fields_from (c ∷ []) 0 c 1 ms ++ []) (all_static c.pool c.fields form.fields)
+  fields_are : P.fields ≡ fields_from (c ∷ []) 0 c 1 (statics c) ++ []
+  fields_are = K.original.fields
 
   pub good : AreGood P.fields
-  good = subst AreGood (sym fields_are) (good_from c 1 c.fields)
+  good = subst AreGood (sym fields_are) (good_from c 1 (statics c))
 
   pub owned : AreOwn (own_name c) P.fields
-  owned = subst (AreOwn (own_name c)) (sym fields_are) (own_from c 1 c.fields)
+  owned = subst (AreOwn (own_name c)) (sym fields_are) (own_from c 1 (statics c))
+
+  all_fields_named : AreNamed c.pool c.fields
+  all_fields_named = named_fields c.pool c.fields K.rules.fields
 
   pub fields_apart : AreApart (field_names P.fields)
-  fields_apart = subst AreApart (names_from c 1 c.fields ∙ ap field_names (sym fields_are)) (own_apart c.pool c.fields form.own_fields)
+  fields_apart =
+      let pairs = AllPairs-filter (λ a b. ¬ IsSameMember c.pool a b) is_static c.fields K.rules.distinct_fields in
+      subst AreApart (names_from c 1 (statics c) ∙ ap field_names (sym fields_are))
+      (own_apart c.pool (codes "I") (statics c) pairs (typed_statics c.pool c.fields form.fields) (named_where c.pool is_static c.fields all_fields_named))
 
-  pub named : AreNamed c.pool c.methods
-  named = named_all c.pool c.methods K.rules.methods
+  pub named : AreNamed c.pool (program_methods c)
+  named = named_where c.pool (is_program_method c.pool) c.methods (named_methods c.pool c.methods K.rules.methods)
 
-  pub olds : AllOld c P.fields c.methods P.methods
+  pub lawful : AreLawful c.pool (program_methods c)
+  lawful = lawful_where c.pool (is_program_method c.pool) c.methods (lawful_methods c.pool c.methods K.rules.methods)
+
+  pub olds : AllOld c P.fields (program_methods c) P.methods
   olds =
       let e = K.original.fields in
-      subst (λ (fs : List Field). AllOld c fs c.methods P.methods) (sym e) (all_old c (original_fields c) c.methods P.methods form.methods K.original.methods)
+      subst (λ (fs : List Field). AllOld c fs (program_methods c) P.methods) (sym e) (all_old c (original_fields c) (program_methods c) P.methods form.program K.original.methods)
 
   method_names_are : (ms : List Member) (ks : List Method) → AllOld c P.fields ms ks → map (text_name c.pool) ms ≡ method_names ks
   method_names_are [] [] h = refl
@@ -128,7 +191,10 @@ module _ (c new : ClassFile) (P : Program) (K : Known c new P) where
       ap (λ (l : List (List ℕ)). text_name c.pool m ∷ l) (method_names_are ms ks h.1) ∙ ap (λ (n : List ℕ). n ∷ method_names ks) (sym e)
 
   pub methods_apart : AreApart (method_names P.methods)
-  methods_apart = subst AreApart (method_names_are c.methods P.methods olds) (own_apart c.pool c.methods form.own_methods)
+  methods_apart =
+      let pairs = AllPairs-filter (λ a b. ¬ IsSameMember c.pool a b) (is_program_method c.pool) c.methods K.rules.distinct_methods in
+      subst AreApart (method_names_are (program_methods c) P.methods olds)
+      (own_apart c.pool (codes "()I") (program_methods c) pairs (typed_methods c P.fields (program_methods c) P.methods olds) named)
 
   free_at : (ms : List Member) (ks : List Method) → AllOld c P.fields ms ks → AreNamed c.pool ms → (n : ℕ) (k : Method) → slice_get ks n ≡ Some k → has_part (codes "__Getter$") k.name.name ≡ false
   free_at [] [] h a n k e = cc
@@ -142,7 +208,95 @@ module _ (c new : ClassFile) (P : Program) (K : Known c new P) where
   free_at (m ∷ ms) (g ∷ ks) h a (suc n) k e = free_at ms ks h.1 a.1 n k e
 
   pub free_name : (n : ℕ) (k : Method) → slice_get P.methods n ≡ Some k → has_part (codes "__Getter$") k.name.name ≡ false
-  free_name n k e = free_at c.methods P.methods olds named n k e
+  free_name n k e = free_at (program_methods c) P.methods olds named n k e
+
+  -- ---- which methods of the rewritten class are its program's
+
+  -- a wrapper is marked
+  wrapper_in : (n : ℕ) (m x : Member) → AllByRecursion (IsAttribute c.pool) m.attributes → is_marked c.pool m ≡ true → IsWrapped c new.pool n m x → is_program_method new.pool x ≡ true
+  wrapper_in n m x L marked w =
+      let mark : is_marked new.pool (with_code c.pool (code_spelling (wrapper_code w.opening w.ending)) m) ≡ true =
+      mark_swapped c.pool new.pool K.rewritten.grown (code_spelling (wrapper_code w.opening w.ending)) m.attributes marked in
+      ap (is_program_method new.pool) w.is ∙ or_first (is_marked new.pool (with_code c.pool (code_spelling (wrapper_code w.opening w.ending)) m)) (takes_context new.pool (with_code c.pool (code_spelling (wrapper_code w.opening w.ending)) m)) mark
+
+  -- what takes a context is in
+  taker_in : (x : Member) → takes_context new.pool x ≡ true → is_program_method new.pool x ≡ true
+  taker_in x h = or_later (is_marked new.pool x) (takes_context new.pool x) h
+
+  getter_in_program : (x : Member) → utf8 new.pool x.descriptor ≡ Some getter_type → is_program_method new.pool x ≡ true
+  getter_in_program x h = taker_in x (rw h refl)
+
+  setter_in_program : (x : Member) → utf8 new.pool x.descriptor ≡ Some setter_type → is_program_method new.pool x ≡ true
+  setter_in_program x h = taker_in x (rw h refl)
+
+  old_program : (n : ℕ) (ms xs : List Member) → AllByRecursion (IsMethod c.pool) ms → list_all (is_form_method c.pool) ms ≡ true → EachReplaced c new.pool n ms xs
+      → Each (λ Z n m x. IsWrapped c Z n m x) new.pool n (filter (is_program_method c.pool) ms) (filter (is_program_method new.pool) xs)
+  old_program n [] [] rules form h = tt
+  old_program n [] (x ∷ xs) rules form h = absurd h
+  old_program n (m ∷ ms) [] rules form h = absurd h
+  old_program n (m ∷ ms) (x ∷ xs) rules form h = let f = two_true _ _ form in go (is_program_method c.pool m) refl f.0 (λ k t. old_program k ms xs rules.1 f.1 t) h.1
+    where
+      go : (b : Bool) → is_program_method c.pool m ≡ b → is_form_method c.pool m ≡ true
+          → ((k : ℕ) → EachReplaced c new.pool k ms xs → Each (λ Z n m x. IsWrapped c Z n m x) new.pool k (filter (is_program_method c.pool) ms) (filter (is_program_method new.pool) xs))
+          → EachReplaced c new.pool (number_behind c.pool n m) ms xs
+          → Each (λ Z n m x. IsWrapped c Z n m x) new.pool n (filter (is_program_method c.pool) (m ∷ ms)) (filter (is_program_method new.pool) (x ∷ xs))
+      go true e form rest t =
+          let w = h.0.wrapped e in
+          let marked = (form_atomic c.pool m (and_true _ _ e form)).1 in
+          let inside = wrapper_in n m x rules.0.member.attributes.each marked w in
+          let next : number_behind c.pool n m ≡ n + 1 = rw e refl in
+          let from_next = subst (λ (k : ℕ). EachReplaced c new.pool k ms xs) next t in
+          let A : List Member → Type 0 = λ us. Each (λ Z n m x. IsWrapped c Z n m x) new.pool n us (filter (is_program_method new.pool) (x ∷ xs)) in
+          let B : List Member → Type 0 = λ vs. Each (λ Z n m x. IsWrapped c Z n m x) new.pool n (m ∷ filter (is_program_method c.pool) ms) vs in
+          subst A (sym (filter_keeps (is_program_method c.pool) m ms e)) (subst B (sym (filter_keeps (is_program_method new.pool) x xs inside)) (w, rest (n + 1) from_next))
+      go false e form rest t =
+          let same = h.0.kept e in
+          let typed = the_and (utf8 c.pool m.descriptor) _ rules.0.member.typed in
+          let out = stays_out c.pool new.pool K.rewritten.grown m typed.0 rules.0.member.attributes.each typed.1 form e in
+          let outside : is_program_method new.pool x ≡ false = ap (is_program_method new.pool) same ∙ out in
+          let next : number_behind c.pool n m ≡ n = rw e refl in
+          let from_next = subst (λ (k : ℕ). EachReplaced c new.pool k ms xs) next t in
+          let A : List Member → Type 0 = λ us. Each (λ Z n m x. IsWrapped c Z n m x) new.pool n us (filter (is_program_method new.pool) (x ∷ xs)) in
+          let B : List Member → Type 0 = λ vs. Each (λ Z n m x. IsWrapped c Z n m x) new.pool n (filter (is_program_method c.pool) ms) vs in
+          subst A (sym (filter_drops (is_program_method c.pool) m ms e)) (subst B (sym (filter_drops (is_program_method new.pool) x xs outside)) (rest n from_next))
+
+  all_in : (xs : List Member) → list_all (is_program_method new.pool) xs ≡ true → filter (is_program_method new.pool) xs ≡ xs
+  all_in [] h = refl
+  all_in (x ∷ xs) h = let f = two_true _ _ h in filter_keeps (is_program_method new.pool) x xs f.0 ∙ ap (λ (l : List Member). x ∷ l) (all_in xs f.1)
+
+  accessors_in : (n : ℕ) (fs : List Field) (A : List Accessors) → Each (λ Z n f a. AreAccessors (own_name c) f Z a) new.pool n fs A → list_all (is_program_method new.pool) (flat_map both_of A) ≡ true
+  accessors_in n [] [] h = refl
+  accessors_in n [] (a ∷ A) h = absurd h
+  accessors_in n (f ∷ fs) [] h = absurd h
+  accessors_in n (f ∷ fs) (a ∷ A) h =
+      let g = h.0.getter.method in
+      let s = h.0.setter.method in
+      let one = getter_in_program a.getter (ap (λ (y : Member). utf8 new.pool y.descriptor) g.is ∙ g.typed) in
+      let two = setter_in_program a.setter (ap (λ (y : Member). utf8 new.pool y.descriptor) s.is ∙ s.typed) in
+      ap (list_all (is_program_method new.pool)) (flat_map-cons both_of a A) ∙ and_true _ _ one (and_true _ _ two (accessors_in (n + 1) fs A h.1))
+
+  copies_in : (calls : List Calls) (n : ℕ) (ms D : List Member) → Each (λ Z n m x. IsCopyOf P c calls Z n m x) new.pool n ms D → list_all (is_program_method new.pool) D ≡ true
+  copies_in calls n [] [] h = refl
+  copies_in calls n [] (x ∷ D) h = absurd h
+  copies_in calls n (m ∷ ms) [] h = absurd h
+  copies_in calls n (m ∷ ms) (x ∷ D) h =
+      and_true _ _ (getter_in_program x (ap (λ (y : Member). utf8 new.pool y.descriptor) h.0.copy.is ∙ h.0.copy.typed)) (copies_in calls (n + 1) ms D h.1)
+
+  abbrev pub wrappers : List Member
+  wrappers = filter (is_program_method new.pool) K.rewritten.methods.olds
+
+  pub wrapped : Each (λ Z n m x. IsWrapped c Z n m x) new.pool 0 (program_methods c) (filter (is_program_method new.pool) K.rewritten.methods.olds)
+  wrapped = old_program 0 c.methods K.rewritten.methods.olds K.rules.methods form.methods K.rewritten.methods.each
+
+  pub parts : program_methods new ≡ filter (is_program_method new.pool) K.rewritten.methods.olds ++ (flat_map both_of K.rewritten.methods.new.accessors ++ K.rewritten.methods.new.copies)
+  parts =
+      let M = K.rewritten.methods in
+      let N = M.new in
+      let a = accessors_in 0 P.fields N.accessors N.each in
+      let d = copies_in N.copied.calls 0 (program_methods c) N.copies N.copied.each in
+      let both : list_all (is_program_method new.pool) (flat_map both_of N.accessors ++ N.copies) ≡ true = list_all-append (is_program_method new.pool) (flat_map both_of N.accessors) N.copies ∙ and_true _ _ a d in
+      let behind : filter (is_program_method new.pool) M.added ≡ flat_map both_of N.accessors ++ N.copies = ap (filter (is_program_method new.pool)) N.are ∙ all_in (flat_map both_of N.accessors ++ N.copies) both in
+      ap (filter (is_program_method new.pool)) M.are ∙ filter-append (is_program_method new.pool) M.olds M.added ∙ ap (λ (l : List Member). filter (is_program_method new.pool) M.olds ++ l) behind
 
   -- ---- the names of the methods
 
@@ -204,12 +358,13 @@ module _ (c new : ClassFile) (P : Program) (K : Known c new P) where
   names_are =
       let M = K.rewritten.methods in
       let N = M.new in
-      let w = wrapped_names 0 c.methods M.wrappers P.methods M.each olds named in
+      let w = wrapped_names 0 (program_methods c) (filter (is_program_method new.pool) M.olds) P.methods wrapped olds named in
       let a = accessors_names 0 P.fields N.accessors N.each in
-      let d = copies_names N.copied.calls 0 c.methods N.copies P.methods N.copied.each olds named in
-      let behind : map (name_of new) M.added ≡ accessor_names (own_name c) P.fields ++ copy_names (own_name c) P.methods =
-      ap (map (name_of new)) N.are ∙ map_append (name_of new) (flat_map both_of N.accessors) N.copies ∙ ap (λ (l : List MethodName). l ++ map (name_of new) N.copies) a ∙ ap (λ (l : List MethodName). accessor_names (own_name c) P.fields ++ l) d in
-      ap (map (name_of new)) M.are ∙ map_append (name_of new) M.wrappers M.added ∙ ap (λ (l : List MethodName). l ++ map (name_of new) M.added) w ∙ ap (λ (l : List MethodName). old_names (own_name c) P.methods ++ l) behind
+      let d = copies_names N.copied.calls 0 (program_methods c) N.copies P.methods N.copied.each olds named in
+      let behind : map (name_of new) (flat_map both_of N.accessors ++ N.copies) ≡ accessor_names (own_name c) P.fields ++ copy_names (own_name c) P.methods =
+      map_append (name_of new) (flat_map both_of N.accessors) N.copies ∙ ap (λ (l : List MethodName). l ++ map (name_of new) N.copies) a ∙ ap (λ (l : List MethodName). accessor_names (own_name c) P.fields ++ l) d in
+      ap (map (name_of new)) parts ∙ map_append (name_of new) (filter (is_program_method new.pool) M.olds) (flat_map both_of N.accessors ++ N.copies)
+      ∙ ap (λ (l : List MethodName). l ++ map (name_of new) (flat_map both_of N.accessors ++ N.copies)) w ∙ ap (λ (l : List MethodName). old_names (own_name c) P.methods ++ l) behind
 
   -- ---- what names stand for
 
@@ -240,18 +395,17 @@ module _ (c new : ClassFile) (P : Program) (K : Known c new P) where
   pub gets_base : (f : Field) → f.place.object ≡ 2 → get_op (symbols_of new P.fields) (wanted (own_name c) (codes "__CLASS_BASE__") (codes "Ljava/lang/Object;")) ≡ Some (base f)
   gets_base f e = let o = own_same in let t = same (own_name c) in rw o (rw t (rw e refl))
 
-  no_long : (ms : List Member) (name : List ℕ) → list_all (is_form_field c.pool) ms ≡ true → list_any (is_member new.pool name (codes "J")) ms ≡ false
-  no_long [] name h = refl
-  no_long (m ∷ ms) name h =
-      let a = two_true _ _ h in
-      let d = same_text_is (utf8 c.pool m.descriptor) (codes "I") (two_true _ _ (two_true _ _ (two_true _ _ a.0).0).0).1 in
-      let d' = utf8_grown c.pool new.pool K.rewritten.grown m.descriptor (codes "I") d in
-      let no : is_member new.pool name (codes "J") m ≡ false = rw d' (right_fails (same_text (utf8 new.pool m.name) name)) in
-      rw no (no_long ms name a.1)
-    where
-      right_fails : (x : Bool) → (x && false) ≡ false
-      right_fails true = refl
-      right_fails false = refl
+  left_fails : (x y : Bool) → x ≡ false → (x && y) ≡ false
+  left_fails true y h = cc
+  left_fails false y h = refl
+
+  no_long : (f : Field) (ms : List Member) → AreNamed c.pool ms → list_any (is_member new.pool (address_name f) (codes "J")) ms ≡ false
+  no_long f [] h = refl
+  no_long f (m ∷ ms) h =
+      let later = utf8_grown c.pool new.pool K.rewritten.grown m.name h.0.0 h.0.1 in
+      let other = no_such_end (codes "__ADDRESS__") h.0.0 f.name refl (no_address h.0.0 (free_text c.pool m.name h.0.0 form.pool h.0.1)) in
+      let no : is_member new.pool (address_name f) (codes "J") m ≡ false = rw later (left_fails _ _ other) in
+      rw no (no_long f ms h.1)
 
   pub gets_address : (i : ℕ) (f : Field) → slice_get P.fields i ≡ Some f → get_op (symbols_of new P.fields) (wanted (own_name c) (address_name f) (codes "J")) ≡ Some (offset f)
   gets_address i f e =
@@ -261,6 +415,6 @@ module _ (c new : ClassFile) (P : Program) (K : Known c new P) where
       let list : new.fields ≡ c.fields ++ (F.addresses ++ F.base) = K.rewritten.fields_are ∙ ap (λ (l : List Member). c.fields ++ l) F.are in
       let found : option_and_then (long_value new.pool) (find (is_member new.pool (address_name f) (codes "J")) new.fields) ≡ Some (cast_signed w64 f.place.index) =
       ap (λ (l : List Member). option_and_then (long_value new.pool) (find (is_member new.pool (address_name f) (codes "J")) l)) list
-      ∙ ap (option_and_then (long_value new.pool)) (find_behind (is_member new.pool (address_name f) (codes "J")) c.fields (F.addresses ++ F.base) (no_long c.fields (address_name f) form.fields))
+      ∙ ap (option_and_then (long_value new.pool)) (find_behind (is_member new.pool (address_name f) (codes "J")) c.fields (F.addresses ++ F.base) (no_long f c.fields all_fields_named))
       ∙ address_found new.pool 0 P.fields F.addresses F.base i f F.each fields_apart e in
       rw o (rw t (rw found refl))

@@ -1,6 +1,6 @@
 -- What the members of a rewritten class name in its pool.
 use Rattle.std.proofs.Common.{◌≡◌, ℕ, ◌+◌, ◌≤◌, Bool, true, false, List, [], ◌∷◌, ◌++◌, length, Option, Some, None, Result, Ok, refl, subst, arith}
-use Rattle.std.specs.Prelude.{codes, nat_lt, nat_eq, slice_get}
+use Rattle.std.specs.Prelude.{codes, nat_lt, nat_eq, slice_get, if◌then◌else◌}
 use Rattle.std.specs.List.{flat_map}
 use Rattle.std.proofs.lemmas.Bool.Decides.{nat_tests}
 use Rattle.jmodel.specs.declared.refusal.Refusal.{Refusal}
@@ -10,14 +10,14 @@ use Rattle.jmodel.specs.Pool.{utf8}
 use Rattle.jmodel.specs.Layout.{text_or_none}
 use Rattle.jmodel.specs.Program.{Field, Program}
 use Rattle.jmodel.specs.Decoding.{own_name, instructions}
-use Rattle.jmodel.specs.Linking.{code_in}
+use Rattle.jmodel.specs.Linking.{code_in, is_program_method, program_methods}
 use Rattle.const_pool.proofs.Takes.{bind_ok, guard_ok, ok_is, fine}
 use Rattle.rewriter.specs.declared.accessors.Accessors.{Accessors}
 use Rattle.rewriter.specs.declared.duplicates.Calls.{Calls}
 use Rattle.rewriter.specs.declared.wrappers.Opening.{Opening}
 use Rattle.rewriter.specs.declared.wrappers.Ending.{Ending}
 use Rattle.rewriter.specs.Members.{added_method, address_member, accessors_of, getter_name, setter_name, getter_type, is_read, is_written, method_if_needed, getter_call, setter_call, calls_of, blocks_from, duplicate_code, duplicate_body, duplicate_flags, coded_duplicate, duplicate_if, ops_in, duplicate_of, wrapper_code, with_code, wrapper_of}
-use Rattle.rewriter.specs.Rewritten.{grow_from, bases, both_of, added_fields, duplicates, added_methods, new_methods, rewritten_class}
+use Rattle.rewriter.specs.Rewritten.{grow_from, replaced, number_behind, old_from, bases, both_of, added_fields, duplicates, added_methods, new_methods, rewritten_class}
 use Rattle.rewriter.proofs.Grown.{Grown, grown_refl}
 use Rattle.rewriter.proofs.Added.{Says, IsMethodName}
 use Rattle.rewriter.proofs.Puts.{Puts, puts_more, puts_end, utf8_puts, class_puts, method_puts, IsClassAt, IsAddress, address_puts, base_grows, AreAccessors, accessors_put, IsOpening, opening_puts, IsEnding, ending_puts}
@@ -125,11 +125,41 @@ wrapped_puts : (c : ClassFile) (n : ℕ) (m : Member) (pool : Pool) (r : Member 
 unfolding wrapper_of
 wrapped_puts c n m pool r e =
     let x = guard_ok (nat_lt 65535 n) _ _ r e in
+    let t = x.0 in
+    let few : n ≤ 65535 = grind (arith, nat_tests) in
     let a = bind_ok _ _ r x.1 in
     let b = bind_ok _ _ r a.2 in
     puts_end _ (λ Z y. IsWrapped c Z n m y) pool b.0 (with_code c.pool (code_spelling (wrapper_code a.0.0 b.0.0)) m) r
     (λ Z h. record { opening = a.0.0; ending = b.0.0; is = refl; opens = h.0; ends = h.1 })
-    (puts_more (IsOpening n) (IsEnding (own_name c) (text_or_none (utf8 c.pool m.name))) pool a.0 b.0 (opening_puts n pool a.0 a.1) (ending_puts _ _ a.0.1 b.0 b.1)) b.2
+    (puts_more (IsOpening n) (IsEnding (own_name c) (text_or_none (utf8 c.pool m.name))) pool a.0 b.0 (opening_puts n pool a.0 few a.1) (ending_puts _ _ a.0.1 b.0 b.1)) b.2
+
+-- ---- old methods
+
+-- what stands in the place of an old method
+pub record IsReplaced (c : ClassFile) (Z : Pool) (n : ℕ) (m x : Member) : Type 0 where
+  pub wrapped : is_program_method c.pool m ≡ true → IsWrapped c Z n m x
+  pub kept : is_program_method c.pool m ≡ false → x ≡ m
+
+abbrev pub EachReplaced : ClassFile → Pool → ℕ → List Member → List Member → Type 0
+EachReplaced c Z n [] [] = Unit {0}
+EachReplaced c Z n [] (x ∷ xs) = ⊥
+EachReplaced c Z n (m ∷ ms) [] = ⊥
+EachReplaced c Z n (m ∷ ms) (x ∷ xs) = IsReplaced c Z n m x × EachReplaced c Z (number_behind c.pool n m) ms xs
+
+replaced_puts : (c : ClassFile) (n : ℕ) (m : Member) (pool : Pool) (r : Member × Pool) → replaced c n m pool ≡ Ok r → Puts (λ Z x. IsReplaced c Z n m x) pool r
+replaced_puts c n m pool r e = go (is_program_method c.pool m) refl e
+  where
+    go : (b : Bool) → is_program_method c.pool m ≡ b → (if b then wrapper_of c n m pool else Ok (m, pool)) ≡ Ok r → Puts (λ Z x. IsReplaced c Z n m x) pool r
+    go true p h = let q = wrapped_puts c n m pool r h in record { grown = q.grown; facts = λ Z g. record { wrapped = λ t. q.facts Z g; kept = λ f. absurd (cc (p, f)) } }
+    go false p h = subst (Puts (λ Z x. IsReplaced c Z n m x) pool) (ok_is (m, pool) r h) (record { grown = grown_refl pool; facts = λ Z g. record { wrapped = λ t. absurd (cc (p, t)); kept = λ f. refl } })
+
+olds_put : (c : ClassFile) (n : ℕ) (ms : List Member) (pool : Pool) (r : List Member × Pool) → old_from c n ms pool ≡ Ok r → Puts (λ Z xs. EachReplaced c Z n ms xs) pool r
+olds_put c n [] pool r e = subst (Puts (λ Z xs. EachReplaced c Z n [] xs) pool) (ok_is ([], pool) r e) (record { grown = grown_refl pool; facts = λ Z g. tt })
+olds_put c n (m ∷ ms) pool r e =
+    let a = bind_ok _ _ r e in
+    let b = bind_ok _ _ r a.2 in
+    puts_end _ (λ Z xs. EachReplaced c Z n (m ∷ ms) xs) pool b.0 (a.0.0 ∷ b.0.0) r (λ Z h. h)
+    (puts_more (λ Z x. IsReplaced c Z n m x) (λ Z xs. EachReplaced c Z (number_behind c.pool n m) ms xs) pool a.0 b.0 (replaced_puts c n m pool a.0 a.1) (olds_put c (number_behind c.pool n m) ms a.0.1 b.0 b.1)) b.2
 
 -- ---- all of them
 
@@ -159,15 +189,15 @@ fields_put P pool r e =
 pub record AreCopies (P : Program) (c : ClassFile) (Z : Pool) (ms : List Member) : Type 0 where
   pub calls : List Calls
   pub called : Each (λ Z n f x. AreCalls P (own_name c) n f Z x) Z 0 P.fields calls
-  pub each : Each (λ Z n m x. IsCopyOf P c calls Z n m x) Z 0 c.methods ms
+  pub each : Each (λ Z n m x. IsCopyOf P c calls Z n m x) Z 0 (program_methods c) ms
 
 copies_put : (P : Program) (c : ClassFile) (pool : Pool) (r : List Member × Pool) → duplicates P c pool ≡ Ok r → Puts (λ Z ms. AreCopies P c Z ms) pool r
 unfolding duplicates
 copies_put P c pool r e =
     let a = bind_ok _ _ r e in
-    let p = puts_more (λ Z ys. Each (λ Z n f x. AreCalls P (own_name c) n f Z x) Z 0 P.fields ys) (λ Z ys. Each (λ Z n m x. IsCopyOf P c a.0.0 Z n m x) Z 0 c.methods ys) pool a.0 r
+    let p = puts_more (λ Z ys. Each (λ Z n f x. AreCalls P (own_name c) n f Z x) Z 0 P.fields ys) (λ Z ys. Each (λ Z n m x. IsCopyOf P c a.0.0 Z n m x) Z 0 (program_methods c) ys) pool a.0 r
     (grow_puts (λ Z n f x. AreCalls P (own_name c) n f Z x) (calls_of P (own_name c)) (λ n f pool r. calls_put P (own_name c) n f pool r) 0 P.fields pool a.0 a.1)
-    (grow_puts (λ Z n m x. IsCopyOf P c a.0.0 Z n m x) (duplicate_of P c a.0.0) (λ n m pool r. copy_of_puts P c a.0.0 n m pool r) 0 c.methods a.0.1 r a.2) in
+    (grow_puts (λ Z n m x. IsCopyOf P c a.0.0 Z n m x) (duplicate_of P c a.0.0) (λ n m pool r. copy_of_puts P c a.0.0 n m pool r) 0 (program_methods c) a.0.1 r a.2) in
     record { grown = p.grown; facts = λ Z g. let h = p.facts Z g in record { calls = a.0.0; called = h.0; each = h.1 } }
 
 pub record AreNewMethods (P : Program) (c : ClassFile) (Z : Pool) (ms : List Member) : Type 0 where
@@ -187,10 +217,10 @@ added_put P c pool r e =
     (grow_puts (λ Z n f a. AreAccessors (own_name c) f Z a) (λ n f. accessors_of (own_name c) f) (λ n f pool r. accessors_put (own_name c) f pool r) 0 P.fields pool a.0 a.1) (copies_put P c a.0.1 b.0 b.1)) b.2
 
 pub record AreMethods (P : Program) (c : ClassFile) (Z : Pool) (ms : List Member) : Type 0 where
-  pub wrappers : List Member
+  pub olds : List Member
   pub added : List Member
-  pub are : ms ≡ wrappers ++ added
-  pub each : Each (λ Z n m x. IsWrapped c Z n m x) Z 0 c.methods wrappers
+  pub are : ms ≡ olds ++ added
+  pub each : EachReplaced c Z 0 c.methods olds
   pub new : AreNewMethods P c Z added
 
 methods_put : (P : Program) (c : ClassFile) (pool : Pool) (r : List Member × Pool) → new_methods P c pool ≡ Ok r → Puts (λ Z ms. AreMethods P c Z ms) pool r
@@ -198,9 +228,8 @@ unfolding new_methods
 methods_put P c pool r e =
     let a = bind_ok _ _ r e in
     let b = bind_ok _ _ r a.2 in
-    puts_end _ (λ Z ms. AreMethods P c Z ms) pool b.0 (b.0.0 ++ a.0.0) r (λ Z h. record { wrappers = b.0.0; added = a.0.0; are = refl; each = h.1; new = h.0 })
-    (puts_more (λ Z ms. AreNewMethods P c Z ms) (λ Z ys. Each (λ Z n m x. IsWrapped c Z n m x) Z 0 c.methods ys) pool a.0 b.0 (added_put P c pool a.0 a.1)
-    (grow_puts (λ Z n m x. IsWrapped c Z n m x) (wrapper_of c) (λ n m pool r. wrapped_puts c n m pool r) 0 c.methods a.0.1 b.0 b.1)) b.2
+    puts_end _ (λ Z ms. AreMethods P c Z ms) pool b.0 (b.0.0 ++ a.0.0) r (λ Z h. record { olds = b.0.0; added = a.0.0; are = refl; each = h.1; new = h.0 })
+    (puts_more (λ Z ms. AreNewMethods P c Z ms) (λ Z ys. EachReplaced c Z 0 c.methods ys) pool a.0 b.0 (added_put P c pool a.0 a.1) (olds_put c 0 c.methods a.0.1 b.0 b.1)) b.2
 
 -- what a rewritten class has
 pub record Rewrites (P : Program) (c new : ClassFile) : Type 0 where

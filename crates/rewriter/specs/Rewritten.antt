@@ -1,10 +1,11 @@
 -- The rewriting of a class, part after part.
-use Rattle.std.specs.Prelude.{◌≡◌, ℕ, ◌+◌, List, [], ◌∷◌, ◌++◌, Result, Ok}
+use Rattle.std.specs.Prelude.{◌≡◌, ℕ, ◌+◌, List, [], ◌∷◌, ◌++◌, Result, Ok, if◌then◌else◌}
 use Rattle.std.specs.List.{flat_map}
 use Rattle.jmodel.specs.declared.refusal.Refusal.{Refusal}
 use Rattle.jmodel.specs.ClassFile.{Member, Pool, ClassFile}
 use Rattle.jmodel.specs.Program.{Field, Program}
 use Rattle.jmodel.specs.Decoding.{own_name}
+use Rattle.jmodel.specs.Linking.{is_program_method, program_methods}
 use Rattle.jmodel.specs.Reading.{◌>>=◌}
 use Rattle.rewriter.specs.Members.{address_member, base_member, accessors_of, calls_of, duplicate_of, wrapper_of}
 use Rattle.rewriter.specs.declared.accessors.Accessors.{Accessors}
@@ -36,7 +37,7 @@ added_fields P pool = do
 unfoldable pub duplicates : Program → ClassFile → Pool → Result (List Member × Pool) Refusal
 duplicates P c pool = do
   calls ← grow_from (calls_of P (own_name c)) 0 P.fields pool
-  grow_from (duplicate_of P c calls.0) 0 c.methods calls.1
+  grow_from (duplicate_of P c calls.0) 0 (program_methods c) calls.1
 
 -- the methods that are added: accessors, then duplicates
 unfoldable pub added_methods : Program → ClassFile → Pool → Result (List Member × Pool) Refusal
@@ -45,12 +46,27 @@ added_methods P c pool = do
   copies ← duplicates P c accessors.1
   Ok (flat_map both_of accessors.0 ++ copies.0, copies.1)
 
--- wrappers in place of the old methods, behind them those that are added, whose entries come first
+-- an old method: the wrapper of one of the program, which has this number among the wrappers, any other as it is
+abbrev pub replaced : ClassFile → ℕ → Member → Pool → Result (Member × Pool) Refusal
+replaced c n m pool = if is_program_method c.pool m then wrapper_of c n m pool else Ok (m, pool)
+
+-- the number of the next wrapper
+abbrev pub number_behind : Pool → ℕ → Member → ℕ
+number_behind pool n m = if is_program_method pool m then n + 1 else n
+
+abbrev pub old_from : ClassFile → ℕ → List Member → Pool → Result (List Member × Pool) Refusal
+old_from c n [] pool = Ok ([], pool)
+old_from c n (m ∷ ms) pool = do
+  first ← replaced c n m pool
+  others ← old_from c (number_behind c.pool n m) ms first.1
+  Ok (first.0 ∷ others.0, others.1)
+
+-- the old methods with wrappers among them, behind them those that are added, whose entries come first
 unfoldable pub new_methods : Program → ClassFile → Pool → Result (List Member × Pool) Refusal
 new_methods P c pool = do
   added ← added_methods P c pool
-  wrappers ← grow_from (wrapper_of c) 0 c.methods added.1
-  Ok (wrappers.0 ++ added.0, wrappers.1)
+  olds ← old_from c 0 c.methods added.1
+  Ok (olds.0 ++ added.0, olds.1)
 
 -- the rewritten class
 unfoldable pub rewritten_class : Program → ClassFile → Result ClassFile Refusal

@@ -67,7 +67,8 @@ pub fn copy_attributes(alloc: Global, list: &[Attribute]) -> Result<Vec<Attribut
     Ok(copied)
 }
 
-fn copy_member(alloc: Global, member: &Member) -> Result<Member, AllocError>
+/// A copy of a field or a method.
+pub fn copy_member(alloc: Global, member: &Member) -> Result<Member, AllocError>
     ensures { IfOk result (λ m. m ≡ member.now) }
 {
     Ok(Member {

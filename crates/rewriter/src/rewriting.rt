@@ -3,18 +3,19 @@ ghost use Rattle.std.specs.Prelude.{◌≡◌, IfOk};
 ghost use Rattle.std.specs.List.{flat_map};
 ghost use Rattle.jmodel.specs.Reading.{Gives};
 ghost use Rattle.jmodel.specs.Decoding.{own_name as own_name_of};
+ghost use Rattle.jmodel.specs.Linking.{program_methods as methods_of_program};
 ghost use Rattle.rewriter.specs.Adding.{Grows};
-ghost use Rattle.rewriter.specs.Members.{address_member as address, accessors_of as accessors, calls_of as calls_for, duplicate_of as duplicate, wrapper_of as wrapper};
-ghost use Rattle.rewriter.specs.Rewritten.{grow_from, bases as base_of, both_of, added_fields as all_fields, duplicates as all_duplicates, added_methods as all_added, new_methods as all_methods, rewritten_class, Keeps};
+ghost use Rattle.rewriter.specs.Members.{address_member as address, accessors_of as accessors, calls_of as calls_for, duplicate_of as duplicate};
+ghost use Rattle.rewriter.specs.Rewritten.{grow_from, old_from, bases as base_of, both_of, added_fields as all_fields, duplicates as all_duplicates, added_methods as all_added, new_methods as all_methods, rewritten_class, Keeps};
 
 use crate::accessors::{Accessors, accessors_of};
-use crate::copies::{copy_attributes, copy_members, copy_pool};
+use crate::copies::{copy_attributes, copy_member, copy_members, copy_pool};
 use crate::duplicates::{Calls, calls_of, duplicate_of};
 use crate::fields::{address_member, base_member};
 use crate::wrappers::wrapper_of;
 use const_pool::{ClassFile, Member, Pool};
 use hierarchy::symbols::own_name;
-use hierarchy::{Field, Program};
+use hierarchy::{Field, Program, is_program_method, program_methods};
 use jmodel::Halt;
 use std::alloc::{AllocError, Global};
 
@@ -86,9 +87,9 @@ fn duplicate_each(
     original: &Program,
     class: &ClassFile,
     calls: &[Calls],
-    methods: &[Member],
+    methods: &[&Member],
 ) -> Result<Vec<Member>, Halt>
-    ensures { Grows (λ v. v.items) result pool.new (grow_from (duplicate original.now class.now calls.now) 0 methods.now pool.old) }
+    ensures { Grows (λ v. v.items) result pool.new (grow_from (λ n m. duplicate original.now class.now calls.now n m.now) 0 methods.now pool.old) }
 {
     let mut members = Vec::new(alloc);
     for (number, method) in methods.iter().enumerate() {
@@ -96,6 +97,19 @@ fn duplicate_each(
         members.push(member)?;
     }
     Ok(members)
+}
+
+fn duplicate_all(
+    alloc: Global,
+    pool: &mut Pool,
+    original: &Program,
+    class: &ClassFile,
+    calls: &[Calls],
+) -> Result<Vec<Member>, Halt>
+    ensures { Grows (λ v. v.items) result pool.new (grow_from (duplicate original.now class.now calls.now) 0 (methods_of_program class.now) pool.old) }
+{
+    let methods = program_methods(alloc, class)?;
+    duplicate_each(alloc, pool, original, class, calls, methods.as_slice())
 }
 
 // The duplicates, with the accessors that they call.
@@ -109,21 +123,22 @@ fn duplicates(
     ensures { Grows (λ v. v.items) result pool.new (all_duplicates original.now class.now pool.old) }
 {
     let calls = all_calls(alloc, pool, original, own_name(class), original.fields())?;
-    let methods = class.methods.as_slice();
-    duplicate_each(alloc, pool, original, class, calls.as_slice(), methods)
+    duplicate_all(alloc, pool, original, class, calls.as_slice())
 }
 
-fn wrappers(
-    alloc: Global,
-    pool: &mut Pool,
-    class: &ClassFile,
-    methods: &[Member],
-) -> Result<Vec<Member>, Halt>
-    ensures { Grows (λ v. v.items) result pool.new (grow_from (wrapper class.now) 0 methods.now pool.old) }
+// The old methods, with the wrapper of each one of the program in its place.
+fn old_methods(alloc: Global, pool: &mut Pool, class: &ClassFile) -> Result<Vec<Member>, Halt>
+    ensures { Grows (λ v. v.items) result pool.new (old_from class.now 0 class.now.methods pool.old) }
 {
     let mut members = Vec::new(alloc);
-    for (number, method) in methods.iter().enumerate() {
-        members.push(wrapper_of(alloc, pool, class, number, method)?)?;
+    let mut number = 0;
+    for method in &class.methods {
+        if is_program_method(&class.pool, method) {
+            members.push(wrapper_of(alloc, pool, class, number, method)?)?;
+            number += 1;
+        } else {
+            members.push(copy_member(alloc, method)?)?;
+        }
     }
     Ok(members)
 }
@@ -167,7 +182,7 @@ fn new_methods(
     ensures { Grows (λ v. v.items) result pool.new (all_methods original.now class.now pool.old) }
 {
     let mut added = added_methods(alloc, pool, original, class)?;
-    let mut members = wrappers(alloc, pool, class, class.methods.as_slice())?;
+    let mut members = old_methods(alloc, pool, class)?;
     members.append(&mut added)?;
     Ok(members)
 }
@@ -196,8 +211,8 @@ fn rewritten(alloc: Global, class: &ClassFile, original: &Program) -> Result<Cla
 }
 
 /// The rewriting of a class over the program that it means: a field for the place of each static field and one for the
-/// static base, accessors, a duplicate of each method, and a wrapper in its place. The old pool is a front of the new one,
-/// to which only needed entries are added. Refused as PoolFull, CodeTooLarge or TooManyPlaces where a part passes its limit,
+/// static base, accessors, a duplicate of each method of the program, and a wrapper in its place. Every other method stays
+/// as it is. The old pool is a front of the new one, to which only needed entries are added. Refused as PoolFull, CodeTooLarge or TooManyPlaces where a part passes its limit,
 /// and as BadCode where a method has no good Code; the caller names the class and the method.
 pub fn rewrite(alloc: Global, class: &ClassFile, original: &Program) -> Result<ClassFile, Halt>
     ensures exact { Gives (λ c. c) result (rewritten_class original.now class.now) }

@@ -9,21 +9,24 @@ fn utf8(alloc: Global, text: &[u8]) -> Result<Constant, AllocError> {
 }
 
 fn counter_pool(alloc: Global) -> Result<Pool, AllocError> {
-    let mut entries = Vec::new(alloc);
-    entries.push(Constant::Class(2))?;
-    entries.push(utf8(alloc, b"Counter")?)?;
-    entries.push(Constant::Class(4))?;
-    entries.push(utf8(alloc, b"java/lang/Object")?)?;
-    for text in [b"n".as_slice(), b"I", b"inc", b"()I", b"Code"] {
-        entries.push(utf8(alloc, text)?)?;
-    }
-    entries.push(Constant::Field { class: 1, pair: 11 })?;
-    entries.push(Constant::NameAndType {
-        name: 5,
-        descriptor: 6,
-    })?;
-    entries.push(utf8(alloc, b"RuntimeVisibleAnnotations")?)?;
-    entries.push(utf8(alloc, b"Lorg/deuce/Atomic;")?)?;
+    let entries = vec![in alloc;
+        Constant::Class(2),
+        utf8(alloc, b"Counter")?,
+        Constant::Class(4),
+        utf8(alloc, b"java/lang/Object")?,
+        utf8(alloc, b"n")?,
+        utf8(alloc, b"I")?,
+        utf8(alloc, b"inc")?,
+        utf8(alloc, b"()I")?,
+        utf8(alloc, b"Code")?,
+        Constant::Field { class: 1, pair: 11 },
+        Constant::NameAndType {
+            name: 5,
+            descriptor: 6,
+        },
+        utf8(alloc, b"RuntimeVisibleAnnotations")?,
+        utf8(alloc, b"Lorg/deuce/Atomic;")?,
+    ]?;
     Ok(Pool::from_entries(entries))
 }
 
@@ -70,6 +73,113 @@ fn counter(alloc: Global) -> Result<ClassFile, AllocError> {
     })
 }
 
+// The entries of the pool that the Java compiler of Eclipse makes of Counter with `-1.5 -g`: a tag, two indexes, a text.
+const COMPILED: [(u8, u16, u16, &str); 23] = [
+    (7, 2, 0, ""),
+    (1, 0, 0, "Counter"),
+    (7, 4, 0, ""),
+    (1, 0, 0, "java/lang/Object"),
+    (1, 0, 0, "n"),
+    (1, 0, 0, "I"),
+    (1, 0, 0, "<init>"),
+    (1, 0, 0, "()V"),
+    (1, 0, 0, "Code"),
+    (10, 3, 11, ""),
+    (12, 7, 8, ""),
+    (1, 0, 0, "LineNumberTable"),
+    (1, 0, 0, "LocalVariableTable"),
+    (1, 0, 0, "this"),
+    (1, 0, 0, "LCounter;"),
+    (1, 0, 0, "inc"),
+    (1, 0, 0, "()I"),
+    (1, 0, 0, "RuntimeVisibleAnnotations"),
+    (1, 0, 0, "Lorg/deuce/Atomic;"),
+    (9, 1, 21, ""),
+    (12, 5, 6, ""),
+    (1, 0, 0, "SourceFile"),
+    (1, 0, 0, "Counter.java"),
+];
+
+fn entry(alloc: Global, tag: u8, a: u16, b: u16, text: &str) -> Result<Constant, AllocError> {
+    match tag {
+        7 => Ok(Constant::Class(a)),
+        9 => Ok(Constant::Field { class: a, pair: b }),
+        10 => Ok(Constant::Method { class: a, pair: b }),
+        12 => Ok(Constant::NameAndType {
+            name: a,
+            descriptor: b,
+        }),
+        _ => utf8(alloc, text.as_bytes()),
+    }
+}
+
+fn compiled_pool(alloc: Global) -> Result<Pool, AllocError> {
+    let mut pool = Pool::new(alloc);
+    for (tag, a, b, text) in COMPILED.iter() {
+        if pool.entries().len() < 65534 {
+            pool.push(entry(alloc, *tag, *a, *b, text)?)?;
+        }
+    }
+    Ok(pool)
+}
+
+fn attribute(alloc: Global, name: u16, bytes: &[u8]) -> Result<Attribute, AllocError> {
+    Ok(Attribute {
+        name,
+        bytes: Bytes::from_slice(alloc, bytes)?,
+    })
+}
+
+const CONSTRUCTOR: [u8; 47] = [
+    0, 1, 0, 1, 0, 0, 0, 5, 42, 183, 0, 10, 177, 0, 0, 0, 2, 0, 12, 0, 0, 0, 6, 0, 1, 0, 0, 0, 2,
+    0, 13, 0, 0, 0, 12, 0, 1, 0, 0, 0, 5, 0, 14, 0, 15, 0, 0,
+];
+
+const INCREMENT: [u8; 42] = [
+    0, 2, 0, 0, 0, 0, 0, 10, 178, 0, 20, 4, 96, 89, 179, 0, 20, 172, 0, 0, 0, 2, 0, 12, 0, 0, 0, 6,
+    0, 1, 0, 0, 0, 7, 0, 13, 0, 0, 0, 2, 0, 0,
+];
+
+fn compiled_methods(alloc: Global) -> Result<Vec<Member>, AllocError> {
+    let constructor = Member {
+        flags: 1,
+        name: 7,
+        descriptor: 8,
+        attributes: vec![in alloc; attribute(alloc, 9, &CONSTRUCTOR)?]?,
+    };
+    let inc = Member {
+        flags: 9,
+        name: 16,
+        descriptor: 17,
+        attributes: vec![in alloc;
+            attribute(alloc, 18, &[0, 1, 0, 19, 0, 0])?,
+            attribute(alloc, 9, &INCREMENT)?,
+        ]?,
+    };
+    Ok(vec![in alloc; constructor, inc]?)
+}
+
+fn compiled(alloc: Global) -> Result<ClassFile, AllocError> {
+    let n = Member {
+        flags: 8,
+        name: 5,
+        descriptor: 6,
+        attributes: Vec::new(alloc),
+    };
+    Ok(ClassFile {
+        minor: 0,
+        major: 49,
+        pool: compiled_pool(alloc)?,
+        flags: 0x21,
+        this_class: 1,
+        super_class: 3,
+        interfaces: Vec::new(alloc),
+        fields: vec![in alloc; n]?,
+        methods: compiled_methods(alloc)?,
+        attributes: vec![in alloc; attribute(alloc, 22, &[0, 23])?]?,
+    })
+}
+
 // The instructions of the methods: the wrapper, the getter, the setter and the duplicate.
 const MEANING: [&str; 4] = [
     "GetContext Store(0) Load(0) Constant(Int(0)) Constant(Int(2147483647)) Context(Init) Load(0) InvokeStatic(3) Store(1) Load(0) Context(Commit) Branch(Zero, 2) Load(1) ReturnValue Rearrange(Pop) Load(0) Context(Rollback) Goto(2) Store(1) Load(0) Context(Commit) Branch(Zero, 2) Load(1) Throw",
@@ -89,6 +199,15 @@ fn shown(alloc: Global, method: &Method) -> Result<String, AllocError> {
     Ok(text)
 }
 
+fn means_counter(alloc: Global, program: &Program) -> Result<bool, AllocError> {
+    for (method, meaning) in program.methods().iter().zip(MEANING.iter()) {
+        if shown(alloc, method)?.as_str() != *meaning {
+            return Ok(false);
+        }
+    }
+    Ok(program.methods().len() == MEANING.len())
+}
+
 // What the rewritten class means was worked out by hand; its pool has as many entries as are needed.
 #[test]
 fn rewrites_counter(rt: HostRuntime) {
@@ -99,12 +218,27 @@ fn rewrites_counter(rt: HostRuntime) {
     assert_eq!(&rt; rewritten.pool.entries().len(), 70);
     assert_eq!(&rt; rewritten.fields.len(), 3);
     let program = Program::rebuilt(alloc, &rewritten, &original).expect(&rt, "a program");
-    assert_eq!(&rt; program.methods().len(), 4);
-    for (method, meaning) in program.methods().iter().zip(MEANING.iter()) {
-        let text = shown(alloc, method).expect(&rt, "memory");
-        assert_eq!(&rt; text.as_str(), *meaning);
-    }
+    let as_worked_out = means_counter(alloc, &program).expect(&rt, "memory");
+    assert!(&rt; as_worked_out);
     assert_eq!(&rt; program.catch(0, 6, 1), Some(14));
     assert_eq!(&rt; program.catch(0, 6, 2), Some(18));
     assert_eq!(&rt; program.catch(3, 0, 1), Some(8));
+}
+
+// The constructor stays as it is, in its place.
+#[test]
+fn rewrites_a_compiled_class(rt: HostRuntime) {
+    let alloc = rt.alloc();
+    let class = compiled(alloc).expect(&rt, "memory");
+    let original = Program::build(alloc, &class).expect(&rt, "a program");
+    let rewritten = rewrite(alloc, &class, &original).expect(&rt, "a class");
+    assert_eq!(&rt; rewritten.methods.len(), 5);
+    let first = rewritten.methods.first().expect(&rt, "a method");
+    assert_eq!(&rt; first.name, 7);
+    let code = first.attributes.first().expect(&rt, "its code");
+    assert!(&rt; code.bytes.as_slice() == CONSTRUCTOR.as_slice());
+    assert_eq!(&rt; rewritten.attributes.len(), 1);
+    let program = Program::rebuilt(alloc, &rewritten, &original).expect(&rt, "a program");
+    let as_worked_out = means_counter(alloc, &program).expect(&rt, "memory");
+    assert!(&rt; as_worked_out);
 }

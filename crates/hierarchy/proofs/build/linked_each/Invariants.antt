@@ -6,4 +6,4 @@ use Rattle.hierarchy.proofs.build.linked_each.Given as goal
 
 -- what was collected, and what is still collected
 abbrev pub invariant-loop-method : goal.invariant-loop-method
-invariant-loop-method l = with_front l.built.items (each (linked_method l.symbols) (drop l.method-index l.methods)) ≡ each (linked_method l.symbols) l.methods
+invariant-loop-method l = with_front l.built.items (each (λ m. linked_method l.symbols m.now) (drop l.method-index l.methods)) ≡ each (λ m. linked_method l.symbols m.now) l.methods

@@ -6,4 +6,4 @@ use Rattle.hierarchy.proofs.build.methods_of.Given as goal
 
 -- what was collected, and what is still collected
 abbrev pub invariant-loop-method : goal.invariant-loop-method
-invariant-loop-method l = with_front l.built.items (each (method_of l.symbols l.counted) (drop l.method-index l.methods)) ≡ each (method_of l.symbols l.counted) l.methods
+invariant-loop-method l = with_front l.built.items (each (λ m. method_of l.symbols l.counted m.now) (drop l.method-index l.methods)) ≡ each (λ m. method_of l.symbols l.counted m.now) l.methods

@@ -5,4 +5,4 @@ use Rattle.hierarchy.proofs.symbols.names_of.Given as goal
 
 -- the names so far
 abbrev pub invariant-loop-method : goal.invariant-loop-method
-invariant-loop-method l = l.names.items ≡ map (name_of l.class) (take l.method-index l.method-items)
+invariant-loop-method l = l.names.items ≡ map (λ m. name_of l.class m.now) (take l.method-index l.methods)

@@ -6,4 +6,4 @@ use Rattle.rewriter.proofs.rewriting.duplicate_each.Given as goal
 
 -- what was put so far, and what is still put
 abbrev pub invariant-loop-number : goal.invariant-loop-number
-invariant-loop-number l = with_front l.members.items (grow_from (duplicate_of l.original l.class l.calls) l.number (drop l.number l.methods) l.pool) ≡ grow_from (duplicate_of l.original l.class l.calls) 0 l.methods l.initial.pool
+invariant-loop-number l = with_front l.members.items (grow_from (λ n m. duplicate_of l.original l.class l.calls n m.now) l.number (drop l.number l.methods) l.pool) ≡ grow_from (λ n m. duplicate_of l.original l.class l.calls n m.now) 0 l.methods l.initial.pool
