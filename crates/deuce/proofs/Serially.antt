@@ -15,7 +15,7 @@ use Rattle.jmodel.specs.Output.{journal_text}
 use Rattle.jmodel.proofs.Linked.{links, few_statics}
 use Rattle.jmodel.proofs.Opening.{opens}
 use Rattle.jmodel.proofs.SerialProof.{serial_of}
-use Rattle.machine.specs.Serial.{IsSerial, StandsFor, word_in}
+use Rattle.tx_core.specs.Serial.{IsSerial, StandsFor, word_in}
 use Rattle.deuce.specs.Headline.{budget, made_from, is_placed, call_of, AreCalls}
 use Rattle.deuce.specs.Rule.{IsRuled, HasRun, region_words}
 

@@ -2,7 +2,7 @@
 ghost use Rattle.std.specs.Prelude.{◌≡◌, ◌≤◌, ◌<◌, ◌+◌, ◌*◌, ◌^◌, ℕ, List, [], All, length, IfOk, OnOk};
 ghost use Rattle.jmodel.specs.ClassFile.{ClassFile};
 ghost use Rattle.jmodel.specs.Attempt.{Log};
-ghost use Rattle.jmodel.specs.History.{Entry};
+ghost use Rattle.jmodel.specs.History.{Call, Entry};
 ghost use Rattle.jmodel.specs.Linking.{linked};
 ghost use Rattle.jmodel.specs.Layout.{opening_words, opening_state};
 ghost use Rattle.jmodel.specs.Program.{method_at};
@@ -11,8 +11,9 @@ ghost use Rattle.deuce.specs.Rule.{IsRuled, IsReady, AddsCall, HasRun};
 
 use hierarchy::Program;
 use jmodel::{Answer, Bytes, Line, MethodName};
-use machine::{Engine, Limits, Machine};
+use machine::{Limits, Machine};
 use std::alloc::{AllocError, Global};
+use tx_core::Engine;
 
 /// What each call may use.
 pub const LIMITS: Limits = Limits {
@@ -41,6 +42,7 @@ fn call_next<E: Engine>(
     requires ready { IsReady original.now rewritten.now }
     requires number { number < length original.now.methods }
     requires alone { (s : E) (h : List Entry) (n : ℕ) (r w : Log) → E.stands s h n r w → n ≡ 0 }
+    requires awaits { (s : E) (c : Call) (used : ℕ) → E.awaits s c used }
     requires rule { (e : Entry) → IsRuled original.now e → E.allows e }
     requires clock { E.clock engine.old + 1000000 ≤ 2 ^ 40 }
     requires stands { (h : List Entry) × E.stands engine.old h 0 [] [] }
@@ -66,6 +68,7 @@ pub fn call_all<E: Engine>(
     requires numbers { All (λ m. m < length original.now.methods) numbers.now }
     requires few { length numbers.now ≤ 1000 }
     requires alone { (s : E) (h : List Entry) (n : ℕ) (r w : Log) → E.stands s h n r w → n ≡ 0 }
+    requires awaits { (s : E) (c : Call) (used : ℕ) → E.awaits s c used }
     requires rule { (e : Entry) → IsRuled original.now e → E.allows e }
     requires clock { E.clock engine.old ≡ 0 }
     requires stands { E.stands engine.old [] 0 [] [] }

@@ -11,10 +11,9 @@ use crate::calls::call_all;
 use crate::text::journal;
 use hierarchy::Program;
 use jmodel::Bytes;
-use machine::Solo;
-use machine::solo::Origin;
 use std::alloc::{AllocError, Global};
 use std::marker::Brand;
+use tx_core::{Origin, Solo};
 
 /// Calls methods of a program one after another, from the words that it begins with, and gives the text of their journal.
 /// The rewritten program is what runs. The numbers are those of methods of the original program.

@@ -11,7 +11,7 @@ use Rattle.jmodel.specs.Step.{Frames, Asked, Fails, step}
 use Rattle.jmodel.specs.Attempt.{Log, Bounds, Meter, Run, On, Ended, Stuck, Reply, Gives, on_request, on_asked, next_run, run, Comes}
 use Rattle.machine.specs.declared.failure.Failure.{Failure}
 use Rattle.machine.specs.declared.failure.Failure.TheVariants as failure
-use Rattle.jmodel.specs.History.{Entry}
+use Rattle.jmodel.specs.History.{Call, Entry}
 use Rattle.machine.specs.declared.running.Running.{Running}
 use Rattle.machine.specs.Running.{Holds, IsFinished, IsCommit}
 use Rattle.machine.specs.Meets.{IsStep}
@@ -71,10 +71,10 @@ finish_fails P B c fs gs m w r failure.Wrong h e = comes_on P B c _ _ (Gives 0) 
 finish_fails P B c fs gs m w r failure.NoMemory h e = tt
 
 -- a commit whose call has no value
-pub commit_fails : (P : Program) (B : Bounds) (c : Reply → Run) (allows : Entry → Type 0) (S : List Entry → ℕ → Log → Log → Type 0) (h : List Entry) (n used : ℕ) (r w : Log) (a : Running) (m : Meter) (e : Failure)
-    → IsFinished P B (c (Gives 0)) m w r (Err e) → Holds (S h) n a.stage a.tried r w → IsCommit P B c allows S h n used r w a (Err e)
-commit_fails P B c allows S h n used r w a m failure.Wrong f s = (s, f)
-commit_fails P B c allows S h n used r w a m failure.NoMemory f s =
+pub commit_fails : (P : Program) (B : Bounds) (c : Reply → Run) (A : Call → ℕ → Type 0) (allows : Entry → Type 0) (S : List Entry → ℕ → Log → Log → Type 0) (h : List Entry) (n used : ℕ) (r w : Log) (a : Running) (m : Meter) (e : Failure)
+    → IsFinished P B (c (Gives 0)) m w r (Err e) → Holds (S h) n a.stage a.tried r w → IsCommit P B c A allows S h n used r w a (Err e)
+commit_fails P B c A allows S h n used r w a m failure.Wrong f s = (s, f)
+commit_fails P B c A allows S h n used r w a m failure.NoMemory f s =
     record { conflicts = s.conflicts; reads = r; writes = w; later = s.later; stands = s.stands; idle = s.idle }
 
 -- what isn't Go and isn't Return is stuck

@@ -1,4 +1,3 @@
 pub mod Turn
 pub mod Comes
 pub mod Ends
-pub mod Serial

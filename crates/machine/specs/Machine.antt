@@ -1,15 +1,15 @@
 -- What a call of the machine adds to the history.
-use Rattle.std.specs.Prelude.{◌≡◌, ℕ, ◌+◌, ◌≤◌, List, [], ◌∷◌, ◌++◌, Result, Ok, Err, false}
+use Rattle.std.specs.Prelude.{◌≡◌, ◌≢◌, ℕ, ◌+◌, ◌≤◌, List, [], ◌∷◌, ◌++◌, Result, Ok, Err, false}
 use Rattle.jmodel.specs.declared.value.Answer.{Answer}
 use Rattle.jmodel.specs.declared.value.Answer.TheVariants.{Returned, Threw, Budget, Depth, Heap, Spent, NoMemory}
 use Rattle.jmodel.specs.declared.value.Stamp.{Stamp}
 use Rattle.jmodel.specs.Program.{Program}
-use Rattle.jmodel.specs.Attempt.{Log, Bounds, Meter, Ended, Stuck, Comes, run_start, Runs}
+use Rattle.jmodel.specs.Attempt.{Log, Bounds, Meter, Run, Ended, Stuck, Comes, run_start, Runs}
 use Rattle.jmodel.specs.History.{Call, Entry}
 use Rattle.jmodel.specs.Engine.{made}
 use Rattle.machine.specs.declared.machine.Limits.{Limits}
 use Rattle.machine.specs.declared.machine.Stuck.{Stuck as IsStuck}
-use Rattle.machine.specs.Engine.{IsOfWrites}
+use Rattle.tx_core.specs.Engine.{IsAllowed, IsOfWrites}
 
 abbrev pub bounds_of : Limits → Bounds
 bounds_of l = record { budget = l.budget; attempts = l.attempts }
@@ -21,6 +21,16 @@ unplaced = record { at = 0; update = false }
 -- each entry that the call may leave may be committed
 abbrev pub MayRun : (Entry → Type 0) → Program → Bounds → Call → ℕ → Type 0
 MayRun allows P B c used = (x : Answer) (stamp : Stamp) (r w : Log) → Runs P B c.method c.args used x w r → allows (made c x used used stamp r w)
+
+-- A call that runs from `start` may come next: each entry that it may leave may be committed.
+pub record MayStart (P : Program) (B : Bounds) (start : ℕ → Run) (allows : Entry → Type 0) (S : List Entry → ℕ → Log → Log → Type 0) (A : Call → ℕ → Type 0) : Type 0 where
+  pub history : List Entry
+  pub conflicts : ℕ
+  pub call : Call
+  pub used : ℕ
+  pub stands : S history conflicts [] []
+  pub awaits : A call used
+  pub allowed : (x : Answer) (M : Meter) (r w : Log) → x ≢ Spent → Comes P B (start used) (Ended x M w r) → IsAllowed allows x call used r w
 
 -- One entry more, of a run with this answer. Conflicts may have come before it.
 pub record AddsEntry (P : Program) (B : Bounds) (c : Call) (used : ℕ) (S : List Entry → ℕ → Log → Log → Type 0) (h : List Entry) (n : ℕ) (x : Answer) (stamp : Stamp) : Type 0 where

@@ -9,7 +9,7 @@ use Rattle.jmodel.specs.declared.op.Phase.TheVariants as phase
 use Rattle.jmodel.specs.Program.{Program}
 use Rattle.jmodel.specs.Step.{Frames}
 use Rattle.jmodel.specs.Attempt.{Log, Bounds, Meter, Run, On, Ended, Stuck, Reply, Gives, Refuses, on_commit, Comes, run_start}
-use Rattle.jmodel.specs.History.{Entry}
+use Rattle.jmodel.specs.History.{Call, Entry}
 use Rattle.machine.specs.declared.failure.Failure.{Failure}
 use Rattle.machine.specs.declared.failure.Failure.TheVariants as failure
 use Rattle.machine.specs.declared.running.Stage.{Stage}
@@ -18,7 +18,7 @@ use Rattle.machine.specs.declared.running.Todo.{Todo}
 use Rattle.machine.specs.declared.running.Todo.TheVariants.{Commit, Budget, Depth, Spent}
 use Rattle.machine.specs.declared.running.Running.{Running}
 use Rattle.machine.specs.Machine.{unplaced}
-use Rattle.machine.specs.Engine.{Adds, IsOfWrites}
+use Rattle.tx_core.specs.Engine.{Adds, IsAllowed, IsOfWrites}
 
 abbrev pub phase_of : Stage → Phase
 phase_of Ready = phase.Ready
@@ -92,20 +92,34 @@ IsFinished P B c m w r (Ok v) = Comes P B c (Ended (answer.Returned v) m w r)
 IsFinished P B c m w r (Err failure.Wrong) = Comes P B c Stuck
 IsFinished P B c m w r (Err failure.NoMemory) = Unit {0}
 
--- an entry of these reads and writes was added, whatever call they were of
-pub record HasAdded (allows : Entry → Type 0) (S : List Entry → ℕ → Log → Log → Type 0) (h : List Entry) (n : ℕ) (stamp : Stamp) (r w : Log) : Type 0 where
+-- an entry of the awaited call with this answer and these reads and writes was added
+pub record HasAdded (A : Call → ℕ → Type 0) (allows : Entry → Type 0) (S : List Entry → ℕ → Log → Log → Type 0) (h : List Entry) (n : ℕ) (x : Answer) (stamp : Stamp) (r w : Log) : Type 0 where
   pub conflicts : ℕ
   pub later : n ≤ conflicts
   pub stamped : IsOfWrites stamp w
-  pub adds : Adds allows S h conflicts stamp r w
+  pub adds : Adds A allows S h conflicts x stamp r w
+
+-- An open attempt, in which each value that the code after the commit may give may be the answer of an entry.
+pub record MayCommit (P : Program) (a : Running) (allows : Entry → Type 0) (S : List Entry → ℕ → Log → Log → Type 0) (A : Call → ℕ → Type 0) : Type 0 where
+  pub history : List Entry
+  pub conflicts : ℕ
+  pub reads : Log
+  pub writes : Log
+  pub call : Call
+  pub used : ℕ
+  pub bounds : Bounds
+  pub stands : S history conflicts reads writes
+  pub awaits : A call used
+  pub allowed : (v : Option Value) → Comes P bounds (on_commit (Gives 0) (frames a) (meter a used) writes reads) (Ended (answer.Returned v) (meter a used) writes reads)
+      → IsAllowed allows (answer.Returned v) call used reads writes
 
 -- a commit: c is the run by the engine's reply
-abbrev pub IsCommit : Program → Bounds → (Reply → Run) → (Entry → Type 0) → (List Entry → ℕ → Log → Log → Type 0) → List Entry → ℕ → ℕ → Log → Log → Running → Result (Option (Option Value × Stamp)) Failure → Type 0
-IsCommit P B c allows S h n used r w a (Ok (Some x)) =
-    Comes P B (c (Gives 0)) (Ended (answer.Returned x.0) (meter a used) w r) × HasAdded allows S h n x.1 r w
-IsCommit P B c allows S h n used r w a (Ok None) = (c Refuses ≡ at a used [] []) × Holds (S h) n a.stage a.tried [] []
-IsCommit P B c allows S h n used r w a (Err failure.Wrong) = Holds (S h) n a.stage a.tried r w × Comes P B (c (Gives 0)) Stuck
-IsCommit P B c allows S h n used r w a (Err failure.NoMemory) = Leaves (S h) n a.stage
+abbrev pub IsCommit : Program → Bounds → (Reply → Run) → (Call → ℕ → Type 0) → (Entry → Type 0) → (List Entry → ℕ → Log → Log → Type 0) → List Entry → ℕ → ℕ → Log → Log → Running → Result (Option (Option Value × Stamp)) Failure → Type 0
+IsCommit P B c A allows S h n used r w a (Ok (Some x)) =
+    Comes P B (c (Gives 0)) (Ended (answer.Returned x.0) (meter a used) w r) × HasAdded A allows S h n (answer.Returned x.0) x.1 r w
+IsCommit P B c A allows S h n used r w a (Ok None) = (c Refuses ≡ at a used [] []) × Holds (S h) n a.stage a.tried [] []
+IsCommit P B c A allows S h n used r w a (Err failure.Wrong) = Holds (S h) n a.stage a.tried r w × Comes P B (c (Gives 0)) Stuck
+IsCommit P B c A allows S h n used r w a (Err failure.NoMemory) = Leaves (S h) n a.stage
 
 -- the start of a call
 abbrev pub IsStarted : Program → ℕ → List Value → ℕ → Result Running Failure → Type 0
@@ -114,12 +128,12 @@ IsStarted P m args used (Err failure.Wrong) = run_start P m args used ≡ Stuck
 IsStarted P m args used (Err failure.NoMemory) = Unit {0}
 
 -- a run that ended with an entry
-pub record Ends (P : Program) (B : Bounds) (c : Run) (allows : Entry → Type 0) (S : List Entry → ℕ → Log → Log → Type 0) (h : List Entry) (n : ℕ) (x : Answer) (stamp : Stamp) : Type 0 where
+pub record Ends (P : Program) (B : Bounds) (c : Run) (A : Call → ℕ → Type 0) (allows : Entry → Type 0) (S : List Entry → ℕ → Log → Log → Type 0) (h : List Entry) (n : ℕ) (x : Answer) (stamp : Stamp) : Type 0 where
   pub reads : Log
   pub writes : Log
   pub meter_then : Meter
   pub comes : Comes P B c (Ended x meter_then writes reads)
-  pub added : HasAdded allows S h n stamp reads writes
+  pub added : HasAdded A allows S h n x stamp reads writes
 
 -- the attempts were used up, each by a conflict
 pub record IsSpent (P : Program) (B : Bounds) (c : Run) (S : ℕ → Log → Log → Type 0) (n : ℕ) : Type 0 where
@@ -128,14 +142,14 @@ pub record IsSpent (P : Program) (B : Bounds) (c : Run) (S : ℕ → Log → Log
   pub stands : S (n + meter_then.tried) [] []
 
 -- how a run ends; E says what is known after an error
-abbrev pub IsEnd : Program → Bounds → Run → (Entry → Type 0) → (List Entry → ℕ → Log → Log → Type 0) → List Entry → ℕ → Type 0 → Result (Answer × Stamp) Failure → Type 0
-IsEnd P B c allows S h n E (Ok (answer.Returned v, stamp)) = Ends P B c allows S h n (answer.Returned v) stamp
-IsEnd P B c allows S h n E (Ok (answer.Budget, stamp)) = Ends P B c allows S h n answer.Budget stamp
-IsEnd P B c allows S h n E (Ok (answer.Depth, stamp)) = Ends P B c allows S h n answer.Depth stamp
-IsEnd P B c allows S h n E (Ok (answer.Spent, stamp)) = IsSpent P B c (S h) n × (stamp ≡ unplaced)
-IsEnd P B c allows S h n E (Ok x) = ⊥
-IsEnd P B c allows S h n E (Err failure.Wrong) = E × Comes P B c Stuck
-IsEnd P B c allows S h n E (Err failure.NoMemory) = E
+abbrev pub IsEnd : Program → Bounds → Run → (Call → ℕ → Type 0) → (Entry → Type 0) → (List Entry → ℕ → Log → Log → Type 0) → List Entry → ℕ → Type 0 → Result (Answer × Stamp) Failure → Type 0
+IsEnd P B c A allows S h n E (Ok (answer.Returned v, stamp)) = Ends P B c A allows S h n (answer.Returned v) stamp
+IsEnd P B c A allows S h n E (Ok (answer.Budget, stamp)) = Ends P B c A allows S h n answer.Budget stamp
+IsEnd P B c A allows S h n E (Ok (answer.Depth, stamp)) = Ends P B c A allows S h n answer.Depth stamp
+IsEnd P B c A allows S h n E (Ok (answer.Spent, stamp)) = IsSpent P B c (S h) n × (stamp ≡ unplaced)
+IsEnd P B c A allows S h n E (Ok x) = ⊥
+IsEnd P B c A allows S h n E (Err failure.Wrong) = E × Comes P B c Stuck
+IsEnd P B c A allows S h n E (Err failure.NoMemory) = E
 
 -- a call that began as c has come to where it stands
 pub record OnWay (P : Program) (B : Bounds) (c : Run) (S : ℕ → Log → Log → Type 0) (n : ℕ) (a : Running) (used : ℕ) : Type 0 where

@@ -1,24 +1,25 @@
 //! The commit of an attempt. What the wrapper does after it is found out first, since nothing may fail once an entry stands.
-ghost use Rattle.std.specs.Prelude.{◌≡◌, ◌<◌, ◌+◌, ◌^◌, ℕ, List, [], ◌∷◌};
+ghost use Rattle.std.specs.Prelude.{◌≡◌, ◌<◌, ◌+◌, ◌^◌, ℕ, List, [], ◌∷◌, IfOk};
 ghost use Rattle.jmodel.specs.Attempt.{Log, Bounds, Meter, On, on_commit};
-ghost use Rattle.jmodel.specs.History.{Entry};
+ghost use Rattle.jmodel.specs.History.{Call, Entry};
 ghost use Rattle.jmodel.specs.Step.{resumed};
 ghost use Rattle.jmodel.specs.declared.op.Phase.TheVariants as phase;
 ghost use Rattle.jmodel.specs.declared.op.Slot.TheVariants as slot;
 ghost use Rattle.std.specs.Prelude.{pos};
 ghost use Rattle.machine.specs.declared.running.Stage.TheVariants as stage;
-ghost use Rattle.machine.specs.Running.{frames, meter, Holds, IsWithin, IsFinished, IsCommit};
+ghost use Rattle.machine.specs.Running.{frames, meter, Holds, IsWithin, IsFinished, MayCommit, IsCommit};
 
 use crate::callers::Callers;
-use crate::engine::{Engine, TxEnd};
 use crate::failure::Failure;
 use crate::frame::Frame;
 use crate::running::{Running, Stage};
 use crate::step::step;
 use hierarchy::program::Program;
 use jmodel::op::{Asking, Slot};
-use jmodel::value::{Stamp, Value};
+use jmodel::value::{Answer, Stamp, Value};
 use std::alloc::Global;
+use std::snapshot::Snapshot;
+use tx_core::{Engine, TxEnd};
 
 /// Runs the code after a commit to its end, and answers what it gives. `Wrong` where it asks for anything.
 fn finish(
@@ -63,13 +64,17 @@ impl Running {
         requires next { self.old.frame.pc + 1 < 2 ^ 64 }
         requires open { self.old.stage ≡ stage.Open }
         requires clock { E.clock engine.old < 2 ^ 40 }
+        requires begun { E.is_open engine.old }
+        requires allowed { E.is_shared → MayCommit program.now self.old E.allows (E.stands engine.old) (E.awaits engine.old) }
         ensures run { (h : List Entry) (n used : ℕ) (r w : Log) → Holds (E.stands engine.old h) n stage.Open self.old.tried r w
-            → (B : Bounds) → IsCommit program.now B (λ v. on_commit v (frames self.old) (meter self.old used) w r) E.allows (E.stands engine.new) h n used r w self.new result }
+            → (B : Bounds) → IsCommit program.now B (λ v. on_commit v (frames self.old) (meter self.old used) w r) (E.awaits engine.old) E.allows (E.stands engine.new) h n used r w self.new result }
         ensures ticks { (t attempts : ℕ) → IsWithin t attempts (E.clock engine.old) stage.Open self.old.tried
             → IsWithin t attempts (E.clock engine.new) self.new.stage self.new.tried }
+        ensures closed { IfOk result (λ _. self.new.stage ≡ stage.Ready) }
+        ensures awaits { (c : Call) (used : ℕ) → E.awaits engine.old c used → IfOk result (λ end. end ≡ None → E.awaits engine.new c used) }
     {
         let value = self.value_committed(alloc, program)?;
-        let end = engine.commit();
+        let end = engine.commit(Snapshot::of(&Answer::Returned(value)));
         self.stage = Stage::Ready;
         match end {
             Ok(stamp) => Ok(Some((value, stamp))),

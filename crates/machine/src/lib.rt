@@ -3,19 +3,15 @@
 
 pub mod callers;
 pub mod commit;
-pub mod engine;
 pub mod failure;
 pub mod frame;
 pub mod machine;
 pub mod running;
-pub mod solo;
 pub mod stack;
 pub mod step;
 pub mod value;
 
-pub use engine::{Conflict, Engine, TxEnd};
 pub use machine::{Limits, Machine, Stuck};
-pub use solo::Solo;
 
 #[cfg(test)]
 mod tests;

@@ -3,15 +3,16 @@ ghost use Rattle.std.specs.Prelude.{◌≡◌, ◌≤◌, ◌+◌, ◌^◌, ℕ,
 ghost use Rattle.jmodel.specs.Attempt.{run_start};
 ghost use Rattle.jmodel.specs.History.{Call, Entry};
 ghost use Rattle.machine.specs.declared.running.Stage.TheVariants as stage;
-ghost use Rattle.machine.specs.Machine.{bounds_of, MayRun, AddsRun, AddsNone, CanAnswer};
+ghost use Rattle.machine.specs.Machine.{bounds_of, MayRun, MayStart, AddsRun, AddsNone, CanAnswer};
 ghost use Rattle.machine.specs.Running.{at, Leaves, IsEnd};
 
-use crate::engine::Engine;
 use crate::failure::Failure;
 use crate::running::{Running, Stage, Todo};
 use hierarchy::program::Program;
 use jmodel::value::{Answer, Stamp, Value};
 use std::alloc::Global;
+use std::snapshot::Snapshot;
+use tx_core::Engine;
 
 /// What a call may use: turns in each attempt, and attempts.
 #[derive(Clone, Copy, Debug)]
@@ -45,9 +46,11 @@ impl Machine {
         method: usize,
         args: &[Value],
     ) -> Result<(Answer, Stamp), Stuck>
-        requires { E.clock tx.old + limits.attempts ≤ 2 ^ 40 }
-        // Where each entry that the call may leave may be committed, it adds one, or says why it adds none.
-        ensures run { (h : List Entry) (n : ℕ) (c : Call) (used : ℕ) → E.stands tx.old h n [] [] → c.method ≡ method → c.args ≡ args.now
+        requires clock { E.clock tx.old + limits.attempts ≤ 2 ^ 40 }
+        // Over an engine that is shared: it awaits a call of this method, and each entry that the call may leave may be committed.
+        requires ready { E.is_shared → MayStart program.now (bounds_of limits) (run_start program.now method args.now) E.allows (E.stands tx.old) (E.awaits tx.old) }
+        // The call adds an entry, or says why it adds none.
+        ensures run { (h : List Entry) (n : ℕ) (c : Call) (used : ℕ) → E.stands tx.old h n [] [] → E.awaits tx.old c used → c.method ≡ method → c.args ≡ args.now
             → MayRun E.allows program.now (bounds_of limits) c used
             → AddsRun program.now (bounds_of limits) c used (E.stands tx.new) h n result }
         ensures answers { IfOk result (λ p. CanAnswer p.0) }
@@ -70,9 +73,10 @@ fn attempts<E: Engine>(
     method: usize,
     args: &[Value],
 ) -> Result<(Answer, Stamp), Failure>
-    requires { E.clock tx.old + limits.attempts ≤ 2 ^ 40 }
+    requires clock { E.clock tx.old + limits.attempts ≤ 2 ^ 40 }
+    requires ready { E.is_shared → MayStart program.now (bounds_of limits) (run_start program.now method args.now) E.allows (E.stands tx.old) (E.awaits tx.old) }
     ensures run { (h : List Entry) (n used : ℕ) → E.stands tx.old h n [] []
-        → IsEnd program.now (bounds_of limits) (run_start program.now method args.now used) E.allows (E.stands tx.new) h n (AddsNone (E.stands tx.new h) n) result }
+        → IsEnd program.now (bounds_of limits) (run_start program.now method args.now used) (E.awaits tx.old) E.allows (E.stands tx.new) h n (AddsNone (E.stands tx.new h) n) result }
     ensures answers { IfOk result (λ p. CanAnswer p.0) }
     ensures ticks { E.clock tx.new ≤ E.clock tx.old + limits.attempts }
 {
@@ -98,8 +102,9 @@ impl Running {
         requires stage { self.old.stage ≡ stage.Ready }
         requires tried { self.old.tried ≡ 0 }
         requires clock { E.clock tx.old + limits.attempts ≤ 2 ^ 40 }
+        requires ready { E.is_shared → MayStart program.now (bounds_of limits) (λ used. at self.old used [] []) E.allows (E.stands tx.old) (E.awaits tx.old) }
         ensures run { (h : List Entry) (n used : ℕ) → E.stands tx.old h n [] []
-            → IsEnd program.now (bounds_of limits) (at self.old used [] []) E.allows (E.stands tx.new) h n (Leaves (E.stands tx.new h) n self.new.stage) result }
+            → IsEnd program.now (bounds_of limits) (at self.old used [] []) (E.awaits tx.old) E.allows (E.stands tx.new) h n (Leaves (E.stands tx.new h) n self.new.stage) result }
         ensures answers { IfOk result (λ p. CanAnswer p.0) }
         ensures ticks { E.clock tx.new ≤ E.clock tx.old + limits.attempts }
     {
@@ -111,8 +116,14 @@ impl Running {
                         return Ok((Answer::Returned(value), stamp));
                     }
                 }
-                Todo::Budget => return Ok((Answer::Budget, tx.finish_refused())),
-                Todo::Depth => return Ok((Answer::Depth, tx.finish_refused())),
+                Todo::Budget => {
+                    let stamp = tx.finish_refused(Snapshot::of(&Answer::Budget));
+                    return Ok((Answer::Budget, stamp));
+                }
+                Todo::Depth => {
+                    let stamp = tx.finish_refused(Snapshot::of(&Answer::Depth));
+                    return Ok((Answer::Depth, stamp));
+                }
                 Todo::Spent => return Ok((Answer::Spent, UNPLACED)),
             }
         }

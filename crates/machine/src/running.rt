@@ -2,7 +2,7 @@
 ghost use Rattle.std.specs.Prelude.{◌≡◌, ◌≢◌, ◌<◌, ◌+◌, ◌^◌, ℕ, List, [], ◌∷◌, IfOk};
 ghost use Rattle.jmodel.specs.Attempt.{Log, Bounds, On, address, next_run, on_request, entered, unwound};
 ghost use Rattle.jmodel.specs.Program.{Program as JProgram};
-ghost use Rattle.jmodel.specs.History.{Entry};
+ghost use Rattle.jmodel.specs.History.{Call, Entry};
 ghost use Rattle.jmodel.specs.declared.op.Request.TheVariants as request;
 ghost use Rattle.jmodel.specs.Step.{unwinds};
 ghost use Rattle.machine.specs.declared.running.Stage.TheVariants as stage;
@@ -12,7 +12,6 @@ ghost use Rattle.machine.specs.Machine.{bounds_of};
 ghost use Rattle.machine.specs.Running.{at, frames, meter, phase_of, Holds, IsWithin, IsTurn};
 
 use crate::callers::Callers;
-use crate::engine::{Engine, TxEnd};
 use crate::failure::Failure;
 use crate::frame::Frame;
 use crate::machine::Limits;
@@ -23,6 +22,7 @@ use hierarchy::program::Program;
 use jmodel::op::{Asking, Place, Request, Slot, WordType};
 use jmodel::value::Value;
 use std::alloc::Global;
+use tx_core::{Engine, TxEnd};
 
 /// Where a call stands before its commit.
 #[derive(Clone, Copy, Debug)]
@@ -98,6 +98,7 @@ impl Running {
         ensures not_spent { result ≢ Ok Todo.Spent }
         ensures stage { self.new.stage ≡ self.old.stage }
         ensures tried { self.new.tried ≡ self.old.tried }
+        ensures open { IfOk result (λ _. self.new.stage ≡ stage.Open) }
     {
         if !matches!(self.stage, Stage::Open) {
             return Err(Failure::Wrong);
@@ -182,6 +183,10 @@ impl Running {
         ensures spent { result ≡ Ok Todo.Spent → self.new.stage ≡ stage.Ready }
         ensures ticks { (t : ℕ) → IsWithin t limits.attempts (E.clock engine.old) self.old.stage self.old.tried
             → IsWithin t limits.attempts (E.clock engine.new) self.new.stage self.new.tried }
+        ensures open { IfOk result (λ _. self.new.stage ≡ stage.Open → E.is_open engine.new) }
+        ensures awaits { (c : Call) (used : ℕ) → E.awaits engine.old c used → E.awaits engine.new c used }
+        ensures budget { result ≡ Ok Todo.Budget → self.new.stage ≡ stage.Open }
+        ensures depth { result ≡ Ok Todo.Depth → self.new.stage ≡ stage.Open }
     {
         let most = u64::try_from(retries).unwrap_or(0).min(limits.attempts);
         if self.tried >= most {
@@ -205,12 +210,15 @@ impl Running {
         requires stage { self.old.stage ≡ stage.Open }
         requires next { self.old.frame.pc + 1 < 2 ^ 64 }
         requires address { place.object + place.index < 2 ^ 64 }
+        requires begun { E.is_open engine.old }
         ensures run { (h : List Entry) (n used : ℕ) (r w : Log) → Holds (E.stands engine.old h) n stage.Open self.old.tried r w
             → (B : Bounds) → IsTurn (λ v. on_request program.now B (request.Look place) phase.Open v (frames self.old) (meter self.old used) w r)
             (Holds (E.stands engine.new h) n self.new.stage self.new.tried) used self.new result }
         ensures go { IfOk result (λ todo. todo ≡ Todo.Go) }
         ensures ticks { (t attempts : ℕ) → IsWithin t attempts (E.clock engine.old) self.old.stage self.old.tried
             → IsWithin t attempts (E.clock engine.new) self.new.stage self.new.tried }
+        ensures open { IfOk result (λ _. self.new.stage ≡ stage.Open → E.is_open engine.new) }
+        ensures awaits { (c : Call) (used : ℕ) → E.awaits engine.old c used → E.awaits engine.new c used }
     {
         match engine.before_read(address(place)) {
             Ok(()) => {
@@ -232,12 +240,15 @@ impl Running {
         requires stage { self.old.stage ≡ stage.Open }
         requires next { self.old.frame.pc + 1 < 2 ^ 64 }
         requires address { place.object + place.index < 2 ^ 64 }
+        requires begun { E.is_open engine.old }
         ensures run { (h : List Entry) (n used : ℕ) (r w : Log) → Holds (E.stands engine.old h) n stage.Open self.old.tried r w
             → (B : Bounds) → IsTurn (λ v. on_request program.now B (request.Read place word_type) phase.Open v (frames self.old) (meter self.old used) w r)
             (Holds (E.stands engine.new h) n self.new.stage self.new.tried) used self.new result }
         ensures go { IfOk result (λ todo. todo ≡ Todo.Go) }
         ensures ticks { (t attempts : ℕ) → IsWithin t attempts (E.clock engine.old) self.old.stage self.old.tried
             → IsWithin t attempts (E.clock engine.new) self.new.stage self.new.tried }
+        ensures open { IfOk result (λ _. self.new.stage ≡ stage.Open → E.is_open engine.new) }
+        ensures awaits { (c : Call) (used : ℕ) → E.awaits engine.old c used → E.awaits engine.new c used }
     {
         let address = address(place);
         let raw = engine.raw(address);
@@ -259,12 +270,15 @@ impl Running {
         requires stage { self.old.stage ≡ stage.Open }
         requires next { self.old.frame.pc + 1 < 2 ^ 64 }
         requires address { place.object + place.index < 2 ^ 64 }
+        requires begun { E.is_open engine.old }
         ensures run { (h : List Entry) (n used : ℕ) (r w : Log) → Holds (E.stands engine.old h) n stage.Open self.old.tried r w
             → (B : Bounds) → IsTurn (λ v. on_request program.now B (request.Write place word) phase.Open v (frames self.old) (meter self.old used) w r)
             (Holds (E.stands engine.new h) n self.new.stage self.new.tried) used self.new result }
         ensures go { IfOk result (λ todo. todo ≡ Todo.Go) }
         ensures ticks { (t attempts : ℕ) → IsWithin t attempts (E.clock engine.old) self.old.stage self.old.tried
             → IsWithin t attempts (E.clock engine.new) self.new.stage self.new.tried }
+        ensures open { IfOk result (λ _. self.new.stage ≡ stage.Open → E.is_open engine.new) }
+        ensures awaits { (c : Call) (used : ℕ) → E.awaits engine.old c used → E.awaits engine.new c used }
     {
         match engine.on_write(address(place), word) {
             Ok(()) => {
@@ -286,6 +300,8 @@ impl Running {
         ensures go { IfOk result (λ todo. todo ≡ Todo.Go) }
         ensures ticks { (t attempts : ℕ) → IsWithin t attempts (E.clock engine.old) self.old.stage self.old.tried
             → IsWithin t attempts (E.clock engine.new) self.new.stage self.new.tried }
+        ensures open { IfOk result (λ _. self.new.stage ≡ stage.Open → E.is_open engine.new) }
+        ensures awaits { (c : Call) (used : ℕ) → E.awaits engine.old c used → E.awaits engine.new c used }
     {
         engine.rollback();
         self.stage = Stage::Ready;
@@ -301,7 +317,8 @@ impl Running {
         engine: &mut E,
         request: Request,
     ) -> Result<Todo, Failure>
-        requires { HasAddress request × (self.old.frame.pc + 1 < 2 ^ 64) }
+        requires can { HasAddress request × (self.old.frame.pc + 1 < 2 ^ 64) }
+        requires begun { self.old.stage ≡ stage.Open → E.is_open engine.old }
         ensures run { (h : List Entry) (n used : ℕ) (r w : Log) → Holds (E.stands engine.old h) n self.old.stage self.old.tried r w
             → IsTurn (λ v. on_request program.now (bounds_of limits) request (phase_of self.old.stage) v (frames self.old) (meter self.old used) w r)
             (Holds (E.stands engine.new h) n self.new.stage self.new.tried) used self.new result }
@@ -310,6 +327,10 @@ impl Running {
         ensures open { result ≡ Ok Todo.Commit → self.new.stage ≡ stage.Open }
         ensures next { result ≡ Ok Todo.Commit → self.new.frame.pc + 1 < 2 ^ 64 }
         ensures spent { result ≡ Ok Todo.Spent → self.new.stage ≡ stage.Ready }
+        ensures begun { IfOk result (λ _. self.new.stage ≡ stage.Open → E.is_open engine.new) }
+        ensures awaits { (c : Call) (used : ℕ) → E.awaits engine.old c used → E.awaits engine.new c used }
+        ensures budget { result ≡ Ok Todo.Budget → self.new.stage ≡ stage.Open }
+        ensures depth { result ≡ Ok Todo.Depth → self.new.stage ≡ stage.Open }
     {
         match (request, self.stage) {
             (Request::Begin(retries), Stage::Ready) => self.begin(limits, engine, retries),
@@ -333,6 +354,7 @@ impl Running {
         limits: Limits,
         engine: &mut E,
     ) -> Result<Todo, Failure>
+        requires begun { self.old.stage ≡ stage.Open → E.is_open engine.old }
         ensures run { (h : List Entry) (n used : ℕ) (r w : Log) → Holds (E.stands engine.old h) n self.old.stage self.old.tried r w
             → IsTurn (λ v. next_run program.now (bounds_of limits) v (at self.old used w r)) (Holds (E.stands engine.new h) n self.new.stage self.new.tried) used self.new result }
         ensures ticks { (t : ℕ) → IsWithin t limits.attempts (E.clock engine.old) self.old.stage self.old.tried
@@ -340,6 +362,10 @@ impl Running {
         ensures open { result ≡ Ok Todo.Commit → self.new.stage ≡ stage.Open }
         ensures next { result ≡ Ok Todo.Commit → self.new.frame.pc + 1 < 2 ^ 64 }
         ensures spent { result ≡ Ok Todo.Spent → self.new.stage ≡ stage.Ready }
+        ensures begun { IfOk result (λ _. self.new.stage ≡ stage.Open → E.is_open engine.new) }
+        ensures awaits { (c : Call) (used : ℕ) → E.awaits engine.old c used → E.awaits engine.new c used }
+        ensures budget { result ≡ Ok Todo.Budget → self.new.stage ≡ stage.Open }
+        ensures depth { result ≡ Ok Todo.Depth → self.new.stage ≡ stage.Open }
     {
         match step(alloc, program, &mut self.frame, &mut self.callers)? {
             Asking::Go => Ok(Todo::Go),

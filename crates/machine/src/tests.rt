@@ -1,9 +1,7 @@
 //! A counter's rewritten code, put together by hand, over the engine for one thread.
 ghost use Rattle.std.specs.Prelude.{◌≡◌, ◌+◌, ◌≤◌, ◌^◌};
 
-use crate::engine::{Conflict, Engine, TxEnd};
 use crate::machine::{Limits, Machine, Stuck};
-use crate::solo::Solo;
 use hierarchy::program::{Field, Method, Program};
 use jmodel::bytes::Bytes;
 use jmodel::name::MethodName;
@@ -11,6 +9,8 @@ use jmodel::op::{Binary, Catch, Catches, ContextCall, Op, Place, Rearrange, Test
 use jmodel::value::{Answer, Stamp, Value};
 use std::alloc::{AllocError, Global};
 use std::marker::Brand;
+use std::snapshot::Snapshot;
+use tx_core::{Conflict, Engine, Solo, TxEnd};
 
 const RETRIES: i32 = 3;
 
@@ -151,7 +151,13 @@ struct Refusing {
 impl Engine for Refusing {
     ghost stands = { λ s h n r w. ⊥ };
 
+    ghost is_open = { λ s. Unit {0} };
+
+    ghost awaits = { λ s c used. Unit {0} };
+
     ghost allows = { λ e. Unit {0} };
+
+    ghost is_shared = { ⊥ };
 
     ghost clock = { λ s. s.solo.clock };
 
@@ -183,12 +189,12 @@ impl Engine for Refusing {
         self.solo.on_write(address, word)
     }
 
-    fn commit(&mut self) -> Result<Stamp, TxEnd> {
-        self.solo.commit()
+    fn commit(&mut self, answer: Snapshot<Answer>) -> Result<Stamp, TxEnd> {
+        self.solo.commit(answer)
     }
 
-    fn finish_refused(&mut self) -> Stamp {
-        self.solo.finish_refused()
+    fn finish_refused(&mut self, answer: Snapshot<Answer>) -> Stamp {
+        self.solo.finish_refused(answer)
     }
 
     fn rollback(&mut self) {

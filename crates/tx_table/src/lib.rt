@@ -8,7 +8,7 @@ pub mod reading;
 pub mod shared;
 pub mod writing;
 
-pub use shared::{Conflict, Pass, Shared, Story};
+pub use shared::{Pass, Shared, Story};
 
 #[cfg(test)]
 mod tests;

@@ -8,9 +8,10 @@ ghost use Rattle.jmodel.specs.Plays.{begun, lost_at, loaded_at, logged, value_in
 ghost use Rattle.tx_table.specs.Passes.{book, IsOf, IsSame};
 
 use crate::law::{Adding, Begin, Beginning, Checking, Finish, Load, Look, Looking, Recheck};
-use crate::shared::{Conflict, Pass, Shared, Story};
+use crate::shared::{Pass, Shared, Story};
 use jmodel::Stamp;
 use std::marker::Brand;
+use tx_core::Conflict;
 
 impl Pass {
     /// Begins an attempt at a call, which contracts alone see. Its reads are to hold up to the answer, the clock's value.

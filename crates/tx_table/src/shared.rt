@@ -41,12 +41,3 @@ pub struct Pass {
     pub(crate) word: u64,
     ghost tied: { (bound ≡ seat.me.0.bound) × (number ≡ seat.me.0.face.number) × (tick ≡ seat.me.0.face.tick) × (number < 2 ^ 20) × (tick < 2 ^ 62) × (fresh ≡ seat.me.0.fresh) × (ticks ≡ seat.me.0.ticks) × (0 < seat.me.0.numbers) × (seat.me.1 ≡ []) × (word ≡ word_in seat.me.0.look word) },
 }
-
-/// A conflict with another pass, at an address that the attempt reads or writes: the word seen at its stripe, and the bound
-/// up to which the attempt's reads hold.
-#[derive(Clone, Copy, Debug)]
-pub struct Conflict {
-    pub address: u64,
-    pub word: u64,
-    pub upto: u64,
-}

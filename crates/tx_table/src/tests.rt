@@ -4,10 +4,11 @@ ghost use Rattle.jmodel.specs.Book.{Unticked};
 ghost use Rattle.tx_table.specs.Passes.{book, IsOf, IsSame, IsKin};
 ghost use Rattle.tx_table.specs.Trials.{the_call, Ready};
 
-use crate::shared::{Conflict, Pass, Shared, Story};
+use crate::shared::{Pass, Shared, Story};
 use jmodel::NoMemory;
 use std::snapshot::Snapshot;
 use std::thread::{Threads, join_mut};
+use tx_core::Conflict;
 
 /// A story of these words, two regions, and any entries.
 #[derive(Drop)]

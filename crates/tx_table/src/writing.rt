@@ -10,8 +10,9 @@ use crate::law::{
     Adding, Decide, Keeping, Naming, ReleaseNew, ReleaseOld, Take, Tick, Validate, WriteBack,
     Writing,
 };
-use crate::shared::{Conflict, Pass, Shared, Story};
+use crate::shared::{Pass, Shared, Story};
 use std::marker::Brand;
+use tx_core::Conflict;
 
 impl Pass {
     /// How often this pass has moved the clock.

@@ -1,5 +1,6 @@
-use Rattle.std.proofs.Common.{ℕ, List, []}
-use Rattle.jmodel.specs.History.{Entry}
+use Rattle.std.proofs.Common.{◌≡◌, ℕ, List, []}
+use Rattle.jmodel.specs.History.{Call, Entry}
+use Rattle.machine.specs.declared.running.Stage.TheVariants.{Open}
 use Rattle.machine.specs.Machine.{bounds_of}
 use Rattle.machine.specs.Running.{at, IsWithin, OnWay}
 use Rattle.machine.proofs.running.Running.run.Given as goal
@@ -7,5 +8,7 @@ use Rattle.machine.proofs.running.Running.run.Given as goal
 abbrev pub invariant-loop : goal.invariant-loop
 invariant-loop g l =
     IsWithin (g.E.Engine.clock l.initial.tx) l.limits.attempts (g.E.Engine.clock l.tx) l.self.stage l.self.tried
+    × (l.self.stage ≡ Open → g.E.Engine.is_open l.tx)
+    × ((c : Call) (used : ℕ) → g.E.Engine.awaits l.initial.tx c used → g.E.Engine.awaits l.tx c used)
     × ((h : List Entry) (n used : ℕ) → g.E.Engine.stands l.initial.tx h n [] []
     → OnWay l.program (bounds_of l.limits) (at l.initial.self used [] []) (g.E.Engine.stands l.tx h) n l.self used)

@@ -1,5 +1,6 @@
 //! What runs the reads and writes of attempts.
-use jmodel::value::Stamp;
+use jmodel::value::{Answer, Stamp};
+use std::snapshot::Snapshot;
 
 /// Why an attempt was refused: an address that it reads or writes, the word seen there by which others tell who writes
 /// it, and the newest version that the attempt could have read.
@@ -20,18 +21,30 @@ pub enum TxEnd {
 /// The attempts of one lane, one after the other. `begin` stands outside an attempt, `ticks` anywhere, and the other
 /// calls inside an attempt; `on_read` follows `before_read` and `raw` of the same address, with the word that `raw` gave.
 /// After an `Err` only `rollback` follows, except that a `commit` which answers one has rolled back itself.
+///
+/// An engine may share its words with others, and then its entry is one for all from a step inside `commit` on. So what
+/// the call answers is told to `commit` and `finish_refused`, for contracts alone.
 pub trait Engine {
-    ghost use Rattle.std.specs.Prelude.{◌≡◌, ◌<◌, ◌≤◌, ◌+◌, ◌^◌, [], ◌∷◌, ◌++◌, ℕ, List, MatchResult};
+    ghost use Rattle.std.specs.Prelude.{◌≡◌, ◌<◌, ◌≤◌, ◌+◌, ◌^◌, [], ◌∷◌, ◌++◌, ℕ, List, MatchResult, IfOk, IfErr};
     ghost use Rattle.jmodel.specs.Attempt.{Log, access, answered, recorded, written};
-    ghost use Rattle.jmodel.specs.History.{Entry};
-    ghost use Rattle.machine.specs.Engine.{raised, Adds, IsOfWrites};
+    ghost use Rattle.jmodel.specs.History.{Call, Entry};
+    ghost use Rattle.tx_core.specs.Engine.{raised, Adds, MayEnd, IsOfWrites};
 
     /// The entries that were committed, the oldest first; the conflicts met so far; and what the attempt has read and
     /// written, the last first.
     ghost stands: { Self → List Entry → ℕ → Log → Log → Type 0 };
 
+    /// An attempt has begun, and neither ended nor met a conflict.
+    ghost is_open: { Self → Type 0 };
+
+    /// The call that attempts are made at, and the used words of its region before it.
+    ghost awaits: { Self → Call → ℕ → Type 0 };
+
     /// What may be committed.
     ghost allows: { Entry → Type 0 };
+
+    /// Others commit entries to the same history. Then an attempt may end with an entry that may be committed, and no other.
+    ghost is_shared: { Type 0 };
 
     /// How often the clock was raised by commits.
     ghost clock: { Self → ℕ };
@@ -39,48 +52,68 @@ pub trait Engine {
     /// Begins an attempt. No memory.
     fn begin(&mut self)
         ensures run { (h : List Entry) (n : ℕ) → stands self.old h n [] [] → stands self.new h n [] [] }
+        ensures open { is_open self.new }
+        ensures awaits { (c : Call) (used : ℕ) → awaits self.old c used → awaits self.new c used }
         ensures ticks { clock self.new ≡ clock self.old };
 
     /// Before a read. No memory.
     fn before_read(&mut self, address: u64) -> Result<(), Conflict>
+        requires { is_open self.old }
         ensures run { (h : List Entry) (n : ℕ) (r w : Log) → stands self.old h n r w
             → MatchResult result (λ _. stands self.new h n r w) (λ _. stands self.new h (n + 1) r w) }
+        ensures open { IfOk result (λ _. is_open self.new) }
+        ensures awaits { (c : Call) (used : ℕ) → awaits self.old c used → awaits self.new c used }
         ensures ticks { clock self.new ≡ clock self.old };
 
     /// The word as it lies there, whoever wrote it. No memory.
     fn raw(&mut self, address: u64) -> u64
+        requires { is_open self.old }
         ensures run { (h : List Entry) (n : ℕ) (r w : Log) → stands self.old h n r w → stands self.new h n r w }
+        ensures open { is_open self.new }
+        ensures awaits { (c : Call) (used : ℕ) → awaits self.old c used → awaits self.new c used }
         ensures ticks { clock self.new ≡ clock self.old };
 
     /// The attempt's own last word there, or else a word that was committed there, which it logs as read.
     fn on_read(&mut self, address: u64, raw: u64) -> Result<u64, TxEnd>
+        requires { is_open self.old }
         ensures run { (h : List Entry) (n : ℕ) (r w : Log) → stands self.old h n r w
             → MatchResult result (λ word. (word ≡ answered w address word) × stands self.new h n (recorded (written w address) address word r) w)
             (λ end. stands self.new h (raised end n) r w) }
+        ensures open { IfOk result (λ _. is_open self.new) }
+        ensures awaits { (c : Call) (used : ℕ) → awaits self.old c used → awaits self.new c used }
         ensures ticks { clock self.new ≡ clock self.old };
 
     /// Logs a write.
     fn on_write(&mut self, address: u64, word: u64) -> Result<(), TxEnd>
+        requires { is_open self.old }
         ensures run { (h : List Entry) (n : ℕ) (r w : Log) → stands self.old h n r w
             → MatchResult result (λ _. stands self.new h n r (access address word ∷ w)) (λ end. stands self.new h (raised end n) r w) }
+        ensures open { IfOk result (λ _. is_open self.new) }
+        ensures awaits { (c : Call) (used : ℕ) → awaits self.old c used → awaits self.new c used }
         ensures ticks { clock self.new ≡ clock self.old };
 
-    /// Ends the attempt as an entry of the history, where its reads stand. An `Err` has rolled it back.
-    fn commit(&mut self) -> Result<Stamp, TxEnd>
-        requires { clock self.old < 2 ^ 40 }
+    /// Ends the attempt as an entry of the history with this answer, where its reads stand. An `Err` has rolled it back.
+    fn commit(&mut self, answer: Snapshot<Answer>) -> Result<Stamp, TxEnd>
+        requires open { is_open self.old }
+        requires clock { clock self.old < 2 ^ 40 }
+        requires allowed { is_shared → MayEnd (stands self.old) (awaits self.old) allows (λ w. w) answer.value }
         ensures run { (h : List Entry) (n : ℕ) (r w : Log) → stands self.old h n r w
-            → MatchResult result (λ stamp. IsOfWrites stamp w × Adds allows (stands self.new) h n stamp r w) (λ end. stands self.new h (raised end n) [] []) }
+            → MatchResult result (λ stamp. IsOfWrites stamp w × Adds (awaits self.old) allows (stands self.new) h n answer.value stamp r w) (λ end. stands self.new h (raised end n) [] []) }
+        ensures awaits { (c : Call) (used : ℕ) → awaits self.old c used → IfErr result (λ _. awaits self.new c used) }
         ensures ticks { clock self.new ≤ clock self.old + 1 };
 
-    /// Ends the attempt as an entry that wrote nothing. No memory.
-    fn finish_refused(&mut self) -> Stamp
+    /// Ends the attempt as an entry with this answer that wrote nothing. No memory.
+    fn finish_refused(&mut self, answer: Snapshot<Answer>) -> Stamp
+        requires open { is_open self.old }
+        requires allowed { is_shared → MayEnd (stands self.old) (awaits self.old) allows (λ _. []) answer.value }
         ensures run { (h : List Entry) (n : ℕ) (r w : Log) → stands self.old h n r w
-            → IsOfWrites result [] × Adds allows (stands self.new) h n result r [] }
+            → IsOfWrites result [] × Adds (awaits self.old) allows (stands self.new) h n answer.value result r [] }
         ensures ticks { clock self.new ≡ clock self.old };
 
     /// Ends the attempt without an entry. No memory.
     fn rollback(&mut self)
         ensures run { (h : List Entry) (n : ℕ) (r w : Log) → stands self.old h n r w → stands self.new h n [] [] }
+        ensures awaits { (c : Call) (used : ℕ) → awaits self.old c used → awaits self.new c used }
         ensures ticks { clock self.new ≡ clock self.old };
 
     /// How often the clock was raised by commits. No memory.

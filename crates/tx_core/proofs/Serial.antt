@@ -4,11 +4,12 @@ use Rattle.std.proofs.lemmas.Bool.Decides.{nat_tests}
 use Rattle.std.proofs.lemmas.List.{length-set, get_or-set_same, get_or-set_other}
 use Rattle.std.proofs.lemmas.List.Elements.{All-nil, All-head, All-tail}
 use Rattle.jmodel.specs.declared.op.Access.{Access}
+use Rattle.jmodel.specs.declared.value.Answer.{Answer}
 use Rattle.jmodel.specs.Attempt.{Log, answered}
 use Rattle.jmodel.specs.History.{Entry, Words, Agrees, overlaid, memory_after}
 use Rattle.jmodel.specs.Engine.{made}
-use Rattle.machine.specs.Engine.{Adds, IsOfWrites}
-use Rattle.machine.specs.Serial.{word_in, applied, stamped, IsSerial, clock_after, StandsFor}
+use Rattle.tx_core.specs.Engine.{Adds, IsOfWrites}
+use Rattle.tx_core.specs.Serial.{word_in, applied, stamped, IsSerial, clock_after, StandsFor}
 
 -- a history with one entry more
 pub serial_more : (rule : Entry → Type 0) (h : List Entry) (e : Entry) (clock : ℕ) (σ : Words) → IsSerial rule clock σ h → rule e → IsOfWrites e.stamp e.writes
@@ -26,9 +27,10 @@ clock_more (d ∷ h) e clock = clock_more h e d.stamp.at
 
 -- an attempt that wrote nothing
 pub adds_reader : (rule : Entry → Type 0) (first words : List ℕ) (clock : ℕ) (kept : List Access) (h : List Entry) (n : ℕ) (r w : Log) → StandsFor rule first words clock kept h n r w
-    → Adds rule (λ h n r w. StandsFor rule first words clock [] h n r w) h n (record { at = clock; update = false }) r []
-adds_reader rule first words clock kept h n r w s c x before after p =
-    let e : Entry = made c x before after (record { at = clock; update = false }) r [] in
+    → (x : Answer) → Adds (λ c used. Unit {0}) rule (λ h n r w. StandsFor rule first words clock [] h n r w) h n x (record { at = clock; update = false }) r []
+adds_reader rule first words clock kept h n r w s x c used a may =
+    let e : Entry = made c x used used (record { at = clock; update = false }) r [] in
+    let p = may (record { at = clock; update = false }) in
     record {
       no_conflict = s.no_conflict;
       serial = serial_more rule h e 0 (word_in first) s.serial p ((λ q. cc), (λ q. absurd (q refl))) s.last_stamp (rw s.memory at s.reads);
@@ -64,9 +66,10 @@ words_applied w words h = λ i. λ a. word_applied w words a h i
 -- an attempt that wrote
 pub adds_update : (rule : Entry → Type 0) (first words words' : List ℕ) (clock : ℕ) (kept : List Access) (h : List Entry) (n : ℕ) (r w : Log) → StandsFor rule first words clock kept h n r w
     → words' ≡ applied (reverse kept) words → w ≢ []
-    → Adds rule (λ h n r w. StandsFor rule first words' (clock + 1) [] h n r w) h n (record { at = clock + 1; update = true }) r w
-adds_update rule first words words' clock kept h n r w s q wrote c x before after p =
-    let e : Entry = made c x before after (record { at = clock + 1; update = true }) r w in
+    → (x : Answer) → Adds (λ c used. Unit {0}) rule (λ h n r w. StandsFor rule first words' (clock + 1) [] h n r w) h n x (record { at = clock + 1; update = true }) r w
+adds_update rule first words words' clock kept h n r w s q wrote x c used a may =
+    let e : Entry = made c x used used (record { at = clock + 1; update = true }) r w in
+    let p = may (record { at = clock + 1; update = true }) in
     let k : words' ≡ applied w words = rw s.writes at q in
     record {
       no_conflict = s.no_conflict;

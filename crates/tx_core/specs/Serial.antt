@@ -3,7 +3,7 @@ use Rattle.std.specs.Prelude.{◌≡◌, ℕ, ◌+◌, ◌<◌, List, [], ◌∷
 use Rattle.jmodel.specs.declared.op.Access.{Access}
 use Rattle.jmodel.specs.Attempt.{Log}
 use Rattle.jmodel.specs.History.{Entry, Words, Agrees, overlaid, memory_after}
-use Rattle.machine.specs.Engine.{IsOfWrites}
+use Rattle.tx_core.specs.Engine.{IsOfWrites}
 
 -- the words of memory; there is 0 beyond their end
 abbrev pub word_in : List ℕ → Words

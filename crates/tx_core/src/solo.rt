@@ -4,9 +4,10 @@ ghost use Rattle.jmodel.specs.History.{Entry};
 
 use crate::engine::{Conflict, Engine, TxEnd};
 use jmodel::op::Access;
-use jmodel::value::Stamp;
+use jmodel::value::{Answer, Stamp};
 use std::alloc::Global;
 use std::marker::{Brand, PhantomData};
+use std::snapshot::Snapshot;
 
 /// What a history began with, and what its entries keep to. A caller picks both for its proof.
 pub trait Origin {
@@ -32,11 +33,17 @@ pub struct Solo<K> {
 }
 
 impl<K: Origin> Engine for Solo<K> {
-    ghost use Rattle.machine.specs.Serial.{StandsFor};
+    ghost use Rattle.tx_core.specs.Serial.{StandsFor};
 
     ghost stands = { λ s h n r w. StandsFor K.rule K.first s.words.items s.clock s.writes.items h n r w };
 
+    ghost is_open = { λ s. Unit {0} };
+
+    ghost awaits = { λ s c used. Unit {0} };
+
     ghost allows = { K.rule };
+
+    ghost is_shared = { ⊥ };
 
     ghost clock = { λ s. s.clock };
 
@@ -69,7 +76,7 @@ impl<K: Origin> Engine for Solo<K> {
         Ok(())
     }
 
-    fn commit(&mut self) -> Result<Stamp, TxEnd> {
+    fn commit(&mut self, _answer: Snapshot<Answer>) -> Result<Stamp, TxEnd> {
         if self.writes.is_empty() {
             return Ok(Stamp {
                 at: self.clock,
@@ -85,7 +92,7 @@ impl<K: Origin> Engine for Solo<K> {
         })
     }
 
-    fn finish_refused(&mut self) -> Stamp {
+    fn finish_refused(&mut self, _answer: Snapshot<Answer>) -> Stamp {
         self.writes.clear();
         Stamp {
             at: self.clock,
@@ -133,7 +140,7 @@ impl<K> Solo<K> {
 }
 
 impl<K: Origin> Solo<K> {
-    ghost use Rattle.machine.specs.Serial.{StandsFor};
+    ghost use Rattle.tx_core.specs.Serial.{StandsFor};
 
     /// The engine over these words, with no history. No memory.
     pub fn new(alloc: Global, words: Vec<u64>) -> Self
@@ -152,7 +159,7 @@ impl<K: Origin> Solo<K> {
 
 ghost use Rattle.std.specs.Prelude.{reverse, All, ◌<◌, length};
 ghost use Rattle.jmodel.specs.declared.op.Access.{Access as JAccess};
-ghost use Rattle.machine.specs.Serial.{applied};
+ghost use Rattle.tx_core.specs.Serial.{applied};
 
 /// Writes these words in turn.
 fn write_all(words: &mut Vec<u64>, writes: &[Access])
