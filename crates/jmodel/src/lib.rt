@@ -19,3 +19,6 @@ pub use name::MethodName;
 pub use refusal::{Halt, NoMemory, Refusal};
 pub use typing::{TypeEntry, Typing, VType};
 pub use value::{Answer, Stamp, Value};
+
+#[cfg(test)]
+mod tests;
