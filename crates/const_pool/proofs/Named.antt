@@ -1,10 +1,11 @@
 -- A pool that is read keeps its rules, and a pool that keeps them is read.
-use Rattle.std.proofs.Common.{◌≡◌, ℕ, zero, suc, ◌+◌, ◌-◌, ◌^◌, ◌<◌, Bool, true, false, not, cond, ◌&&◌, ◌||◌, List, [], ◌∷◌, ◌++◌, length, Option, Some, None, Result, Ok, Err, refl, sym, ap, subst, ◌∙◌, arith, inl, inr, ◌⊎◌}
+use Rattle.std.proofs.Common.{◌≡◌, ℕ, zero, suc, ◌+◌, ◌-◌, ◌^◌, ◌<◌, Bool, true, false, not, cond, ◌&&◌, ◌||◌, List, [], ◌∷◌, ◌++◌, length, Option, Some, None, Result, Ok, Err, refl, sym, ap, subst, ◌∙◌, arith, inl, inr, ◌⊎◌, drop}
 use Rattle.std.specs.Prelude.{pos, is_some, IsSome, IsSomeAnd, slice_get, option_and_then}
 use Rattle.std.specs.Result.{IfOk}
 use Rattle.jmodel.specs.declared.refusal.Halt.{Halt}
 use Rattle.std.specs.Int.{w16}
 use Rattle.std.specs.List.{AllByRecursion, flat_map}
+use Rattle.std.proofs.lemmas.List.{drop_at, drop-drop, length-append, length-drop}
 use Rattle.jmodel.specs.declared.class_file.Constant.{Constant}
 use Rattle.jmodel.specs.declared.class_file.Constant.TheVariants.{Utf8, Integer, Float, Long, Double, Class, Text, Field, Method, InterfaceMethod, NameAndType, Second}
 use Rattle.jmodel.specs.declared.class_file.FieldType.{FieldType}
@@ -346,3 +347,18 @@ module _ (pool : Pool) where
 pub pool_rules : (bytes : List ℕ) (at : ℕ) (r : Result (Pool × ℕ) Halt) → IsBytes bytes → Gives (λ x. x) r (pool_at bytes at) → IfOk r (λ x. IsPool x.0)
 pool_rules bytes at (Ok x) fits given = (pool_takes bytes at x fits given).1.rules
 pool_rules bytes at (Err e) fits given = tt
+
+-- what is read stands in the bytes behind its count
+pub pool_found : (bytes : List ℕ) (at : ℕ) (r : Result (Pool × ℕ) Halt) → IsBytes bytes → Gives (λ x. x) r (pool_at bytes at) → IfOk r (λ x. (count : ℕ) × (length x.0 ≡ count - 1) × (drop at bytes ≡ (u2 count ++ flat_map constant x.0) ++ drop x.1 bytes) × (x.1 ≡ at + length (u2 count ++ flat_map constant x.0)))
+pool_found bytes at (Ok x) fits given = let p = pool_takes bytes at x fits given in (p.0, p.1.counted, p.1.takes.parts, p.1.takes.moved)
+pool_found bytes at (Err e) fits given = tt
+
+-- a pool that stands in the bytes, whatever follows it, is read
+pub pool_is_read : (bytes : List ℕ) (at : ℕ) (pool : Pool) (rest : List ℕ) → IsPool pool → drop at bytes ≡ constants pool ++ rest → pool_at bytes at ≡ Ok (pool, at + length (constants pool))
+pool_is_read bytes at pool rest h e =
+    let text : List ℕ = constants pool in
+    let after : drop (at + length text) bytes ≡ rest = sym (drop-drop (length text) at bytes) ∙ ap (drop (length text)) e ∙ drop_at text rest (length text) refl in
+    let total : length bytes - at ≡ length text + length rest = sym (length-drop at bytes) ∙ ap length e ∙ length-append text rest in
+    let count : length (u2 (suc (length pool))) ≡ 2 = wide16.len (suc (length pool)) in
+    let some : 0 < length text = omega (arith, count, length-append (u2 (suc (length pool))) (flat_map constant pool)) in
+    pool_again pool bytes at (at + length text) h (record { parts = e ∙ ap (λ (r : List ℕ). text ++ r) (sym after); moved = refl; inside = omega (arith, total, some) })

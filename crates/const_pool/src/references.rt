@@ -1,6 +1,8 @@
 //! What the entries of a pool name (JVM Specification, Java SE 7, section 4.4). A long text may be named many times, so
 //! each is judged once.
-ghost use Rattle.std.specs.Prelude.{◌≡◌, Bool, if◌then◌else◌, IfOk};
+ghost use Rattle.std.specs.Prelude.{◌≡◌, ℕ, ◌+◌, ◌-◌, Bool, if◌then◌else◌, List, ◌++◌, length, drop, Ok, IfOk};
+ghost use Rattle.std.specs.List.{flat_map};
+ghost use Rattle.jmodel.specs.ClassFile.{Pool as Form, u2, constant as spelled, constants as spelled_all};
 ghost use Rattle.jmodel.specs.Reading.{Gives};
 ghost use Rattle.jmodel.specs.PoolReading.{want_descriptor as wanted, member_fits as member, name_fits as name_of, pair_fits as pair, text_fits as text, constant_fits as constant, all_fit as all, pool_at};
 ghost use Rattle.jmodel.specs.DescriptorReading.{is_field_descriptor as is_field, is_method_descriptor as is_method};
@@ -188,7 +190,12 @@ impl Pool {
     /// front (Truncated, BadTag, BadUtf8 at an offset), then what they name is looked at by entry (BadIndex, WrongKind,
     /// BadDescriptor with an index).
     pub fn read(alloc: Global, bytes: &[u8], at: usize) -> Result<(Pool, usize), Halt>
+        // What is read is a pool that keeps the rules, spelled by the bytes behind its count, which is 0 or 1 for no entries.
         ensures rules { IfOk result (λ x. IsPool x.0) }
+        ensures found { IfOk result (λ x. (count : ℕ) × (length x.0 ≡ count - 1) × (drop at bytes.now ≡ (u2 count ++ flat_map spelled x.0) ++ drop x.1 bytes.now) × (x.1 ≡ at + length (u2 count ++ flat_map spelled x.0))) }
+        // Each pool that the bytes spell, whatever follows it, is read, unless memory runs out.
+        ensures only { (p : Form) (rest : List ℕ) → IsPool p → drop at bytes.now ≡ spelled_all p ++ rest → Gives (λ x. x) result (Ok (p, at + length (spelled_all p))) }
+        // Which pool it is, or which fault is the first.
         ensures exact { Gives (λ x. x) result (pool_at bytes.now at) }
     {
         read_pool(alloc, bytes, at)
