@@ -1,5 +1,5 @@
 -- The entry of an attempt that wrote nothing.
-use Rattle.std.proofs.Common.{◌≡◌, ◌≢◌, ◌<◌, ℕ, ◌+◌, false, List, [], ◌∷◌, ◌++◌, All, length, reverse, refl, sym, ap, ◌∙◌, subst}
+use Rattle.std.proofs.Common.{◌≡◌, ◌≢◌, ◌<◌, ℕ, false, List, [], ◌∷◌, refl, sym, ap, ◌∙◌, subst}
 use Rattle.std.proofs.lemmas.List.{reverse-append}
 use Rattle.std.proofs.lemmas.List.Elements.{All-nil}
 use mathlib.Core.Option.{some}
@@ -10,8 +10,8 @@ use Rattle.jmodel.specs.History.{Call, Entry}
 use Rattle.jmodel.specs.Engine.{made}
 use Rattle.jmodel.specs.Book.{Map, Book, Region, lookup, pairs}
 use Rattle.jmodel.specs.Rule.{Story, Succeeds}
-use Rattle.jmodel.specs.Plays.{accesses, reader_entry, used_in, finished, Fits, Reads}
-use Rattle.tx_core.specs.Engine.{IsAllowed, MayEnd, Adds}
+use Rattle.jmodel.specs.Plays.{accesses, reader_entry, used_in, finished, Reads}
+use Rattle.tx_core.specs.Engine.{Adds}
 use Rattle.tl2.specs.declared.attempt.At.{At}
 use Rattle.tl2.specs.declared.attempt.At.TheVariants.{Outside}
 use Rattle.tl2.specs.Standing.{IsAt, Awaits, Stands}

@@ -2,6 +2,7 @@
 #![tactic(auto)]
 
 pub mod attempt;
+mod commit;
 pub mod reading;
 
 pub use attempt::{Calling, Ruled, Tl2};

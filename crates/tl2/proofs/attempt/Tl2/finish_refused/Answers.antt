@@ -1,7 +1,5 @@
 use Rattle.std.proofs.Common.{false, refl}
 use Rattle.tx_table.specs.Passes.{book}
-use Rattle.tl2.specs.declared.attempt.At.{At}
-use Rattle.tl2.specs.declared.attempt.At.TheVariants.{Outside}
 use Rattle.tl2.proofs.Entries.{reader_fits, adds_reader, inside}
 use Rattle.tl2.proofs.attempt.Tl2.finish_refused.Goals as goal
 
