@@ -1,0 +1,80 @@
+-- The entry of an attempt that wrote nothing.
+use Rattle.std.proofs.Common.{◌≡◌, ◌≢◌, ◌<◌, ℕ, false, List, [], ◌∷◌, refl, sym, ap, ◌∙◌, subst}
+use Rattle.std.proofs.lemmas.List.{reverse-append}
+use Rattle.std.proofs.lemmas.List.Elements.{All-nil}
+use mathlib.Core.Option.{some}
+use Rattle.jmodel.specs.declared.op.Access.{Access}
+use Rattle.jmodel.specs.declared.value.Answer.{Answer}
+use Rattle.jmodel.specs.Attempt.{Log}
+use Rattle.jmodel.specs.History.{Call, Entry}
+use Rattle.jmodel.specs.Engine.{made}
+use Rattle.jmodel.specs.Book.{Map, Book, Region, lookup, pairs}
+use Rattle.jmodel.specs.Rule.{Story, Succeeds}
+use Rattle.jmodel.specs.Plays.{accesses, reader_entry, used_in, finished, Reads}
+use Rattle.tx_core.specs.Engine.{Adds}
+use Rattle.tl2.specs.declared.attempt.At.{At}
+use Rattle.tl2.specs.declared.attempt.At.TheVariants.{Outside}
+use Rattle.tl2.specs.Standing.{IsAt, Awaits, Stands}
+
+-- where a pass stands in an attempt, so does the engine
+pub inside : (words : ℕ) (at : At) (v : Book) → IsAt words at v → at ≢ Outside
+inside words at v is e = subst (λ (k : At). IsAt words k v) e is
+
+pub accesses_pairs : (r : Log) → accesses (pairs r) ≡ r
+accesses_pairs [] = refl
+accesses_pairs (l ∷ r) = ap (λ (t : Log). l ∷ t) (accesses_pairs r)
+
+pub pairs_accesses : (m : Map ℕ) → pairs (accesses m) ≡ m
+pairs_accesses [] = refl
+pairs_accesses (x ∷ m) = ap (λ (t : Map ℕ). x ∷ t) (pairs_accesses m)
+
+-- the entry of the awaited call is the one that the pass adds
+pub reader_made : (named : Call) (v : Book) (c : Call) (used : ℕ) (r : Log) (x : Answer) → v.call ≡ named → Awaits named v c used → v.reads ≡ pairs r
+    → reader_entry v x ≡ made c x used used (record { at = v.bound; update = false }) r []
+reader_made named v c used r x on aw reads =
+    let same : v.call ≡ c = on ∙ sym aw.0 in
+    let held : used_in (lookup v.regions v.call.region) ≡ used = ap (λ (k : Call). used_in (lookup v.regions k.region)) same ∙ ap used_in aw.2.1 ∙ aw.2.2 in
+    let log : accesses v.reads ≡ r = ap accesses reads ∙ accesses_pairs r in
+    λ i. record {
+      stamp = record { at = v.bound; update = false };
+      call = same i;
+      answer = x;
+      reads = log i;
+      writes = [];
+      used_before = held i;
+      used_after = held i;
+    }
+
+-- it owes nothing to the attempt
+pub reader_fits : (S : Story) (named : Call) (v : Book) (c : Call) (used : ℕ) (r : Log) (x : Answer) → v.call ≡ named → Awaits named v c used → v.reads ≡ pairs r
+    → S.runs (made c x used used (record { at = v.bound; update = false }) r []) → Reads S v (reader_entry v x)
+reader_fits S named v c used r x on aw reads runs =
+    let same : v.call ≡ c = on ∙ sym aw.0 in
+    record {
+      fits = record {
+        call = refl;
+        reads = pairs_accesses v.reads;
+        region = subst (λ (k : Call). (g : Region) × (lookup v.regions k.region ≡ some g) × (g.used ≡ used_in (lookup v.regions k.region)) × Succeeds k g.last) (sym same)
+            (aw.2.0, aw.2.1, sym (ap used_in aw.2.1), aw.2.3);
+        lane = rw same aw.1;
+        runs = subst S.runs (sym (reader_made named v c used r x on aw reads)) runs;
+        stays = λ q. refl;
+      };
+      stamp = refl;
+      update = refl;
+      writes = refl;
+    }
+
+-- the engine stands for one entry more
+pub adds_reader : (words : ℕ) (named : Call) (rule : Entry → Type 0) (at : At) (kept : List Access) (v : Book) (h : List Entry) (n : ℕ) (r w : Log) (x : Answer)
+    → v.call ≡ named → at ≢ Outside → Stands words at kept v h n r w
+    → Adds (Awaits named v) rule (Stands words Outside [] (finished v (reader_entry v x))) h n x (record { at = v.bound; update = false }) r []
+adds_reader words named rule at kept v h n r w x on inside s c used aw may = record {
+  entries = ap (λ (e : Entry). e ∷ v.entries) (reader_made named v c used r x on aw (s.reads inside))
+      ∙ ap (λ (t : List Entry). made c x used used (record { at = v.bound; update = false }) r [] ∷ t) s.entries
+      ∙ sym (reverse-append h (made c x used used (record { at = v.bound; update = false }) r [] ∷ []));
+  lost = s.lost;
+  reads = λ q. absurd (q refl);
+  writes = refl;
+  within = All-nil (λ (l : Access). l.address < words);
+}

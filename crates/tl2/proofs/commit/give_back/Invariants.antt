@@ -1,0 +1,14 @@
+use Rattle.std.proofs.Common.{false}
+use Rattle.tx_table.specs.Passes.{book, IsSame}
+use Rattle.tl2.specs.Commits.{Covers, IsRest}
+use Rattle.tl2.proofs.commit.give_back.Given as goal
+
+abbrev pub invariant-loop-stripe : goal.invariant-loop-stripe
+invariant-loop-stripe g l = record {
+  same : IsSame l.initial.pass l.pass;
+  held : Covers l.owners l.words l.stripe l.upto (book l.pass).face.held;
+  rest : IsRest 0 0 (book l.initial.pass) (book l.pass);
+}
+
+abbrev pub ghost-release_old : goal.ghost-release_old
+ghost-release_old g a = false

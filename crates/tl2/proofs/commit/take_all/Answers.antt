@@ -1,0 +1,13 @@
+use Rattle.std.proofs.Common.{◌≡◌, ◌-◌, ◌%◌, ℕ, ap, ◌∙◌, slice_index_or, arith}
+use Rattle.jmodel.specs.Book.{In}
+use Rattle.tx_table.specs.Passes.{book}
+use Rattle.tl2.proofs.commit.take_all.Goals as goal
+
+pub take_one-requires-clause-read : goal.take_one-requires-clause-read
+take_one-requires-clause-read g c = λ b x i e.
+    let t = c.requires.owners c.loop-stripe.stripe c.if-owners-stripe-ne0.true in
+    let before : In (b, x) (book c.args.pass.now).reads = rw c.loop-stripe.invariant.taking.reads at i in
+    let one_more = t.1 in
+    let address : slice_index_or c.args.owners.now c.loop-stripe.stripe 0 - 1 ≡ t.0 = omega arith in
+    let place : b % 4096 ≡ c.loop-stripe.stripe = e ∙ ap (λ (k : ℕ). k % 4096) address ∙ t.2 in
+    rw place at (c.requires.read b x before)

@@ -1,0 +1,9 @@
+use Rattle.tx_table.specs.Passes.{book, IsSame}
+use Rattle.tl2.specs.Commits.{IsChecked}
+use Rattle.tl2.proofs.commit.validate_all.Given as goal
+
+abbrev pub invariant-loop-address : goal.invariant-loop-address
+invariant-loop-address g l = record {
+  same : IsSame l.initial.pass l.pass;
+  checked : IsChecked l.owners l.reads l.address-index (book l.initial.pass) (book l.pass);
+}

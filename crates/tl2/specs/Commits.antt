@@ -1,0 +1,43 @@
+-- The stripes that a commit holds.
+use Rattle.std.specs.Prelude.{◌≡◌, ◌≢◌, ◌⊎◌, ◌<◌, ◌≤◌, ◌+◌, ◌%◌, ℕ, true, List, [], length, slice_index}
+use mathlib.Core.Option.{some}
+use Rattle.jmodel.specs.Book.{Book, Map, Unticked, Decided, In, lookup}
+
+-- Just the wanted stripes from one up to another are held, with these words. `owners` has 0 for a stripe that isn't wanted.
+pub record Covers (owners words : List ℕ) (from upto : ℕ) (held : Map ℕ) : Type 0 where
+  pub only : (s x : ℕ) → lookup held s ≡ some x → (from ≤ s) × (s < upto) × (slice_index owners s ≢ 0) × (slice_index words s ≡ x)
+  pub each : (s : ℕ) → from ≤ s → s < upto → slice_index owners s ≢ 0 → lookup held s ≡ some (slice_index words s)
+
+-- The books of one pass before and after steps of one attempt, which met so many conflicts, moved the clock so often, and
+-- added no entry.
+pub record IsRest (met moved : ℕ) (v w : Book) : Type 0 where
+  pub number : w.face.number ≡ v.face.number
+  pub stage : (w.face.stage ≡ Unticked) ⊎ (w.face.stage ≡ v.face.stage)
+  pub numbers : w.numbers ≡ v.numbers
+  pub fresh : w.fresh ≡ v.fresh
+  pub ticks : w.ticks ≡ v.ticks + moved
+  pub regions : w.regions ≡ v.regions
+  pub entries : w.entries ≡ v.entries
+  pub lost : length w.lost ≡ length v.lost + met
+  pub call : w.call ≡ v.call
+
+-- The attempt's reads stand, and it has not ticked.
+pub record IsTaking (v w : Book) : Type 0 where
+  pub rest : IsRest 0 0 v w
+  pub stage : w.face.stage ≡ Unticked
+  pub live : w.live ≡ true
+  pub reads : w.reads ≡ v.reads
+  pub bound : w.bound ≡ v.bound
+
+-- A stripe that is wanted has 1 more than one of its addresses.
+abbrev pub AreOwners : ℕ → List ℕ → Type 0
+AreOwners words owners = (s : ℕ) → slice_index owners s ≢ 0 → (a : ℕ) × (slice_index owners s ≡ a + 1) × (a % 4096 ≡ s) × (a < words)
+
+-- The stripes of the first n of these reads were free with a version up to the bound, but those that are wanted.
+abbrev pub IsChecked : List ℕ → List ℕ → ℕ → Book → Book → Type 0
+IsChecked owners reads n v w = (checked : List ℕ) × (w ≡ record v { checked = checked })
+    × ((i : ℕ) → i < n → slice_index owners (slice_index reads i % 4096) ≡ 0 → In (slice_index reads i % 4096) checked)
+
+-- the attempt is decided and holds stripes, or it holds none and is over
+abbrev pub IsReleasing : Book → Type 0
+IsReleasing v = ((v.face.stage ≡ Decided) × (v.face.held ≢ [])) ⊎ ((v.face.stage ≡ Unticked) × (v.face.held ≡ []))

@@ -1,0 +1,33 @@
+-- What an engine over a table stands for.
+use Rattle.std.specs.Prelude.{◌≡◌, ◌≢◌, ◌<◌, ◌≤◌, ◌%◌, ℕ, true, List, All, length, reverse}
+use mathlib.Core.Option.{some}
+use Rattle.jmodel.specs.declared.op.Access.{Access}
+use Rattle.jmodel.specs.Attempt.{Log}
+use Rattle.jmodel.specs.History.{Call, Entry}
+use Rattle.jmodel.specs.Book.{Book, Region, Saw, Had, lookup, pairs, IsOfLane}
+use Rattle.jmodel.specs.Rule.{Succeeds}
+use Rattle.tl2.specs.declared.attempt.At.{At}
+use Rattle.tl2.specs.declared.attempt.At.TheVariants.{Outside, Inside, Looked, Loaded}
+
+-- Where the engine stands is where its pass stands: with no look in flight that counts, or with one of an address below `words`.
+abbrev pub IsAt : ℕ → At → Book → Type 0
+IsAt words Outside v = ⊥
+IsAt words Inside v = Unit {0}
+IsAt words (Looked a) v = (a < words) × ((version : ℕ) × (v.look ≡ Saw (a % 4096) version) × (version ≤ v.bound))
+IsAt words (Loaded l) v = (l.address < words) × ((version : ℕ) × (v.look ≡ Had (l.address % 4096) version l.address l.word) × (version ≤ v.bound))
+
+-- an attempt at the call c is open
+abbrev pub IsOpen : ℕ → At → Call → Book → Type 0
+IsOpen words at c v = (v.live ≡ true) × (v.call ≡ c) × IsAt words at v
+
+-- The call named is c, and it may come next in its region, of which these words are used.
+abbrev pub Awaits : Call → Book → Call → ℕ → Type 0
+Awaits named v c used = (c ≡ named) × IsOfLane c × ((g : Region) × (lookup v.regions c.region ≡ some g) × (g.used ≡ used) × Succeeds c g.last)
+
+-- The entries and conflicts of a pass, and what its attempt has read and written.
+pub record Stands (words : ℕ) (at : At) (kept : List Access) (v : Book) (h : List Entry) (n : ℕ) (r w : Log) : Type 0 where
+  pub entries : v.entries ≡ reverse h
+  pub lost : length v.lost ≡ n
+  pub reads : at ≢ Outside → v.reads ≡ pairs r
+  pub writes : reverse kept ≡ w
+  pub within : All (λ (l : Access). l.address < words) w

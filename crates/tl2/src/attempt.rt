@@ -1,0 +1,87 @@
+//! The attempts of one lane over a table of shared words.
+ghost use Rattle.std.specs.Prelude.{◌≡◌, List, [], length, reverse};
+ghost use Rattle.jmodel.specs.History.{Entry};
+ghost use Rattle.jmodel.specs.Book.{Unticked};
+ghost use Rattle.tx_table.specs.Passes.{book, IsOf};
+
+use jmodel::op::Access;
+use std::alloc::Global;
+use std::snapshot::Snapshot;
+use tx_table::{Pass, Shared, Story};
+
+/// A story whose rule for entries is the same for all of its values.
+pub trait Ruled: Story {
+    ghost use Rattle.jmodel.specs.History.{Entry};
+
+    /// What may be committed.
+    ghost rule: { Entry → Type 0 };
+
+    ghost keeps: { (s : Self) (e : Entry) → rule e → (Self.story s).runs e };
+}
+
+/// Names a call, for contracts alone.
+pub trait Calling {
+    ghost use Rattle.jmodel.specs.History.{Call};
+
+    ghost call: { Self → Call };
+}
+
+/// Where an engine stands.
+#[derive(Clone, Copy, Debug)]
+pub enum At {
+    /// Outside an attempt, or in one that met a conflict.
+    Outside,
+    Inside,
+    /// Before the load of a word, whose stripe was free with a version up to the bound.
+    Looked(u64),
+    /// After the load.
+    Loaded(Access),
+}
+
+/// The engine. Its writes are kept back until the commit.
+#[derive(Drop)]
+pub struct Tl2<'a, T: Ruled, C> {
+    pub(crate) shared: &'a Shared<T>,
+    pub(crate) pass: Pass,
+    pub(crate) call: Snapshot<C>,
+    pub(crate) writes: Vec<Access>,
+    pub(crate) at: At,
+    ghost sits: { IsOf shared.now.table.shared.table_id pass × ((book pass).face.held ≡ []) × ((book pass).face.stage ≡ Unticked) },
+}
+
+impl<'a, T: Ruled, C> Tl2<'a, T, C> {
+    ghost use Rattle.tl2.specs.Standing.{Stands};
+
+    /// The engine of a pass that holds no stripe. No memory.
+    pub fn new(alloc: Global, shared: &'a Shared<T>, pass: Pass, call: Snapshot<C>) -> Self
+        requires table { IsOf shared.now.table.shared.table_id pass }
+        requires free { ((book pass).face.held ≡ []) × ((book pass).face.stage ≡ Unticked) }
+        ensures pass { result.pass ≡ pass }
+        ensures call { result.call.value ≡ call.value }
+        ensures stands { (h : List Entry) → (book pass).entries ≡ reverse h → Stands result.shared.now.words result.at result.writes.items (book result.pass) h (length (book pass).lost) [] [] }
+    {
+        Tl2 {
+            shared,
+            pass,
+            call,
+            writes: Vec::new(alloc),
+            at: At::Outside,
+        }
+    }
+
+    /// The pass, which holds no stripe.
+    pub fn into_pass(self) -> Pass
+        ensures pass { result ≡ self.entry.pass }
+        ensures table { IsOf self.entry.shared.now.table.shared.table_id result }
+        ensures free { ((book result).face.held ≡ []) × ((book result).face.stage ≡ Unticked) }
+    {
+        let Tl2 {
+            shared: _,
+            pass,
+            call: _,
+            writes: _,
+            at: _,
+        } = self;
+        pass
+    }
+}

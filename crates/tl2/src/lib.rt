@@ -1,0 +1,11 @@
+//! Transactional Locking II over the table of shared words (Dice, Shalev, Shavit, DISC 2006, in this project's form).
+#![tactic(auto)]
+
+pub mod attempt;
+mod commit;
+pub mod reading;
+
+pub use attempt::{Calling, Ruled, Tl2};
+
+#[cfg(test)]
+mod tests;
