@@ -1,5 +1,5 @@
 -- What the methods of a rewritten class mean: accessors and wrappers.
-use Rattle.std.proofs.Common.{◌≡◌, ℕ, ◌<◌, Bool, true, false, ◌&&◌, ◌||◌, List, [], ◌∷◌, length, map, Option, Some, None, refl, sym, ap, ◌∙◌, arith, ne_eqb, inl, inr}
+use Rattle.std.proofs.Common.{◌≡◌, ℕ, ◌<◌, true, false, List, [], ◌∷◌, length, Some, refl, sym, ap, ◌∙◌, arith, ne_eqb, inl, inr}
 use Rattle.std.specs.Prelude.{codes, pos, slice_get, nat_eq}
 use Rattle.std.specs.List.{AllByRecursion}
 use Rattle.jmodel.specs.declared.op.WordType.TheVariants as word

@@ -8,7 +8,7 @@ use Rattle.jmodel.specs.declared.op.Op.TheVariants as op
 use Rattle.jmodel.specs.declared.value.Value.TheVariants as value
 use Rattle.jmodel.specs.declared.class_file.Constant.{Constant}
 use Rattle.jmodel.specs.declared.class_file.Constant.TheVariants as constants
-use Rattle.jmodel.specs.ClassFile.{Attribute, Member, Pool, ClassFile, Code}
+use Rattle.jmodel.specs.ClassFile.{Member, Pool, ClassFile, Code}
 use Rattle.jmodel.specs.Pool.{utf8, text_in}
 use Rattle.jmodel.specs.Program.{Field, Method, Program}
 use Rattle.jmodel.specs.Source.{is_return, takes, leaves}

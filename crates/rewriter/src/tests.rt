@@ -8,27 +8,45 @@ fn utf8(alloc: Global, text: &[u8]) -> Result<Constant, AllocError> {
     Ok(Constant::Utf8(Bytes::from_slice(alloc, text)?))
 }
 
-fn counter_pool(alloc: Global) -> Result<Pool, AllocError> {
-    let entries = vec![in alloc;
-        Constant::Class(2),
-        utf8(alloc, b"Counter")?,
-        Constant::Class(4),
-        utf8(alloc, b"java/lang/Object")?,
-        utf8(alloc, b"n")?,
-        utf8(alloc, b"I")?,
-        utf8(alloc, b"inc")?,
-        utf8(alloc, b"()I")?,
-        utf8(alloc, b"Code")?,
-        Constant::Field { class: 1, pair: 11 },
-        Constant::NameAndType {
-            name: 5,
-            descriptor: 6,
-        },
-        utf8(alloc, b"RuntimeVisibleAnnotations")?,
-        utf8(alloc, b"Lorg/deuce/Atomic;")?,
-    ]?;
-    Ok(Pool::from_entries(entries))
+fn entry(alloc: Global, tag: u8, a: u16, b: u16, text: &str) -> Result<Constant, AllocError> {
+    match tag {
+        7 => Ok(Constant::Class(a)),
+        9 => Ok(Constant::Field { class: a, pair: b }),
+        10 => Ok(Constant::Method { class: a, pair: b }),
+        12 => Ok(Constant::NameAndType {
+            name: a,
+            descriptor: b,
+        }),
+        _ => utf8(alloc, text.as_bytes()),
+    }
 }
+
+fn pool_of(alloc: Global, rows: &[(u8, u16, u16, &str)]) -> Result<Pool, AllocError> {
+    let mut pool = Pool::new(alloc);
+    for (tag, a, b, text) in rows {
+        if pool.entries().len() < 65534 {
+            pool.push(entry(alloc, *tag, *a, *b, text)?)?;
+        }
+    }
+    Ok(pool)
+}
+
+// The entries of Counter's pool: a tag, two indexes, a text.
+const COUNTER: [(u8, u16, u16, &str); 13] = [
+    (7, 2, 0, ""),
+    (1, 0, 0, "Counter"),
+    (7, 4, 0, ""),
+    (1, 0, 0, "java/lang/Object"),
+    (1, 0, 0, "n"),
+    (1, 0, 0, "I"),
+    (1, 0, 0, "inc"),
+    (1, 0, 0, "()I"),
+    (1, 0, 0, "Code"),
+    (9, 1, 11, ""),
+    (12, 5, 6, ""),
+    (1, 0, 0, "RuntimeVisibleAnnotations"),
+    (1, 0, 0, "Lorg/deuce/Atomic;"),
+];
 
 fn inc(alloc: Global) -> Result<Member, AllocError> {
     let mut bytes = Bytes::from_slice(alloc, &[0, 2, 0, 0, 0, 0, 0, 10])?;
@@ -62,7 +80,7 @@ fn counter(alloc: Global) -> Result<ClassFile, AllocError> {
     Ok(ClassFile {
         minor: 0,
         major: 49,
-        pool: counter_pool(alloc)?,
+        pool: pool_of(alloc, &COUNTER)?,
         flags: 0x21,
         this_class: 1,
         super_class: 3,
@@ -73,7 +91,7 @@ fn counter(alloc: Global) -> Result<ClassFile, AllocError> {
     })
 }
 
-// The entries of the pool that the Java compiler of Eclipse makes of Counter with `-1.5 -g`: a tag, two indexes, a text.
+// The same of the class that the Java compiler of Eclipse makes of Counter with `-1.5 -g`.
 const COMPILED: [(u8, u16, u16, &str); 23] = [
     (7, 2, 0, ""),
     (1, 0, 0, "Counter"),
@@ -99,29 +117,6 @@ const COMPILED: [(u8, u16, u16, &str); 23] = [
     (1, 0, 0, "SourceFile"),
     (1, 0, 0, "Counter.java"),
 ];
-
-fn entry(alloc: Global, tag: u8, a: u16, b: u16, text: &str) -> Result<Constant, AllocError> {
-    match tag {
-        7 => Ok(Constant::Class(a)),
-        9 => Ok(Constant::Field { class: a, pair: b }),
-        10 => Ok(Constant::Method { class: a, pair: b }),
-        12 => Ok(Constant::NameAndType {
-            name: a,
-            descriptor: b,
-        }),
-        _ => utf8(alloc, text.as_bytes()),
-    }
-}
-
-fn compiled_pool(alloc: Global) -> Result<Pool, AllocError> {
-    let mut pool = Pool::new(alloc);
-    for (tag, a, b, text) in COMPILED.iter() {
-        if pool.entries().len() < 65534 {
-            pool.push(entry(alloc, *tag, *a, *b, text)?)?;
-        }
-    }
-    Ok(pool)
-}
 
 fn attribute(alloc: Global, name: u16, bytes: &[u8]) -> Result<Attribute, AllocError> {
     Ok(Attribute {
@@ -169,7 +164,7 @@ fn compiled(alloc: Global) -> Result<ClassFile, AllocError> {
     Ok(ClassFile {
         minor: 0,
         major: 49,
-        pool: compiled_pool(alloc)?,
+        pool: pool_of(alloc, &COMPILED)?,
         flags: 0x21,
         this_class: 1,
         super_class: 3,
