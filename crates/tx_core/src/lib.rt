@@ -6,3 +6,6 @@ pub mod solo;
 
 pub use engine::{Conflict, Engine, TxEnd};
 pub use solo::{Origin, Solo};
+
+#[cfg(test)]
+mod tests;
