@@ -348,3 +348,105 @@ fn a_stack_too_small_is_not_built(rt: HostRuntime) -> Result<(), Fail> {
     assert!(rt; runs(alloc, class.as_slice(), ONE_CALL, 0, text)?);
     Ok(())
 }
+
+fn push_pair(out: &mut Vec<u8>, number: usize) -> Result<(), AllocError> {
+    out.push((number / 256 % 256) as u8)?;
+    out.push((number % 256) as u8)?;
+    Ok(())
+}
+
+fn push_text(out: &mut Vec<u8>, text: &[u8]) -> Result<(), AllocError> {
+    out.push(1)?;
+    push_pair(out, text.len())?;
+    out.extend_from_slice(text)
+}
+
+/// The pool of `many`: at 10 + 4k the name of field k, its type, the field, and the name of method k.
+fn push_pool(alloc: Global, out: &mut Vec<u8>, count: u8) -> Result<(), AllocError> {
+    let count = usize::from(count);
+    push_pair(out, 10 + 4 * count)?;
+    out.extend_from_slice(&[7, 0, 2])?;
+    push_text(out, b"Many")?;
+    out.extend_from_slice(&[7, 0, 4])?;
+    push_text(out, b"java/lang/Object")?;
+    push_text(out, b"I")?;
+    push_text(out, b"()I")?;
+    push_text(out, b"Code")?;
+    push_text(out, b"RuntimeVisibleAnnotations")?;
+    push_text(out, b"Lorg/deuce/Atomic;")?;
+    for k in 0..count {
+        push_text(out, format!(in alloc; "f{k}")?.as_bytes())?;
+        out.push(12)?;
+        push_pair(out, 10 + 4 * k)?;
+        out.extend_from_slice(&[0, 5, 9, 0, 1])?;
+        push_pair(out, 11 + 4 * k)?;
+        push_text(out, format!(in alloc; "m{k}")?.as_bytes())?;
+    }
+    Ok(())
+}
+
+/// A class of so many static fields and methods. Method k adds k to field k and gives the sum.
+fn many(alloc: Global, count: u8) -> Result<Vec<u8>, AllocError> {
+    let mut out = Vec::from_slice(alloc, &[0xca, 0xfe, 0xba, 0xbe, 0, 0, 0, 49])?;
+    push_pool(alloc, &mut out, count)?;
+    let count = usize::from(count);
+    out.extend_from_slice(&[0, 0x21, 0, 1, 0, 3, 0, 0])?;
+    push_pair(&mut out, count)?;
+    for k in 0..count {
+        out.extend_from_slice(&[0, 8])?;
+        push_pair(&mut out, 10 + 4 * k)?;
+        out.extend_from_slice(&[0, 5, 0, 0])?;
+    }
+    push_pair(&mut out, count)?;
+    for k in 0..count {
+        out.extend_from_slice(&[0, 9])?;
+        push_pair(&mut out, 13 + 4 * k)?;
+        out.extend_from_slice(&[0, 6, 0, 2, 0, 7, 0, 0, 0, 24, 0, 2, 0, 0, 0, 0, 0, 12, 0xb2])?;
+        push_pair(&mut out, 12 + 4 * k)?;
+        out.push(0x11)?;
+        push_pair(&mut out, k)?;
+        out.extend_from_slice(&[0x60, 0x59, 0xb3])?;
+        push_pair(&mut out, 12 + 4 * k)?;
+        out.extend_from_slice(&[0xac, 0, 0, 0, 0, 0, 8, 0, 0, 0, 6, 0, 1, 0, 9, 0, 0])?;
+    }
+    out.extend_from_slice(&[0, 0])?;
+    Ok(out)
+}
+
+const MANY_CALLS: &[u8] =
+    b"{\"form\":1,\"lanes\":1,\"phases\":[{\"lanes\":[[{\"call\":\"Many.m1()I\",\"args\":[]},{\"call\":\"Many.m2()I\",\"args\":[]},{\"call\":\"Many.m0()I\",\"args\":[]},{\"call\":\"Many.m2()I\",\"args\":[]},{\"call\":\"Many.m1()I\",\"args\":[]}]]}]}";
+
+const MANY_LINES: &str =
+    "history 5\n0 0 0 Many.m1()I 1\n0 0 1 Many.m2()I 2\n0 0 2 Many.m0()I 0\n0 0 3 Many.m2()I 4\n0 0 4 Many.m1()I 2\nunplaced 0\n";
+
+const LAST_CALLS: &[u8] =
+    b"{\"form\":1,\"lanes\":1,\"phases\":[{\"lanes\":[[{\"call\":\"Many.m99()I\",\"args\":[]},{\"call\":\"Many.m98()I\",\"args\":[]},{\"call\":\"Many.m99()I\",\"args\":[]}]]}]}";
+
+const LAST_LINES: &str =
+    "history 3\n0 0 0 Many.m99()I 99\n0 0 1 Many.m98()I 98\n0 0 2 Many.m99()I 198\nunplaced 0\n";
+
+#[test]
+fn each_field_has_its_own_accessors(rt: HostRuntime) -> Result<(), Fail> {
+    let alloc = rt.alloc();
+    let class = many(alloc, 3)?;
+    assert!(rt; runs(alloc, class.as_slice(), MANY_CALLS, 0, MANY_LINES)?);
+    Ok(())
+}
+
+#[test]
+fn a_hundred_fields_and_methods(rt: HostRuntime) -> Result<(), Fail> {
+    let alloc = rt.alloc();
+    let class = many(alloc, 100)?;
+    assert!(rt; runs(alloc, class.as_slice(), LAST_CALLS, 0, LAST_LINES)?);
+    let class = many(alloc, 101)?;
+    assert!(rt;
+        runs(
+            alloc,
+            class.as_slice(),
+            LAST_CALLS,
+            12,
+            "error 12 NotBuilt\n"
+        )?
+    );
+    Ok(())
+}
