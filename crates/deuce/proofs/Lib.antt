@@ -9,3 +9,4 @@ pub mod Reading
 pub mod Running
 pub mod Folders
 pub mod Failing
+pub mod Complete

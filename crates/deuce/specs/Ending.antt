@@ -122,6 +122,19 @@ pub record IsNotRun (files : Option Files) (dir script : List ℕ) : Type 0 wher
   pub script_front : IsFrontOf files script 16777217 script_bytes
   pub not : CanRun file script_bytes → ⊥
 
+-- The files of a folder, as it tells them, let the script at a path be run on the folder's one class file.
+pub record CanRunIn (told : Files) (dir script : List ℕ) : Type 0 where
+  pub name : List ℕ
+  pub class_file : IsOneClass (StandsIn told dir) name
+  pub class_bytes : List ℕ
+  pub class : told (inside dir name) ≡ Some class_bytes
+  pub within : length class_bytes ≤ 1048576
+  pub file : ClassFile
+  pub spells : Spells class_bytes file
+  pub script_bytes : List ℕ
+  pub script_holds : told script ≡ Some script_bytes
+  pub can : CanRun file script_bytes
+
 -- a run that ended before its inputs were there: where it failed outside, the folder says so
 abbrev pub EndsInRun : Option Files → List ℕ → List ℕ → ℕ → ℕ → Option Call → InputEnd → Type 0
 EndsInRun files dir script before now last (ends.Outside path) = FailedInRun dir script (string_bytes path) before now last
@@ -181,6 +194,10 @@ IsNotBuilt words files = (dir : List ℕ) × (script : List ℕ) × (seen_words 
 -- The text is that of the run that the words ask for.
 abbrev pub IsJournalOfWords : List (String Global) → Option Files → List ℕ → Type 0
 IsJournalOfWords words files text = (dir : List ℕ) × (script : List ℕ) × (seen_words words ≡ run_words dir script) × IsJournalOf files dir script text
+
+-- The words ask for a run, and the folder tells files with which that can be made.
+abbrev pub CanRunWords : List (String Global) → Option Files → Type 0
+CanRunWords words files = (dir : List ℕ) × (script : List ℕ) × (told : Files) × (seen_words words ≡ run_words dir script) × (files ≡ Some told) × CanRunIn told dir script
 
 -- a run failed outside, at this path
 abbrev pub FailedOutside : List (String Global) → List ℕ → ℕ → ℕ → Option Call → Type 0

@@ -4,7 +4,7 @@ ghost use Rattle.deuce_io.specs.Fault.{Rose};
 ghost use Rattle.jmodel.specs.declared.refusal.Refusal.{Refusal};
 ghost use Rattle.jmodel.specs.Output.{◌and◌, refusal_text, error_text};
 ghost use Rattle.deuce.specs.Command.{IsNoCommand};
-ghost use Rattle.deuce.specs.Ending.{IsOutcome, IsJournalOfWords, IsBadClassOfWords, IsNotBuilt, FailedOutside, Appends, status_of};
+ghost use Rattle.deuce.specs.Ending.{IsOutcome, IsJournalOfWords, IsBadClassOfWords, IsNotBuilt, CanRunWords, FailedOutside, Appends, status_of};
 
 use crate::inputs::{InputEnd, read_inputs};
 use crate::outcome::{Outcome, text_of};
@@ -49,6 +49,9 @@ pub fn deuce<F: Folder, O: Sink>(alloc: Global, words: &[String], folder: &mut F
         × FailedOutside words.now path (F.faults folder.old) (F.faults folder.new) (F.failed folder.new)
         × Appends (O.written out.old) (O.written out.new) (error_text (codes "8") path) }
     ensures sink { result ≡ 9 → Rose (O.faults out.old) (O.faults out.new) }
+
+    // What can be run is run, unless the folder or the sink fails or memory runs out.
+    ensures complete { CanRunWords words.now (F.files folder.old) → (result ≡ 0) ⊎ ((result ≡ 8) ⊎ ((result ≡ 9) ⊎ (result ≡ 10))) }
 
     ensures statuses { (result ≡ 0) ⊎ ((result ≡ 2) ⊎ ((result ≡ 3) ⊎ ((result ≡ 8) ⊎ ((result ≡ 9) ⊎ ((result ≡ 10) ⊎ (result ≡ 12)))))) }
 {

@@ -1,4 +1,5 @@
 use Rattle.deuce.proofs.Reading.{journal_printed, fault_printed}
+use Rattle.deuce.proofs.Complete.{complete}
 use Rattle.deuce.proofs.top.deuce.Goals as goal
 
 pub returns-in-Ok-print-clause-journal : goal.returns-in-Ok-print-clause-journal
@@ -10,3 +11,7 @@ pub returns-in-Ok-print-clause-bad_class : goal.returns-in-Ok-print-clause-bad_c
 returns-in-Ok-print-clause-bad_class g c = λ three.
     fault_printed c.args.words.now (g.F.Folder.files c.args.folder.now) _ _ _ c.in-Ok.outcome c.in-Ok-text_of.text _ _ c.status-status.result
     c.in-Ok.ensures c.status-status.ensures c.in-Ok-text_of.ensures (rw c.as_slice.ensures at c.in-Ok-print.ensures.written) three
+
+pub returns-in-Ok-print-clause-complete : goal.returns-in-Ok-print-clause-complete
+returns-in-Ok-print-clause-complete g c =
+    complete c.args.words.now (g.F.Folder.files c.args.folder.now) _ _ _ c.in-Ok.outcome c.status-status.result c.in-Ok.ensures c.status-status.ensures
