@@ -1,3 +1,5 @@
 pub mod Entries
 pub mod Stripes
 pub mod Rests
+pub mod Plans
+pub mod Newest

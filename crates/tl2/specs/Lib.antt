@@ -1,2 +1,4 @@
 pub mod Standing
 pub mod Commits
+pub mod Logs
+pub mod Plans

@@ -3,6 +3,7 @@ ghost use Rattle.std.specs.Prelude.{◌≡◌, List, [], length, reverse};
 ghost use Rattle.jmodel.specs.History.{Entry};
 ghost use Rattle.jmodel.specs.Book.{Unticked};
 ghost use Rattle.tx_table.specs.Passes.{book, IsOf};
+ghost use Rattle.tl2.specs.Logs.{IsLogged};
 
 use jmodel::op::Access;
 use std::alloc::Global;
@@ -45,8 +46,12 @@ pub struct Tl2<'a, T: Ruled, C> {
     pub(crate) pass: Pass,
     pub(crate) call: Snapshot<C>,
     pub(crate) writes: Vec<Access>,
+    /// The addresses that the attempt read and hadn't written, the oldest first.
+    pub(crate) reads: Vec<u64>,
     pub(crate) at: At,
+    pub(crate) alloc: Global,
     ghost sits: { IsOf shared.now.table.shared.table_id pass × ((book pass).face.held ≡ []) × ((book pass).face.stage ≡ Unticked) },
+    ghost logged: { IsLogged shared.now.words at reads.items (book pass) },
 }
 
 impl<'a, T: Ruled, C> Tl2<'a, T, C> {
@@ -65,7 +70,9 @@ impl<'a, T: Ruled, C> Tl2<'a, T, C> {
             pass,
             call,
             writes: Vec::new(alloc),
+            reads: Vec::new(alloc),
             at: At::Outside,
+            alloc,
         }
     }
 
@@ -80,7 +87,9 @@ impl<'a, T: Ruled, C> Tl2<'a, T, C> {
             pass,
             call: _,
             writes: _,
+            reads: _,
             at: _,
+            alloc: _,
         } = self;
         pass
     }

@@ -3,6 +3,7 @@
 
 pub mod attempt;
 mod commit;
+mod plan;
 pub mod reading;
 
 pub use attempt::{Calling, Ruled, Tl2};

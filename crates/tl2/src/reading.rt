@@ -63,6 +63,7 @@ impl<'a, T: Ruled, C: Calling> Tl2<'a, T, C> {
         ensures same { IsSame self.old.pass self.new.pass × IsKin (book self.old.pass) (book self.new.pass) }
     {
         self.writes.clear();
+        self.reads.clear();
         begin_at(&mut self.pass, self.shared, &self.call);
         self.at = At::Inside;
     }
@@ -135,7 +136,6 @@ impl<'a, T: Ruled, C: Calling> Tl2<'a, T, C> {
         ensures ticks { (book self.new.pass).ticks ≡ (book self.old.pass).ticks }
         ensures snapshot { IfOk result (λ _. written (reverse self.old.writes.items) address ≡ None → Learns (T.story self.new.shared.now.table.shared.key.story.value) (book self.new.pass)) }
         ensures same { IsSame self.old.pass self.new.pass × IsKin (book self.old.pass) (book self.new.pass) }
-        ensures memory { self.old.at ≡ At.Loaded (access address _raw) → result ≢ Err TxEnd.NoMemory }
         ensures seen { (e : Conflict) → result ≡ Err (TxEnd.Conflict e) → (e.address ≡ address) × (e.upto ≡ (book self.old.pass).bound) }
     {
         if let Some(word) = self.written(address) {
@@ -145,6 +145,9 @@ impl<'a, T: Ruled, C: Calling> Tl2<'a, T, C> {
             return Err(TxEnd::NoMemory);
         };
         if loaded.address != address {
+            return Err(TxEnd::NoMemory);
+        }
+        if self.reads.push(address).is_err() {
             return Err(TxEnd::NoMemory);
         }
         match self.pass.recheck(self.shared, address) {
