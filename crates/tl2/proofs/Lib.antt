@@ -3,3 +3,4 @@ pub mod Stripes
 pub mod Rests
 pub mod Plans
 pub mod Newest
+pub mod Updating

@@ -1,18 +1,17 @@
 -- The last writes of addresses, one write older.
-use Rattle.std.proofs.Common.{◌≡◌, ◌≢◌, ◌⊎◌, ℕ, Bool, true, false, cond, List, [], ◌∷◌, ◌++◌, refl, sym, ap, ◌∙◌, inl, inr, ⊎_elim, subst, arith}
-use mathlib.Core.Option.{Option, none, some, some-injective, some-ne-none}
+use Rattle.std.proofs.Common.{◌≡◌, ◌≢◌, ◌⊎◌, ℕ, Bool, true, false, cond, [], ◌∷◌, ◌++◌, refl, sym, ap, ◌∙◌, inl, inr, ⊎_elim, subst, arith}
+use mathlib.Core.Option.{Option, none, some, some-ne-none}
 use mathlib.Core.Logic.{dite}
 use native.Mathlib.Decide.{ℕ_discrete}
 use Rattle.std.specs.Ordering.{nat_cmp}
 use Rattle.std.specs.BTreeMap.{is_at}
-use Rattle.std.specs.BTreeSet as tree
 use Rattle.std.proofs.lemmas.Grind.{common_steps}
 use Rattle.jmodel.specs.declared.op.Access.{Access}
 use Rattle.jmodel.specs.Attempt.{Log}
 use Rattle.jmodel.specs.Book.{Map, Has, In, lookup, pairs}
 use Rattle.tx_table.proofs.MapLaws.{lookup_here, lookup_else, lookup_put, lookup_append}
 use Rattle.tl2.specs.Plans.{AreApart, IsLeft}
-use Rattle.tl2.proofs.Plans.{has_cases, has_more, has_in}
+use Rattle.tl2.proofs.Plans.{has_more, has_in}
 
 pub in_has : (ls : Log) (p : Access) → In p ls → Has (pairs ls) p.address
 in_has [] p i = absurd i

@@ -1,6 +1,6 @@
 -- A plan's parts, one write or read more.
-use Rattle.std.proofs.Common.{◌≡◌, ◌≢◌, ◌⊎◌, ◌<◌, ◌≤◌, ◌+◌, ◌%◌, ℕ, zero, Bool, true, false, List, [], ◌∷◌, ◌++◌, All, length, replicate, reverse, take, slice_index, slice_index_or, slice_set, refl, sym, ap, ◌∙◌, inl, inr, ⊎_elim, subst, arith}
-use mathlib.Core.Option.{Option, none, some, some-injective, some-ne-none}
+use Rattle.std.proofs.Common.{◌≡◌, ◌⊎◌, ◌<◌, ◌≤◌, ◌+◌, ◌%◌, ℕ, zero, Bool, true, false, List, [], ◌∷◌, ◌++◌, All, length, replicate, reverse, take, slice_index, slice_index_or, slice_set, refl, sym, ap, ◌∙◌, inl, inr, ⊎_elim, subst, arith}
+use mathlib.Core.Option.{some, some-ne-none}
 use mathlib.Core.Logic.{dite}
 use native.Mathlib.Decide.{ℕ_discrete}
 use Rattle.std.proofs.lemmas.List.{get_or-set_same, get_or-set_other, get_or-replicate, get_or_past, length-replicate, reverse-append}
@@ -8,9 +8,9 @@ use Rattle.std.proofs.lemmas.List.Elements.{All-more, All-weaker}
 use Rattle.std.proofs.lemmas.Bool.{cases_lt}
 use Rattle.jmodel.specs.declared.op.Access.{Access}
 use Rattle.jmodel.specs.Attempt.{Log}
-use Rattle.jmodel.specs.Book.{Map, Has, In, lookup, pairs, without}
-use Rattle.tx_table.proofs.MapLaws.{lookup_here, lookup_else, lookup_put, lookup_without, lookup_kept}
-use Rattle.tl2.specs.Plans.{IsOwning, AreApart, IsLeft}
+use Rattle.jmodel.specs.Book.{Map, Has, In, lookup, pairs}
+use Rattle.tx_table.proofs.MapLaws.{lookup_here, lookup_else, lookup_put}
+use Rattle.tl2.specs.Plans.{IsOwning}
 
 -- one write more
 pub due_more : (ws : Log) (l : Access) → pairs (reverse (ws ++ l ∷ [])) ≡ (l.address, l.word) ∷ pairs (reverse ws)

@@ -6,11 +6,9 @@ ghost use Rattle.jmodel.specs.Plays.{lost_at, took};
 ghost use Rattle.tx_table.specs.Passes.{book, IsOf, IsSame};
 ghost use Rattle.tl2.specs.Commits.{AreOwners, Covers, IsChecked, IsRest, IsTaking};
 
+use crate::plan::STRIPES;
 use tx_core::Conflict;
 use tx_table::{Pass, Shared, Story};
-
-/// How many stripes there are.
-const STRIPES: usize = 4096;
 
 /// Takes the stripe of an address that was written, and answers the word that it had. A stripe that is held, or of whose
 /// addresses one was read and whose version is over the bound, is a conflict.
@@ -36,7 +34,7 @@ fn take_one<T: Story>(
 
 /// Gives the wanted stripes below one back, each with the word that it had. `owners` has for each stripe 1 more than an address that
 /// is written, or 0.
-fn give_back<T: Story>(
+pub(crate) fn give_back<T: Story>(
     pass: &mut Pass,
     shared: &Shared<T>,
     owners: &[u64],
@@ -49,6 +47,7 @@ fn give_back<T: Story>(
     requires stage { (book pass.old).face.stage ≢ Decided }
     ensures same { IsSame pass.old pass.new }
     ensures free { (book pass.new).face.held ≡ [] }
+    ensures over { (book pass.old).face.held ≢ [] → (book pass.new).face.stage ≡ Unticked }
     ensures rest { IsRest 0 0 (book pass.old) (book pass.new) }
 {
     for stripe in 0..upto {
@@ -59,7 +58,7 @@ fn give_back<T: Story>(
 }
 
 /// Takes the wanted stripes in ascending order, and keeps the word that each had. After a conflict all are given back.
-fn take_all<T: Story>(
+pub(crate) fn take_all<T: Story>(
     pass: &mut Pass,
     shared: &Shared<T>,
     owners: &[u64],
@@ -92,7 +91,7 @@ fn take_all<T: Story>(
 
 /// Looks once more at the stripe of each address that was read and whose stripe isn't wanted. One that is held, or whose
 /// version is over the bound, is a conflict.
-fn validate_all<T: Story>(
+pub(crate) fn validate_all<T: Story>(
     pass: &mut Pass,
     shared: &Shared<T>,
     owners: &[u64],
@@ -115,7 +114,7 @@ fn validate_all<T: Story>(
 }
 
 /// Gives the wanted stripes back with the tick as their version, once all is written.
-fn release_all<T: Story>(pass: &mut Pass, shared: &Shared<T>, owners: &[u64])
+pub(crate) fn release_all<T: Story>(pass: &mut Pass, shared: &Shared<T>, owners: &[u64])
     requires table { IsOf shared.now.table.shared.table_id pass.old }
     requires owners { length owners.now ≡ 4096 }
     requires held { (words : List ℕ) × Covers owners.now words 0 4096 (book pass.old).face.held }

@@ -5,6 +5,7 @@ pub mod attempt;
 mod commit;
 mod plan;
 pub mod reading;
+mod update;
 
 pub use attempt::{Calling, Ruled, Tl2};
 

@@ -1,4 +1,4 @@
-use Rattle.std.proofs.Common.{◌≡◌, ◌<◌, ◌+◌, ◌∷◌, ◌++◌, [], true, false, length, reverse, take, get_or, refl, sym, ap, ◌∙◌, ℕ, List}
+use Rattle.std.proofs.Common.{◌≡◌, ◌∷◌, ◌++◌, [], length, reverse, take, sym, ap, ◌∙◌, ℕ}
 use Rattle.std.proofs.lemmas.Bool.{not-true, not-false}
 use Rattle.std.proofs.lemmas.List.{take_more, length_push}
 use Rattle.std.proofs.lemmas.Iterator.Adapters.{YieldsList-from_rev_slice}
@@ -7,8 +7,7 @@ use Rattle.std.specs.Ordering.{nat_cmp}
 use Rattle.std.specs.BTreeSet as tree
 use Rattle.jmodel.specs.declared.op.Access.{Access}
 use Rattle.jmodel.specs.Attempt.{Log}
-use Rattle.jmodel.specs.Book.{Map, pairs}
-use Rattle.tl2.specs.Plans.{IsLeft}
+use Rattle.jmodel.specs.Book.{pairs}
 use Rattle.tl2.proofs.Newest.{pairs_last, newest_new, newest_old, seen_more, fresh_more}
 use Rattle.tl2.proofs.plan.newest_of.Goals as goal
 

@@ -1,9 +1,8 @@
-use Rattle.std.proofs.Common.{◌≡◌, ◌<◌, ◌+◌, ◌∷◌, ◌++◌, [], length, reverse, take, slice_index_or, ap, ◌∙◌, subst, sym, refl, ℕ, List, arith}
-use Rattle.std.proofs.lemmas.List.{take_more, length-set, take_all}
+use Rattle.std.proofs.Common.{◌≡◌, ◌+◌, ◌∷◌, length, reverse, take, slice_index_or, ap, ◌∙◌, arith}
+use Rattle.std.proofs.lemmas.List.{take_more, length-set}
 use Rattle.jmodel.specs.declared.op.Access.{Access}
 use Rattle.jmodel.specs.Attempt.{Log}
-use Rattle.jmodel.specs.Book.{Map, pairs}
-use Rattle.tl2.specs.Plans.{IsOwning}
+use Rattle.jmodel.specs.Book.{pairs}
 use Rattle.tl2.proofs.Plans.{due_more, owning_none, owning_more, zeros, many_zeros}
 use Rattle.tl2.proofs.plan.owners_of.Goals as goal
 

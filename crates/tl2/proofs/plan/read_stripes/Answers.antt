@@ -1,4 +1,4 @@
-use Rattle.std.proofs.Common.{◌≡◌, ◌∙◌}
+use Rattle.std.proofs.Common.{◌∙◌}
 use Rattle.std.proofs.lemmas.List.{length-set, take_all}
 use Rattle.tl2.proofs.Plans.{marked_more}
 use Rattle.tl2.proofs.plan.read_stripes.Goals as goal
