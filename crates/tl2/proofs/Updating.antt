@@ -3,7 +3,7 @@ use Rattle.std.proofs.Common.{◌≡◌, ◌≢◌, ◌⊎◌, ◌<◌, ◌+◌,
 use mathlib.Core.Option.{some, some-ne-none}
 use mathlib.Core.Logic.{dite}
 use native.Mathlib.Decide.{ℕ_discrete}
-use Rattle.std.proofs.lemmas.List.{reverse-append}
+use Rattle.std.proofs.lemmas.List.{reverse-append, reverse-reverse}
 use Rattle.std.proofs.lemmas.List.Elements.{All-nil, All-cons, All-head, All-tail, All-from_get_or}
 use Rattle.jmodel.specs.declared.op.Access.{Access}
 use Rattle.jmodel.specs.declared.value.Answer.{Answer}
@@ -196,3 +196,7 @@ module _ (t : ℕ) (wr : Log) (v w : Book) (x : Answer) (k : IsTicked t (pairs w
     entries = r.entries ∙ ap (λ (b : Book). b.entries) e ∙ ap (λ (d : Entry). d ∷ w.entries) entry_is ∙ ap (λ (es : List Entry). update_of v t wr x ∷ es) k.entries;
     lost = let p = r.lost in let q = ap (λ (b : Book). length b.lost) e in let o = k.lost in omega arith;
   }
+
+-- what holds of each element of a reversed list, holds of each of the list
+pub all_reversed : {A : Type 0} (P : A → Type 0) (xs : List A) → All P (reverse xs) → All P xs
+all_reversed P xs all = all_from P xs (λ p i. all_in P (reverse xs) p all (in_reversed (reverse xs) p (subst (In p) (sym (reverse-reverse xs)) i)))

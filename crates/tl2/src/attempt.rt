@@ -1,5 +1,6 @@
 //! The attempts of one lane over a table of shared words.
-ghost use Rattle.std.specs.Prelude.{◌≡◌, List, [], length, reverse};
+ghost use Rattle.std.specs.Prelude.{◌≡◌, ℕ, List, [], length, reverse};
+ghost use Rattle.jmodel.specs.Attempt.{Log};
 ghost use Rattle.jmodel.specs.History.{Entry};
 ghost use Rattle.jmodel.specs.Book.{Unticked};
 ghost use Rattle.tx_table.specs.Passes.{book, IsOf};
@@ -74,6 +75,18 @@ impl<'a, T: Ruled, C> Tl2<'a, T, C> {
             at: At::Outside,
             alloc,
         }
+    }
+
+    /// Names the call that the next attempt is made at. An attempt that is open is over. No memory.
+    pub fn set_call(&mut self, call: Snapshot<C>)
+        ensures call { self.new.call.value ≡ call.value }
+        ensures pass { self.new.pass ≡ self.old.pass }
+        ensures shared { self.new.shared ≡ self.old.shared }
+        ensures stands { (h : List Entry) (n : ℕ) (r w : Log) → Stands self.old.shared.now.words self.old.at self.old.writes.items (book self.old.pass) h n r w → Stands self.new.shared.now.words self.new.at self.new.writes.items (book self.new.pass) h n [] [] }
+    {
+        self.call = call;
+        self.writes.clear();
+        self.at = At::Outside;
     }
 
     /// The pass, which holds no stripe.

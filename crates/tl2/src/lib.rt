@@ -3,6 +3,8 @@
 
 pub mod attempt;
 mod commit;
+pub mod ending;
+pub mod engine;
 mod plan;
 pub mod reading;
 mod update;

@@ -1,5 +1,6 @@
 //! The steps of an attempt that reads, and its end without writes.
 ghost use Rattle.std.specs.Prelude.{◌≡◌, ◌≢◌, ◌⊎◌, ◌<◌, ◌+◌, ◌*◌, ◌%◌, ◌∷◌, ◌++◌, [], ℕ, List, None, true, reverse, MatchResult, IfOk, IfErr};
+ghost use mathlib.Core.Option.{some as Found};
 ghost use Rattle.jmodel.specs.Attempt.{Log, access, answered, recorded, written};
 ghost use Rattle.jmodel.specs.Book.{Unticked};
 ghost use Rattle.jmodel.specs.History.{Call, Entry};
@@ -186,7 +187,8 @@ impl<'a, T: Ruled, C: Calling> Tl2<'a, T, C> {
         ensures run { (h : List Entry) (n : ℕ) (r w : Log) → Stands self.old.shared.now.words self.old.at self.old.writes.items (book self.old.pass) h n r w
             → IsOfWrites result [] × Adds (Awaits (C.call self.old.call.value) (book self.old.pass)) T.rule (Stands self.new.shared.now.words self.new.at self.new.writes.items (book self.new.pass)) h n answer.value result r [] }
         ensures ticks { (book self.new.pass).ticks ≡ (book self.old.pass).ticks }
-        ensures same { IsSame self.old.pass self.new.pass }
+        ensures region { (c : Call) (used : ℕ) → Awaits (C.call self.old.call.value) (book self.old.pass) c used → (book self.new.pass).regions ≡ (c.region, record { used = used; last = Found c }) ∷ (book self.old.pass).regions }
+        ensures same { IsSame self.old.pass self.new.pass × ((book self.new.pass).numbers ≡ (book self.old.pass).numbers) × ((book self.new.pass).fresh ≡ (book self.old.pass).fresh) }
     {
         let stamp = finish_with(&mut self.pass, self.shared, answer);
         self.writes.clear();
