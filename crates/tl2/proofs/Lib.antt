@@ -4,3 +4,4 @@ pub mod Rests
 pub mod Plans
 pub mod Newest
 pub mod Updating
+pub mod Trials

@@ -2,3 +2,4 @@ pub mod Standing
 pub mod Commits
 pub mod Logs
 pub mod Plans
+pub mod Trials

@@ -26,6 +26,7 @@ impl<'a, T: Ruled, C: Calling> Tl2<'a, T, C> {
             (λ end. Stands self.new.shared.now.words self.new.at self.new.writes.items (book self.new.pass) h (raised end n) [] []) }
         ensures awaits { (c : Call) (used : ℕ) → Awaits (C.call self.old.call.value) (book self.old.pass) c used → IfErr result (λ _. Awaits (C.call self.new.call.value) (book self.new.pass) c used) }
         ensures ticks { (book self.new.pass).ticks ≤ (book self.old.pass).ticks + 1 }
+        ensures regions { IfErr result (λ _. (book self.new.pass).regions ≡ (book self.old.pass).regions) }
         ensures region { (c : Call) (used : ℕ) → Awaits (C.call self.old.call.value) (book self.old.pass) c used → IfOk result (λ _. (book self.new.pass).regions ≡ (c.region, record { used = used; last = Found c }) ∷ (book self.old.pass).regions) }
         ensures same { IsSame self.old.pass self.new.pass × ((book self.new.pass).numbers ≡ (book self.old.pass).numbers) × ((book self.new.pass).fresh ≡ (book self.old.pass).fresh) }
     {
