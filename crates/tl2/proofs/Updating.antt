@@ -200,3 +200,12 @@ module _ (t : ℕ) (wr : Log) (v w : Book) (x : Answer) (k : IsTicked t (pairs w
 -- what holds of each element of a reversed list, holds of each of the list
 pub all_reversed : {A : Type 0} (P : A → Type 0) (xs : List A) → All P (reverse xs) → All P xs
 all_reversed P xs all = all_from P xs (λ p i. all_in P (reverse xs) p all (in_reversed (reverse xs) p (subst (In p) (sym (reverse-reverse xs)) i)))
+
+-- an address of a stripe that is wanted for it, is due
+pub wanted_due : (due : Map ℕ) (owners : List ℕ) (a : ℕ) → IsOwning due owners → slice_index owners (a % 4096) ≡ a + 1 → Has due a
+wanted_due due owners a o e =
+    let wanted : slice_index owners (a % 4096) ≢ 0 = λ z. omega arith in
+    let t = o.only (a % 4096) wanted in
+    let one_more = t.1 in
+    let same : t.0 ≡ a = omega arith in
+    subst (Has due) same t.3

@@ -1,5 +1,5 @@
 //! The steps of a commit: the stripes of what was written are taken, and given back.
-ghost use Rattle.std.specs.Prelude.{◌≡◌, ◌≢◌, ◌<◌, ◌≤◌, ◌%◌, [], ℕ, List, true, false, length, slice_index, slice_index_or, IfOk, IfErr};
+ghost use Rattle.std.specs.Prelude.{◌≡◌, ◌≢◌, ◌<◌, ◌≤◌, ◌+◌, ◌%◌, [], ℕ, List, true, false, length, slice_index, slice_index_or, IfOk, IfErr};
 ghost use mathlib.Core.Option.{some as Found};
 ghost use Rattle.jmodel.specs.Book.{Unticked, Decided, In, lookup};
 ghost use Rattle.jmodel.specs.Plays.{lost_at, took};
@@ -74,6 +74,7 @@ pub(crate) fn take_all<T: Story>(
     ensures len { length words.new ≡ 4096 }
     ensures ok { IfOk result (λ _. IsTaking (book pass.old) (book pass.new) × Covers owners.now words.new 0 4096 (book pass.new).face.held) }
     ensures err { IfErr result (λ _. IsRest 1 0 (book pass.old) (book pass.new) × ((book pass.new).face.held ≡ []) × ((book pass.new).face.stage ≡ Unticked)) }
+    ensures conflict { IfErr result (λ e. (e.upto ≡ (book pass.old).bound) × (slice_index owners.now (e.address % 4096) ≡ e.address + 1)) }
 {
     for stripe in 0..STRIPES {
         if owners[stripe] != 0 {
@@ -104,6 +105,7 @@ pub(crate) fn validate_all<T: Story>(
     ensures same { IsSame pass.old pass.new }
     ensures ok { IfOk result (λ _. IsChecked owners.now reads.now (length reads.now) (book pass.old) (book pass.new)) }
     ensures err { IfErr result (λ e. (checked : List ℕ) × (book pass.new ≡ lost_at (record (book pass.old) { checked = checked }) e.address e.word)) }
+    ensures conflict { IfErr result (λ e. (e.upto ≡ (book pass.old).bound) × In e.address reads.now) }
 {
     for address in reads {
         if owners[(*address % 4096) as usize] == 0 {

@@ -77,6 +77,7 @@ pub(crate) fn update<T: Story>(
     ensures same { IsSame pass.old pass.new }
     ensures free { ((book pass.new).face.held ≡ []) × ((book pass.new).face.stage ≡ Unticked) }
     ensures ok { IfOk result (λ stamp. (stamp.update ≡ true) × IsAdded (update_of (book pass.old) stamp.at (reverse writes.now) answer.value) (book pass.old) (book pass.new)) }
+    ensures conflict { IfErr result (λ e. (e.upto ≡ (book pass.old).bound) × (Has (pairs (reverse writes.now)) e.address ⊎ In e.address reads.now)) }
     ensures err { IfErr result (λ _. (moved : ℕ) × (moved ≤ 1) × IsRest 1 moved (book pass.old) (book pass.new)) }
 {
     let Plan {

@@ -13,7 +13,7 @@ loop-stripe-preserved g c =
       | then-owners-stripe-ne0 w ↦ rw (w.pass-is, w.release_old.ensures.book) (record {
         same = (w.release_old.ensures.same.0 ∙ i.same.0, w.release_old.ensures.same.1 ∙ i.same.1);
         held = less c.args.owners.now c.args.words.now c.loop-stripe.stripe c.args.upto (book c.loop-stripe.pass).face.held i.held;
-        over = inl refl;
+        over = inl (refl {a = Unticked});
         rest = rest_given 0 0 (book c.args.pass.now) (book c.loop-stripe.pass) c.loop-stripe.stripe false i.rest;
       })
       | else-owners-stripe-ne0 w ↦ rw w.pass-is (record {

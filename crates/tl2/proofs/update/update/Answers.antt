@@ -1,10 +1,11 @@
-use Rattle.std.proofs.Common.{◌≡◌, ◌%◌, ℕ, true, refl, sym, ap, ◌∙◌, reverse, slice_index_or, false, arith}
+use Rattle.std.proofs.Common.{◌≡◌, ◌%◌, ℕ, true, refl, sym, ap, inl, inr, ◌∙◌, reverse, slice_index_or, false, arith}
 use Rattle.jmodel.specs.Book.{Book, pairs}
 use Rattle.jmodel.specs.Plays.{keys, ticked_up, lost_at}
 use Rattle.tx_table.specs.Passes.{book}
 use Rattle.tl2.specs.Commits.{Covers}
 use Rattle.tl2.specs.Plans.{IsOwning, IsLeft}
-use Rattle.tl2.proofs.Updating.{each_read, covers_same, owners_are, due_held, held_due, newest_some, newest_fits, some_held, ticked_then, ticked_lost, all_safe, updates, added}
+use Rattle.tl2.proofs.Updating.{each_read, covers_same, owners_are, due_held, held_due, newest_some, newest_fits, some_held, ticked_then, ticked_lost, all_safe, updates, added, wanted_due}
+use Rattle.tl2.proofs.Rests.{err_says}
 use Rattle.tl2.proofs.update.update.Goals as goal
 
 pub take_all-requires-clause-owners : goal.take_all-requires-clause-owners
@@ -110,3 +111,17 @@ returns-clause-ok g c =
     let is : v3 ≡ record (ticked_up v1 t (pairs w)) { checked = checked.0 } = checked.1 ∙ ap (λ (b : Book). record b { checked = checked.0 }) c.tick_for-at.ensures.book in
     let k = ticked_then t (pairs w) checked.0 v v1 v3 ok.0 is in
     (refl, added t w v v3 c.args.answer.value k c.store_all.ensures.book.0 (book c.store_all.new.pass) (book c.release_all.new.pass) c.store_all.ensures.book.2 c.release_all.ensures.rest)
+
+pub returns-in-Err-clause-conflict : goal.returns-in-Err-clause-conflict
+returns-in-Err-clause-conflict g c =
+    let ok = c.in_ok-take_all.ensures.ok in
+    let k = c.in-Err.ensures.conflict in
+    (k.0 ∙ ap (λ (b : Book). b.bound) c.tick_for-at.ensures.book ∙ ok.0.bound, inr k.1)
+
+pub returns-in_err-take_all-clause-conflict : goal.returns-in_err-take_all-clause-conflict
+returns-in_err-take_all-clause-conflict g c =
+    let k = c.in_err-take_all.ensures.conflict in
+    let o : IsOwning (pairs (reverse c.args.writes.now)) c.deref.result.now = rw c.deref.ensures.value c.requires.plan.owning in
+    let back = c.from_residual.ensures in
+    let due = wanted_due (pairs (reverse c.args.writes.now)) c.deref.result.now _ o k.1 in
+    err_says c.from_residual.result back.1 (λ e q. rw q (k.0, inl due))

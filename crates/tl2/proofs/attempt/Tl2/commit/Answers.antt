@@ -1,9 +1,11 @@
-use Rattle.std.proofs.Common.{◌≡◌, ◌≢◌, ◌<◌, ◌^◌, true, [], All, reverse, length, sym, ap, ◌∙◌, subst, arith}
+use Rattle.std.proofs.Common.{◌⊎◌, inl, inr, ⊎_elim, ◌≡◌, ◌≢◌, ◌<◌, ◌^◌, true, ℕ, List, [], All, reverse, length, sym, ap, ◌∙◌, subst, arith}
 use Rattle.std.proofs.lemmas.List.{length-reverse}
 use Rattle.std.proofs.lemmas.List.Elements.{All-weaker}
 use Rattle.std.proofs.lemmas.Grind.{common_steps}
 use Rattle.jmodel.specs.declared.op.Access.{Access}
 use Rattle.jmodel.specs.Attempt.{Log}
+use Rattle.jmodel.specs.Book.{Map, Has, In, pairs}
+use Rattle.tx_core.specs.declared.engine.Conflict.{Conflict}
 use Rattle.tx_table.specs.Passes.{book}
 use Rattle.tl2.specs.Commits.{IsAdded, update_of}
 use Rattle.tl2.proofs.Entries.{inside, update_fits, adds_update}
@@ -50,4 +52,15 @@ returns-in-Ok-done-clause-run g c = λ h n r w s.
     let a = subst (λ (k : Log). IsAdded (update_of v stamp.at k c.args.answer.value) v (book c.update-done.new.pass)) e ok.1 in (
       ((λ t. wrote), (λ t. ok.0)),
       rw c.clear.ensures.items (adds_update c.args.self.now.shared.now.words (g.C.Calling.call c.args.self.now.call.value) g.T.Ruled.rule c.args.self.now.at c.args.self.now.writes.items v (book c.update-done.new.pass) h n r w c.args.answer.value stamp o.1 (inside _ _ _ o.2) ok.0 s a),
+    )
+
+pub returns-in-Err-clause-seen : goal.returns-in-Err-clause-seen
+returns-in-Err-clause-seen g c = λ e q.
+    let k = c.in-Err.ensures.conflict in
+    let same : c.in-Err.conflict ≡ e = cc in
+    let at = ap (λ (ws : Log). pairs (reverse ws)) c.deref-3.ensures.value in
+    subst (λ (d : Conflict). (d.upto ≡ (book c.args.self.now.pass).bound) × (Has (pairs (reverse c.args.self.now.writes.items)) d.address ⊎ In d.address c.args.self.now.reads.items)) same (
+      k.0,
+      ⊎_elim (λ (h : Has (pairs (reverse c.deref-3.result.now)) c.in-Err.conflict.address). inl (subst (λ (m : Map ℕ). Has m c.in-Err.conflict.address) at h))
+          (λ (i : In c.in-Err.conflict.address c.deref-4.result.now). inr (subst (λ (rs : List ℕ). In c.in-Err.conflict.address rs) c.deref-4.ensures.value i)) k.1,
     )
