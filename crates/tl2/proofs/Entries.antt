@@ -1,19 +1,21 @@
--- The entry of an attempt that wrote nothing.
-use Rattle.std.proofs.Common.{◌≡◌, ◌≢◌, ◌<◌, ℕ, false, List, [], ◌∷◌, refl, sym, ap, ◌∙◌, subst}
+-- The entries of attempts.
+use Rattle.std.proofs.Common.{◌≡◌, ◌≢◌, ◌<◌, ◌+◌, ℕ, false, true, arith, List, [], ◌∷◌, refl, sym, ap, ◌∙◌, subst}
 use Rattle.std.proofs.lemmas.List.{reverse-append}
 use Rattle.std.proofs.lemmas.List.Elements.{All-nil}
 use mathlib.Core.Option.{some}
 use Rattle.jmodel.specs.declared.op.Access.{Access}
 use Rattle.jmodel.specs.declared.value.Answer.{Answer}
+use Rattle.jmodel.specs.declared.value.Stamp.{Stamp}
 use Rattle.jmodel.specs.Attempt.{Log}
 use Rattle.jmodel.specs.History.{Call, Entry}
 use Rattle.jmodel.specs.Engine.{made}
 use Rattle.jmodel.specs.Book.{Map, Book, Region, lookup, pairs}
 use Rattle.jmodel.specs.Rule.{Story, Succeeds}
-use Rattle.jmodel.specs.Plays.{accesses, reader_entry, used_in, finished, Reads}
+use Rattle.jmodel.specs.Plays.{accesses, reader_entry, used_in, finished, region_of, Fits, Reads}
 use Rattle.tx_core.specs.Engine.{Adds}
 use Rattle.tl2.specs.declared.attempt.At.{At}
 use Rattle.tl2.specs.declared.attempt.At.TheVariants.{Outside}
+use Rattle.tl2.specs.Commits.{IsAdded, IsRest, update_of}
 use Rattle.tl2.specs.Standing.{IsAt, Awaits, Stands}
 
 -- where a pass stands in an attempt, so does the engine
@@ -74,6 +76,79 @@ adds_reader words named rule at kept v h n r w x on inside s c used aw may = rec
       ∙ ap (λ (t : List Entry). made c x used used (record { at = v.bound; update = false }) r [] ∷ t) s.entries
       ∙ sym (reverse-append h (made c x used used (record { at = v.bound; update = false }) r [] ∷ []));
   lost = s.lost;
+  reads = λ q. absurd (q refl);
+  writes = refl;
+  within = All-nil (λ (l : Access). l.address < words);
+}
+
+-- the region has the awaited call as its last one
+pub reader_region : (named : Call) (v : Book) (x : Answer) (c : Call) (used : ℕ) → v.call ≡ named → Awaits named v c used
+    → (finished v (reader_entry v x)).regions ≡ (c.region, record { used = used; last = some c }) ∷ v.regions
+reader_region named v x c used on aw =
+    let same : v.call ≡ c = on ∙ sym aw.0 in
+    let held : used_in (lookup v.regions v.call.region) ≡ used = ap (λ (k : Call). used_in (lookup v.regions k.region)) same ∙ ap used_in aw.2.1 ∙ aw.2.2 in
+    λ i. ((same i).region, record { used = held i; last = some (same i) }) ∷ v.regions
+
+-- the update of the awaited call is the one that the pass adds
+pub update_made : (named : Call) (v : Book) (c : Call) (used : ℕ) (r w : Log) (x : Answer) (s : Stamp) → s.update ≡ true → v.call ≡ named → Awaits named v c used → v.reads ≡ pairs r
+    → update_of v s.at w x ≡ made c x used used s r w
+update_made named v c used r w x s u on aw reads =
+    let same : v.call ≡ c = on ∙ sym aw.0 in
+    let held : used_in (lookup v.regions v.call.region) ≡ used = ap (λ (k : Call). used_in (lookup v.regions k.region)) same ∙ ap used_in aw.2.1 ∙ aw.2.2 in
+    let log : accesses v.reads ≡ r = ap accesses reads ∙ accesses_pairs r in
+    λ i. record {
+      stamp = record { at = s.at; update = (sym u) i };
+      call = same i;
+      answer = x;
+      reads = log i;
+      writes = w;
+      used_before = held i;
+      used_after = held i;
+    }
+
+-- it owes nothing to the attempt
+pub update_fits : (S : Story) (named : Call) (v : Book) (c : Call) (used : ℕ) (r w : Log) (x : Answer) (t : ℕ) → v.call ≡ named → Awaits named v c used → v.reads ≡ pairs r
+    → S.runs (made c x used used (record { at = t; update = true }) r w) → Fits S v (update_of v t w x)
+update_fits S named v c used r w x t on aw reads runs =
+    let same : v.call ≡ c = on ∙ sym aw.0 in
+    record {
+      call = refl;
+      reads = pairs_accesses v.reads;
+      region = subst (λ (k : Call). (g : Region) × (lookup v.regions k.region ≡ some g) × (g.used ≡ used_in (lookup v.regions k.region)) × Succeeds k g.last) (sym same)
+          (aw.2.0, aw.2.1, sym (ap used_in aw.2.1), aw.2.3);
+      lane = rw same aw.1;
+      runs = subst S.runs (sym (update_made named v c used r w x (record { at = t; update = true }) refl on aw reads)) runs;
+      stays = λ q. refl;
+    }
+
+-- the engine stands for one update more
+pub adds_update : (words : ℕ) (named : Call) (rule : Entry → Type 0) (at : At) (kept : List Access) (v v' : Book) (h : List Entry) (n : ℕ) (r w : Log) (x : Answer) (s : Stamp)
+    → v.call ≡ named → at ≢ Outside → s.update ≡ true → Stands words at kept v h n r w → IsAdded (update_of v s.at w x) v v'
+    → Adds (Awaits named v) rule (Stands words Outside [] v') h n x s r w
+adds_update words named rule at kept v v' h n r w x s on inside u st a c used aw may = record {
+  entries = a.entries
+      ∙ ap (λ (e : Entry). e ∷ v.entries) (update_made named v c used r w x s u on aw (st.reads inside))
+      ∙ ap (λ (t : List Entry). made c x used used s r w ∷ t) st.entries
+      ∙ sym (reverse-append h (made c x used used s r w ∷ []));
+  lost = a.lost ∙ st.lost;
+  reads = λ q. absurd (q refl);
+  writes = refl;
+  within = All-nil (λ (l : Access). l.address < words);
+}
+
+pub update_region : (named : Call) (v v' : Book) (t : ℕ) (w : Log) (x : Answer) (c : Call) (used : ℕ) → v.call ≡ named → IsAdded (update_of v t w x) v v' → Awaits named v c used
+    → v'.regions ≡ (c.region, record { used = used; last = some c }) ∷ v.regions
+update_region named v v' t w x c used on a aw =
+    let same : v.call ≡ c = on ∙ sym aw.0 in
+    let held : used_in (lookup v.regions v.call.region) ≡ used = ap (λ (k : Call). used_in (lookup v.regions k.region)) same ∙ ap used_in aw.2.1 ∙ aw.2.2 in
+    let it : region_of (update_of v t w x) ∷ v.regions ≡ (c.region, record { used = used; last = some c }) ∷ v.regions = λ i. ((same i).region, record { used = held i; last = some (same i) }) ∷ v.regions in
+    a.regions ∙ it
+
+-- a conflict in a commit is counted, and the attempt leaves nothing
+pub lost_stands : (words moved n : ℕ) (at : At) (kept : List Access) (v v' : Book) (h : List Entry) (r w : Log) → IsRest 1 moved v v' → Stands words at kept v h n r w → Stands words Outside [] v' h (n + 1) [] []
+lost_stands words moved n at kept v v' h r w k s = record {
+  entries = k.entries ∙ s.entries;
+  lost = let p = k.lost in let q = s.lost in omega arith;
   reads = λ q. absurd (q refl);
   writes = refl;
   within = All-nil (λ (l : Access). l.address < words);

@@ -1,5 +1,7 @@
 -- What steps of one attempt leave of a book.
-use Rattle.std.proofs.Common.{◌≡◌, ◌≢◌, ◌⊎◌, ℕ, Bool, true, [], ◌∷◌, refl, sym, ap, ◌∙◌, inl, inr, arith}
+use Rattle.std.specs.Prelude.{IfErr}
+use Rattle.std.specs.Result.{IsErrAnd}
+use Rattle.std.proofs.Common.{◌≡◌, ◌≢◌, ◌⊎◌, Result, Ok, Err, ℕ, Bool, true, [], ◌∷◌, refl, sym, ap, ◌∙◌, inl, inr, arith}
 use mathlib.Core.Option.{some, some-ne-none}
 use Rattle.jmodel.specs.Book.{Book, Map, Unticked, Decided, lookup, without}
 use Rattle.jmodel.specs.Plays.{gave_up, took, lost_at, released, stage_of}
@@ -108,3 +110,8 @@ decided_still w s x (inr p) e = absurd (some-ne-none x (sym e ∙ ap (λ (m : Ma
 pub over : (w : Book) → IsReleasing w → w.face.held ≡ [] → w.face.stage ≡ Unticked
 over w (inl p) e = absurd (p.1 e)
 over w (inr p) e = p.0
+
+-- an error passes on what it says
+pub err_says : {A E : Type 0} {P Q : E → Type 0} (r : Result A E) → IsErrAnd r P → ((e : E) → P e → Q e) → IfErr r Q
+err_says (Ok a) h f = absurd h
+err_says (Err e) h f = f e h

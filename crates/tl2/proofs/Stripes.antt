@@ -1,5 +1,5 @@
 -- The stripes that are held, one more or one less.
-use Rattle.std.proofs.Common.{◌≡◌, ◌≢◌, ◌⊎◌, ◌<◌, ◌≤◌, ◌+◌, ◌%◌, ℕ, List, [], ◌∷◌, length, slice_index, slice_set, refl, sym, ap, ◌∙◌, inl, inr, ⊎_elim, subst, arith}
+use Rattle.std.proofs.Common.{◌≡◌, ◌≢◌, ◌⊎◌, ◌<◌, ◌≤◌, ◌+◌, ◌%◌, ℕ, zero, suc, List, [], ◌∷◌, length, slice_index, slice_set, refl, sym, ap, ◌∙◌, inl, inr, ⊎_elim, subst, arith}
 use mathlib.Core.Option.{some, some-ne-none}
 use mathlib.Core.Logic.{dite}
 use native.Mathlib.Decide.{ℕ_discrete}
@@ -117,3 +117,9 @@ checked_same owners reads i v w wanted c = (c.0, c.1, λ j l z. go j (dite (ℕ_
     go : (j : ℕ) → (i ≡ j) ⊎ (j < i) → slice_index owners (slice_index reads j % 4096) ≡ 0 → In (slice_index reads j % 4096) c.0
     go j (inl e) z = absurd (wanted (ap (λ (k : ℕ). slice_index owners (slice_index reads k % 4096)) e ∙ z))
     go j (inr l) z = c.2 j l z
+
+pub in_at : (xs : List ℕ) (i : ℕ) → i < length xs → In (slice_index xs i) xs
+in_at [] zero l = let no : ⊥ = omega arith in absurd no
+in_at [] (suc i) l = let no : ⊥ = omega arith in absurd no
+in_at (x ∷ xs) zero l = inl refl
+in_at (x ∷ xs) (suc i) l = inr (in_at xs i (omega arith))

@@ -1,7 +1,11 @@
 -- The stripes that a commit holds.
-use Rattle.std.specs.Prelude.{◌≡◌, ◌≢◌, ◌⊎◌, ◌<◌, ◌≤◌, ◌+◌, ◌%◌, ℕ, true, List, [], length, slice_index}
+use Rattle.std.specs.Prelude.{◌≡◌, ◌≢◌, ◌⊎◌, ◌<◌, ◌≤◌, ◌+◌, ◌%◌, ℕ, true, false, List, [], ◌∷◌, length, slice_index}
 use mathlib.Core.Option.{some}
-use Rattle.jmodel.specs.Book.{Book, Map, Unticked, Decided, In, lookup}
+use Rattle.jmodel.specs.declared.value.Answer.{Answer}
+use Rattle.jmodel.specs.Attempt.{Log}
+use Rattle.jmodel.specs.History.{Entry}
+use Rattle.jmodel.specs.Book.{Book, Map, Unticked, Decided, Away, In, lookup}
+use Rattle.jmodel.specs.Plays.{accesses, region_of, used_in}
 
 -- Just the wanted stripes from one up to another are held, with these words. `owners` has 0 for a stripe that isn't wanted.
 pub record Covers (owners words : List ℕ) (from upto : ℕ) (held : Map ℕ) : Type 0 where
@@ -41,3 +45,29 @@ IsChecked owners reads n v w = (checked : List ℕ) × (w ≡ record v { checked
 -- the attempt is decided and holds stripes, or it holds none and is over
 abbrev pub IsReleasing : Book → Type 0
 IsReleasing v = ((v.face.stage ≡ Decided) × (v.face.held ≢ [])) ⊎ ((v.face.stage ≡ Unticked) × (v.face.held ≡ []))
+
+-- the attempt is decided, its entry is added, and these writes are left to do
+abbrev pub stored : Book → Entry → Map ℕ → Book
+stored v e left = record v { face = record v.face { stage = Decided; left = left }; live = false; look = Away; entries = e ∷ v.entries; regions = region_of e ∷ v.regions }
+
+-- the entry of an attempt that ticked at t, wrote this and answers x
+abbrev pub update_of : Book → ℕ → Log → Answer → Entry
+update_of v t w x = record {
+  stamp = record { at = t; update = true };
+  call = v.call;
+  answer = x;
+  reads = accesses v.reads;
+  writes = w;
+  used_before = used_in (lookup v.regions v.call.region);
+  used_after = used_in (lookup v.regions v.call.region);
+}
+
+-- The books of one pass before and after an attempt that moved the clock once and added an entry.
+pub record IsAdded (e : Entry) (v w : Book) : Type 0 where
+  pub number : w.face.number ≡ v.face.number
+  pub numbers : w.numbers ≡ v.numbers
+  pub fresh : w.fresh ≡ v.fresh
+  pub ticks : w.ticks ≡ v.ticks + 1
+  pub regions : w.regions ≡ region_of e ∷ v.regions
+  pub entries : w.entries ≡ e ∷ v.entries
+  pub lost : length w.lost ≡ length v.lost

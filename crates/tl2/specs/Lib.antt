@@ -1,2 +1,5 @@
 pub mod Standing
 pub mod Commits
+pub mod Logs
+pub mod Plans
+pub mod Trials

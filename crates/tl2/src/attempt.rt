@@ -1,8 +1,10 @@
 //! The attempts of one lane over a table of shared words.
-ghost use Rattle.std.specs.Prelude.{◌≡◌, List, [], length, reverse};
+ghost use Rattle.std.specs.Prelude.{◌≡◌, ℕ, List, [], length, reverse};
+ghost use Rattle.jmodel.specs.Attempt.{Log};
 ghost use Rattle.jmodel.specs.History.{Entry};
 ghost use Rattle.jmodel.specs.Book.{Unticked};
 ghost use Rattle.tx_table.specs.Passes.{book, IsOf};
+ghost use Rattle.tl2.specs.Logs.{IsLogged};
 
 use jmodel::op::Access;
 use std::alloc::Global;
@@ -45,8 +47,12 @@ pub struct Tl2<'a, T: Ruled, C> {
     pub(crate) pass: Pass,
     pub(crate) call: Snapshot<C>,
     pub(crate) writes: Vec<Access>,
+    /// The addresses that the attempt read and hadn't written, the oldest first.
+    pub(crate) reads: Vec<u64>,
     pub(crate) at: At,
+    pub(crate) alloc: Global,
     ghost sits: { IsOf shared.now.table.shared.table_id pass × ((book pass).face.held ≡ []) × ((book pass).face.stage ≡ Unticked) },
+    ghost logged: { IsLogged shared.now.words at reads.items (book pass) },
 }
 
 impl<'a, T: Ruled, C> Tl2<'a, T, C> {
@@ -65,8 +71,22 @@ impl<'a, T: Ruled, C> Tl2<'a, T, C> {
             pass,
             call,
             writes: Vec::new(alloc),
+            reads: Vec::new(alloc),
             at: At::Outside,
+            alloc,
         }
+    }
+
+    /// Names the call that the next attempt is made at. An attempt that is open is over. No memory.
+    pub fn set_call(&mut self, call: Snapshot<C>)
+        ensures call { self.new.call.value ≡ call.value }
+        ensures pass { self.new.pass ≡ self.old.pass }
+        ensures shared { self.new.shared ≡ self.old.shared }
+        ensures stands { (h : List Entry) (n : ℕ) (r w : Log) → Stands self.old.shared.now.words self.old.at self.old.writes.items (book self.old.pass) h n r w → Stands self.new.shared.now.words self.new.at self.new.writes.items (book self.new.pass) h n [] [] }
+    {
+        self.call = call;
+        self.writes.clear();
+        self.at = At::Outside;
     }
 
     /// The pass, which holds no stripe.
@@ -80,7 +100,9 @@ impl<'a, T: Ruled, C> Tl2<'a, T, C> {
             pass,
             call: _,
             writes: _,
+            reads: _,
             at: _,
+            alloc: _,
         } = self;
         pass
     }

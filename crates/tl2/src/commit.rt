@@ -1,16 +1,14 @@
 //! The steps of a commit: the stripes of what was written are taken, and given back.
-ghost use Rattle.std.specs.Prelude.{◌≡◌, ◌≢◌, ◌<◌, ◌≤◌, ◌%◌, [], ℕ, List, true, false, length, slice_index, slice_index_or, IfOk, IfErr};
+ghost use Rattle.std.specs.Prelude.{◌≡◌, ◌≢◌, ◌<◌, ◌≤◌, ◌+◌, ◌%◌, [], ℕ, List, true, false, length, slice_index, slice_index_or, IfOk, IfErr};
 ghost use mathlib.Core.Option.{some as Found};
 ghost use Rattle.jmodel.specs.Book.{Unticked, Decided, In, lookup};
 ghost use Rattle.jmodel.specs.Plays.{lost_at, took};
 ghost use Rattle.tx_table.specs.Passes.{book, IsOf, IsSame};
 ghost use Rattle.tl2.specs.Commits.{AreOwners, Covers, IsChecked, IsRest, IsTaking};
 
+use crate::plan::STRIPES;
 use tx_core::Conflict;
 use tx_table::{Pass, Shared, Story};
-
-/// How many stripes there are.
-const STRIPES: usize = 4096;
 
 /// Takes the stripe of an address that was written, and answers the word that it had. A stripe that is held, or of whose
 /// addresses one was read and whose version is over the bound, is a conflict.
@@ -36,7 +34,7 @@ fn take_one<T: Story>(
 
 /// Gives the wanted stripes below one back, each with the word that it had. `owners` has for each stripe 1 more than an address that
 /// is written, or 0.
-fn give_back<T: Story>(
+pub(crate) fn give_back<T: Story>(
     pass: &mut Pass,
     shared: &Shared<T>,
     owners: &[u64],
@@ -49,6 +47,7 @@ fn give_back<T: Story>(
     requires stage { (book pass.old).face.stage ≢ Decided }
     ensures same { IsSame pass.old pass.new }
     ensures free { (book pass.new).face.held ≡ [] }
+    ensures over { (book pass.old).face.held ≢ [] → (book pass.new).face.stage ≡ Unticked }
     ensures rest { IsRest 0 0 (book pass.old) (book pass.new) }
 {
     for stripe in 0..upto {
@@ -59,7 +58,7 @@ fn give_back<T: Story>(
 }
 
 /// Takes the wanted stripes in ascending order, and keeps the word that each had. After a conflict all are given back.
-fn take_all<T: Story>(
+pub(crate) fn take_all<T: Story>(
     pass: &mut Pass,
     shared: &Shared<T>,
     owners: &[u64],
@@ -75,6 +74,7 @@ fn take_all<T: Story>(
     ensures len { length words.new ≡ 4096 }
     ensures ok { IfOk result (λ _. IsTaking (book pass.old) (book pass.new) × Covers owners.now words.new 0 4096 (book pass.new).face.held) }
     ensures err { IfErr result (λ _. IsRest 1 0 (book pass.old) (book pass.new) × ((book pass.new).face.held ≡ []) × ((book pass.new).face.stage ≡ Unticked)) }
+    ensures conflict { IfErr result (λ e. (e.upto ≡ (book pass.old).bound) × (slice_index owners.now (e.address % 4096) ≡ e.address + 1)) }
 {
     for stripe in 0..STRIPES {
         if owners[stripe] != 0 {
@@ -92,7 +92,7 @@ fn take_all<T: Story>(
 
 /// Looks once more at the stripe of each address that was read and whose stripe isn't wanted. One that is held, or whose
 /// version is over the bound, is a conflict.
-fn validate_all<T: Story>(
+pub(crate) fn validate_all<T: Story>(
     pass: &mut Pass,
     shared: &Shared<T>,
     owners: &[u64],
@@ -105,6 +105,7 @@ fn validate_all<T: Story>(
     ensures same { IsSame pass.old pass.new }
     ensures ok { IfOk result (λ _. IsChecked owners.now reads.now (length reads.now) (book pass.old) (book pass.new)) }
     ensures err { IfErr result (λ e. (checked : List ℕ) × (book pass.new ≡ lost_at (record (book pass.old) { checked = checked }) e.address e.word)) }
+    ensures conflict { IfErr result (λ e. (e.upto ≡ (book pass.old).bound) × In e.address reads.now) }
 {
     for address in reads {
         if owners[(*address % 4096) as usize] == 0 {
@@ -115,7 +116,7 @@ fn validate_all<T: Story>(
 }
 
 /// Gives the wanted stripes back with the tick as their version, once all is written.
-fn release_all<T: Story>(pass: &mut Pass, shared: &Shared<T>, owners: &[u64])
+pub(crate) fn release_all<T: Story>(pass: &mut Pass, shared: &Shared<T>, owners: &[u64])
     requires table { IsOf shared.now.table.shared.table_id pass.old }
     requires owners { length owners.now ≡ 4096 }
     requires held { (words : List ℕ) × Covers owners.now words 0 4096 (book pass.old).face.held }

@@ -3,7 +3,11 @@
 
 pub mod attempt;
 mod commit;
+pub mod ending;
+pub mod engine;
+mod plan;
 pub mod reading;
+mod update;
 
 pub use attempt::{Calling, Ruled, Tl2};
 

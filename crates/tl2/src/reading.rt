@@ -1,5 +1,6 @@
 //! The steps of an attempt that reads, and its end without writes.
 ghost use Rattle.std.specs.Prelude.{◌≡◌, ◌≢◌, ◌⊎◌, ◌<◌, ◌+◌, ◌*◌, ◌%◌, ◌∷◌, ◌++◌, [], ℕ, List, None, true, reverse, MatchResult, IfOk, IfErr};
+ghost use mathlib.Core.Option.{some as Found};
 ghost use Rattle.jmodel.specs.Attempt.{Log, access, answered, recorded, written};
 ghost use Rattle.jmodel.specs.Book.{Unticked};
 ghost use Rattle.jmodel.specs.History.{Call, Entry};
@@ -63,6 +64,7 @@ impl<'a, T: Ruled, C: Calling> Tl2<'a, T, C> {
         ensures same { IsSame self.old.pass self.new.pass × IsKin (book self.old.pass) (book self.new.pass) }
     {
         self.writes.clear();
+        self.reads.clear();
         begin_at(&mut self.pass, self.shared, &self.call);
         self.at = At::Inside;
     }
@@ -135,7 +137,6 @@ impl<'a, T: Ruled, C: Calling> Tl2<'a, T, C> {
         ensures ticks { (book self.new.pass).ticks ≡ (book self.old.pass).ticks }
         ensures snapshot { IfOk result (λ _. written (reverse self.old.writes.items) address ≡ None → Learns (T.story self.new.shared.now.table.shared.key.story.value) (book self.new.pass)) }
         ensures same { IsSame self.old.pass self.new.pass × IsKin (book self.old.pass) (book self.new.pass) }
-        ensures memory { self.old.at ≡ At.Loaded (access address _raw) → result ≢ Err TxEnd.NoMemory }
         ensures seen { (e : Conflict) → result ≡ Err (TxEnd.Conflict e) → (e.address ≡ address) × (e.upto ≡ (book self.old.pass).bound) }
     {
         if let Some(word) = self.written(address) {
@@ -145,6 +146,9 @@ impl<'a, T: Ruled, C: Calling> Tl2<'a, T, C> {
             return Err(TxEnd::NoMemory);
         };
         if loaded.address != address {
+            return Err(TxEnd::NoMemory);
+        }
+        if self.reads.push(address).is_err() {
             return Err(TxEnd::NoMemory);
         }
         match self.pass.recheck(self.shared, address) {
@@ -183,7 +187,8 @@ impl<'a, T: Ruled, C: Calling> Tl2<'a, T, C> {
         ensures run { (h : List Entry) (n : ℕ) (r w : Log) → Stands self.old.shared.now.words self.old.at self.old.writes.items (book self.old.pass) h n r w
             → IsOfWrites result [] × Adds (Awaits (C.call self.old.call.value) (book self.old.pass)) T.rule (Stands self.new.shared.now.words self.new.at self.new.writes.items (book self.new.pass)) h n answer.value result r [] }
         ensures ticks { (book self.new.pass).ticks ≡ (book self.old.pass).ticks }
-        ensures same { IsSame self.old.pass self.new.pass }
+        ensures region { (c : Call) (used : ℕ) → Awaits (C.call self.old.call.value) (book self.old.pass) c used → (book self.new.pass).regions ≡ (c.region, record { used = used; last = Found c }) ∷ (book self.old.pass).regions }
+        ensures same { IsSame self.old.pass self.new.pass × ((book self.new.pass).numbers ≡ (book self.old.pass).numbers) × ((book self.new.pass).fresh ≡ (book self.old.pass).fresh) }
     {
         let stamp = finish_with(&mut self.pass, self.shared, answer);
         self.writes.clear();

@@ -1,13 +1,20 @@
 //! Attempts of two passes over the same words.
-ghost use Rattle.std.specs.Prelude.{◌≡◌, ◌^◌, []};
-ghost use Rattle.tx_table.specs.Passes.{book, IsSame, IsKin};
-ghost use Rattle.tl2.specs.Standing.{IsOpen};
+ghost use Rattle.std.specs.Prelude.{◌≡◌, ◌≤◌, ◌<◌, ◌+◌, ◌^◌, [], ℕ, List, IfOk};
+ghost use Rattle.jmodel.specs.History.{Call, Entry};
+ghost use Rattle.jmodel.specs.Book.{Unticked};
+ghost use Rattle.tx_table.specs.Passes.{book, IsOf, IsSame, IsKin};
+ghost use Rattle.tx_table.specs.Trials.{the_call};
+ghost use Rattle.tl2.specs.Standing.{IsOpen, Awaits};
+ghost use Rattle.tl2.specs.Trials.{StandsSomehow, IsWaiting};
 
 use crate::attempt::{Calling, Ruled, Tl2};
 use jmodel::NoMemory;
+use jmodel::value::Answer;
+use std::alloc::Global;
 use std::snapshot::Snapshot;
-use tx_core::TxEnd;
-use tx_table::{Shared, Story};
+use std::thread::{Threads, join};
+use tx_core::{Engine, TxEnd};
+use tx_table::{Pass, Shared, Story};
 
 /// A story of these words, two lanes, and any entries.
 #[derive(Drop)]
@@ -79,5 +86,170 @@ fn two_passes_read_the_same_words(rt: HostRuntime) -> Result<(), NoMemory> {
         return Err(NoMemory);
     };
     assert!(rt; left.as_slice() == told.words.as_slice());
+    Ok(())
+}
+
+/// A call of a lane.
+#[derive(Drop)]
+struct CallAt {
+    lane: u64,
+    index: u64,
+}
+
+impl Calling for CallAt {
+    ghost use Rattle.tx_table.specs.Trials.{the_call};
+
+    ghost call = { λ c. the_call c.lane c.index };
+}
+
+/// Reads word 3 and writes one more there.
+fn adds_open<'a, T: Ruled>(tx: &mut Tl2<'a, T, CallAt>) -> Result<(), TxEnd>
+    requires open { IsOpen tx.old.shared.now.words tx.old.at (the_call tx.old.call.value.lane tx.old.call.value.index) (book tx.old.pass) }
+    requires stands { StandsSomehow tx.old.shared.now.words tx.old.at tx.old.writes.items (book tx.old.pass) }
+    ensures open { IfOk result (λ _. IsOpen tx.new.shared.now.words tx.new.at (the_call tx.new.call.value.lane tx.new.call.value.index) (book tx.new.pass)) }
+    ensures awaits { (c : Call) (used : ℕ) → Awaits (the_call tx.old.call.value.lane tx.old.call.value.index) (book tx.old.pass) c used → Awaits (the_call tx.new.call.value.lane tx.new.call.value.index) (book tx.new.pass) c used }
+    ensures stands { StandsSomehow tx.new.shared.now.words tx.new.at tx.new.writes.items (book tx.new.pass) }
+    ensures same { IsSame tx.old.pass tx.new.pass × IsKin (book tx.old.pass) (book tx.new.pass) }
+{
+    if let Err(conflict) = tx.before_read(3) {
+        return Err(TxEnd::Conflict(conflict));
+    }
+    let raw = tx.raw(3);
+    let word = tx.on_read(3, raw)?;
+    tx.on_write(3, word.wrapping_add(1))
+}
+
+/// Adds one to word 3 in an attempt at a call of a lane.
+fn adds<'a, T: Ruled>(tx: &mut Tl2<'a, T, CallAt>, lane: u64, index: u64) -> Result<(), TxEnd>
+    requires runs { (e : Entry) → T.rule e }
+    requires stands { StandsSomehow tx.old.shared.now.words tx.old.at tx.old.writes.items (book tx.old.pass) }
+    requires waits { IsWaiting lane index (book tx.old.pass) }
+    requires ticks { (book tx.old.pass).ticks < 2 ^ 40 }
+    ensures stands { StandsSomehow tx.new.shared.now.words tx.new.at tx.new.writes.items (book tx.new.pass) }
+    ensures waits { IsWaiting lane (index + 1) (book tx.new.pass) }
+    ensures ticks { (book tx.new.pass).ticks ≤ (book tx.old.pass).ticks + 1 }
+    ensures same { IsSame tx.old.pass tx.new.pass × ((book tx.new.pass).numbers ≡ (book tx.old.pass).numbers) × ((book tx.new.pass).fresh ≡ (book tx.old.pass).fresh) }
+{
+    tx.set_call(Snapshot::of(&CallAt { lane, index }));
+    tx.begin();
+    if let Err(end) = adds_open(tx) {
+        tx.rollback();
+        return Err(end);
+    }
+    match tx.commit(Snapshot::of(&Answer::Returned(None))) {
+        Ok(_) => Ok(()),
+        Err(end) => Err(end),
+    }
+}
+
+/// Adds one to word 3 until it was done as often as is wanted, and answers how often it was done.
+fn adds_many<'a, T: Ruled>(tx: &mut Tl2<'a, T, CallAt>, lane: u64, wanted: u64) -> u64
+    requires runs { (e : Entry) → T.rule e }
+    requires stands { StandsSomehow tx.old.shared.now.words tx.old.at tx.old.writes.items (book tx.old.pass) }
+    requires waits { IsWaiting lane 0 (book tx.old.pass) }
+    requires ticks { (book tx.old.pass).ticks ≡ 0 }
+    ensures ticks { (book tx.new.pass).ticks ≤ 1000000 }
+    ensures same { IsSame tx.old.pass tx.new.pass × ((book tx.new.pass).numbers ≡ (book tx.old.pass).numbers) × ((book tx.new.pass).fresh ≡ (book tx.old.pass).fresh) }
+{
+    let mut done = 0;
+    let mut index = 0;
+    while index < 1_000_000 && done < wanted {
+        if adds(tx, lane, index).is_ok() {
+            done += 1;
+        }
+        index += 1;
+    }
+    done
+}
+
+/// What a thread does: adds one to word 3 a thousand times, over an engine of its own.
+fn runs(alloc: Global, shared: &Shared<Words>, pass: Pass, lane: u64) -> (u64, Pass)
+    requires table { IsOf shared.now.table.shared.table_id pass }
+    requires free { ((book pass).face.held ≡ []) × ((book pass).face.stage ≡ Unticked) }
+    requires waits { IsWaiting lane 0 (book pass) }
+    requires ticks { (book pass).ticks ≡ 0 }
+    ensures same { IsSame pass result.1 × ((book result.1).numbers ≡ (book pass).numbers) × ((book result.1).fresh ≡ (book pass).fresh) }
+    ensures free { ((book result.1).face.held ≡ []) × ((book result.1).face.stage ≡ Unticked) }
+    ensures ticks { (book result.1).ticks ≤ 1000000 }
+{
+    let first = CallAt { lane, index: 0 };
+    let mut tx = Tl2::new(alloc, shared, pass, Snapshot::of(&first));
+    let done = adds_many(&mut tx, lane, 1000);
+    (done, tx.into_pass())
+}
+
+fn both_run<R: Threads + Sync>(
+    rt: &R,
+    alloc: Global,
+    shared: &Shared<Words>,
+    one: Pass,
+    two: Pass,
+) -> ((u64, Pass), (u64, Pass))
+    requires tables { IsOf shared.now.table.shared.table_id one × IsOf shared.now.table.shared.table_id two }
+    requires free { ((book one).face.held ≡ []) × ((book one).face.stage ≡ Unticked) × ((book two).face.held ≡ []) × ((book two).face.stage ≡ Unticked) }
+    requires waits { IsWaiting 0 0 (book one) × IsWaiting 1 0 (book two) }
+    requires ticks { ((book one).ticks ≡ 0) × ((book two).ticks ≡ 0) }
+    ensures one { IsSame one result.0.1 × ((book result.0.1).numbers ≡ (book one).numbers) × ((book result.0.1).fresh ≡ (book one).fresh) × ((book result.0.1).face.held ≡ []) × ((book result.0.1).face.stage ≡ Unticked) × ((book result.0.1).ticks ≤ 1000000) }
+    ensures two { IsSame two result.1.1 × ((book result.1.1).numbers ≡ (book two).numbers) × ((book result.1.1).fresh ≡ (book two).fresh) × ((book result.1.1).face.held ≡ []) × ((book result.1.1).face.stage ≡ Unticked) × ((book result.1.1).ticks ≤ 1000000) }
+{
+    join(
+        rt,
+        move || runs(alloc, shared, one, 0),
+        move || runs(alloc, shared, two, 1),
+    )
+}
+
+#[test]
+fn two_threads_add_one_a_thousand_times(rt: HostRuntime) -> Result<(), NoMemory> {
+    let words = vec![in rt.alloc(); 5u64, 6, 7, 8]?;
+    let told = Words {
+        words: words.clone()?,
+    };
+    let (shared, mut pass) = Shared::open(rt.alloc(), words, Snapshot::of(&told))?;
+    let other = pass.split(&shared);
+    let ((mine, mut pass), (yours, other)) = both_run(&rt, rt.alloc(), &shared, pass, other);
+    assert!(rt; mine == 1000 && yours == 1000);
+    pass.join(&shared, other);
+    let Ok(left) = shared.close(rt.alloc(), pass) else {
+        return Err(NoMemory);
+    };
+    assert!(rt; left[3] == 2008);
+    Ok(())
+}
+
+/// Writes a word in an attempt of its own, over any engine.
+fn stores<E: Engine>(tx: &mut E, address: u64, word: u64) -> Result<(), TxEnd>
+    requires stands { (h : List Entry) × (n : ℕ) × (c : Call) × (used : ℕ) × E.stands tx.old h n [] [] × E.awaits tx.old c used }
+    requires allows { (e : Entry) → E.allows e }
+    requires clock { E.clock tx.old < 2 ^ 40 }
+{
+    tx.begin();
+    tx.on_write(address, word)?;
+    tx.commit(Snapshot::of(&Answer::Returned(None)))?;
+    Ok(())
+}
+
+/// Reads a word in an attempt that leaves nothing, over any engine.
+fn loads<E: Engine>(tx: &mut E, address: u64) -> Option<u64> {
+    tx.begin();
+    tx.before_read(address).ok()?;
+    let raw = tx.raw(address);
+    let word = tx.on_read(address, raw).ok()?;
+    tx.rollback();
+    Some(word)
+}
+
+#[test]
+fn an_engine_reads_what_it_committed(rt: HostRuntime) -> Result<(), NoMemory> {
+    let words = vec![in rt.alloc(); 5u64, 6, 7, 8]?;
+    let told = Words {
+        words: words.clone()?,
+    };
+    let (shared, pass) = Shared::open(rt.alloc(), words, Snapshot::of(&told))?;
+    let first = CallAt { lane: 0, index: 0 };
+    let mut tx = Tl2::new(rt.alloc(), &shared, pass, Snapshot::of(&first));
+    let stored = stores(&mut tx, 3, 9);
+    assert!(rt; stored.is_ok());
+    assert!(rt; loads(&mut tx, 3) == Some(9) && loads(&mut tx, 2) == Some(7));
     Ok(())
 }

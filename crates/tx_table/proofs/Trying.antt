@@ -21,7 +21,7 @@ only_key k a v x e = ⊎_elim (λ t. t.0) (λ t. absurd (some-ne-none x (sym t.1
 calls_rise : (lane m n : ℕ) → m < n → rises (the_call lane m) (the_call lane n) ≡ true
 calls_rise lane m n l = first_same (round (the_call lane m)) (round (the_call lane n)) (first_by lane lane (nat_lt m n)) refl ∙ (first_same lane lane (nat_lt m n) refl ∙ lt-ltb m n l)
 
-comes_after : (lane n : ℕ) (z : Option Call) → Before lane n z → Succeeds (the_call lane n) z
+pub comes_after : (lane n : ℕ) (z : Option Call) → Before lane n z → Succeeds (the_call lane n) z
 comes_after lane n none b = tt
 comes_after lane n (some c) b = subst (λ (d : Call). rises d (the_call lane n) ≡ true) (sym b.2) (calls_rise lane b.0 n b.1)
 

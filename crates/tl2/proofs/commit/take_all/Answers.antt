@@ -1,4 +1,4 @@
-use Rattle.std.proofs.Common.{◌≡◌, ◌-◌, ◌%◌, ℕ, ap, ◌∙◌, slice_index_or, arith}
+use Rattle.std.proofs.Common.{◌≡◌, ◌-◌, ◌+◌, ◌%◌, ℕ, ap, sym, ◌∙◌, slice_index, slice_index_or, arith}
 use Rattle.jmodel.specs.Book.{In}
 use Rattle.tx_table.specs.Passes.{book}
 use Rattle.tl2.proofs.commit.take_all.Goals as goal
@@ -11,3 +11,13 @@ take_one-requires-clause-read g c = λ b x i e.
     let address : slice_index_or c.args.owners.now c.loop-stripe.stripe 0 - 1 ≡ t.0 = omega arith in
     let place : b % 4096 ≡ c.loop-stripe.stripe = e ∙ ap (λ (k : ℕ). k % 4096) address ∙ t.2 in
     rw place at (c.requires.read b x before)
+
+pub returns-in-Err-clause-conflict : goal.returns-in-Err-clause-conflict
+returns-in-Err-clause-conflict g c =
+    let t = c.requires.owners c.loop-stripe.stripe c.if-owners-stripe-ne0.true in
+    let k = c.in-Err.ensures.conflict in
+    let one_more = t.1 in
+    let first = k.0 in
+    let address : c.in-Err.conflict.address ≡ t.0 = omega arith in
+    let place : c.in-Err.conflict.address % 4096 ≡ c.loop-stripe.stripe = ap (λ (n : ℕ). n % 4096) address ∙ t.2 in
+    (k.1 ∙ c.loop-stripe.invariant.taking.bound, ap (slice_index c.args.owners.now) place ∙ t.1 ∙ ap (λ (n : ℕ). n + 1) (sym address))

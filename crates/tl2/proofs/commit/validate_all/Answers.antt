@@ -1,6 +1,8 @@
-use Rattle.std.proofs.Common.{◌∙◌, refl}
+use Rattle.std.proofs.Common.{ℕ, ◌∙◌, refl, sym, ap, subst}
+use Rattle.jmodel.specs.Book.{Book, In}
 use Rattle.tx_table.specs.Passes.{book}
-use Rattle.tl2.proofs.Stripes.{checked_first, checked_more, checked_same}
+use Rattle.tl2.proofs.Stripes.{checked_first, checked_more, checked_same, in_at}
+use Rattle.tl2.proofs.Rests.{err_says}
 use Rattle.tl2.proofs.commit.validate_all.Goals as goal
 use Rattle.tl2.proofs.commit.validate_all.Goals.{then-owners-address-eq0+in_ok-validate, else-owners-address-eq0}
 
@@ -20,3 +22,11 @@ loop-address-preserved g c =
         checked = checked_same c.args.owners.now c.args.reads.now c.loop-address.address-index (book c.args.pass.now) (book c.loop-address.pass) w.if-owners-address-eq0.false i.checked;
       })
     ]
+
+pub returns-in_err-validate-clause-conflict : goal.returns-in_err-validate-clause-conflict
+returns-in_err-validate-clause-conflict g c =
+    let k = c.in_err-validate.ensures.conflict in
+    let i = c.loop-address.invariant in
+    let back = c.from_residual.ensures in
+    let here = subst (λ (a : ℕ). In a c.args.reads.now) (sym k.0) (in_at c.args.reads.now c.loop-address.address-index c.loop-address-test.true) in
+    err_says c.from_residual.result back.1 (λ e q. rw q (k.1 ∙ ap (λ (b : Book). b.bound) i.checked.1, here))

@@ -1,6 +1,6 @@
 use Rattle.std.proofs.Common.{false, refl}
 use Rattle.tx_table.specs.Passes.{book}
-use Rattle.tl2.proofs.Entries.{reader_fits, adds_reader, inside}
+use Rattle.tl2.proofs.Entries.{reader_fits, reader_region, adds_reader, inside}
 use Rattle.tl2.proofs.attempt.Tl2.finish_refused.Goals as goal
 
 pub finish_with-stamp-requires : goal.finish_with-stamp-requires
@@ -20,3 +20,7 @@ returns-clause-run g c = λ h n r w s.
       ((λ q. cc), (λ q. absurd (q refl))),
       adds_reader c.args.self.now.shared.now.words (g.C.Calling.call c.args.self.now.call.value) g.T.Ruled.rule c.args.self.now.at c.args.self.now.writes.items v h n r w c.args.answer.value o.1 (inside _ _ _ o.2) s,
     )
+
+pub returns-clause-region : goal.returns-clause-region
+returns-clause-region g c = λ k used a.
+    rw c.finish_with-stamp.ensures.book (reader_region (g.C.Calling.call c.args.self.now.call.value) (book c.args.self.now.pass) c.args.answer.value k used c.requires.open.1 a)

@@ -1,0 +1,66 @@
+use Rattle.std.proofs.Common.{◌⊎◌, inl, inr, ⊎_elim, ◌≡◌, ◌≢◌, ◌<◌, ◌^◌, true, ℕ, List, [], All, reverse, length, sym, ap, ◌∙◌, subst, arith}
+use Rattle.std.proofs.lemmas.List.{length-reverse}
+use Rattle.std.proofs.lemmas.List.Elements.{All-weaker}
+use Rattle.std.proofs.lemmas.Grind.{common_steps}
+use Rattle.jmodel.specs.declared.op.Access.{Access}
+use Rattle.jmodel.specs.Attempt.{Log}
+use Rattle.jmodel.specs.Book.{Map, Has, In, pairs}
+use Rattle.tx_core.specs.declared.engine.Conflict.{Conflict}
+use Rattle.tx_table.specs.Passes.{book}
+use Rattle.tl2.specs.Commits.{IsAdded, update_of}
+use Rattle.tl2.proofs.Entries.{inside, update_fits, adds_update}
+use Rattle.tl2.proofs.Updating.{all_reversed}
+use Rattle.tl2.proofs.attempt.Tl2.commit.Goals as goal
+
+pub returns-then-is_empty-clause-run : goal.returns-then-is_empty-clause-run
+returns-then-is_empty-clause-run g c = λ h n r w s.
+    let e : c.args.self.now.writes.items ≡ [] = grind (arith, common_steps) in
+    let q : w ≡ [] = sym s.writes ∙ ap reverse e in
+    rw q (c.finish_refused.ensures.run h n r w s)
+
+pub of-requires : goal.of-requires
+of-requires g c =
+    let m = c.requires.allowed.stands in
+    let words = c.args.self.now.shared.now.words in
+    let size = c.args.self.now.shared.now.sized in
+    let more = size.1 in
+    let most = size.2 in
+    let small : words < 2 ^ 32 = omega arith in
+    let below : All (λ (l : Access). l.address < words) (reverse c.args.self.now.writes.items) = subst (λ (k : Log). All (λ (l : Access). l.address < words) k) (sym m.writes) m.within in
+    rw c.deref.ensures.value (All-weaker (λ (l : Access). l.address < words) (λ (l : Access). l.address < 2 ^ 32) (λ l p. omega arith) c.args.self.now.writes.items (all_reversed (λ (l : Access). l.address < words) c.args.self.now.writes.items below))
+
+pub update-done-requires-clause-entry : goal.update-done-requires-clause-entry
+update-done-requires-clause-entry g c = λ t.
+    let v = book c.args.self.now.pass in
+    let m = c.requires.allowed in
+    let o = c.requires.open in
+    let value = c.args.self.now.shared.now.table.shared.key.story.value in
+    let runs = g.met.T.Ruled.keeps value _ (m.allowed (record { at = t; update = true })) in
+    rw (c.deref-3.ensures.value, m.stands.writes) (update_fits (g.T.Story.story value) (g.C.Calling.call c.args.self.now.call.value) v m.call m.used m.reads m.writes c.args.answer.value t o.1 m.awaits (m.stands.reads (inside _ _ _ o.2)) runs)
+
+pub returns-in-Ok-done-clause-run : goal.returns-in-Ok-done-clause-run
+returns-in-Ok-done-clause-run g c = λ h n r w s.
+    let v = book c.args.self.now.pass in
+    let o = c.requires.open in
+    let ok = c.in-Ok-done.ensures.ok in
+    let stamp = c.in-Ok-done.stamp in
+    let wrote : w ≢ [] = λ q.
+    let z : length (reverse c.args.self.now.writes.items) ≡ 0 = ap length (s.writes ∙ q) in
+    let y : length c.args.self.now.writes.items ≡ 0 = rw length-reverse at z in
+    grind (arith, common_steps) in
+    let e : reverse c.deref-3.result.now ≡ w = ap reverse c.deref-3.ensures.value ∙ s.writes in
+    let a = subst (λ (k : Log). IsAdded (update_of v stamp.at k c.args.answer.value) v (book c.update-done.new.pass)) e ok.1 in (
+      ((λ t. wrote), (λ t. ok.0)),
+      rw c.clear.ensures.items (adds_update c.args.self.now.shared.now.words (g.C.Calling.call c.args.self.now.call.value) g.T.Ruled.rule c.args.self.now.at c.args.self.now.writes.items v (book c.update-done.new.pass) h n r w c.args.answer.value stamp o.1 (inside _ _ _ o.2) ok.0 s a),
+    )
+
+pub returns-in-Err-clause-seen : goal.returns-in-Err-clause-seen
+returns-in-Err-clause-seen g c = λ e q.
+    let k = c.in-Err.ensures.conflict in
+    let same : c.in-Err.conflict ≡ e = cc in
+    let at = ap (λ (ws : Log). pairs (reverse ws)) c.deref-3.ensures.value in
+    subst (λ (d : Conflict). (d.upto ≡ (book c.args.self.now.pass).bound) × (Has (pairs (reverse c.args.self.now.writes.items)) d.address ⊎ In d.address c.args.self.now.reads.items)) same (
+      k.0,
+      ⊎_elim (λ (h : Has (pairs (reverse c.deref-3.result.now)) c.in-Err.conflict.address). inl (subst (λ (m : Map ℕ). Has m c.in-Err.conflict.address) at h))
+          (λ (i : In c.in-Err.conflict.address c.deref-4.result.now). inr (subst (λ (rs : List ℕ). In c.in-Err.conflict.address rs) c.deref-4.ensures.value i)) k.1,
+    )

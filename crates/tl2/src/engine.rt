@@ -1,0 +1,58 @@
+//! Transactional Locking II as an engine that others share.
+use crate::attempt::{Calling, Ruled, Tl2};
+use jmodel::value::{Answer, Stamp};
+use std::snapshot::Snapshot;
+use tx_core::{Conflict, Engine, TxEnd};
+
+impl<'a, T: Ruled, C: Calling> Engine for Tl2<'a, T, C> {
+    ghost use Rattle.tx_table.specs.Passes.{book};
+    ghost use Rattle.tl2.specs.Standing.{IsOpen, Awaits, Stands};
+
+    ghost stands = { λ s h n r w. Stands s.shared.now.words s.at s.writes.items (book s.pass) h n r w };
+
+    ghost is_open = { λ s. IsOpen s.shared.now.words s.at (C.call s.call.value) (book s.pass) };
+
+    ghost awaits = { λ s c used. Awaits (C.call s.call.value) (book s.pass) c used };
+
+    ghost allows = { T.rule };
+
+    ghost is_shared = { Unit {0} };
+
+    ghost clock = { λ s. (book s.pass).ticks };
+
+    fn begin(&mut self) {
+        Tl2::begin(self);
+    }
+
+    fn before_read(&mut self, address: u64) -> Result<(), Conflict> {
+        Tl2::before_read(self, address)
+    }
+
+    fn raw(&mut self, address: u64) -> u64 {
+        Tl2::raw(self, address)
+    }
+
+    fn on_read(&mut self, address: u64, raw: u64) -> Result<u64, TxEnd> {
+        Tl2::on_read(self, address, raw)
+    }
+
+    fn on_write(&mut self, address: u64, word: u64) -> Result<(), TxEnd> {
+        Tl2::on_write(self, address, word)
+    }
+
+    fn commit(&mut self, answer: Snapshot<Answer>) -> Result<Stamp, TxEnd> {
+        Tl2::commit(self, answer)
+    }
+
+    fn finish_refused(&mut self, answer: Snapshot<Answer>) -> Stamp {
+        Tl2::finish_refused(self, answer)
+    }
+
+    fn rollback(&mut self) {
+        Tl2::rollback(self);
+    }
+
+    fn ticks(&self) -> u64 {
+        Tl2::ticks(self)
+    }
+}

@@ -1,0 +1,98 @@
+//! The commit of an attempt that wrote, over the steps of the table.
+ghost use Rattle.std.specs.Prelude.{◌≡◌, ◌≢◌, ◌⊎◌, ◌<◌, ◌≤◌, ◌%◌, ◌^◌, [], ℕ, true, All, reverse, IfOk, IfErr};
+ghost use mathlib.Core.Option.{some as Found};
+ghost use Rattle.jmodel.specs.History.{Entry};
+ghost use Rattle.jmodel.specs.Book.{Map, Has, In, Unticked, Ticked, lookup, pairs};
+ghost use Rattle.jmodel.specs.Plays.{keys, ticked_up, Fits, Updates};
+ghost use Rattle.tx_table.specs.Passes.{book, IsOf, IsSame};
+ghost use Rattle.tl2.specs.Commits.{IsAdded, IsRest, stored, update_of};
+ghost use Rattle.tl2.specs.Plans.{IsLeft, IsPlan};
+
+use crate::commit::{give_back, release_all, take_all, validate_all};
+use crate::plan::{Plan, STRIPES};
+use jmodel::op::Access;
+use jmodel::value::{Answer, Stamp};
+use std::snapshot::Snapshot;
+use tx_core::Conflict;
+use tx_table::{Pass, Shared, Story};
+
+/// Moves the clock for an attempt that wrote this, the oldest first, and answers its new value.
+fn tick_for<T: Story>(pass: &mut Pass, shared: &Shared<T>, _writes: &[Access]) -> u64
+    ghost due: { Map ℕ }
+    requires told { due ≡ pairs (reverse _writes.now) }
+    requires table { IsOf shared.now.table.shared.table_id pass.old }
+    requires ready { ((book pass.old).face.stage ≡ Unticked) × ((book pass.old).live ≡ true) × ((book pass.old).ticks < 2 ^ 40) }
+    requires held { (b : ℕ) → Has due b → Has (book pass.old).face.held (b % 4096) }
+    requires due { (i y : ℕ) → lookup (book pass.old).face.held i ≡ Found y → (b : ℕ) × (b % 4096 ≡ i) × Has due b }
+    ensures same { IsSame pass.old pass.new }
+    ensures book { book pass.new ≡ ticked_up (book pass.old) result due }
+{
+    pass.tick(shared)
+}
+
+/// Stores the last write of each address. The first of these stores decides the attempt and adds its entry.
+fn store_all<T: Story>(
+    pass: &mut Pass,
+    shared: &Shared<T>,
+    newest: &[Access],
+    _answer: Snapshot<Answer>,
+)
+    ghost entry: { Entry }
+    requires table { IsOf shared.now.table.shared.table_id pass.old }
+    requires heap { All (λ l. l.address < shared.now.words) newest.now }
+    requires any { newest.now ≢ [] }
+    requires ready { ((book pass.old).face.stage ≡ Ticked) × ((book pass.old).live ≡ true) × IsLeft (book pass.old).face.due newest.now }
+    requires safe { (b y : ℕ) → In (b, y) (book pass.old).reads → In (b % 4096) (book pass.old).checked ⊎ Has (book pass.old).face.held (b % 4096) }
+    requires entry { Updates (T.story shared.now.table.shared.key.story.value) (book pass.old) entry }
+    ensures same { IsSame pass.old pass.new }
+    ensures book { (left : Map ℕ) × ((b x : ℕ) → lookup left b ≡ Found x → ⊥) × (book pass.new ≡ stored (book pass.old) entry left) }
+{
+    let Some((first, rest)) = newest.split_first() else {
+        return;
+    };
+    pass.decide(shared, first.address, first.word);
+    for l in rest {
+        pass.write_back(shared, l.address, l.word);
+    }
+}
+
+/// Ends an attempt that wrote this, the oldest first, and read these addresses, as an entry with this answer. The stripes of
+/// what it wrote are taken, the clock is moved, and what it read is looked at once more; then its words are stored, and the
+/// stripes get the clock's value as their version. After a conflict they get back the words that they had.
+pub(crate) fn update<T: Story>(
+    pass: &mut Pass,
+    shared: &Shared<T>,
+    plan: Plan,
+    writes: &[Access],
+    reads: &[u64],
+    answer: Snapshot<Answer>,
+) -> Result<Stamp, Conflict>
+    requires table { IsOf shared.now.table.shared.table_id pass.old }
+    requires ready { ((book pass.old).face.held ≡ []) × ((book pass.old).face.stage ≡ Unticked) × ((book pass.old).live ≡ true) × ((book pass.old).ticks < 2 ^ 40) }
+    requires any { reverse writes.now ≢ [] }
+    requires heap { All (λ l. l.address < shared.now.words) (reverse writes.now) × All (λ a. a < shared.now.words) reads.now }
+    requires reads { reverse reads.now ≡ keys (book pass.old).reads }
+    requires plan { IsPlan (pairs (reverse writes.now)) reads.now plan.owners.items plan.was_read.items plan.words.items plan.newest.items }
+    requires entry { (t : ℕ) → Fits (T.story shared.now.table.shared.key.story.value) (book pass.old) (update_of (book pass.old) t (reverse writes.now) answer.value) }
+    ensures same { IsSame pass.old pass.new }
+    ensures free { ((book pass.new).face.held ≡ []) × ((book pass.new).face.stage ≡ Unticked) }
+    ensures ok { IfOk result (λ stamp. (stamp.update ≡ true) × IsAdded (update_of (book pass.old) stamp.at (reverse writes.now) answer.value) (book pass.old) (book pass.new)) }
+    ensures conflict { IfErr result (λ e. (e.upto ≡ (book pass.old).bound) × (Has (pairs (reverse writes.now)) e.address ⊎ In e.address reads.now)) }
+    ensures err { IfErr result (λ _. (moved : ℕ) × (moved ≤ 1) × IsRest 1 moved (book pass.old) (book pass.new)) }
+{
+    let Plan {
+        owners,
+        was_read,
+        mut words,
+        newest,
+    } = plan;
+    take_all(pass, shared, &owners, &was_read, &mut words)?;
+    let at = tick_for(pass, shared, writes);
+    if let Err(conflict) = validate_all(pass, shared, &owners, reads) {
+        give_back(pass, shared, &owners, &words, STRIPES);
+        return Err(conflict);
+    }
+    store_all(pass, shared, &newest, answer);
+    release_all(pass, shared, &owners);
+    Ok(Stamp { at, update: true })
+}
