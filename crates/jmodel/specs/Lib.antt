@@ -28,6 +28,8 @@ pub mod DescriptorReading
 pub mod PoolReading
 pub mod ClassReading
 pub mod ClassFileReading
+pub mod Instruction
+pub mod InstructionReading
 pub mod Engine
 pub mod Decoding
 pub mod Linking

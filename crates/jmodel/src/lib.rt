@@ -3,6 +3,7 @@
 
 pub mod bytes;
 pub mod class_file;
+pub mod instruction;
 pub mod journal;
 pub mod laws;
 pub mod name;
@@ -14,6 +15,7 @@ pub mod value;
 
 pub use bytes::Bytes;
 pub use class_file::{Constant, FieldType, Handler};
+pub use instruction::{EntryKind, Form, Instr, Operands, Pairs, Targets};
 pub use journal::Line;
 pub use name::MethodName;
 pub use refusal::{Halt, NoMemory, Refusal};

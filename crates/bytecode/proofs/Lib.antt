@@ -1,0 +1,5 @@
+pub mod Walks
+pub mod NumberLaws
+pub mod FormLaws
+pub mod SwitchLaws
+pub mod CodeLaws

@@ -1,0 +1,19 @@
+//! The code of a method as a list of instructions, and back (JVM Specification, Java SE 7, chapter 6).
+#![tactic(auto)]
+
+mod decoding;
+mod encoding;
+mod entries;
+mod forms;
+mod instructions;
+mod numbers;
+mod operands;
+mod switches;
+mod targets;
+
+pub use decoding::decode;
+pub use encoding::encode;
+pub use jmodel::{EntryKind, Form, Instr, Operands, Pairs, Targets};
+
+#[cfg(test)]
+mod tests;
