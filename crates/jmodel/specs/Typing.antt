@@ -64,7 +64,7 @@ with_stack h s = record h { stack = s }
 
 -- on to the next instruction
 abbrev pub leaves : ℕ → Types → List VType → Flow
-leaves pc h s = Leads (pc + 1 ∷ []) (with_stack h s)
+leaves pc h s = Leads ((pc + 1) ∷ []) (with_stack h s)
 
 abbrev pub ends : Bool → Types → Flow
 ends true h = Leads [] h
@@ -108,7 +108,7 @@ method_in None k = Wrong
 method_in (Some c) k = k c
 
 abbrev pub stores : Bool → ℕ → VType → ℕ → Types → List VType → Flow
-stores true i t pc h s = Leads (pc + 1 ∷ []) (record { locals = slice_set h.locals i t; stack = s })
+stores true i t pc h s = Leads ((pc + 1) ∷ []) (record { locals = slice_set h.locals i t; stack = s })
 stores false i t pc h s = Wrong
 
 abbrev pub type_of : WordType → VType
@@ -141,8 +141,8 @@ flow P k pc (op.Rearrange r) h = rearranged r pc h
 flow P k pc (op.Binary b) h = on_int h.stack (λ s. on_int s (λ s. leaves pc h (Int ∷ s)))
 flow P k pc (op.Unary u) h = on_int h.stack (λ s. leaves pc h (Int ∷ s))
 flow P k pc (op.Increment i n) h = int_in (slice_get h.locals i) (leaves pc h h.stack)
-flow P k pc (op.Branch t to) h = on_int h.stack (λ s. Leads (pc + 1 ∷ to ∷ []) (with_stack h s))
-flow P k pc (op.BranchInts t to) h = on_int h.stack (λ s. on_int s (λ s. Leads (pc + 1 ∷ to ∷ []) (with_stack h s)))
+flow P k pc (op.Branch t to) h = on_int h.stack (λ s. Leads ((pc + 1) ∷ to ∷ []) (with_stack h s))
+flow P k pc (op.BranchInts t to) h = on_int h.stack (λ s. on_int s (λ s. Leads ((pc + 1) ∷ to ∷ []) (with_stack h s)))
 flow P k pc (op.Goto to) h = Leads (to ∷ []) h
 flow P k pc (op.GetStatic n) h = field_in (place_at P n) (λ f. leaves pc h (type_of f.type ∷ h.stack))
 flow P k pc (op.PutStatic n) h = field_in (place_at P n) (λ f. on_type (type_of f.type) h.stack (λ s. leaves pc h s))
