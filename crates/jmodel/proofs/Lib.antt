@@ -24,3 +24,4 @@ pub mod Sound
 pub mod Constants
 pub mod Linked
 pub mod Counter
+pub mod Typed

@@ -16,7 +16,9 @@ pub mod Rewriting
 pub mod Meaning
 pub mod Source
 pub mod Free
+pub mod Typing
 pub mod Law
+pub mod TypingLaw
 pub mod Layout
 pub mod Serial
 pub mod Output

@@ -1,5 +1,6 @@
 //! Laws of the definitions: each function's contract is one, and its body does nothing.
 ghost use Rattle.jmodel.specs.Law.{Completion, Preservation, Simulation, Soundness};
+ghost use Rattle.jmodel.specs.TypingLaw.{TypedSafety, TypedSoundness};
 
 /// Rewritten straight-line code never gets stuck: whatever words the engine answers, wherever it meets conflicts and
 /// whatever the limits are, no instruction misses an operand, a local or a phase that it needs.
@@ -23,4 +24,15 @@ pub fn simulation()
 /// reads of what memory has, and writes that leave the same state.
 pub fn completion()
     ensures { Completion }
+{}
+
+/// A program each of whose methods has a typing never gets stuck, called with ints for its parameters: no instruction
+/// misses an operand or a local, whatever ints its fields give.
+pub fn typed_safety()
+    ensures { TypedSafety }
+{}
+
+/// Nor does its rewriting, whatever words the engine answers, wherever it meets conflicts and whatever the limits are.
+pub fn typed_soundness()
+    ensures { TypedSoundness }
 {}
