@@ -4,6 +4,7 @@ ghost use Rattle.std.specs.Prelude.{◌≡◌, ◌≤◌, length, filter, map, b
 ghost use Rattle.jmodel.specs.Pool.{utf8};
 ghost use Rattle.jmodel.specs.ClassRules.{same_text};
 ghost use Rattle.std.specs.List.{list_all, list_any};
+ghost use Rattle.jmodel.specs.declared.op.Op.TheVariants as op;
 ghost use Rattle.jmodel.specs.Source.{takes as taken, leaves as left, is_return as returns};
 ghost use Rattle.jmodel.specs.Layout.{library as library_names, is_static as static_member};
 ghost use Rattle.jmodel.specs.Linking.{has_part as part_of, is_reserved as reserved, is_form_constant as form_constant, is_form_field as form_field, is_plain_mark as plain_mark, is_mark as mark, is_marked as marked, takes_context as with_context, is_program_method as program_method, program_methods as methods_of_program, is_form_attribute as form_attribute, is_special as special, is_form_atomic as form_atomic, is_form_method as form_method, is_free_name as free_name, are_form_fields as form_fields, are_form_methods as form_methods, is_form_head as form_head, is_form_class as form_class, is_form_code as form_code, is_form_op as form_op, is_straight_within as straight_within};
@@ -278,14 +279,39 @@ pub fn is_form_code(code: &Code) -> bool
         && code.handlers.is_empty()
 }
 
+fn taken_by(rearrange: Rearrange) -> usize
+    ensures { result ≡ taken (op.Rearrange rearrange) }
+{
+    match rearrange {
+        Rearrange::Nothing => 0,
+        Rearrange::Pop | Rearrange::Duplicate => 1,
+        Rearrange::PopTwo
+        | Rearrange::DuplicateUnder
+        | Rearrange::DuplicateTwo
+        | Rearrange::Swap => 2,
+    }
+}
+
+fn left_by(rearrange: Rearrange) -> usize
+    ensures exact { result ≡ left (op.Rearrange rearrange) }
+    ensures few { result ≤ 4 }
+{
+    match rearrange {
+        Rearrange::Nothing | Rearrange::Pop | Rearrange::PopTwo => 0,
+        Rearrange::Duplicate | Rearrange::Swap => 2,
+        Rearrange::DuplicateUnder => 3,
+        Rearrange::DuplicateTwo => 4,
+    }
+}
+
 // How many slots an instruction of the form takes from the stack.
 fn takes(op: &Op) -> usize
     ensures { result ≡ taken op.now }
 {
     match op {
-        Op::Rearrange(Rearrange::Pop) | Op::Rearrange(Rearrange::Duplicate) => 1,
+        Op::Rearrange(r) => taken_by(*r),
         Op::Binary(_) => 2,
-        Op::Negate | Op::PutStatic(_) => 1,
+        Op::Unary(_) | Op::PutStatic(_) => 1,
         _ => 0,
     }
 }
@@ -293,12 +319,12 @@ fn takes(op: &Op) -> usize
 // And how many it leaves there in their place.
 fn leaves(op: &Op) -> usize
     ensures exact { result ≡ left op.now }
-    ensures few { result ≤ 2 }
+    ensures few { result ≤ 4 }
 {
     match op {
         Op::Constant(_) | Op::GetStatic(_) => 1,
-        Op::Rearrange(Rearrange::Duplicate) => 2,
-        Op::Binary(_) | Op::Negate => 1,
+        Op::Rearrange(r) => left_by(*r),
+        Op::Binary(_) | Op::Unary(_) => 1,
         _ => 0,
     }
 }
@@ -311,7 +337,7 @@ fn is_form_op(op: &Op) -> bool
         Op::Constant(Value::Int(_))
             | Op::Rearrange(_)
             | Op::Binary(_)
-            | Op::Negate
+            | Op::Unary(_)
             | Op::GetStatic(_)
             | Op::PutStatic(_)
     )

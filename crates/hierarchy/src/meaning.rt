@@ -9,7 +9,7 @@ use crate::reference::{Reference, field_reference, method_reference};
 use crate::symbols::{equal, is_text, own_name, same};
 use const_pool::{ClassFile, Member, Pool};
 use jmodel::MethodName;
-use jmodel::op::{Binary, ContextCall, Op, Rearrange, Test, WordType};
+use jmodel::op::{Binary, ContextCall, Op, Rearrange, Test, Unary, WordType};
 use jmodel::value::Value;
 use std::marker::Model;
 
@@ -118,7 +118,7 @@ fn simple_op(opcode: u8) -> Option<Op>
         96 => Some(Op::Binary(Binary::Add)),
         100 => Some(Op::Binary(Binary::Subtract)),
         104 => Some(Op::Binary(Binary::Multiply)),
-        116 => Some(Op::Negate),
+        116 => Some(Op::Unary(Unary::Negate)),
         172 => Some(Op::ReturnValue),
         177 => Some(Op::Return),
         191 => Some(Op::Throw),
@@ -160,7 +160,7 @@ fn jump_op(list: &[Instruction], pc: usize, opcode: u8, offset: u16) -> Option<O
     ensures { result ≡ jump list.now pc opcode offset }
 {
     match opcode {
-        153 => Some(Op::Branch(Test::Zero, target(list, pc, offset)?)),
+        153 => Some(Op::Branch(Test::Equal, target(list, pc, offset)?)),
         167 => Some(Op::Goto(target(list, pc, offset)?)),
         _ => None,
     }

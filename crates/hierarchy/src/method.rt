@@ -163,11 +163,11 @@ fn make_method(
     symbols: &Symbols,
     counted: bool,
     method: &Member,
-    locals: u16,
+    code: &Code,
     shape: Shape,
-    code: (Vec<Op>, Vec<Catch>),
+    parts: (Vec<Op>, Vec<Catch>),
 ) -> Result<Method, AllocError>
-    ensures { IfOk result (λ m. made symbols.now counted method.now locals (Some shape) (Some code.0.items) (Some code.1.items) ≡ Some m) }
+    ensures { IfOk result (λ m. made symbols.now counted method.now code.now (Some shape) (Some parts.0.items) (Some parts.1.items) ≡ Some m) }
 {
     let class = symbols.class;
     let name = name_of(alloc, class, method)?;
@@ -175,12 +175,13 @@ fn make_method(
     Ok(Method::new(
         name,
         shape.params,
-        locals as usize,
+        code.max_locals as usize,
+        code.max_stack as usize,
         shape.gives,
         counted,
         retries,
-        code.0,
-        code.1,
+        parts.0,
+        parts.1,
     ))
 }
 
@@ -202,13 +203,12 @@ fn coded_method(
     let ops = ops_of(alloc, symbols, list.as_slice())?;
     let handlers = code.handlers.as_slice();
     let catches = entries_of(alloc, &class.pool, list.as_slice(), bytes.len(), handlers)?;
-    let locals = code.max_locals;
     Ok(make_method(
         alloc,
         symbols,
         counted,
         method,
-        locals,
+        code,
         shape,
         (ops, catches),
     )?)
@@ -248,9 +248,8 @@ fn form_method(
         params: 0,
         gives: true,
     };
-    let locals = code.max_locals;
     let catches = Vec::new(alloc);
-    Ok(make_method(alloc, symbols, true, method, locals, shape, (ops, catches))?)
+    Ok(make_method(alloc, symbols, true, method, code, shape, (ops, catches))?)
 }
 
 /// What a method of an original class of the form means.

@@ -73,6 +73,7 @@ pub struct Method {
     name: MethodName,
     params: usize,
     locals: usize,
+    max_stack: usize,
     gives: bool,
     counted: bool,
     retries: Option<i32>,
@@ -83,28 +84,31 @@ pub struct Method {
 impl Model for Method {
     ghost Value = { JMethod };
 
-    ghost view = { λ m. record { name = m.name; params = m.params; locals = m.locals; gives = m.gives; counted = m.counted; retries = m.retries; ops = m.ops.items; catches = m.catches.items } };
+    ghost view = { λ m. record { name = m.name; params = m.params; locals = m.locals; max_stack = m.max_stack; gives = m.gives; counted = m.counted; retries = m.retries; ops = m.ops.items; catches = m.catches.items } };
 }
 
 impl Method {
-    /// A method of `params` places of parameters and `locals` places in all, which `gives` a value or none, whose
-    /// entering and frames count where it is `counted`, and which may make `retries` attempts where it is marked.
+    /// A method of `params` places of parameters, `locals` places in all and at most `max_stack` on its stack, which
+    /// `gives` a value or none, whose entering and frames count where it is `counted`, and which may make `retries`
+    /// attempts where it is marked.
     pub fn new(
         name: MethodName,
         params: usize,
         locals: usize,
+        max_stack: usize,
         gives: bool,
         counted: bool,
         retries: Option<i32>,
         ops: Vec<Op>,
         catches: Vec<Catch>,
     ) -> Self
-        ensures { result ≡ record { name = name; params = params; locals = locals; gives = gives; counted = counted; retries = retries; ops = ops.items; catches = catches.items } }
+        ensures { result ≡ record { name = name; params = params; locals = locals; max_stack = max_stack; gives = gives; counted = counted; retries = retries; ops = ops.items; catches = catches.items } }
     {
         Method {
             name,
             params,
             locals,
+            max_stack,
             gives,
             counted,
             retries,
@@ -118,6 +122,13 @@ impl Method {
         ensures { result.now ≡ self.now.name }
     {
         &self.name
+    }
+
+    /// How many places its operand stack takes at most.
+    pub fn max_stack(&self) -> usize
+        ensures { result ≡ self.now.max_stack }
+    {
+        self.max_stack
     }
 
     /// Whether it gives a value.

@@ -23,6 +23,7 @@ method_inc = record {
   name = record { class = codes "Counter"; name = codes "inc"; descriptor = codes "()I" };
   params = 0;
   locals = 0;
+  max_stack = 2;
   gives = true;
   counted = true;
   retries = Some (pos 2147483647);

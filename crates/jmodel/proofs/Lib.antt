@@ -11,6 +11,7 @@ pub mod Follow
 pub mod Callers
 pub mod Alone
 pub mod Walk
+pub mod Alike
 pub mod Match
 pub mod SerialProof
 pub mod Opening

@@ -11,6 +11,7 @@ use Rattle.jmodel.specs.declared.op.Op.{Op}
 use Rattle.jmodel.specs.declared.op.Op.TheVariants as op
 use Rattle.jmodel.specs.declared.op.Rearrange.TheVariants as rearrange
 use Rattle.jmodel.specs.declared.op.Binary.TheVariants as binary
+use Rattle.jmodel.specs.declared.op.Unary.TheVariants as unary
 use Rattle.jmodel.specs.declared.op.Test.TheVariants as test
 use Rattle.jmodel.specs.declared.op.ContextCall.TheVariants as context
 use Rattle.std.specs.Int.{w8, w16, w32, cast_signed}
@@ -102,7 +103,7 @@ simple_fine : (n c : ℕ) → Fine n (simple_op c)
 simple_fine n c =
     plain n _ (op.Rearrange rearrange.Nothing) _ tt (when n (nat_le 2 c && nat_le c 8) (Some (op.Constant (value.Int (pos c -ℤ pos 3)))) _ (λ t. leaf n _ (small c t)) (plain n _ (op.Rearrange rearrange.Pop) _ tt
     (plain n _ (op.Rearrange rearrange.Duplicate) _ tt (plain n _ (op.Binary binary.Add) _ tt (plain n _ (op.Binary binary.Subtract) _ tt
-    (plain n _ (op.Binary binary.Multiply) _ tt (plain n _ op.Negate _ tt (plain n _ op.ReturnValue _ tt (plain n _ op.Return _ tt
+    (plain n _ (op.Binary binary.Multiply) _ tt (plain n _ (op.Unary unary.Negate) _ tt (plain n _ op.ReturnValue _ tt (plain n _ op.Return _ tt
     (plain n _ op.Throw (short_local_op c) tt (short_fine n c)))))))))))
 
 number_fine : (n c x : ℕ) → Fine n (number_op c x)
@@ -112,7 +113,7 @@ number_fine n c x =
 
 jump_fine : (n : ℕ) (is : List Instruction) (pc c offset : ℕ) → Fine n (jump_op is pc c offset)
 jump_fine n is pc c offset =
-    either n _ _ _ (mapped n (op.Branch test.Zero) (target is pc offset) (λ x e. tt)) (either n _ _ None (mapped n op.Goto (target is pc offset) (λ x e. tt)) (nothing n))
+    either n _ _ _ (mapped n (op.Branch test.Equal) (target is pc offset) (λ x e. tt)) (either n _ _ None (mapped n op.Goto (target is pc offset) (λ x e. tt)) (nothing n))
 
 field_there : (fields : List Field) (m : MemberName) (i : ℕ) → field_number fields m ≡ Some i → i < length fields
 field_there fields m i is = (position-Some (is_field_of m) fields i (first fields) is).0
@@ -187,12 +188,14 @@ form_plain (op.Constant (value.Long n)) h = cc
 form_plain (op.Constant (value.Ref n)) h = cc
 form_plain (op.Rearrange r) h = refl
 form_plain (op.Binary b) h = refl
-form_plain op.Negate h = refl
+form_plain (op.Unary u) h = refl
 form_plain (op.GetStatic f) h = refl
 form_plain (op.PutStatic f) h = refl
 form_plain (op.Load i) h = cc
 form_plain (op.Store i) h = cc
+form_plain (op.Increment i n) h = cc
 form_plain (op.Branch t to) h = cc
+form_plain (op.BranchInts t to) h = cc
 form_plain (op.Goto to) h = cc
 form_plain (op.InvokeStatic m) h = cc
 form_plain op.Return h = cc
@@ -207,12 +210,14 @@ form_source P k (op.Constant (value.Long n)) h b = cc
 form_source P k (op.Constant (value.Ref n)) h b = cc
 form_source P k (op.Rearrange r) h b = tt
 form_source P k (op.Binary x) h b = tt
-form_source P k op.Negate h b = tt
+form_source P k (op.Unary u) h b = tt
 form_source P k (op.GetStatic f) h b = b
 form_source P k (op.PutStatic f) h b = b
 form_source P k (op.Load i) h b = cc
 form_source P k (op.Store i) h b = cc
+form_source P k (op.Increment i n) h b = cc
 form_source P k (op.Branch t to) h b = cc
+form_source P k (op.BranchInts t to) h b = cc
 form_source P k (op.Goto to) h b = cc
 form_source P k (op.InvokeStatic m) h b = cc
 form_source P k op.Return h b = cc
@@ -226,12 +231,14 @@ return_source P k op.ReturnValue g h = g
 return_source P k (op.Constant v) g h = cc
 return_source P k (op.Rearrange r) g h = cc
 return_source P k (op.Binary x) g h = cc
-return_source P k op.Negate g h = cc
+return_source P k (op.Unary u) g h = cc
 return_source P k (op.GetStatic f) g h = cc
 return_source P k (op.PutStatic f) g h = cc
 return_source P k (op.Load i) g h = cc
 return_source P k (op.Store i) g h = cc
+return_source P k (op.Increment i n) g h = cc
 return_source P k (op.Branch t to) g h = cc
+return_source P k (op.BranchInts t to) g h = cc
 return_source P k (op.Goto to) g h = cc
 return_source P k (op.InvokeStatic m) g h = cc
 return_source P k op.Return g h = cc
@@ -278,6 +285,7 @@ meant s m k ops = record {
   name = name_of s.class m;
   params = 0;
   locals = k.max_locals;
+  max_stack = k.max_stack;
   gives = true;
   counted = true;
   retries = retries_of s.class.pool m;
@@ -297,12 +305,12 @@ means_of : (s : Symbols) (m : Member) (k : Method) → linked_method s m ≡ Som
 means_of s m k h = go (code_in s.class.pool m) h
   where
     last : (code : Code) (o : Option (List Op)) → ops_of s (instructions code.code) ≡ o
-        → make_method s true m code.max_locals (Some (record { params = 0; gives = true })) (straight code.max_stack o) (Some []) ≡ Some k → Means s m k
+        → make_method s true m code (Some (record { params = 0; gives = true })) (straight code.max_stack o) (Some []) ≡ Some k → Means s m k
     last code None e h = cc
     last code (Some ops) e h = choose (is_straight_within code.max_stack 0 ops) refl h
       where
         choose : (b : Bool) → is_straight_within code.max_stack 0 ops ≡ b
-            → make_method s true m code.max_locals (Some (record { params = 0; gives = true })) (if b then Some ops else None) (Some []) ≡ Some k → Means s m k
+            → make_method s true m code (Some (record { params = 0; gives = true })) (if b then Some ops else None) (Some []) ≡ Some k → Means s m k
         choose true is h = record { code = code; ops = ops; is = cc; told = e; straight_ops = is }
         choose false is h = cc
 

@@ -1,7 +1,7 @@
 -- One instruction of a method, and its block in the duplicate.
 use Rattle.std.proofs.Common.{◌≡◌, ℕ, ℤ, ◌+◌, ◌-◌, ◌<◌, ◌≤◌, List, [], ◌∷◌, ◌++◌, length, Option, Some, None, Bool, true, false, refl, sym, ap, subst, ◌∙◌, arith, ⊎_elim}
 use Rattle.std.specs.Prelude.{slice_get, slice_set, nat_lt, nat_le, replicate, FitsSigned}
-use Rattle.std.specs.Int.{w32, int_wrapping_neg}
+use Rattle.std.specs.Int.{w32}
 use Rattle.std.proofs.lemmas.Bool.{cases_lt}
 use Rattle.std.proofs.lemmas.Bool.Decides.{nat_tests}
 use Rattle.std.proofs.lemmas.List.{length-set}
@@ -12,17 +12,15 @@ use Rattle.jmodel.specs.declared.value.Answer.TheVariants.{Returned}
 use Rattle.jmodel.specs.declared.op.Slot.{Slot}
 use Rattle.jmodel.specs.declared.op.Slot.TheVariants.{Int, Context, Empty}
 use Rattle.jmodel.specs.declared.op.Op.{Op}
-use Rattle.jmodel.specs.declared.op.Op.TheVariants.{Constant, Load, Store, Rearrange, Negate, Branch, Goto, GetStatic, PutStatic, InvokeStatic, Return, ReturnValue}
+use Rattle.jmodel.specs.declared.op.Op.TheVariants.{GetStatic, PutStatic, InvokeStatic}
 use Rattle.jmodel.specs.declared.op.Op.TheVariants as op
-use Rattle.jmodel.specs.declared.op.Binary.{Binary}
-use Rattle.jmodel.specs.declared.op.Binary.TheVariants.{Add, Subtract, Multiply}
-use Rattle.jmodel.specs.declared.op.Rearrange.TheVariants.{Nothing, Pop, Duplicate}
 use Rattle.jmodel.specs.declared.op.Phase.TheVariants.{Open}
 use Rattle.jmodel.specs.Value.{word_of}
 use Rattle.jmodel.specs.Program.{Method, Program}
-use Rattle.jmodel.specs.Step.{Frames, Taken, Took, depth, binary, holds, jumps, gives, with_args, take_args}
+use Rattle.jmodel.specs.Step.{Frames, Did, Taken, Took, does, depth, jumps, gives, with_args, take_args}
 use Rattle.jmodel.proofs.Alone.{Alone, next_alone}
 use Rattle.jmodel.proofs.Alone as alone
+use Rattle.jmodel.proofs.Alike.{Alike, neither, goes, jumps as leaps, gives_value, gives_none, op_alike}
 use Rattle.jmodel.specs.Attempt.{Log, Reply, Bounds, Meter, Run, On, Stuck, next_run, on_asked, with_turns, with_depth, address, written, recorded, access}
 use Rattle.jmodel.specs.Rewriting.{moved, block, block_len, block_at, duplicate, duplicate_method}
 use Rattle.jmodel.specs.Source.{IsSource, IsSourceOp}
@@ -35,11 +33,6 @@ use Rattle.jmodel.proofs.Moved.{IsPlain, ArePlain, plain_append, plain_empty, pl
 use Rattle.jmodel.proofs.Walk.{read_int, IsWalk, turned_alike, entered_alike}
 use Rattle.jmodel.proofs.Follow.{IsSet, FrameAlike, Callers, bottom, caller}
 use Rattle.jmodel.proofs.Callers.{source_at, depth_alike, depth_alike_more}
-
-binary_fits : (b : Binary) (x y : ℤ) → FitsSigned w32 (binary b x y)
-binary_fits Add x y = read_sfits w32 _
-binary_fits Subtract x y = read_sfits w32 _
-binary_fits Multiply x y = read_sfits w32 _
 
 -- jumps go back in both, or in neither
 same_way : (code : List Op) (to pc : ℕ) → to < length code → pc < length code → nat_le (block_at code to) (block_at code pc) ≡ nat_le to pc
@@ -187,43 +180,25 @@ module _ (P Q : Program) (R : Rewrites P Q) (S : IsSource P) (B : Bounds) (mn : 
           jumps_to : Now (Below s)
           jumps_to = jumps_on (nat_le to pc) refl
 
-      -- the instructions, each on each stack of int code
-      load_goes : (i : ℕ) → slice_get k.ops pc ≡ Some (Load i) → (s : List Slot) → ArePlain s → Before (Above s) w r → (v : Option Slot) → slice_get l i ≡ v → Now (Below s)
-      load_goes i e s p known None h =
+      -- what an instruction does that has an instruction alone for its block
+      alike_goes : (o o' : Op) → slice_get k.ops pc ≡ Some o → HasAt (duplicate_method P k).ops a (o' ∷ []) → block_len o ≡ 1 → (s : List Slot) → Before (Above s) w r
+          → (d d' : Did) → does P o (frame m pc l s) ≡ d → does Q o' (frame dn a l' s) ≡ d' → Alike k m pc dn a l l' d d' → Now (Below s)
+      alike_goes o o' e at one s known d d' h h' neither = let is = f.is in is_stuck s known (λ u. simp (dup, at.0, h')) (simp (is, e, h))
+      alike_goes o o' e at one s known d d' h h' (goes l2 l2' t fits plain p) =
           let is = f.is in
-          let at = stands (Load i) e in
-          let h' = fits_get k.params i l l' f.fits ∙ h in
-          is_stuck s known (λ u. simp (dup, at.0, h')) (simp (is, e, h))
-      load_goes i e s p known (Some v) h =
+          let g = next_frame m pc dn a k l l' o f e (a + 1) (ap (λ (b : ℕ). a + b) (sym one)) in
+          quiet s known (pc + 1) (a + 1) l2 l2' t (record { is = g.is; dup = g.dup; at = g.at; fits = fits; plain = plain }) p (λ u. simp (dup, at.0, h')) (simp (is, e, h))
+      alike_goes o o' e at one s known d d' h h' (leaps to t lt p) = let is = f.is in jumps_to o e to lt s known t p (λ u. simp (dup, at.0, h')) (simp (is, e, h))
+      alike_goes o o' e at one s known d d' h h' (gives_value x t g fit) =
           let is = f.is in
-          let at = stands (Load i) e in
-          let h' = fits_get k.params i l l' f.fits ∙ h in
-          on_stack (Load i) e refl s known (v ∷ s) (plain_at l i v f.plain h, p) (λ u. simp (dup, at.0, h')) (simp (is, e, h))
-
-      store_goes : (i : ℕ) → slice_get k.ops pc ≡ Some (Store i) → (v : Slot) (s : List Slot) → IsPlain v → ArePlain s → Before (Above (v ∷ s)) w r → (b : Bool) → nat_lt i (length l) ≡ b → Now (Below (v ∷ s))
-      store_goes i e v s pv p known false h =
+          let below : (v : Reply) → next_run Q B v (Below s) ≡ on_asked Q B (gives (Some (value.Int x)) gs) Open v M w r = λ v. simp (dup, at.0, h') in
+          let above : next_alone P (Above s) ≡ alone.on_asked (gives (Some (value.Int x)) fs) M.turns = simp (is, e, h) in
+          X.reply_more _ (λ v. subst Then (sym (below v)) (back_with x fit k.gives fs gs callers g M w r (X.step (Above s) (alone.on_asked (gives (Some (value.Int x)) fs) M.turns) w r above known) v))
+      alike_goes o o' e at one s known d d' h h' (gives_none t g) =
           let is = f.is in
-          let at = stands (Store i) e in
-          let h' = fits_room k.params i l l' f.fits ∙ h in
-          is_stuck (v ∷ s) known (λ u. simp (dup, at.0, h')) (simp (is, e, h))
-      store_goes i e v s pv p known true h =
-          let is = f.is in
-          let at = stands (Store i) e in
-          let h' = fits_room k.params i l l' f.fits ∙ h in
-          let g = next_frame m pc dn a k l l' (Store i) f e (a + 1) refl in
-          quiet (v ∷ s) known (pc + 1) (a + 1) (slice_set l i v) (slice_set l' (moved k.params i) v) s
-          (record { is = g.is; dup = g.dup; at = g.at; fits = fits_set k.params i v l l' f.fits; plain = plain_set l i v f.plain pv }) p
-          (λ u. simp (dup, at.0, h')) (simp (is, e, h))
-
-      branch_goes : (t : _) (to : ℕ) → slice_get k.ops pc ≡ Some (Branch t to) → to < length k.ops → (x : ℤ) (s : List Slot) → ArePlain s → Before (Above (Int x ∷ s)) w r → (b : Bool) → holds t x ≡ b → Now (Below (Int x ∷ s))
-      branch_goes t to e lt x s p known true h =
-          let is = f.is in
-          let at = stands (Branch t to) e in
-          jumps_to (Branch t to) e to lt (Int x ∷ s) known s p (λ u. simp (dup, at.0, h)) (simp (is, e, h))
-      branch_goes t to e lt x s p known false h =
-          let is = f.is in
-          let at = stands (Branch t to) e in
-          on_stack (Branch t to) e refl (Int x ∷ s) known s p (λ u. simp (dup, at.0, h)) (simp (is, e, h))
+          let below : (v : Reply) → next_run Q B v (Below s) ≡ on_asked Q B (gives None gs) Open v M w r = λ v. simp (dup, at.0, h') in
+          let above : next_alone P (Above s) ≡ alone.on_asked (gives None fs) M.turns = simp (is, e, h) in
+          X.reply_more _ (λ v. subst Then (sym (below v)) (back_bare k.gives fs gs callers g M w r (X.step (Above s) (alone.on_asked (gives None fs) M.turns) w r above known) v))
 
       get_goes : (i : ℕ) → slice_get k.ops pc ≡ Some (GetStatic i) → i < length P.fields → (s : List Slot) → ArePlain s → Before (Above s) w r → Now (Below s)
       get_goes i e lt s p known =
@@ -294,50 +269,7 @@ module _ (P Q : Program) (R : Rewrites P Q) (S : IsSource P) (B : Bounds) (mn : 
             (taken s (take_args k2.params [] s) (take_args (k2.params + 1) [] (Context ∷ s)) (takes_alike k2.params s p)
             (X.step (Above s) (alone.on_asked (with_args P (take_args k2.params [] s) callee k2 (frame m pc l s) fs) M.turns) w r calls' known) v)))
 
-      -- a return
-      value_goes : (s : List Slot) (x : ℤ) → slice_get k.ops pc ≡ Some ReturnValue → k.gives ≡ true → FitsSigned w32 x → Before (Above (Int x ∷ s)) w r → Now (Below (Int x ∷ s))
-      value_goes s x e g fit known =
-          let is = f.is in
-          let at = stands ReturnValue e in
-          let below : (v : Reply) → next_run Q B v (Below (Int x ∷ s)) ≡ on_asked Q B (gives (Some (value.Int x)) gs) Open v M w r = λ v. simp (dup, at.0) in
-          let above : next_alone P (Above (Int x ∷ s)) ≡ alone.on_asked (gives (Some (value.Int x)) fs) M.turns = simp (is, e) in
-          X.reply_more _ (λ v. subst Then (sym (below v)) (back_with x fit k.gives fs gs callers g M w r (X.step (Above (Int x ∷ s)) (alone.on_asked (gives (Some (value.Int x)) fs) M.turns) w r above known) v))
-
-      bare_goes : (s : List Slot) → slice_get k.ops pc ≡ Some Return → k.gives ≡ false → Before (Above s) w r → Now (Below s)
-      bare_goes s e g known =
-          let is = f.is in
-          let at = stands Return e in
-          let below : (v : Reply) → next_run Q B v (Below s) ≡ on_asked Q B (gives None gs) Open v M w r = λ v. simp (dup, at.0) in
-          let above : next_alone P (Above s) ≡ alone.on_asked (gives None fs) M.turns = simp (is, e) in
-          X.reply_more _ (λ v. subst Then (sym (below v)) (back_bare k.gives fs gs callers g M w r (X.step (Above s) (alone.on_asked (gives None fs) M.turns) w r above known) v))
-
       op_goes : (o : Op) → slice_get k.ops pc ≡ Some o → IsSourceOp P k o → (s : List Slot) → ArePlain s → Before (Above s) w r → Now (Below s)
-      op_goes (Constant (value.Int x)) e src s p known = let is = f.is in let at = stands _ e in on_stack _ e refl s known (Int x ∷ s) (src, p) (λ v. simp (dup, at.0)) (simp (is, e))
-      op_goes (Constant v) e src s p known = absurd src
-      op_goes (Load i) e src s p known = load_goes i e s p known (slice_get l i) refl
-      op_goes (Store i) e src [] p known = let is = f.is in let at = stands _ e in is_stuck [] known (λ v. simp (dup, at.0)) (simp (is, e))
-      op_goes (Store i) e src (v ∷ s) p known = store_goes i e v s p.0 p.1 known (nat_lt i (length l)) refl
-      op_goes (Rearrange Nothing) e src s p known = let is = f.is in let at = stands _ e in on_stack _ e refl s known s p (λ v. simp (dup, at.0)) (simp (is, e))
-      op_goes (Rearrange Pop) e src [] p known = let is = f.is in let at = stands _ e in is_stuck [] known (λ v. simp (dup, at.0)) (simp (is, e))
-      op_goes (Rearrange Pop) e src (u ∷ s) p known = let is = f.is in let at = stands _ e in on_stack _ e refl (u ∷ s) known s p.1 (λ v. simp (dup, at.0)) (simp (is, e))
-      op_goes (Rearrange Duplicate) e src [] p known = let is = f.is in let at = stands _ e in is_stuck [] known (λ v. simp (dup, at.0)) (simp (is, e))
-      op_goes (Rearrange Duplicate) e src (u ∷ s) p known = let is = f.is in let at = stands _ e in on_stack _ e refl (u ∷ s) known (u ∷ u ∷ s) (p.0, p) (λ v. simp (dup, at.0)) (simp (is, e))
-      op_goes (op.Binary b) e src [] p known = let is = f.is in let at = stands _ e in is_stuck [] known (λ v. simp (dup, at.0)) (simp (is, e))
-      op_goes (op.Binary b) e src (Int y ∷ []) p known = let is = f.is in let at = stands _ e in is_stuck _ known (λ v. simp (dup, at.0)) (simp (is, e))
-      op_goes (op.Binary b) e src (Int y ∷ Int x ∷ s) p known = let is = f.is in let at = stands _ e in on_stack _ e refl _ known (Int (binary b x y) ∷ s) (binary_fits b x y, p.1.1) (λ v. simp (dup, at.0)) (simp (is, e))
-      op_goes (op.Binary b) e src (Int y ∷ Empty ∷ s) p known = let is = f.is in let at = stands _ e in is_stuck _ known (λ v. simp (dup, at.0)) (simp (is, e))
-      op_goes (op.Binary b) e src (Int y ∷ u ∷ s) p known = absurd p.1.0
-      op_goes (op.Binary b) e src (Empty ∷ s) p known = let is = f.is in let at = stands _ e in is_stuck _ known (λ v. simp (dup, at.0)) (simp (is, e))
-      op_goes (op.Binary b) e src (u ∷ s) p known = absurd p.0
-      op_goes Negate e src [] p known = let is = f.is in let at = stands _ e in is_stuck [] known (λ v. simp (dup, at.0)) (simp (is, e))
-      op_goes Negate e src (Int x ∷ s) p known = let is = f.is in let at = stands _ e in on_stack _ e refl _ known (Int (int_wrapping_neg w32 x) ∷ s) (read_sfits w32 _, p.1) (λ v. simp (dup, at.0)) (simp (is, e))
-      op_goes Negate e src (Empty ∷ s) p known = let is = f.is in let at = stands _ e in is_stuck _ known (λ v. simp (dup, at.0)) (simp (is, e))
-      op_goes Negate e src (u ∷ s) p known = absurd p.0
-      op_goes (Branch t to) e src [] p known = let is = f.is in let at = stands _ e in is_stuck [] known (λ v. simp (dup, at.0)) (simp (is, e))
-      op_goes (Branch t to) e src (Int x ∷ s) p known = branch_goes t to e src x s p.1 known (holds t x) refl
-      op_goes (Branch t to) e src (Empty ∷ s) p known = let is = f.is in let at = stands _ e in is_stuck _ known (λ v. simp (dup, at.0)) (simp (is, e))
-      op_goes (Branch t to) e src (u ∷ s) p known = absurd p.0
-      op_goes (Goto to) e src s p known = let is = f.is in let at = stands _ e in jumps_to _ e to src s known s p (λ u. simp (dup, at.0)) (simp (is, e))
       op_goes (GetStatic i) e src s p known = get_goes i e src s p known
       op_goes (PutStatic i) e src [] p known =
           let x = field_at P i S.fields src in
@@ -357,12 +289,10 @@ module _ (P Q : Program) (R : Rewrites P Q) (S : IsSource P) (B : Bounds) (mn : 
           X.more 6 _ _ (λ v1 v2 v3 v4 v5 v6 v7. simp (dup, at.0, at.1.0, here, setter_is, type)) (X.stuck w r (X.step (Above (Empty ∷ s)) alone.Stuck w r (simp (is, e, there, type)) known))
       op_goes (PutStatic i) e src (u ∷ s) p known = absurd p.0
       op_goes (InvokeStatic callee) e src s p known = let x = some_at P.methods callee src in invoke_goes callee e x.0 x.1 s p known
-      op_goes Return e src s p known = bare_goes s e src known
-      op_goes ReturnValue e src [] p known = let is = f.is in let at = stands _ e in is_stuck [] known (λ v. simp (dup, at.0)) (simp (is, e))
-      op_goes ReturnValue e src (Int x ∷ s) p known = value_goes s x e src p.0 known
-      op_goes ReturnValue e src (Empty ∷ s) p known = let is = f.is in let at = stands _ e in is_stuck _ known (λ v. simp (dup, at.0)) (simp (is, e))
-      op_goes ReturnValue e src (u ∷ s) p known = absurd p.0
-      op_goes o e src s p known = absurd src
+      op_goes op.Throw e src s p known = absurd src
+      op_goes op.GetContext e src s p known = absurd src
+      op_goes (op.Context c) e src s p known = absurd src
+      op_goes o e src s p known = alike_goes o _ e (stands o e) refl s known _ _ refl refl (op_alike P Q k m pc dn a l l' f.fits f.plain o src s p)
 
       stub : slice_get k.ops pc ≡ None → slice_get (duplicate_method P k).ops a ≡ Some op.Throw
       stub e = ap (slice_get (duplicate_method P k).ops) (f.at ∙ past_end k.ops pc e) ∙ has_stub P k

@@ -2,18 +2,18 @@
 use Rattle.std.proofs.Common.{◌≡◌, ℕ, ℤ, zero, suc, ◌+◌, ◌-◌, List, [], ◌∷◌, map, length, Option, Some, Bool, true, false, refl, sym, ap, subst, ◌∙◌, arith}
 use Rattle.std.specs.Prelude.{slice_get, nat_le, ◌&&◌, replicate}
 use Rattle.std.specs.List.{AllByRecursion}
-use Rattle.std.specs.Int.{w32, int_wrapping_neg}
+use Rattle.std.specs.Int.{w32}
 use Rattle.jmodel.specs.declared.value.Value.TheVariants as value
 use Rattle.jmodel.specs.declared.value.Answer.{Answer}
 use Rattle.jmodel.specs.declared.value.Answer.TheVariants.{Returned}
 use Rattle.jmodel.specs.declared.op.Slot.{Slot}
 use Rattle.jmodel.specs.declared.op.Slot.TheVariants.{Int, Empty}
 use Rattle.jmodel.specs.declared.op.Op.{Op}
-use Rattle.jmodel.specs.declared.op.Op.TheVariants.{Constant, Load, Rearrange, Negate, GetStatic, PutStatic, ReturnValue}
+use Rattle.jmodel.specs.declared.op.Op.TheVariants.{Constant, Load, Rearrange, GetStatic, PutStatic, ReturnValue}
 use Rattle.jmodel.specs.declared.op.Op.TheVariants as op
-use Rattle.jmodel.specs.declared.op.Rearrange.TheVariants.{Nothing, Pop, Duplicate}
+use Rattle.jmodel.specs.declared.op.Rearrange.TheVariants.{Nothing, Pop, PopTwo, Duplicate, DuplicateUnder, DuplicateTwo, Swap}
 use Rattle.jmodel.specs.Program.{Method, Program}
-use Rattle.jmodel.specs.Step.{Frames, binary}
+use Rattle.jmodel.specs.Step.{Frames, binary, unary}
 use Rattle.jmodel.specs.Free.{Free, On, Ended, Stuck, turned, next_free, free, free_start, IsNeverStuck}
 use Rattle.jmodel.specs.Free as any
 use Rattle.jmodel.specs.Source.{IsSourceOp, IsSourceMethod, IsSource, IsStraight, takes, leaves, is_plain, is_return, is_straight}
@@ -51,11 +51,23 @@ module _ (P : Program) (S : IsSource P) (m : ℕ) (k : Method) (is : slice_get P
   op_leaves (Rearrange Pop) pc e s (x ∷ xs) p q v = (xs, omega arith, simp (is, e))
   op_leaves (Rearrange Duplicate) pc e s [] p q v = cc
   op_leaves (Rearrange Duplicate) pc e s (x ∷ xs) p q v = (x ∷ x ∷ xs, omega arith, simp (is, e))
+  op_leaves (Rearrange PopTwo) pc e s [] p q v = cc
+  op_leaves (Rearrange PopTwo) pc e s (x ∷ []) p q v = cc
+  op_leaves (Rearrange PopTwo) pc e s (y ∷ x ∷ xs) p q v = (xs, omega arith, simp (is, e))
+  op_leaves (Rearrange DuplicateUnder) pc e s [] p q v = cc
+  op_leaves (Rearrange DuplicateUnder) pc e s (x ∷ []) p q v = cc
+  op_leaves (Rearrange DuplicateUnder) pc e s (y ∷ x ∷ xs) p q v = (y ∷ x ∷ y ∷ xs, omega arith, simp (is, e))
+  op_leaves (Rearrange DuplicateTwo) pc e s [] p q v = cc
+  op_leaves (Rearrange DuplicateTwo) pc e s (x ∷ []) p q v = cc
+  op_leaves (Rearrange DuplicateTwo) pc e s (y ∷ x ∷ xs) p q v = (y ∷ x ∷ y ∷ x ∷ xs, omega arith, simp (is, e))
+  op_leaves (Rearrange Swap) pc e s [] p q v = cc
+  op_leaves (Rearrange Swap) pc e s (x ∷ []) p q v = cc
+  op_leaves (Rearrange Swap) pc e s (y ∷ x ∷ xs) p q v = (x ∷ y ∷ xs, omega arith, simp (is, e))
   op_leaves (op.Binary b) pc e s [] p q v = cc
   op_leaves (op.Binary b) pc e s (x ∷ []) p q v = cc
   op_leaves (op.Binary b) pc e s (y ∷ x ∷ xs) p q v = (binary b x y ∷ xs, omega arith, simp (is, e))
-  op_leaves Negate pc e s [] p q v = cc
-  op_leaves Negate pc e s (x ∷ xs) p q v = (int_wrapping_neg w32 x ∷ xs, omega arith, simp (is, e))
+  op_leaves (op.Unary u) pc e s [] p q v = cc
+  op_leaves (op.Unary u) pc e s (x ∷ xs) p q v = (unary u x ∷ xs, omega arith, simp (is, e))
   op_leaves (GetStatic f) pc e s xs p q v = let y = field_at P f S.fields s in let there = y.1 in (v ∷ xs, omega arith, simp (is, e, there))
   op_leaves (PutStatic f) pc e s [] p q v = cc
   op_leaves (PutStatic f) pc e s (x ∷ xs) p q v = let y = field_at P f S.fields s in let there = y.1 in let type = y.3.type in (xs, omega arith, simp (is, e, there, type))

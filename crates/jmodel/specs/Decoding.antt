@@ -9,7 +9,8 @@ use Rattle.jmodel.specs.declared.op.Op.{Op}
 use Rattle.jmodel.specs.declared.op.Op.TheVariants as op
 use Rattle.jmodel.specs.declared.op.Rearrange.TheVariants.{Nothing, Pop, Duplicate}
 use Rattle.jmodel.specs.declared.op.Binary.TheVariants.{Add, Subtract, Multiply}
-use Rattle.jmodel.specs.declared.op.Test.TheVariants.{Zero}
+use Rattle.jmodel.specs.declared.op.Unary.TheVariants.{Negate}
+use Rattle.jmodel.specs.declared.op.Test.TheVariants.{Equal}
 use Rattle.jmodel.specs.declared.op.ContextCall.TheVariants.{Init, BeforeRead, OnRead, OnWrite, Commit, Rollback}
 use Rattle.jmodel.specs.declared.op.WordType.TheVariants as word
 use Rattle.jmodel.specs.ClassFile.{Attribute, Member, Pool, ClassFile}
@@ -114,7 +115,7 @@ simple_op c =
     else if c == 96 then Some (op.Binary Add)
     else if c == 100 then Some (op.Binary Subtract)
     else if c == 104 then Some (op.Binary Multiply)
-    else if c == 116 then Some op.Negate
+    else if c == 116 then Some (op.Unary Negate)
     else if c == 172 then Some op.ReturnValue
     else if c == 177 then Some op.Return
     else if c == 191 then Some op.Throw
@@ -140,7 +141,7 @@ target is pc offset = position (is_target pc offset) is
 
 abbrev pub jump_op : List Instruction → ℕ → ℕ → ℕ → Option Op
 jump_op is pc c offset =
-    if c == 153 then option_map (op.Branch Zero) (target is pc offset)
+    if c == 153 then option_map (op.Branch Equal) (target is pc offset)
     else if c == 167 then option_map op.Goto (target is pc offset)
     else None
 

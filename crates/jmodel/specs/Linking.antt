@@ -76,22 +76,23 @@ is_marked pool m = list_any (is_mark pool) m.attributes
 abbrev pub retries_of : Pool → Member → Option ℤ
 retries_of pool m = if is_marked pool m then Some (pos 2147483647) else None
 
-abbrev pub make_method : Symbols → Bool → Member → ℕ → Option Shape → Option (List Op) → Option (List Catch) → Option Method
-make_method s counted m locals (Some shape) (Some ops) (Some catches) = Some (record {
+abbrev pub make_method : Symbols → Bool → Member → Code → Option Shape → Option (List Op) → Option (List Catch) → Option Method
+make_method s counted m k (Some shape) (Some ops) (Some catches) = Some (record {
   name = name_of s.class m;
   params = shape.params;
-  locals = locals;
+  locals = k.max_locals;
+  max_stack = k.max_stack;
   gives = shape.gives;
   counted = counted;
   retries = retries_of s.class.pool m;
   ops = ops;
   catches = catches;
 })
-make_method s counted m locals shape ops catches = None
+make_method s counted m k shape ops catches = None
 
 abbrev pub coded_method : Symbols → Bool → Member → Code → Option Method
 coded_method s counted m k = let is = instructions k.code in
-    make_method s counted m k.max_locals (shape_of (text_or_none (utf8 s.class.pool m.descriptor))) (ops_of s is) (each (catch_of s.class.pool is (length k.code)) k.handlers)
+    make_method s counted m k (shape_of (text_or_none (utf8 s.class.pool m.descriptor))) (ops_of s is) (each (catch_of s.class.pool is (length k.code)) k.handlers)
 
 -- what a method means; its frames count or don't
 abbrev pub method_of : Symbols → Bool → Member → Option Method
@@ -175,7 +176,7 @@ abbrev pub is_form_op : Op → Bool
 is_form_op (op.Constant (value.Int n)) = true
 is_form_op (op.Rearrange r) = true
 is_form_op (op.Binary b) = true
-is_form_op op.Negate = true
+is_form_op (op.Unary u) = true
 is_form_op (op.GetStatic f) = true
 is_form_op (op.PutStatic f) = true
 is_form_op o = false
@@ -193,7 +194,7 @@ straight limit None = None
 straight limit (Some ops) = if is_straight_within limit 0 ops then Some ops else None
 
 abbrev pub form_method : Symbols → Member → Code → Option Method
-form_method s m k = if is_form_code k then make_method s true m k.max_locals (Some (record { params = 0; gives = true })) (straight k.max_stack (ops_of s (instructions k.code))) (Some []) else None
+form_method s m k = if is_form_code k then make_method s true m k (Some (record { params = 0; gives = true })) (straight k.max_stack (ops_of s (instructions k.code))) (Some []) else None
 
 -- a method of the form
 abbrev pub linked_method : Symbols → Member → Option Method

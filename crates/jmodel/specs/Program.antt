@@ -20,6 +20,8 @@ pub record Method : Type 0 where
   -- places of its parameters, and of all its locals
   pub params : ℕ
   pub locals : ℕ
+  -- how many places its operand stack takes at most
+  pub max_stack : ℕ
   -- whether it gives a value
   pub gives : Bool
   -- whether entering it is a turn, and its frames count

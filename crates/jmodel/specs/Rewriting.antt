@@ -1,11 +1,11 @@
 -- The rewriting of a program: accessors, duplicates and wrappers (Korland, Shavit, Felber, MULTIPROG 2010, in this project's form).
-use Rattle.std.specs.Prelude.{ℕ, ℤ, zero, suc, pos, ◌+◌, ◌*◌, List, [], ◌∷◌, ◌++◌, length, map, take, drop, sum_by, Option, Some, None, Bool, true, false, not, ◌==◌, nat_lt, if◌then◌else◌, codes}
+use Rattle.std.specs.Prelude.{ℕ, ℤ, zero, suc, pos, ◌+◌, ◌*◌, List, [], ◌∷◌, ◌++◌, length, map, take, drop, sum_by, max, Option, Some, None, Bool, true, false, not, ◌==◌, nat_lt, if◌then◌else◌, codes}
 use Rattle.std.specs.List.{flat_map}
 use Rattle.jmodel.specs.declared.value.Value.TheVariants.{Int, Long, Ref}
 use Rattle.jmodel.specs.declared.op.Op.{Op}
-use Rattle.jmodel.specs.declared.op.Op.TheVariants.{Constant, Load, Store, Rearrange, Branch, Goto, GetStatic, PutStatic, InvokeStatic, Return, ReturnValue, Throw, GetContext, Context}
+use Rattle.jmodel.specs.declared.op.Op.TheVariants.{Constant, Load, Store, Rearrange, Increment, Branch, BranchInts, Goto, GetStatic, PutStatic, InvokeStatic, Return, ReturnValue, Throw, GetContext, Context}
 use Rattle.jmodel.specs.declared.op.Rearrange.TheVariants.{Pop}
-use Rattle.jmodel.specs.declared.op.Test.TheVariants.{Zero}
+use Rattle.jmodel.specs.declared.op.Test.TheVariants.{Equal}
 use Rattle.jmodel.specs.declared.op.ContextCall.TheVariants.{Init, BeforeRead, OnRead, OnWrite, Commit, Rollback}
 use Rattle.jmodel.specs.declared.op.WordType.{WordType}
 use Rattle.jmodel.specs.declared.op.WordType.TheVariants as word
@@ -55,6 +55,7 @@ getter_method n f = record {
   name = record { class = f.class; name = f.name ++ codes "__Getter$"; descriptor = codes "(" ++ context_type ++ codes ")" ++ type_descriptor f.type };
   params = 1;
   locals = 1;
+  max_stack = 5;
   gives = true;
   counted = false;
   retries = None;
@@ -68,6 +69,7 @@ setter_method n f = record {
   name = record { class = f.class; name = f.name ++ codes "__Setter$"; descriptor = codes "(" ++ type_descriptor f.type ++ context_type ++ codes ")V" };
   params = 2;
   locals = 2;
+  max_stack = 5;
   gives = false;
   counted = false;
   retries = None;
@@ -90,7 +92,9 @@ block P p at (PutStatic f) = Load p ∷ InvokeStatic (setter P f) ∷ []
 block P p at (InvokeStatic m) = Load p ∷ InvokeStatic (duplicate P m) ∷ []
 block P p at (Load i) = Load (moved p i) ∷ []
 block P p at (Store i) = Store (moved p i) ∷ []
+block P p at (Increment i n) = Increment (moved p i) n ∷ []
 block P p at (Branch t to) = Branch t (at to) ∷ []
+block P p at (BranchInts t to) = BranchInts t (at to) ∷ []
 block P p at (Goto to) = Goto (at to) ∷ []
 block P p at o = o ∷ []
 
@@ -119,6 +123,7 @@ duplicate_method P k = record {
   name = record { class = k.name.class; name = k.name.name; descriptor = with_context k.name.descriptor };
   params = k.params + 1;
   locals = k.locals + 1;
+  max_stack = k.max_stack + 1;
   gives = k.gives;
   counted = true;
   retries = None;
@@ -150,13 +155,13 @@ abbrev pub body_code : ℕ → ℕ → List Op
 body_code c m = loads 0 c ++ Load c ∷ InvokeStatic m ∷ []
 
 abbrev pub end_code : Bool → ℕ → List Op
-end_code gives c = keeps gives c ++ Load c ∷ Context Commit ∷ Branch Zero 2 ∷ answers gives c
+end_code gives c = keeps gives c ++ Load c ∷ Context Commit ∷ Branch Equal 2 ∷ answers gives c
 
 abbrev pub conflict_code : ℕ → List Op
 conflict_code c = Rearrange Pop ∷ Load c ∷ Context Rollback ∷ Goto 2 ∷ []
 
 abbrev pub exception_code : ℕ → List Op
-exception_code c = Store (c + 1) ∷ Load c ∷ Context Commit ∷ Branch Zero 2 ∷ Load (c + 1) ∷ Throw ∷ []
+exception_code c = Store (c + 1) ∷ Load c ∷ Context Commit ∷ Branch Equal 2 ∷ Load (c + 1) ∷ Throw ∷ []
 
 abbrev pub body_end : ℕ → ℕ
 body_end c = 8 + c
@@ -168,6 +173,7 @@ conflict_at gives c = body_end c + length (end_code gives c)
 abbrev pub wrapper_method : Program → ℕ → ℕ → ℤ → Method → Method
 wrapper_method P id m retries k = record k {
   locals = k.params + 2;
+  max_stack = max (k.params + 1) 3;
   counted = false;
   ops = entry_code k.params ++ begin_code k.params id retries ++ body_code k.params (duplicate P m) ++ end_code k.gives k.params
       ++ conflict_code k.params ++ exception_code k.params;

@@ -4,8 +4,8 @@ use Rattle.std.specs.List.{AllByRecursion}
 use Rattle.std.specs.Int.{w32}
 use Rattle.jmodel.specs.declared.value.Value.TheVariants.{Int}
 use Rattle.jmodel.specs.declared.op.Op.{Op}
-use Rattle.jmodel.specs.declared.op.Op.TheVariants.{Constant, Load, Store, Rearrange, Binary, Negate, Branch, Goto, GetStatic, PutStatic, InvokeStatic, Return, ReturnValue}
-use Rattle.jmodel.specs.declared.op.Rearrange.TheVariants.{Pop, Duplicate}
+use Rattle.jmodel.specs.declared.op.Op.TheVariants.{Constant, Load, Store, Rearrange, Binary, Unary, Increment, Branch, BranchInts, Goto, GetStatic, PutStatic, InvokeStatic, Return, ReturnValue}
+use Rattle.jmodel.specs.declared.op.Rearrange.TheVariants.{Pop, PopTwo, Duplicate, DuplicateUnder, DuplicateTwo, Swap}
 use Rattle.jmodel.specs.Program.{Field, Method, Program}
 
 -- an instruction of an original method: its fields, methods and locals are there, and it isn't one of transactional code
@@ -15,8 +15,10 @@ IsSourceOp P k (Load i) = i < k.locals
 IsSourceOp P k (Store i) = i < k.locals
 IsSourceOp P k (Rearrange r) = Unit {0}
 IsSourceOp P k (Binary b) = Unit {0}
-IsSourceOp P k Negate = Unit {0}
+IsSourceOp P k (Unary u) = Unit {0}
+IsSourceOp P k (Increment i n) = i < k.locals
 IsSourceOp P k (Branch t to) = to < length k.ops
+IsSourceOp P k (BranchInts t to) = to < length k.ops
 IsSourceOp P k (Goto to) = to < length k.ops
 IsSourceOp P k (GetStatic f) = f < length P.fields
 IsSourceOp P k (PutStatic f) = f < length P.fields
@@ -44,9 +46,13 @@ pub record IsSource (P : Program) : Type 0 where
 -- how many slots an instruction of straight-line code takes from the stack
 abbrev pub takes : Op → ℕ
 takes (Rearrange Pop) = 1
+takes (Rearrange PopTwo) = 2
 takes (Rearrange Duplicate) = 1
+takes (Rearrange DuplicateUnder) = 2
+takes (Rearrange DuplicateTwo) = 2
+takes (Rearrange Swap) = 2
 takes (Binary b) = 2
-takes Negate = 1
+takes (Unary u) = 1
 takes (PutStatic f) = 1
 takes o = 0
 
@@ -54,8 +60,11 @@ takes o = 0
 abbrev pub leaves : Op → ℕ
 leaves (Constant v) = 1
 leaves (Rearrange Duplicate) = 2
+leaves (Rearrange DuplicateUnder) = 3
+leaves (Rearrange DuplicateTwo) = 4
+leaves (Rearrange Swap) = 2
 leaves (Binary b) = 1
-leaves Negate = 1
+leaves (Unary u) = 1
 leaves (GetStatic f) = 1
 leaves o = 0
 
@@ -64,7 +73,7 @@ abbrev pub is_plain : Op → Bool
 is_plain (Constant v) = true
 is_plain (Rearrange r) = true
 is_plain (Binary b) = true
-is_plain Negate = true
+is_plain (Unary u) = true
 is_plain (GetStatic f) = true
 is_plain (PutStatic f) = true
 is_plain o = false

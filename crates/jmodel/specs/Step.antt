@@ -1,6 +1,7 @@
 -- One instruction on a list of frames (JVM Specification, Java SE 7, chapter 6). A step asks for all that lies outside the frames.
-use Rattle.std.specs.Prelude.{ℕ, ℤ, zero, suc, pos, ◌+◌, ◌-◌, ◌^◌, List, [], ◌∷◌, ◌++◌, length, Option, Some, None, Bool, true, false, nat_le, nat_lt, ◌&&◌, if◌then◌else◌, slice_get, slice_set, replicate, count_by}
-use Rattle.std.specs.Int.{w32, w64, cast_unsigned, int_wrapping_add, int_wrapping_sub, int_wrapping_mul, int_wrapping_neg}
+use Rattle.std.specs.Prelude.{ℕ, ℤ, zero, suc, pos, ◌+◌, ◌-◌, ◌/◌, ◌%◌, ◌^◌, List, [], ◌∷◌, ◌++◌, length, Option, Some, None, Bool, true, false, nat_le, nat_lt, int_le, int_lt, not, ◌&&◌, if◌then◌else◌, slice_get, slice_set, replicate, count_by}
+use Rattle.std.specs.Ordering.{int_eq}
+use Rattle.std.specs.Int.{w8, w16, w32, w64, cast_signed, cast_unsigned, int_wrapping_add, int_wrapping_sub, int_wrapping_mul, int_wrapping_neg, int_shl, int_shr, int_bit_and, int_bit_or, int_bit_xor}
 use Rattle.jmodel.specs.declared.value.Value.{Value}
 use Rattle.jmodel.specs.declared.op.Slot.{Slot}
 use Rattle.jmodel.specs.declared.op.Slot.TheVariants.{Int, Long, Second, Ref, Context, Loaded, Empty}
@@ -8,9 +9,11 @@ use Rattle.jmodel.specs.declared.op.Op.{Op}
 use Rattle.jmodel.specs.declared.op.Op.TheVariants as op
 use Rattle.jmodel.specs.declared.op.Place.{Place}
 use Rattle.jmodel.specs.declared.op.Binary.{Binary}
-use Rattle.jmodel.specs.declared.op.Binary.TheVariants.{Add, Subtract, Multiply}
+use Rattle.jmodel.specs.declared.op.Binary.TheVariants.{Add, Subtract, Multiply, ShiftLeft, ShiftRight, UnsignedShiftRight, And, Or, Xor}
+use Rattle.jmodel.specs.declared.op.Unary.{Unary}
+use Rattle.jmodel.specs.declared.op.Unary.TheVariants.{Negate, ToByte, ToChar, ToShort}
 use Rattle.jmodel.specs.declared.op.Test.{Test}
-use Rattle.jmodel.specs.declared.op.Test.TheVariants.{Zero}
+use Rattle.jmodel.specs.declared.op.Test.TheVariants.{Equal, NotEqual, Less, GreaterOrEqual, Greater, LessOrEqual}
 use Rattle.jmodel.specs.declared.op.Rearrange.{Rearrange}
 use Rattle.jmodel.specs.declared.op.Rearrange.TheVariants as rearrange
 use Rattle.jmodel.specs.declared.op.ContextCall.{ContextCall}
@@ -111,14 +114,34 @@ abbrev pub exception_in : ℕ → Did → Did
 exception_in zero k = Wrong
 exception_in (suc o) k = k
 
+-- the low five bits of an int: how far a shift goes
+abbrev pub shift : ℤ → ℕ
+shift y = cast_unsigned w32 y % 32
+
 abbrev pub binary : Binary → ℤ → ℤ → ℤ
 binary Add x y = int_wrapping_add w32 x y
 binary Subtract x y = int_wrapping_sub w32 x y
 binary Multiply x y = int_wrapping_mul w32 x y
+binary ShiftLeft x y = int_shl w32 x (shift y)
+binary ShiftRight x y = int_shr x (shift y)
+binary UnsignedShiftRight x y = cast_signed w32 (cast_unsigned w32 x / 2 ^ shift y)
+binary And x y = int_bit_and w32 x y
+binary Or x y = int_bit_or w32 x y
+binary Xor x y = int_bit_xor w32 x y
 
-abbrev pub holds : Test → ℤ → Bool
-holds Zero (pos zero) = true
-holds Zero x = false
+abbrev pub unary : Unary → ℤ → ℤ
+unary Negate x = int_wrapping_neg w32 x
+unary ToByte x = cast_signed w8 (cast_unsigned w32 x % 2 ^ 8)
+unary ToChar x = pos (cast_unsigned w32 x % 2 ^ 16)
+unary ToShort x = cast_signed w16 (cast_unsigned w32 x % 2 ^ 16)
+
+abbrev pub holds : Test → ℤ → ℤ → Bool
+holds Equal x y = int_eq x y
+holds NotEqual x y = not (int_eq x y)
+holds Less x y = int_lt x y
+holds GreaterOrEqual x y = int_le y x
+holds Greater x y = int_lt y x
+holds LessOrEqual x y = int_le x y
 
 abbrev pub branches : Bool → ℕ → Frame → Did
 branches true to f = Does (Jump to) f
@@ -131,7 +154,11 @@ stores false i v f = Wrong
 abbrev pub rearranged : Rearrange → Frame → Did
 rearranged rearrange.Nothing f = Does Next f
 rearranged rearrange.Pop f = on_top f.stack (λ v s. leaves f s)
+rearranged rearrange.PopTwo f = on_top f.stack (λ y s. on_top s (λ x s. leaves f s))
 rearranged rearrange.Duplicate f = on_top f.stack (λ v s. leaves f (v ∷ v ∷ s))
+rearranged rearrange.DuplicateUnder f = on_top f.stack (λ y s. on_top s (λ x s. leaves f (y ∷ x ∷ y ∷ s)))
+rearranged rearrange.DuplicateTwo f = on_top f.stack (λ y s. on_top s (λ x s. leaves f (y ∷ x ∷ y ∷ x ∷ s)))
+rearranged rearrange.Swap f = on_top f.stack (λ y s. on_top s (λ x s. leaves f (x ∷ y ∷ s)))
 
 -- The arguments of a call of the context lie in order, the last topmost.
 abbrev pub calls : ContextCall → Frame → Did
@@ -152,8 +179,10 @@ does P (op.Load i) f = slot_in (slice_get f.locals i) (λ v. leaves f (v ∷ f.s
 does P (op.Store i) f = on_top f.stack (λ v s. stores (nat_lt i (length f.locals)) i v (with_stack f s))
 does P (op.Rearrange r) f = rearranged r f
 does P (op.Binary b) f = on_int f.stack (λ y s. on_int s (λ x s. leaves f (Int (binary b x y) ∷ s)))
-does P op.Negate f = on_int f.stack (λ x s. leaves f (Int (int_wrapping_neg w32 x) ∷ s))
-does P (op.Branch t to) f = on_int f.stack (λ x s. branches (holds t x) to (with_stack f s))
+does P (op.Unary u) f = on_int f.stack (λ x s. leaves f (Int (unary u x) ∷ s))
+does P (op.Increment i n) f = slot_in (slice_get f.locals i) (λ v. int_in v (λ x. Does Next (with_locals f (slice_set f.locals i (Int (int_wrapping_add w32 x n))))))
+does P (op.Branch t to) f = on_int f.stack (λ x s. branches (holds t x (pos 0)) to (with_stack f s))
+does P (op.BranchInts t to) f = on_int f.stack (λ y s. on_int s (λ x s. branches (holds t x y) to (with_stack f s)))
 does P (op.Goto to) f = Does (Jump to) f
 does P (op.GetStatic n) f = field_in (place_at P n) (λ x. Does (Ask (request.Get x.place x.type)) f)
 does P (op.PutStatic n) f = field_in (place_at P n) (λ x. on_top f.stack (λ v s. value_in (stored x.type v) (λ y. Does (Ask (request.Put x.place y)) (with_stack f s))))

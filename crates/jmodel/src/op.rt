@@ -34,26 +34,58 @@ pub struct Place {
     pub index: u64,
 }
 
-/// Two ints to one.
+/// Two ints to one, the second topmost.
 #[derive(Clone, Copy, Debug)]
 pub enum Binary {
     Add,
     Subtract,
     Multiply,
+    /// By the low five bits of the second, as all shifts.
+    ShiftLeft,
+    /// With copies of the sign.
+    ShiftRight,
+    /// With zeros.
+    UnsignedShiftRight,
+    And,
+    Or,
+    Xor,
 }
 
-/// What a branch asks of an int.
+/// An int to another.
+#[derive(Clone, Copy, Debug)]
+pub enum Unary {
+    Negate,
+    /// The low eight bits, with their sign.
+    ToByte,
+    /// The low sixteen bits, without a sign.
+    ToChar,
+    /// The low sixteen bits, with their sign.
+    ToShort,
+}
+
+/// How a branch compares two ints, of which the second is topmost.
 #[derive(Clone, Copy, Debug)]
 pub enum Test {
-    Zero,
+    Equal,
+    NotEqual,
+    Less,
+    GreaterOrEqual,
+    Greater,
+    LessOrEqual,
 }
 
-/// What rearranges the operand stack.
+/// What rearranges the operand stack. Each value takes one place.
 #[derive(Clone, Copy, Debug)]
 pub enum Rearrange {
     Nothing,
     Pop,
+    PopTwo,
     Duplicate,
+    /// A copy of the topmost value under the two topmost.
+    DuplicateUnder,
+    /// Copies of the two topmost values on top of them.
+    DuplicateTwo,
+    Swap,
 }
 
 /// A call of the transaction's context (Korland, Shavit, Felber, MULTIPROG 2010, in this project's form).
@@ -79,9 +111,13 @@ pub enum Op {
     Store(usize),
     Rearrange(Rearrange),
     Binary(Binary),
-    Negate,
-    /// To the target, where the test holds.
+    Unary(Unary),
+    /// Adds to a local, which holds an int.
+    Increment(usize, i32),
+    /// To the target, where the test holds of an int and 0.
     Branch(Test, usize),
+    /// To the target, where the test holds of two ints.
+    BranchInts(Test, usize),
     Goto(usize),
     /// A static field, by its number.
     GetStatic(usize),

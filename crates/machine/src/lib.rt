@@ -1,11 +1,15 @@
 //! The machine that runs the calls of a program, each as a transaction over an engine.
 #![tactic(auto)]
 
+mod act;
+mod arithmetic;
 pub mod callers;
 pub mod commit;
+mod context;
 pub mod failure;
 pub mod frame;
 pub mod machine;
+mod rearrange;
 pub mod running;
 pub mod stack;
 pub mod step;

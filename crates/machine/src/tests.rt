@@ -36,7 +36,7 @@ fn wrapper(alloc: Global) -> Result<Method, AllocError> {
         Op::Store(1),
         Op::Load(0),
         Op::Context(ContextCall::Commit),
-        Op::Branch(Test::Zero, 2),
+        Op::Branch(Test::Equal, 2),
         Op::Load(1),
         Op::ReturnValue,
         Op::Rearrange(Rearrange::Pop),
@@ -46,7 +46,7 @@ fn wrapper(alloc: Global) -> Result<Method, AllocError> {
         Op::Store(1),
         Op::Load(0),
         Op::Context(ContextCall::Commit),
-        Op::Branch(Test::Zero, 2),
+        Op::Branch(Test::Equal, 2),
         Op::Load(1),
         Op::Throw,
     ]?;
@@ -64,7 +64,7 @@ fn wrapper(alloc: Global) -> Result<Method, AllocError> {
             catches: Catches::Any
         },
     ]?;
-    Ok(Method::new(name(alloc), 0, 2, true, false, None, ops, catches))
+    Ok(Method::new(name(alloc), 0, 2, 3, true, false, None, ops, catches))
 }
 
 fn getter(alloc: Global) -> Result<Method, AllocError> {
@@ -80,7 +80,7 @@ fn getter(alloc: Global) -> Result<Method, AllocError> {
         Op::Context(ContextCall::OnRead(WordType::Int)),
         Op::ReturnValue,
     ]?;
-    Ok(Method::new(name(alloc), 1, 1, true, false, None, ops, Vec::new(alloc)))
+    Ok(Method::new(name(alloc), 1, 1, 5, true, false, None, ops, Vec::new(alloc)))
 }
 
 fn setter(alloc: Global) -> Result<Method, AllocError> {
@@ -92,7 +92,7 @@ fn setter(alloc: Global) -> Result<Method, AllocError> {
         Op::Context(ContextCall::OnWrite(WordType::Int)),
         Op::Return,
     ]?;
-    Ok(Method::new(name(alloc), 2, 2, false, false, None, ops, Vec::new(alloc)))
+    Ok(Method::new(name(alloc), 2, 2, 5, false, false, None, ops, Vec::new(alloc)))
 }
 
 fn duplicate(alloc: Global) -> Result<Method, AllocError> {
@@ -115,7 +115,7 @@ fn duplicate(alloc: Global) -> Result<Method, AllocError> {
             catches: Catches::Conflict
         },
     ]?;
-    Ok(Method::new(name(alloc), 1, 1, true, true, None, ops, catches))
+    Ok(Method::new(name(alloc), 1, 1, 3, true, true, None, ops, catches))
 }
 
 fn counter(alloc: Global) -> Result<Program, AllocError> {

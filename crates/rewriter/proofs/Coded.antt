@@ -34,6 +34,7 @@ module _ (s : Symbols) (counted : Bool) (flags name descriptor code : ℕ) (k : 
     name = record { class = own_name s.class; name = n; descriptor = d };
     params = shape.params;
     locals = k.max_locals;
+    max_stack = k.max_stack;
     gives = shape.gives;
     counted = counted;
     retries = None;
@@ -62,6 +63,7 @@ pub coded_means : (s : Symbols) (counted : Bool) (m : Member) (k : Code) (n d : 
       name = record { class = own_name s.class; name = n; descriptor = d };
       params = shape.params;
       locals = k.max_locals;
+      max_stack = k.max_stack;
       gives = shape.gives;
       counted = counted;
       retries = retries;

@@ -139,7 +139,7 @@ module _ (s0 s : Symbols) (P : Program) (calls : List Calls) (ops : List Op) (at
   block_copied n pc i (op.Constant (value.Int x)) e h t = same_copied s0 s all i _ pc ints refl t
   block_copied n pc i (op.Rearrange r) e h t = same_copied s0 s all i _ pc ints refl t
   block_copied n pc i (op.Binary b) e h t = same_copied s0 s all i _ pc ints refl t
-  block_copied n pc i op.Negate e h t = same_copied s0 s all i _ pc ints refl t
+  block_copied n pc i (op.Unary u) e h t = same_copied s0 s all i _ pc ints refl t
   block_copied n pc i op.ReturnValue e h t = same_copied s0 s all i _ pc ints refl t
   block_copied n pc i o e h t = absurd cc
 

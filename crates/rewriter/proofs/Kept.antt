@@ -18,7 +18,7 @@ abbrev pub is_same : Op → Bool
 is_same (op.Constant (value.Int n)) = true
 is_same (op.Rearrange r) = true
 is_same (op.Binary b) = true
-is_same op.Negate = true
+is_same (op.Unary u) = true
 is_same op.ReturnValue = true
 is_same o = false
 
@@ -45,7 +45,7 @@ chained f None h = nothing
 chained f (Some x) h = h x
 
 jump_other : (is : List Instruction) (pc c offset : ℕ) → Other (jump_op is pc c offset)
-jump_other is pc c offset = either _ _ _ (mapped (op.Branch test.Zero) (target is pc offset) (λ x. refl)) (either _ _ None (mapped op.Goto (target is pc offset) (λ x. refl)) nothing)
+jump_other is pc c offset = either _ _ _ (mapped (op.Branch test.Equal) (target is pc offset) (λ x. refl)) (either _ _ None (mapped op.Goto (target is pc offset) (λ x. refl)) nothing)
 
 get_other : (s : Symbols) (m : MemberName) → Other (get_op s m)
 get_other s m =

@@ -88,7 +88,7 @@ form_block : (o : Op) → is_form_op o ≡ true → is_block_op o ≡ true
 form_block (op.Constant (value.Int n)) h = refl
 form_block (op.Rearrange r) h = refl
 form_block (op.Binary b) h = refl
-form_block op.Negate h = refl
+form_block (op.Unary u) h = refl
 form_block (op.GetStatic f) h = refl
 form_block (op.PutStatic f) h = refl
 form_block o h = cc
@@ -114,7 +114,7 @@ some_ops limit h [] e = cc
 some_ops limit h (o ∷ os) e = omega arith
 
 abbrev pub original_method : ClassFile → Member → Code → List Op → Method
-original_method c m code ops = record { name = name_of c m; params = 0; locals = code.max_locals; gives = true; counted = true; retries = Some (pos 2147483647); ops = ops; catches = [] }
+original_method c m code ops = record { name = name_of c m; params = 0; locals = code.max_locals; max_stack = code.max_stack; gives = true; counted = true; retries = Some (pos 2147483647); ops = ops; catches = [] }
 
 pub record IsOld (c : ClassFile) (fields : List Field) (m : Member) (k : Method) : Type 0 where
   pub code : Code
@@ -136,12 +136,12 @@ old_of c fields m k form h = go (code_in c.pool m) refl h
     s = symbols_of c fields
 
     last : (code : Code) → code_in c.pool m ≡ Some code → is_form_code code ≡ true → (o : Option (List Op)) → ops_of (symbols_of c fields) (instructions code.code) ≡ o
-        → make_method (symbols_of c fields) true m code.max_locals (Some (record { params = 0; gives = true })) (straight code.max_stack o) (Some []) ≡ Some k → IsOld c fields m k
+        → make_method (symbols_of c fields) true m code (Some (record { params = 0; gives = true })) (straight code.max_stack o) (Some []) ≡ Some k → IsOld c fields m k
     last code in_pool fits None e h = cc
     last code in_pool fits (Some os) e h = choose (is_straight_within code.max_stack 0 os) refl h
       where
         choose : (b : Bool) → is_straight_within code.max_stack 0 os ≡ b
-            → make_method (symbols_of c fields) true m code.max_locals (Some (record { params = 0; gives = true })) (if b then Some os else None) (Some []) ≡ Some k → IsOld c fields m k
+            → make_method (symbols_of c fields) true m code (Some (record { params = 0; gives = true })) (if b then Some os else None) (Some []) ≡ Some k → IsOld c fields m k
         choose false q h = cc
         choose true q h =
             let f = form_atomic c.pool m form in
@@ -170,9 +170,9 @@ old_of c fields m k form h = go (code_in c.pool m) refl h
             small : (n : ℕ) → nat_le n 1000 ≡ true → n ≤ 1000
             small n t = grind (arith, nat_tests)
 
-            is_original : is_marked c.pool m ≡ true → make_method (symbols_of c fields) true m code.max_locals (Some (record { params = 0; gives = true })) (Some os) (Some []) ≡ Some k → k ≡ original_method c m code os
+            is_original : is_marked c.pool m ≡ true → make_method (symbols_of c fields) true m code (Some (record { params = 0; gives = true })) (Some os) (Some []) ≡ Some k → k ≡ original_method c m code os
             is_original mark h =
-                let made : make_method (symbols_of c fields) true m code.max_locals (Some (record { params = 0; gives = true })) (Some os) (Some []) ≡ Some (original_method c m code os) = rw mark refl in
+                let made : make_method (symbols_of c fields) true m code (Some (record { params = 0; gives = true })) (Some os) (Some []) ≡ Some (original_method c m code os) = rw mark refl in
                 let both = sym h ∙ made in
                 cc
 

@@ -177,7 +177,7 @@ fn compiled(alloc: Global) -> Result<ClassFile, AllocError> {
 
 // The instructions of the methods: the wrapper, the getter, the setter and the duplicate.
 const MEANING: [&str; 4] = [
-    "GetContext Store(0) Load(0) Constant(Int(0)) Constant(Int(2147483647)) Context(Init) Load(0) InvokeStatic(3) Store(1) Load(0) Context(Commit) Branch(Zero, 2) Load(1) ReturnValue Rearrange(Pop) Load(0) Context(Rollback) Goto(2) Store(1) Load(0) Context(Commit) Branch(Zero, 2) Load(1) Throw",
+    "GetContext Store(0) Load(0) Constant(Int(0)) Constant(Int(2147483647)) Context(Init) Load(0) InvokeStatic(3) Store(1) Load(0) Context(Commit) Branch(Equal, 2) Load(1) ReturnValue Rearrange(Pop) Load(0) Context(Rollback) Goto(2) Store(1) Load(0) Context(Commit) Branch(Equal, 2) Load(1) Throw",
     "Load(0) Constant(Ref(2)) Constant(Long(1)) Context(BeforeRead) Load(0) Constant(Ref(2)) GetStatic(0) Constant(Long(1)) Context(OnRead(Int)) ReturnValue",
     "Load(1) Constant(Ref(2)) Load(0) Constant(Long(1)) Context(OnWrite(Int)) Return",
     "Load(0) InvokeStatic(1) Constant(Int(1)) Binary(Add) Rearrange(Duplicate) Load(0) InvokeStatic(2) ReturnValue Throw",

@@ -1,4 +1,4 @@
-use Rattle.machine.proofs.frame.Frame.act.Goals as goal
+use Rattle.machine.proofs.act.Frame.act.Goals as goal
 
 pub returns-in-Constant-clause-does : goal.returns-in-Constant-clause-does
 returns-in-Constant-clause-does c = rw c.in-Constant.is (c.constant.ensures.does c.args.program.now)
@@ -12,8 +12,8 @@ returns-in-Store-clause-does c = rw c.in-Store.is (c.store.ensures.does c.args.p
 pub returns-in-Binary-clause-does : goal.returns-in-Binary-clause-does
 returns-in-Binary-clause-does c = rw c.in-Binary.is (c.binary.ensures.does c.args.program.now)
 
-pub returns-in-Negate-clause-does : goal.returns-in-Negate-clause-does
-returns-in-Negate-clause-does c = rw c.in-Negate.is (c.negate.ensures.does c.args.program.now)
+pub returns-in-Unary-clause-does : goal.returns-in-Unary-clause-does
+returns-in-Unary-clause-does c = rw c.in-Unary.is (c.unary-self.ensures.does c.args.program.now)
 
 pub returns-in-Branch-clause-does : goal.returns-in-Branch-clause-does
 returns-in-Branch-clause-does c = rw c.in-Branch.is (c.branch-self.ensures.does c.args.program.now)

@@ -1,0 +1,187 @@
+//! What one instruction does to its frame (JVM Specification, Java SE 7, chapter 6).
+ghost use Rattle.std.specs.Prelude.{◌≡◌, IfOk};
+ghost use Rattle.jmodel.specs.Program.{Program as JProgram};
+ghost use Rattle.jmodel.specs.Step.{Frame as JFrame, Does, does, branches};
+ghost use Rattle.jmodel.specs.declared.op.Op.TheVariants as op;
+ghost use Rattle.machine.specs.Meets.{Meets, CanDo};
+
+use crate::arithmetic::{binary, holds, unary};
+use crate::failure::Failure;
+use crate::frame::Frame;
+use crate::value::{given, stored};
+use hierarchy::program::Program;
+use jmodel::op::{Binary, Doing, Op, Request, Slot, Test, Unary};
+use jmodel::value::Value;
+
+/// Where a branch goes, whose test holds or doesn't.
+fn branched(is_taken: bool, to: usize) -> Doing
+    ensures does { (f : JFrame) → branches is_taken to f ≡ Does result f }
+    ensures can { CanDo result }
+{
+    if is_taken { Doing::Jump(to) } else { Doing::Next }
+}
+
+impl Frame {
+    /// Does one instruction, all but what lies outside the frame. `Wrong` where the frame hasn't what it needs.
+    pub fn act(&mut self, program: &Program, op: Op) -> Result<Doing, Failure>
+        ensures does { Meets result self.new (does program.now op self.old) }
+        ensures can { IfOk result CanDo }
+        ensures pc { self.new.pc ≡ self.old.pc }
+    {
+        match op {
+            Op::Constant(value) => self.constant(value),
+            Op::Load(i) => self.load(i),
+            Op::Store(i) => self.store(i),
+            Op::Rearrange(r) => self.rearrange(r),
+            Op::Binary(b) => self.binary(b),
+            Op::Unary(u) => self.unary(u),
+            Op::Increment(i, n) => self.increment(i, n),
+            Op::Branch(test, to) => self.branch(test, to),
+            Op::BranchInts(test, to) => self.branch_ints(test, to),
+            Op::Goto(to) => Ok(Doing::Jump(to)),
+            Op::GetStatic(n) => self.get_static(program, n),
+            Op::PutStatic(n) => self.put_static(program, n),
+            Op::InvokeStatic(method) => Ok(Doing::Invoke(method)),
+            Op::Return => Ok(Doing::Give(None)),
+            Op::ReturnValue => self.return_value(),
+            Op::Throw => self.throw(),
+            Op::GetContext => self.get_context(),
+            Op::Context(call) => self.context(call),
+        }
+    }
+
+    fn constant(&mut self, value: Value) -> Result<Doing, Failure>
+        ensures does { (P : JProgram) → Meets result self.new (does P (op.Constant value) self.old) }
+        ensures can { IfOk result CanDo }
+        ensures pc { self.new.pc ≡ self.old.pc }
+    {
+        self.stack.push_value(value)?;
+        Ok(Doing::Next)
+    }
+
+    fn load(&mut self, i: usize) -> Result<Doing, Failure>
+        ensures does { (P : JProgram) → Meets result self.new (does P (op.Load i) self.old) }
+        ensures can { IfOk result CanDo }
+        ensures pc { self.new.pc ≡ self.old.pc }
+    {
+        let slot = self.locals.get(i).ok_or(Failure::Wrong)?;
+        self.stack.push(slot)?;
+        Ok(Doing::Next)
+    }
+
+    fn store(&mut self, i: usize) -> Result<Doing, Failure>
+        ensures does { (P : JProgram) → Meets result self.new (does P (op.Store i) self.old) }
+        ensures can { IfOk result CanDo }
+        ensures pc { self.new.pc ≡ self.old.pc }
+    {
+        let slot = self.stack.take()?;
+        if self.locals.set(i, slot) {
+            Ok(Doing::Next)
+        } else {
+            Err(Failure::Wrong)
+        }
+    }
+
+    fn binary(&mut self, b: Binary) -> Result<Doing, Failure>
+        ensures does { (P : JProgram) → Meets result self.new (does P (op.Binary b) self.old) }
+        ensures can { IfOk result CanDo }
+        ensures pc { self.new.pc ≡ self.old.pc }
+    {
+        let y = self.stack.take_int()?;
+        let x = self.stack.take_int()?;
+        self.stack.push(Slot::Int(binary(b, x, y)))?;
+        Ok(Doing::Next)
+    }
+
+    fn unary(&mut self, u: Unary) -> Result<Doing, Failure>
+        ensures does { (P : JProgram) → Meets result self.new (does P (op.Unary u) self.old) }
+        ensures can { IfOk result CanDo }
+        ensures pc { self.new.pc ≡ self.old.pc }
+    {
+        let x = self.stack.take_int()?;
+        self.stack.push(Slot::Int(unary(u, x)))?;
+        Ok(Doing::Next)
+    }
+
+    fn increment(&mut self, i: usize, n: i32) -> Result<Doing, Failure>
+        ensures does { (P : JProgram) → Meets result self.new (does P (op.Increment i n) self.old) }
+        ensures can { IfOk result CanDo }
+        ensures pc { self.new.pc ≡ self.old.pc }
+    {
+        let Some(Slot::Int(x)) = self.locals.get(i) else {
+            return Err(Failure::Wrong);
+        };
+        self.locals.set(i, Slot::Int(x.wrapping_add(n)));
+        Ok(Doing::Next)
+    }
+
+    fn branch(&mut self, test: Test, to: usize) -> Result<Doing, Failure>
+        ensures does { (P : JProgram) → Meets result self.new (does P (op.Branch test to) self.old) }
+        ensures can { IfOk result CanDo }
+        ensures pc { self.new.pc ≡ self.old.pc }
+    {
+        let x = self.stack.take_int()?;
+        Ok(branched(holds(test, x, 0), to))
+    }
+
+    fn branch_ints(&mut self, test: Test, to: usize) -> Result<Doing, Failure>
+        ensures does { (P : JProgram) → Meets result self.new (does P (op.BranchInts test to) self.old) }
+        ensures can { IfOk result CanDo }
+        ensures pc { self.new.pc ≡ self.old.pc }
+    {
+        let y = self.stack.take_int()?;
+        let x = self.stack.take_int()?;
+        Ok(branched(holds(test, x, y), to))
+    }
+
+    fn get_static(&mut self, program: &Program, n: usize) -> Result<Doing, Failure>
+        ensures does { Meets result self.new (does program.now (op.GetStatic n) self.old) }
+        ensures can { IfOk result CanDo }
+        ensures pc { self.new.pc ≡ self.old.pc }
+    {
+        let (place, word_type) = program.field(n).ok_or(Failure::Wrong)?;
+        Ok(Doing::Ask(Request::Get(place, word_type)))
+    }
+
+    fn put_static(&mut self, program: &Program, n: usize) -> Result<Doing, Failure>
+        ensures does { Meets result self.new (does program.now (op.PutStatic n) self.old) }
+        ensures can { IfOk result CanDo }
+        ensures pc { self.new.pc ≡ self.old.pc }
+    {
+        let (place, word_type) = program.field(n).ok_or(Failure::Wrong)?;
+        let slot = self.stack.take()?;
+        let value = stored(word_type, slot).ok_or(Failure::Wrong)?;
+        Ok(Doing::Ask(Request::Put(place, value)))
+    }
+
+    fn return_value(&mut self) -> Result<Doing, Failure>
+        ensures does { (P : JProgram) → Meets result self.new (does P op.ReturnValue self.old) }
+        ensures can { IfOk result CanDo }
+        ensures pc { self.new.pc ≡ self.old.pc }
+    {
+        let slot = self.stack.take()?;
+        let value = given(slot).ok_or(Failure::Wrong)?;
+        Ok(Doing::Give(Some(value)))
+    }
+
+    fn throw(&mut self) -> Result<Doing, Failure>
+        ensures does { (P : JProgram) → Meets result self.new (does P op.Throw self.old) }
+        ensures can { IfOk result CanDo }
+        ensures pc { self.new.pc ≡ self.old.pc }
+    {
+        let object = self.stack.take_ref()?;
+        if object == 0 {
+            return Err(Failure::Wrong);
+        }
+        Ok(Doing::Throw(object))
+    }
+
+    fn get_context(&mut self) -> Result<Doing, Failure>
+        ensures does { (P : JProgram) → Meets result self.new (does P op.GetContext self.old) }
+        ensures can { IfOk result CanDo }
+        ensures pc { self.new.pc ≡ self.old.pc }
+    {
+        self.stack.push(Slot::Context)?;
+        Ok(Doing::Next)
+    }
+}
