@@ -161,11 +161,15 @@ abbrev pub HasRoom : Option ℕ → List Handler → Type 0
 HasRoom None hs = Unit {0}
 HasRoom (Some class) hs = length hs < 65535
 
+-- what holds of each instruction of each block
+abbrev pub EachInstr : (Instr → Type 0) → List Block → Type 0
+EachInstr P bs = AllByRecursion (λ (b : Block). AllByRecursion P b.instrs) bs
+
 -- What can be laid: targets and exception entries are those of the older code, and the stub leads nowhere.
 pub record AreBlocks (bs : List Block) (hs : List Handler) (first : Option ℕ) (stub : List Instr) : Type 0 where
   pub ascend : AscendFrom 0 bs
-  pub each : AllByRecursion IsShaped (all_instrs bs)
-  pub targets : AllByRecursion (λ (i : Instr). ArePcs bs (targets_of i.operands)) (all_instrs bs)
+  pub each : EachInstr IsShaped bs
+  pub targets : EachInstr (λ (i : Instr). ArePcs bs (targets_of i.operands)) bs
   pub each_last : AllByRecursion IsShaped stub
   pub last_leads_nowhere : AllByRecursion (λ (i : Instr). targets_of i.operands ≡ []) stub
   pub entries : AllByRecursion (IsHandlerOver bs) hs
