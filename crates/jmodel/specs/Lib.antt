@@ -32,6 +32,7 @@ pub mod ClassReading
 pub mod ClassFileReading
 pub mod Instruction
 pub mod InstructionReading
+pub mod Relocation
 pub mod Engine
 pub mod Decoding
 pub mod Linking
