@@ -1,5 +1,5 @@
 -- The conflicts of an attempt.
-use Rattle.std.specs.Prelude.{◌≡◌, List, ◌∷◌}
+use Rattle.std.specs.Prelude.{◌≡◌, ◌∷◌}
 use Rattle.tx_core.specs.declared.engine.Conflict.{Conflict}
 use Rattle.jmodel.specs.Book.{Book, Lost, lookup}
 use Rattle.jmodel.specs.Plays.{used_in}
