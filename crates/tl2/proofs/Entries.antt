@@ -1,5 +1,5 @@
 -- The entries of attempts.
-use Rattle.std.proofs.Common.{◌≡◌, ◌≢◌, ◌<◌, ◌+◌, ℕ, false, true, arith, List, [], ◌∷◌, refl, sym, ap, ◌∙◌, subst}
+use Rattle.std.proofs.Common.{◌≡◌, ◌≢◌, ◌<◌, ◌+◌, ℕ, false, true, arith, List, [], ◌∷◌, length, refl, sym, ap, ◌∙◌, subst}
 use Rattle.std.proofs.lemmas.List.{reverse-append}
 use Rattle.std.proofs.lemmas.List.Elements.{All-nil}
 use mathlib.Core.Option.{some}
@@ -9,7 +9,7 @@ use Rattle.jmodel.specs.declared.value.Stamp.{Stamp}
 use Rattle.jmodel.specs.Attempt.{Log}
 use Rattle.jmodel.specs.History.{Call, Entry}
 use Rattle.jmodel.specs.Engine.{made}
-use Rattle.jmodel.specs.Book.{Map, Book, Region, lookup, pairs}
+use Rattle.jmodel.specs.Book.{Map, Book, Lost, Region, lookup, pairs}
 use Rattle.jmodel.specs.Rule.{Story, Succeeds}
 use Rattle.jmodel.specs.Plays.{accesses, reader_entry, used_in, finished, region_of, Fits, Reads}
 use Rattle.tx_core.specs.Engine.{Adds}
@@ -130,7 +130,7 @@ adds_update words named rule at kept v v' h n r w x s on inside u st a c used aw
       ∙ ap (λ (e : Entry). e ∷ v.entries) (update_made named v c used r w x s u on aw (st.reads inside))
       ∙ ap (λ (t : List Entry). made c x used used s r w ∷ t) st.entries
       ∙ sym (reverse-append h (made c x used used s r w ∷ []));
-  lost = a.lost ∙ st.lost;
+  lost = ap length a.lost ∙ st.lost;
   reads = λ q. absurd (q refl);
   writes = refl;
   within = All-nil (λ (l : Access). l.address < words);
@@ -145,10 +145,10 @@ update_region named v v' t w x c used on a aw =
     a.regions ∙ it
 
 -- a conflict in a commit is counted, and the attempt leaves nothing
-pub lost_stands : (words moved n : ℕ) (at : At) (kept : List Access) (v v' : Book) (h : List Entry) (r w : Log) → IsRest 1 moved v v' → Stands words at kept v h n r w → Stands words Outside [] v' h (n + 1) [] []
-lost_stands words moved n at kept v v' h r w k s = record {
+pub lost_stands : (words moved n : ℕ) (at : At) (kept : List Access) (v v' : Book) (h : List Entry) (r w : Log) (l : Lost) → IsRest (l ∷ []) moved v v' → Stands words at kept v h n r w → Stands words Outside [] v' h (n + 1) [] []
+lost_stands words moved n at kept v v' h r w l k s = record {
   entries = k.entries ∙ s.entries;
-  lost = let p = k.lost in let q = s.lost in omega arith;
+  lost = let p : length v'.lost ≡ length (l ∷ v.lost) = ap length k.lost in let q = s.lost in omega arith;
   reads = λ q. absurd (q refl);
   writes = refl;
   within = All-nil (λ (l : Access). l.address < words);

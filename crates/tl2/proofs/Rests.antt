@@ -1,13 +1,15 @@
 -- What steps of one attempt leave of a book.
 use Rattle.std.specs.Prelude.{IfErr}
 use Rattle.std.specs.Result.{IsErrAnd}
-use Rattle.std.proofs.Common.{◌≡◌, ◌≢◌, ◌⊎◌, Result, Ok, Err, ℕ, Bool, true, [], ◌∷◌, refl, sym, ap, ◌∙◌, inl, inr, arith}
+use Rattle.std.proofs.Common.{◌≡◌, ◌≢◌, ◌⊎◌, Result, Ok, Err, ℕ, Bool, true, List, [], ◌∷◌, refl, sym, ap, ◌∙◌, inl, inr, arith}
 use mathlib.Core.Option.{some, some-ne-none}
-use Rattle.jmodel.specs.Book.{Book, Map, Unticked, Decided, lookup, without}
-use Rattle.jmodel.specs.Plays.{gave_up, took, lost_at, released, stage_of}
+use Rattle.tx_core.specs.declared.engine.Conflict.{Conflict}
+use Rattle.jmodel.specs.Book.{Book, Lost, Map, Unticked, Decided, lookup, without}
+use Rattle.jmodel.specs.Plays.{gave_up, took, lost_at, released, stage_of, used_in}
 use Rattle.tl2.specs.Commits.{IsRest, IsTaking, IsReleasing}
+use Rattle.tl2.specs.Conflicts.{lost_to}
 
-pub rest_here : (v : Book) → IsRest 0 0 v v
+pub rest_here : (v : Book) → IsRest [] 0 v v
 rest_here v = record {
   number = refl;
   stage = inr refl;
@@ -16,12 +18,12 @@ rest_here v = record {
   ticks = omega arith;
   regions = refl;
   entries = refl;
-  lost = omega arith;
+  lost = refl;
   call = refl;
 }
 
 -- a stripe more is given back
-pub rest_given : (c t : ℕ) (v w : Book) (s : ℕ) (kept : Bool) → IsRest c t v w → IsRest c t v (gave_up w s kept)
+pub rest_given : (c : List Lost) (t : ℕ) (v w : Book) (s : ℕ) (kept : Bool) → IsRest c t v w → IsRest c t v (gave_up w s kept)
 rest_given c t v w s kept r = record {
   number = r.number;
   stage = inl refl;
@@ -57,9 +59,21 @@ taking_one v w s word a t = record {
 pub taking_here : (v : Book) → v.face.stage ≡ Unticked → v.live ≡ true → IsTaking v v
 taking_here v stage live = record { rest = rest_here v; stage = stage; live = live; reads = refl; bound = refl }
 
+-- a conflict at a later step of the same attempt is one of its beginning
+pub lost_is : (v w : Book) (e : Conflict) → e.upto ≡ w.bound → w.call ≡ v.call → w.regions ≡ v.regions → w.reads ≡ v.reads → w.lost ≡ v.lost
+    → (lost_at w e.address e.word).lost ≡ lost_to v e ∷ v.lost
+lost_is v w e upto call regions reads lost = λ i. record {
+  call = call i;
+  used = used_in (lookup (regions i) (call i).region);
+  address = e.address;
+  word = e.word;
+  upto = (sym upto) i;
+  reads = reads i;
+} ∷ lost i
+
 -- a conflict at the next stripe, and the stripes given back
-pub taking_lost : (v w u : Book) (a n : ℕ) → IsTaking v w → IsRest 0 0 (lost_at w a n) u → IsRest 1 0 v u
-taking_lost v w u a n t r = record {
+pub taking_lost : (v w u : Book) (e : Conflict) → e.upto ≡ w.bound → IsTaking v w → IsRest [] 0 (lost_at w e.address e.word) u → IsRest (lost_to v e ∷ []) 0 v u
+taking_lost v w u e upto t r = record {
   number = r.number ∙ t.rest.number;
   stage = inl (stage_of r.stage);
   numbers = r.numbers ∙ t.rest.numbers;
@@ -67,7 +81,7 @@ taking_lost v w u a n t r = record {
   ticks = let p = r.ticks in let q = t.rest.ticks in omega arith;
   regions = r.regions ∙ t.rest.regions;
   entries = r.entries ∙ t.rest.entries;
-  lost = let p = r.lost in let q = t.rest.lost in omega arith;
+  lost = r.lost ∙ lost_is v w e upto t.rest.call t.rest.regions t.reads t.rest.lost;
   call = r.call ∙ t.rest.call;
 }
   where
@@ -83,7 +97,7 @@ staged (x ∷ m) = inl (refl, λ e. let no : ⊥ = cc e in absurd no)
 pub releasing_one : (w : Book) (s : ℕ) → IsReleasing (released w s)
 releasing_one w s = staged (without w.face.held s)
 
-pub rest_released : (c t : ℕ) (v w : Book) (s : ℕ) → v.face.stage ≡ Decided → IsRest c t v w → IsRest c t v (released w s)
+pub rest_released : (c : List Lost) (t : ℕ) (v w : Book) (s : ℕ) → v.face.stage ≡ Decided → IsRest c t v w → IsRest c t v (released w s)
 rest_released c t v w s d r = record {
   number = r.number;
   stage = stage_then (staged (without w.face.held s));

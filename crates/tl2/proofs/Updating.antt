@@ -9,12 +9,15 @@ use Rattle.jmodel.specs.declared.op.Access.{Access}
 use Rattle.jmodel.specs.declared.value.Answer.{Answer}
 use Rattle.jmodel.specs.Attempt.{Log}
 use Rattle.jmodel.specs.History.{Call, Entry}
+use Rattle.tx_core.specs.declared.engine.Conflict.{Conflict}
 use Rattle.jmodel.specs.Book.{Map, Book, Region, Unticked, Ticked, Has, In, lookup, pairs, without}
 use Rattle.jmodel.specs.Rule.{Story}
 use Rattle.jmodel.specs.Plays.{accesses, keys, ticked_up, lost_at, update_entry, used_in, region_of, Fits, Updates}
 use Rattle.tx_table.proofs.MapLaws.{lookup_here, lookup_without, lookup_kept}
 use Rattle.tl2.specs.Commits.{AreOwners, Covers, IsChecked, IsRest, IsTaking, IsAdded, stored, update_of}
+use Rattle.tl2.specs.Conflicts.{lost_to}
 use Rattle.tl2.specs.Plans.{IsOwning, IsLeft}
+use Rattle.tl2.proofs.Rests.{lost_is}
 use Rattle.tl2.proofs.Entries.{accesses_pairs, pairs_accesses}
 use Rattle.tl2.proofs.Plans.{has_in, has_cases}
 use Rattle.tl2.proofs.Newest.{in_has}
@@ -105,7 +108,7 @@ pub record IsTicked (t : ℕ) (m : Map ℕ) (v w : Book) : Type 0 where
   pub ticks : w.ticks ≡ v.ticks + 1
   pub regions : w.regions ≡ v.regions
   pub entries : w.entries ≡ v.entries
-  pub lost : length w.lost ≡ length v.lost
+  pub lost : w.lost ≡ v.lost
   pub call : w.call ≡ v.call
   pub reads : w.reads ≡ v.reads
 
@@ -121,14 +124,15 @@ ticked_then t due checked v v1 w k e = subst (IsTicked t due v) (sym e) (record 
   ticks = let p = k.rest.ticks in omega arith;
   regions = k.rest.regions;
   entries = k.rest.entries;
-  lost = let p = k.rest.lost in omega arith;
+  lost = k.rest.lost;
   call = k.rest.call;
   reads = k.reads;
 })
 
 -- a conflict after the tick, and the stripes given back
-pub ticked_lost : (t : ℕ) (due : Map ℕ) (checked : List ℕ) (a n : ℕ) (v v1 w u : Book) → IsTaking v v1 → w ≡ lost_at (record (ticked_up v1 t due) { checked = checked }) a n → IsRest 0 0 w u → u.face.stage ≡ Unticked → IsRest 1 1 v u
-ticked_lost t due checked a n v v1 w u k e r stage = record {
+pub ticked_lost : (t : ℕ) (due : Map ℕ) (checked : List ℕ) (x : Conflict) (v v1 w u : Book) → x.upto ≡ v1.bound → IsTaking v v1 → w ≡ lost_at (record (ticked_up v1 t due) { checked = checked }) x.address x.word → IsRest [] 0 w u
+    → u.face.stage ≡ Unticked → IsRest (lost_to v x ∷ []) 1 v u
+ticked_lost t due checked x v v1 w u upto k e r stage = record {
   number = r.number ∙ ap (λ (b : Book). b.face.number) e ∙ k.rest.number;
   stage = inl stage;
   numbers = r.numbers ∙ ap (λ (b : Book). b.numbers) e ∙ k.rest.numbers;
@@ -136,7 +140,7 @@ ticked_lost t due checked a n v v1 w u k e r stage = record {
   ticks = let p = r.ticks in let q = ap (λ (b : Book). b.ticks) e in let o = k.rest.ticks in omega arith;
   regions = r.regions ∙ ap (λ (b : Book). b.regions) e ∙ k.rest.regions;
   entries = r.entries ∙ ap (λ (b : Book). b.entries) e ∙ k.rest.entries;
-  lost = let p = r.lost in let q = ap (λ (b : Book). length b.lost) e in let o = k.rest.lost in omega arith;
+  lost = r.lost ∙ ap (λ (b : Book). b.lost) e ∙ lost_is v v1 x upto k.rest.call k.rest.regions k.reads k.rest.lost;
   call = r.call ∙ ap (λ (b : Book). b.call) e ∙ k.rest.call;
 }
 
@@ -186,7 +190,7 @@ module _ (t : ℕ) (wr : Log) (v w : Book) (x : Answer) (k : IsTicked t (pairs w
     writes = pairs_accesses w.face.due;
   }
 
-  pub added : (left : Map ℕ) (w4 w5 : Book) → w4 ≡ stored w (update_entry w x (used w)) left → IsRest 0 0 w4 w5 → IsAdded (update_of v t wr x) v w5
+  pub added : (left : Map ℕ) (w4 w5 : Book) → w4 ≡ stored w (update_entry w x (used w)) left → IsRest [] 0 w4 w5 → IsAdded (update_of v t wr x) v w5
   added left w4 w5 e r = record {
     number = r.number ∙ ap (λ (b : Book). b.face.number) e ∙ k.number;
     numbers = r.numbers ∙ ap (λ (b : Book). b.numbers) e ∙ k.numbers;
@@ -194,7 +198,7 @@ module _ (t : ℕ) (wr : Log) (v w : Book) (x : Answer) (k : IsTicked t (pairs w
     ticks = let p = r.ticks in let q = ap (λ (b : Book). b.ticks) e in let o = k.ticks in omega arith;
     regions = r.regions ∙ ap (λ (b : Book). b.regions) e ∙ ap (λ (d : Entry). region_of d ∷ w.regions) entry_is ∙ ap (λ (m : Map Region). region_of (update_of v t wr x) ∷ m) k.regions;
     entries = r.entries ∙ ap (λ (b : Book). b.entries) e ∙ ap (λ (d : Entry). d ∷ w.entries) entry_is ∙ ap (λ (es : List Entry). update_of v t wr x ∷ es) k.entries;
-    lost = let p = r.lost in let q = ap (λ (b : Book). length b.lost) e in let o = k.lost in omega arith;
+    lost = r.lost ∙ ap (λ (b : Book). b.lost) e ∙ k.lost;
   }
 
 -- what holds of each element of a reversed list, holds of each of the list

@@ -1,10 +1,10 @@
 -- The stripes that a commit holds.
-use Rattle.std.specs.Prelude.{◌≡◌, ◌≢◌, ◌⊎◌, ◌<◌, ◌≤◌, ◌+◌, ◌%◌, ℕ, true, false, List, [], ◌∷◌, length, slice_index}
+use Rattle.std.specs.Prelude.{◌≡◌, ◌≢◌, ◌⊎◌, ◌<◌, ◌≤◌, ◌+◌, ◌%◌, ℕ, true, false, List, [], ◌∷◌, ◌++◌, slice_index}
 use mathlib.Core.Option.{some}
 use Rattle.jmodel.specs.declared.value.Answer.{Answer}
 use Rattle.jmodel.specs.Attempt.{Log}
 use Rattle.jmodel.specs.History.{Entry}
-use Rattle.jmodel.specs.Book.{Book, Map, Unticked, Decided, Away, In, lookup}
+use Rattle.jmodel.specs.Book.{Book, Lost, Map, Unticked, Decided, Away, In, lookup}
 use Rattle.jmodel.specs.Plays.{accesses, region_of, used_in}
 
 -- Just the wanted stripes from one up to another are held, with these words. `owners` has 0 for a stripe that isn't wanted.
@@ -12,9 +12,9 @@ pub record Covers (owners words : List ℕ) (from upto : ℕ) (held : Map ℕ) :
   pub only : (s x : ℕ) → lookup held s ≡ some x → (from ≤ s) × (s < upto) × (slice_index owners s ≢ 0) × (slice_index words s ≡ x)
   pub each : (s : ℕ) → from ≤ s → s < upto → slice_index owners s ≢ 0 → lookup held s ≡ some (slice_index words s)
 
--- The books of one pass before and after steps of one attempt, which met so many conflicts, moved the clock so often, and
+-- The books of one pass before and after steps of one attempt, which met these conflicts, moved the clock so often, and
 -- added no entry.
-pub record IsRest (met moved : ℕ) (v w : Book) : Type 0 where
+pub record IsRest (met : List Lost) (moved : ℕ) (v w : Book) : Type 0 where
   pub number : w.face.number ≡ v.face.number
   pub stage : (w.face.stage ≡ Unticked) ⊎ (w.face.stage ≡ v.face.stage)
   pub numbers : w.numbers ≡ v.numbers
@@ -22,12 +22,12 @@ pub record IsRest (met moved : ℕ) (v w : Book) : Type 0 where
   pub ticks : w.ticks ≡ v.ticks + moved
   pub regions : w.regions ≡ v.regions
   pub entries : w.entries ≡ v.entries
-  pub lost : length w.lost ≡ length v.lost + met
+  pub lost : w.lost ≡ met ++ v.lost
   pub call : w.call ≡ v.call
 
 -- The attempt's reads stand, and it has not ticked.
 pub record IsTaking (v w : Book) : Type 0 where
-  pub rest : IsRest 0 0 v w
+  pub rest : IsRest [] 0 v w
   pub stage : w.face.stage ≡ Unticked
   pub live : w.live ≡ true
   pub reads : w.reads ≡ v.reads
@@ -70,4 +70,4 @@ pub record IsAdded (e : Entry) (v w : Book) : Type 0 where
   pub ticks : w.ticks ≡ v.ticks + 1
   pub regions : w.regions ≡ region_of e ∷ v.regions
   pub entries : w.entries ≡ e ∷ v.entries
-  pub lost : length w.lost ≡ length v.lost
+  pub lost : w.lost ≡ v.lost

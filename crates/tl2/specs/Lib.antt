@@ -1,4 +1,5 @@
 pub mod Standing
+pub mod Conflicts
 pub mod Commits
 pub mod Logs
 pub mod Plans

@@ -1,9 +1,11 @@
 //! The steps of a commit: the stripes of what was written are taken, and given back.
-ghost use Rattle.std.specs.Prelude.{◌≡◌, ◌≢◌, ◌<◌, ◌≤◌, ◌+◌, ◌%◌, [], ℕ, List, true, false, length, slice_index, slice_index_or, IfOk, IfErr};
-ghost use mathlib.Core.Option.{some as Found};
+ghost use Rattle.std.specs.Prelude.{◌≡◌, ◌≢◌, ◌<◌, ◌≤◌, ◌+◌, ◌%◌, [], ℕ, List, true, false, length, slice_index, slice_index_or, IfOk, IfErr, IsOk, ◌^◌, ◌∷◌};
+ghost use mathlib.Core.Option.{some as Found, none as Missing};
 ghost use Rattle.jmodel.specs.Book.{Unticked, Decided, In, lookup};
 ghost use Rattle.jmodel.specs.Plays.{lost_at, took};
 ghost use Rattle.tx_table.specs.Passes.{book, IsOf, IsSame};
+ghost use Rattle.tx_table.specs.Steps.{IsPast};
+ghost use Rattle.tl2.specs.Conflicts.{lost_to};
 ghost use Rattle.tl2.specs.Commits.{AreOwners, Covers, IsChecked, IsRest, IsTaking};
 
 use crate::plan::STRIPES;
@@ -25,7 +27,8 @@ fn take_one<T: Story>(
     ensures same { IsSame pass.old pass.new }
     ensures ok { IfOk result (λ word. book pass.new ≡ took (book pass.old) (address % 4096) word address) }
     ensures err { IfErr result (λ e. book pass.new ≡ lost_at (book pass.old) address e.word) }
-    ensures conflict { IfErr result (λ e. (e.address ≡ address) × (e.upto ≡ (book pass.old).bound)) }
+    ensures conflict { IfErr result (λ e. (e.address ≡ address) × (e.upto ≡ (book pass.old).bound) × IsPast (book pass.old).bound e.word) }
+    ensures sole { (book pass.old).numbers ≡ 2 ^ 20 → lookup (book pass.old).face.held (address % 4096) ≡ Missing → IsOk result }
 {
     let word = pass.look(shared, address, !was_read)?;
     pass.take(shared, address, word)?;
@@ -48,7 +51,7 @@ pub(crate) fn give_back<T: Story>(
     ensures same { IsSame pass.old pass.new }
     ensures free { (book pass.new).face.held ≡ [] }
     ensures over { (book pass.old).face.held ≢ [] → (book pass.new).face.stage ≡ Unticked }
-    ensures rest { IsRest 0 0 (book pass.old) (book pass.new) }
+    ensures rest { IsRest [] 0 (book pass.old) (book pass.new) }
 {
     for stripe in 0..upto {
         if owners[stripe] != 0 {
@@ -73,8 +76,9 @@ pub(crate) fn take_all<T: Story>(
     ensures same { IsSame pass.old pass.new }
     ensures len { length words.new ≡ 4096 }
     ensures ok { IfOk result (λ _. IsTaking (book pass.old) (book pass.new) × Covers owners.now words.new 0 4096 (book pass.new).face.held) }
-    ensures err { IfErr result (λ _. IsRest 1 0 (book pass.old) (book pass.new) × ((book pass.new).face.held ≡ []) × ((book pass.new).face.stage ≡ Unticked)) }
-    ensures conflict { IfErr result (λ e. (e.upto ≡ (book pass.old).bound) × (slice_index owners.now (e.address % 4096) ≡ e.address + 1)) }
+    ensures err { IfErr result (λ e. IsRest (lost_to (book pass.old) e ∷ []) 0 (book pass.old) (book pass.new) × ((book pass.new).face.held ≡ []) × ((book pass.new).face.stage ≡ Unticked)) }
+    ensures conflict { IfErr result (λ e. (e.upto ≡ (book pass.old).bound) × IsPast (book pass.old).bound e.word × (slice_index owners.now (e.address % 4096) ≡ e.address + 1)) }
+    ensures sole { (book pass.old).numbers ≡ 2 ^ 20 → IsOk result }
 {
     for stripe in 0..STRIPES {
         if owners[stripe] != 0 {
@@ -105,7 +109,8 @@ pub(crate) fn validate_all<T: Story>(
     ensures same { IsSame pass.old pass.new }
     ensures ok { IfOk result (λ _. IsChecked owners.now reads.now (length reads.now) (book pass.old) (book pass.new)) }
     ensures err { IfErr result (λ e. (checked : List ℕ) × (book pass.new ≡ lost_at (record (book pass.old) { checked = checked }) e.address e.word)) }
-    ensures conflict { IfErr result (λ e. (e.upto ≡ (book pass.old).bound) × In e.address reads.now) }
+    ensures conflict { IfErr result (λ e. (e.upto ≡ (book pass.old).bound) × IsPast (book pass.old).bound e.word × In e.address reads.now) }
+    ensures sole { (book pass.old).numbers ≡ 2 ^ 20 → ((s : ℕ) → slice_index owners.now s ≡ 0 → lookup (book pass.old).face.held s ≡ Missing) → IsOk result }
 {
     for address in reads {
         if owners[(*address % 4096) as usize] == 0 {
@@ -125,7 +130,7 @@ pub(crate) fn release_all<T: Story>(pass: &mut Pass, shared: &Shared<T>, owners:
     requires left { (b x : ℕ) → lookup (book pass.old).face.left b ≡ Found x → ⊥ }
     ensures same { IsSame pass.old pass.new }
     ensures free { ((book pass.new).face.held ≡ []) × ((book pass.new).face.stage ≡ Unticked) }
-    ensures rest { IsRest 0 0 (book pass.old) (book pass.new) }
+    ensures rest { IsRest [] 0 (book pass.old) (book pass.new) }
 {
     for stripe in 0..STRIPES {
         if owners[stripe] != 0 {

@@ -6,6 +6,7 @@ ghost use Rattle.jmodel.specs.History.{Call, Entry};
 ghost use Rattle.jmodel.specs.Book.{Has, In, pairs};
 ghost use Rattle.tx_core.specs.Engine.{raised, Adds, MayEnd, IsOfWrites};
 ghost use Rattle.tx_table.specs.Passes.{book, IsSame};
+ghost use Rattle.tl2.specs.Conflicts.{Meets};
 ghost use Rattle.tl2.specs.Standing.{IsOpen, Awaits, Stands};
 
 use crate::attempt::{At, Calling, Ruled, Tl2};
@@ -17,8 +18,9 @@ use tx_core::{Conflict, TxEnd};
 
 impl<'a, T: Ruled, C: Calling> Tl2<'a, T, C> {
     /// Ends the attempt as an entry of the history with this answer. An attempt that wrote takes its memory before its first
-    /// step. A conflict, at an address that the attempt wrote or read, gives the stripes back and is counted; an `Err` has rolled
-    /// back.
+    /// step. A conflict, at an address that the attempt wrote or read, gives the stripes back and is kept in the pass's book; it
+    /// comes only where a stripe is held or has a version over the bound, and never where the pass holds every number. An `Err`
+    /// has rolled back.
     pub fn commit(&mut self, answer: Snapshot<Answer>) -> Result<Stamp, TxEnd>
         requires open { IsOpen self.old.shared.now.words self.old.at (C.call self.old.call.value) (book self.old.pass) }
         requires clock { (book self.old.pass).ticks < 2 ^ 40 }
@@ -28,7 +30,8 @@ impl<'a, T: Ruled, C: Calling> Tl2<'a, T, C> {
             (λ end. Stands self.new.shared.now.words self.new.at self.new.writes.items (book self.new.pass) h (raised end n) [] []) }
         ensures awaits { (c : Call) (used : ℕ) → Awaits (C.call self.old.call.value) (book self.old.pass) c used → IfErr result (λ _. Awaits (C.call self.new.call.value) (book self.new.pass) c used) }
         ensures ticks { (book self.new.pass).ticks ≤ (book self.old.pass).ticks + 1 }
-        ensures seen { (e : Conflict) → result ≡ Err (TxEnd.Conflict e) → (e.upto ≡ (book self.old.pass).bound) × (Has (pairs (reverse self.old.writes.items)) e.address ⊎ In e.address self.old.reads.items) }
+        ensures seen { (e : Conflict) → result ≡ Err (TxEnd.Conflict e) → Meets (book self.old.pass) (book self.new.pass) e × (Has (pairs (reverse self.old.writes.items)) e.address ⊎ In e.address self.old.reads.items) }
+        ensures sole { (book self.old.pass).numbers ≡ 2 ^ 20 → IfErr result (λ end. end ≡ TxEnd.NoMemory) }
         ensures regions { IfErr result (λ _. (book self.new.pass).regions ≡ (book self.old.pass).regions) }
         ensures region { (c : Call) (used : ℕ) → Awaits (C.call self.old.call.value) (book self.old.pass) c used → IfOk result (λ _. (book self.new.pass).regions ≡ (c.region, record { used = used; last = Found c }) ∷ (book self.old.pass).regions) }
         ensures same { IsSame self.old.pass self.new.pass × ((book self.new.pass).numbers ≡ (book self.old.pass).numbers) × ((book self.new.pass).fresh ≡ (book self.old.pass).fresh) }

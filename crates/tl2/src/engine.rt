@@ -5,6 +5,7 @@ use std::snapshot::Snapshot;
 use tx_core::{Conflict, Engine, TxEnd};
 
 impl<'a, T: Ruled, C: Calling> Engine for Tl2<'a, T, C> {
+    ghost use Rattle.std.specs.Prelude.{◌≡◌, ◌^◌};
     ghost use Rattle.tx_table.specs.Passes.{book};
     ghost use Rattle.tl2.specs.Standing.{IsOpen, Awaits, Stands};
 
@@ -19,6 +20,9 @@ impl<'a, T: Ruled, C: Calling> Engine for Tl2<'a, T, C> {
     ghost is_shared = { Unit {0} };
 
     ghost clock = { λ s. (book s.pass).ticks };
+
+    // The pass holds every number, so no other pass of the table is in use.
+    ghost is_alone = { λ s. (book s.pass).numbers ≡ 2 ^ 20 };
 
     fn begin(&mut self) {
         Tl2::begin(self);

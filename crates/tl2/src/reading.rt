@@ -1,5 +1,5 @@
 //! The steps of an attempt that reads, and its end without writes.
-ghost use Rattle.std.specs.Prelude.{◌≡◌, ◌≢◌, ◌⊎◌, ◌<◌, ◌+◌, ◌*◌, ◌%◌, ◌∷◌, ◌++◌, [], ℕ, List, None, true, reverse, MatchResult, IfOk, IfErr};
+ghost use Rattle.std.specs.Prelude.{◌≡◌, ◌≢◌, ◌⊎◌, ◌<◌, ◌+◌, ◌*◌, ◌%◌, ◌∷◌, ◌++◌, ◌^◌, [], ℕ, List, None, true, reverse, MatchResult, IfOk, IfErr, IsOk};
 ghost use mathlib.Core.Option.{some as Found};
 ghost use Rattle.jmodel.specs.Attempt.{Log, access, answered, recorded, written};
 ghost use Rattle.jmodel.specs.Book.{Unticked};
@@ -8,6 +8,7 @@ ghost use Rattle.jmodel.specs.Plays.{begun, finished, Reads};
 ghost use Rattle.jmodel.specs.Rule.{Snapshot as Learns};
 ghost use Rattle.tx_core.specs.Engine.{raised, Adds, MayEnd, IsOfWrites};
 ghost use Rattle.tx_table.specs.Passes.{book, IsOf, IsSame, IsKin};
+ghost use Rattle.tl2.specs.Conflicts.{Meets};
 ghost use Rattle.tl2.specs.Standing.{IsOpen, Awaits, Stands};
 
 use crate::attempt::{At, Calling, Ruled, Tl2};
@@ -70,7 +71,7 @@ impl<'a, T: Ruled, C: Calling> Tl2<'a, T, C> {
     }
 
     /// Before a read: looks at the stripe of an address that the attempt hasn't written. A stripe that is held, or whose
-    /// version is over the bound, is a conflict. No memory.
+    /// version is over the bound, is a conflict, which the pass's book keeps. A pass that holds every number meets none. No memory.
     pub fn before_read(&mut self, address: u64) -> Result<(), Conflict>
         requires { IsOpen self.old.shared.now.words self.old.at (C.call self.old.call.value) (book self.old.pass) }
         ensures run { (h : List Entry) (n : ℕ) (r w : Log) → Stands self.old.shared.now.words self.old.at self.old.writes.items (book self.old.pass) h n r w
@@ -79,7 +80,8 @@ impl<'a, T: Ruled, C: Calling> Tl2<'a, T, C> {
         ensures open { IfOk result (λ _. IsOpen self.new.shared.now.words self.new.at (C.call self.new.call.value) (book self.new.pass)) }
         ensures awaits { (c : Call) (used : ℕ) → Awaits (C.call self.old.call.value) (book self.old.pass) c used → Awaits (C.call self.new.call.value) (book self.new.pass) c used }
         ensures ticks { (book self.new.pass).ticks ≡ (book self.old.pass).ticks }
-        ensures seen { IfErr result (λ e. (e.address ≡ address) × (e.upto ≡ (book self.old.pass).bound) × ((e.word % 2 ≢ 0) ⊎ (2 * e.upto < e.word))) }
+        ensures seen { IfErr result (λ e. (e.address ≡ address) × Meets (book self.old.pass) (book self.new.pass) e) }
+        ensures sole { (book self.old.pass).numbers ≡ 2 ^ 20 → IsOk result }
         ensures same { IsSame self.old.pass self.new.pass × IsKin (book self.old.pass) (book self.new.pass) }
         ensures looked { address < self.old.shared.now.words → written (reverse self.old.writes.items) address ≡ None → IfOk result (λ _. self.new.at ≡ At.Looked address) }
     {
@@ -125,8 +127,8 @@ impl<'a, T: Ruled, C: Calling> Tl2<'a, T, C> {
     }
 
     /// The attempt's own last word of an address, or else the word that was loaded, once its stripe shows again what it
-    /// showed before; it is logged as read. Where no look and load came before, there is no answer, which is told as want
-    /// of memory.
+    /// showed before; it is logged as read. Another word is a conflict, which the pass's book keeps; a pass that holds every
+    /// number meets none. Where no look and load came before, there is no answer, which is told as want of memory.
     pub fn on_read(&mut self, address: u64, _raw: u64) -> Result<u64, TxEnd>
         requires { IsOpen self.old.shared.now.words self.old.at (C.call self.old.call.value) (book self.old.pass) }
         ensures run { (h : List Entry) (n : ℕ) (r w : Log) → Stands self.old.shared.now.words self.old.at self.old.writes.items (book self.old.pass) h n r w
@@ -137,7 +139,8 @@ impl<'a, T: Ruled, C: Calling> Tl2<'a, T, C> {
         ensures ticks { (book self.new.pass).ticks ≡ (book self.old.pass).ticks }
         ensures snapshot { IfOk result (λ _. written (reverse self.old.writes.items) address ≡ None → Learns (T.story self.new.shared.now.table.shared.key.story.value) (book self.new.pass)) }
         ensures same { IsSame self.old.pass self.new.pass × IsKin (book self.old.pass) (book self.new.pass) }
-        ensures seen { (e : Conflict) → result ≡ Err (TxEnd.Conflict e) → (e.address ≡ address) × (e.upto ≡ (book self.old.pass).bound) }
+        ensures seen { (e : Conflict) → result ≡ Err (TxEnd.Conflict e) → (e.address ≡ address) × Meets (book self.old.pass) (book self.new.pass) e }
+        ensures sole { (book self.old.pass).numbers ≡ 2 ^ 20 → IfErr result (λ end. end ≡ TxEnd.NoMemory) }
     {
         if let Some(word) = self.written(address) {
             return Ok(word);
@@ -163,7 +166,7 @@ impl<'a, T: Ruled, C: Calling> Tl2<'a, T, C> {
         }
     }
 
-    /// Logs a write. A write past the heap is told as want of memory.
+    /// Logs a write, which meets no conflict. A write past the heap is told as want of memory.
     pub fn on_write(&mut self, address: u64, word: u64) -> Result<(), TxEnd>
         requires { IsOpen self.old.shared.now.words self.old.at (C.call self.old.call.value) (book self.old.pass) }
         ensures run { (h : List Entry) (n : ℕ) (r w : Log) → Stands self.old.shared.now.words self.old.at self.old.writes.items (book self.old.pass) h n r w
@@ -173,6 +176,7 @@ impl<'a, T: Ruled, C: Calling> Tl2<'a, T, C> {
         ensures awaits { (c : Call) (used : ℕ) → Awaits (C.call self.old.call.value) (book self.old.pass) c used → Awaits (C.call self.new.call.value) (book self.new.pass) c used }
         ensures ticks { (book self.new.pass).ticks ≡ (book self.old.pass).ticks }
         ensures same { IsSame self.old.pass self.new.pass × IsKin (book self.old.pass) (book self.new.pass) }
+        ensures err { IfErr result (λ end. end ≡ TxEnd.NoMemory) }
     {
         if address >= self.shared.words || self.writes.push(Access { address, word }).is_err() {
             return Err(TxEnd::NoMemory);

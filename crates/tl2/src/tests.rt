@@ -9,12 +9,15 @@ ghost use Rattle.tl2.specs.Trials.{StandsSomehow, IsWaiting};
 
 use crate::attempt::{Calling, Ruled, Tl2};
 use jmodel::NoMemory;
+use jmodel::op::Access;
 use jmodel::value::Answer;
 use std::alloc::Global;
 use std::snapshot::Snapshot;
 use std::thread::{Threads, join};
 use tx_core::{Engine, TxEnd};
 use tx_table::{Pass, Shared, Story};
+
+mod transfers;
 
 /// A story of these words, two lanes, and any entries.
 #[derive(Drop)]
@@ -102,8 +105,12 @@ impl Calling for CallAt {
     ghost call = { λ c. the_call c.lane c.index };
 }
 
-/// Reads word 3 and writes one more there.
-fn adds_open<'a, T: Ruled>(tx: &mut Tl2<'a, T, CallAt>) -> Result<(), TxEnd>
+/// Reads a word and writes it there with an amount more, which wraps.
+fn changes<'a, T: Ruled>(
+    tx: &mut Tl2<'a, T, CallAt>,
+    address: u64,
+    amount: u64,
+) -> Result<(), TxEnd>
     requires open { IsOpen tx.old.shared.now.words tx.old.at (the_call tx.old.call.value.lane tx.old.call.value.index) (book tx.old.pass) }
     requires stands { StandsSomehow tx.old.shared.now.words tx.old.at tx.old.writes.items (book tx.old.pass) }
     ensures open { IfOk result (λ _. IsOpen tx.new.shared.now.words tx.new.at (the_call tx.new.call.value.lane tx.new.call.value.index) (book tx.new.pass)) }
@@ -111,16 +118,36 @@ fn adds_open<'a, T: Ruled>(tx: &mut Tl2<'a, T, CallAt>) -> Result<(), TxEnd>
     ensures stands { StandsSomehow tx.new.shared.now.words tx.new.at tx.new.writes.items (book tx.new.pass) }
     ensures same { IsSame tx.old.pass tx.new.pass × IsKin (book tx.old.pass) (book tx.new.pass) }
 {
-    if let Err(conflict) = tx.before_read(3) {
+    if let Err(conflict) = tx.before_read(address) {
         return Err(TxEnd::Conflict(conflict));
     }
-    let raw = tx.raw(3);
-    let word = tx.on_read(3, raw)?;
-    tx.on_write(3, word.wrapping_add(1))
+    let raw = tx.raw(address);
+    let word = tx.on_read(address, raw)?;
+    tx.on_write(address, word.wrapping_add(amount))
 }
 
-/// Adds one to word 3 in an attempt at a call of a lane.
-fn adds<'a, T: Ruled>(tx: &mut Tl2<'a, T, CallAt>, lane: u64, index: u64) -> Result<(), TxEnd>
+/// Changes words by the amounts that are told for their addresses, one after the other.
+fn changes_all<'a, T: Ruled>(tx: &mut Tl2<'a, T, CallAt>, amounts: &[Access]) -> Result<(), TxEnd>
+    requires open { IsOpen tx.old.shared.now.words tx.old.at (the_call tx.old.call.value.lane tx.old.call.value.index) (book tx.old.pass) }
+    requires stands { StandsSomehow tx.old.shared.now.words tx.old.at tx.old.writes.items (book tx.old.pass) }
+    ensures open { IfOk result (λ _. IsOpen tx.new.shared.now.words tx.new.at (the_call tx.new.call.value.lane tx.new.call.value.index) (book tx.new.pass)) }
+    ensures awaits { (c : Call) (used : ℕ) → Awaits (the_call tx.old.call.value.lane tx.old.call.value.index) (book tx.old.pass) c used → Awaits (the_call tx.new.call.value.lane tx.new.call.value.index) (book tx.new.pass) c used }
+    ensures stands { StandsSomehow tx.new.shared.now.words tx.new.at tx.new.writes.items (book tx.new.pass) }
+    ensures same { IsSame tx.old.pass tx.new.pass × IsKin (book tx.old.pass) (book tx.new.pass) }
+{
+    for amount in amounts {
+        changes(tx, amount.address, amount.word)?;
+    }
+    Ok(())
+}
+
+/// Changes words in an attempt at a call of a lane.
+fn tries<'a, T: Ruled>(
+    tx: &mut Tl2<'a, T, CallAt>,
+    lane: u64,
+    index: u64,
+    amounts: &[Access],
+) -> Result<(), TxEnd>
     requires runs { (e : Entry) → T.rule e }
     requires stands { StandsSomehow tx.old.shared.now.words tx.old.at tx.old.writes.items (book tx.old.pass) }
     requires waits { IsWaiting lane index (book tx.old.pass) }
@@ -132,7 +159,7 @@ fn adds<'a, T: Ruled>(tx: &mut Tl2<'a, T, CallAt>, lane: u64, index: u64) -> Res
 {
     tx.set_call(Snapshot::of(&CallAt { lane, index }));
     tx.begin();
-    if let Err(end) = adds_open(tx) {
+    if let Err(end) = changes_all(tx, amounts) {
         tx.rollback();
         return Err(end);
     }
@@ -151,10 +178,14 @@ fn adds_many<'a, T: Ruled>(tx: &mut Tl2<'a, T, CallAt>, lane: u64, wanted: u64) 
     ensures ticks { (book tx.new.pass).ticks ≤ 1000000 }
     ensures same { IsSame tx.old.pass tx.new.pass × ((book tx.new.pass).numbers ≡ (book tx.old.pass).numbers) × ((book tx.new.pass).fresh ≡ (book tx.old.pass).fresh) }
 {
+    let one = Access {
+        address: 3,
+        word: 1,
+    };
     let mut done = 0;
     let mut index = 0;
     while index < 1_000_000 && done < wanted {
-        if adds(tx, lane, index).is_ok() {
+        if tries(tx, lane, index, &[one]).is_ok() {
             done += 1;
         }
         index += 1;

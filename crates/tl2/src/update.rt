@@ -1,10 +1,12 @@
 //! The commit of an attempt that wrote, over the steps of the table.
-ghost use Rattle.std.specs.Prelude.{◌≡◌, ◌≢◌, ◌⊎◌, ◌<◌, ◌≤◌, ◌%◌, ◌^◌, [], ℕ, true, All, reverse, IfOk, IfErr};
+ghost use Rattle.std.specs.Prelude.{◌≡◌, ◌≢◌, ◌⊎◌, ◌<◌, ◌≤◌, ◌%◌, ◌^◌, [], ℕ, true, All, reverse, IfOk, IfErr, IsOk, ◌∷◌};
 ghost use mathlib.Core.Option.{some as Found};
 ghost use Rattle.jmodel.specs.History.{Entry};
 ghost use Rattle.jmodel.specs.Book.{Map, Has, In, Unticked, Ticked, lookup, pairs};
 ghost use Rattle.jmodel.specs.Plays.{keys, ticked_up, Fits, Updates};
 ghost use Rattle.tx_table.specs.Passes.{book, IsOf, IsSame};
+ghost use Rattle.tx_table.specs.Steps.{IsPast};
+ghost use Rattle.tl2.specs.Conflicts.{lost_to};
 ghost use Rattle.tl2.specs.Commits.{IsAdded, IsRest, stored, update_of};
 ghost use Rattle.tl2.specs.Plans.{IsLeft, IsPlan};
 
@@ -77,8 +79,9 @@ pub(crate) fn update<T: Story>(
     ensures same { IsSame pass.old pass.new }
     ensures free { ((book pass.new).face.held ≡ []) × ((book pass.new).face.stage ≡ Unticked) }
     ensures ok { IfOk result (λ stamp. (stamp.update ≡ true) × IsAdded (update_of (book pass.old) stamp.at (reverse writes.now) answer.value) (book pass.old) (book pass.new)) }
-    ensures conflict { IfErr result (λ e. (e.upto ≡ (book pass.old).bound) × (Has (pairs (reverse writes.now)) e.address ⊎ In e.address reads.now)) }
-    ensures err { IfErr result (λ _. (moved : ℕ) × (moved ≤ 1) × IsRest 1 moved (book pass.old) (book pass.new)) }
+    ensures conflict { IfErr result (λ e. (e.upto ≡ (book pass.old).bound) × IsPast (book pass.old).bound e.word × (Has (pairs (reverse writes.now)) e.address ⊎ In e.address reads.now)) }
+    ensures err { IfErr result (λ e. (moved : ℕ) × (moved ≤ 1) × IsRest (lost_to (book pass.old) e ∷ []) moved (book pass.old) (book pass.new)) }
+    ensures sole { (book pass.old).numbers ≡ 2 ^ 20 → IsOk result }
 {
     let Plan {
         owners,

@@ -25,7 +25,7 @@ pub enum TxEnd {
 /// An engine may share its words with others, and then its entry is one for all from a step inside `commit` on. So what
 /// the call answers is told to `commit` and `finish_refused`, for contracts alone.
 pub trait Engine {
-    ghost use Rattle.std.specs.Prelude.{◌≡◌, ◌<◌, ◌≤◌, ◌+◌, ◌^◌, [], ◌∷◌, ◌++◌, ℕ, List, MatchResult, IfOk, IfErr};
+    ghost use Rattle.std.specs.Prelude.{◌≡◌, ◌<◌, ◌≤◌, ◌+◌, ◌^◌, [], ◌∷◌, ◌++◌, ℕ, List, MatchResult, IfOk, IfErr, IsOk};
     ghost use Rattle.jmodel.specs.Attempt.{Log, access, answered, recorded, written};
     ghost use Rattle.jmodel.specs.History.{Call, Entry};
     ghost use Rattle.tx_core.specs.Engine.{raised, Adds, MayEnd, IsOfWrites};
@@ -49,11 +49,15 @@ pub trait Engine {
     /// How often the clock was raised by commits.
     ghost clock: { Self → ℕ };
 
+    /// No other engine has a part of the words now, so no attempt meets a conflict. Nothing is said where this is left out.
+    ghost is_alone: { Self → Type 0 } = { λ _. ⊥ };
+
     /// Begins an attempt. No memory.
     fn begin(&mut self)
         ensures run { (h : List Entry) (n : ℕ) → stands self.old h n [] [] → stands self.new h n [] [] }
         ensures open { is_open self.new }
         ensures awaits { (c : Call) (used : ℕ) → awaits self.old c used → awaits self.new c used }
+        ensures alone { is_alone self.old → is_alone self.new }
         ensures ticks { clock self.new ≡ clock self.old };
 
     /// Before a read. No memory.
@@ -63,6 +67,7 @@ pub trait Engine {
             → MatchResult result (λ _. stands self.new h n r w) (λ _. stands self.new h (n + 1) r w) }
         ensures open { IfOk result (λ _. is_open self.new) }
         ensures awaits { (c : Call) (used : ℕ) → awaits self.old c used → awaits self.new c used }
+        ensures alone { is_alone self.old → is_alone self.new × IsOk result }
         ensures ticks { clock self.new ≡ clock self.old };
 
     /// The word as it lies there, whoever wrote it. No memory.
@@ -71,6 +76,7 @@ pub trait Engine {
         ensures run { (h : List Entry) (n : ℕ) (r w : Log) → stands self.old h n r w → stands self.new h n r w }
         ensures open { is_open self.new }
         ensures awaits { (c : Call) (used : ℕ) → awaits self.old c used → awaits self.new c used }
+        ensures alone { is_alone self.old → is_alone self.new }
         ensures ticks { clock self.new ≡ clock self.old };
 
     /// The attempt's own last word there, or else a word that was committed there, which it logs as read.
@@ -81,6 +87,7 @@ pub trait Engine {
             (λ end. stands self.new h (raised end n) r w) }
         ensures open { IfOk result (λ _. is_open self.new) }
         ensures awaits { (c : Call) (used : ℕ) → awaits self.old c used → awaits self.new c used }
+        ensures alone { is_alone self.old → is_alone self.new × IfErr result (λ end. end ≡ TxEnd.NoMemory) }
         ensures ticks { clock self.new ≡ clock self.old };
 
     /// Logs a write.
@@ -90,6 +97,7 @@ pub trait Engine {
             → MatchResult result (λ _. stands self.new h n r (access address word ∷ w)) (λ end. stands self.new h (raised end n) r w) }
         ensures open { IfOk result (λ _. is_open self.new) }
         ensures awaits { (c : Call) (used : ℕ) → awaits self.old c used → awaits self.new c used }
+        ensures alone { is_alone self.old → is_alone self.new × IfErr result (λ end. end ≡ TxEnd.NoMemory) }
         ensures ticks { clock self.new ≡ clock self.old };
 
     /// Ends the attempt as an entry of the history with this answer, where its reads stand. An `Err` has rolled it back.
@@ -100,6 +108,7 @@ pub trait Engine {
         ensures run { (h : List Entry) (n : ℕ) (r w : Log) → stands self.old h n r w
             → MatchResult result (λ stamp. IsOfWrites stamp w × Adds (awaits self.old) allows (stands self.new) h n answer.value stamp r w) (λ end. stands self.new h (raised end n) [] []) }
         ensures awaits { (c : Call) (used : ℕ) → awaits self.old c used → IfErr result (λ _. awaits self.new c used) }
+        ensures alone { is_alone self.old → is_alone self.new × IfErr result (λ end. end ≡ TxEnd.NoMemory) }
         ensures ticks { clock self.new ≤ clock self.old + 1 };
 
     /// Ends the attempt as an entry with this answer that wrote nothing. No memory.
@@ -108,12 +117,14 @@ pub trait Engine {
         requires allowed { is_shared → MayEnd (stands self.old) (awaits self.old) allows (λ _. []) answer.value }
         ensures run { (h : List Entry) (n : ℕ) (r w : Log) → stands self.old h n r w
             → IsOfWrites result [] × Adds (awaits self.old) allows (stands self.new) h n answer.value result r [] }
+        ensures alone { is_alone self.old → is_alone self.new }
         ensures ticks { clock self.new ≡ clock self.old };
 
     /// Ends the attempt without an entry. No memory.
     fn rollback(&mut self)
         ensures run { (h : List Entry) (n : ℕ) (r w : Log) → stands self.old h n r w → stands self.new h n [] [] }
         ensures awaits { (c : Call) (used : ℕ) → awaits self.old c used → awaits self.new c used }
+        ensures alone { is_alone self.old → is_alone self.new }
         ensures ticks { clock self.new ≡ clock self.old };
 
     /// How often the clock was raised by commits. No memory.

@@ -47,6 +47,8 @@ impl<K: Origin> Engine for Solo<K> {
 
     ghost clock = { λ s. s.clock };
 
+    ghost is_alone = { λ _. Unit {0} };
+
     fn begin(&mut self) {
         self.writes.clear();
     }

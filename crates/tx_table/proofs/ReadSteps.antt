@@ -8,7 +8,7 @@ use Rattle.atomic_table.specs.Table.{State}
 use Rattle.jmodel.specs.History.{Call, Entry}
 use Rattle.jmodel.specs.Book.{Map, lookup, In, Stage, Unticked, Ticked, Decided, Look, Away, Saw, Had, Face, Book}
 use Rattle.jmodel.specs.Rule.{Story, used_at, start, stripe, last_of, top_of, Faces, World, Sees, Watch, Catch, Looks, face_of, faces, code, IsSole}
-use Rattle.tx_table.specs.Steps.{IsKept, Untouched, Unchanged}
+use Rattle.tx_table.specs.Steps.{IsKept, Untouched, Unchanged, IsPast, Moved}
 use Rattle.atomic_table.specs.Table.{Me, step, keeps, Allows}
 use Rattle.jmodel.specs.Plays.{begun, is_free, fits, lost_at, looked, loaded_at, checked_at, validated, Aims, IsLoaded, word_in}
 use Rattle.tx_table.specs.Steps.{Begins, Looks_up, Loads, Rechecks, Validates}
@@ -240,6 +240,23 @@ module _ {S : Type 0} (key : Story) (s : State S Book) (r : IsKept key s) (me : 
       by_look (Saw j u) e aims g = let w = subst (Looks (start key) (used_at key) W (suc me) v.bound) e (mine.look live) in g.0 ∙ ap (λ k. 2 * k) (same u (subst (λ (k : ℕ). Watch (start key) (used_at key) W v.bound k u) aims w) g.1)
       by_look (Had j u a x) e aims g = let w = subst (Looks (start key) (used_at key) W (suc me) v.bound) e (mine.look live) in g.0 ∙ ap (λ k. 2 * k) (same u (subst (λ (k : ℕ). Watch (start key) (used_at key) W v.bound k u) aims w.1) g.1)
 
+  -- a stripe at which a look is in flight shows its word, or is held, or has a version over the bound
+  pub moved : (i : ℕ) → i < 4096 → Moved i v (get_or s.words (i + 1) 0)
+  moved i l live aims other = by_look v.look refl aims other
+    where
+      past : (u : ℕ) → Watch (start key) (used_at key) W v.bound i u → get_or s.words (i + 1) 0 ≢ 2 * u → IsPast v.bound (get_or s.words (i + 1) 0)
+      past u w other = by_holder (r.holder i) refl
+        where
+          by_holder : (h : ℕ) → r.holder i ≡ h → IsPast v.bound (get_or s.words (i + 1) 0)
+          by_holder zero e = let g : get_or s.words (i + 1) 0 ≡ 2 * r.ver i = r.stripes i l ∙ ap (λ (k : ℕ). code F k (r.ver i)) e in
+              ⊎_elim (λ (q : r.ver i ≡ u). absurd (other (g ∙ ap (λ k. 2 * k) q))) (λ (m : v.bound < r.ver i). inr (omega arith)) w.0
+          by_holder (suc k) e = let g : get_or s.words (i + 1) 0 ≡ 2 * (F k).number + 1 = r.stripes i l ∙ ap (λ (k : ℕ). code F k (r.ver i)) e in inl (omega arith)
+
+      by_look : (z : Look) → v.look ≡ z → Aims z i → get_or s.words (i + 1) 0 ≢ word_in z 0 → IsPast v.bound (get_or s.words (i + 1) 0)
+      by_look Away e aims other = absurd aims
+      by_look (Saw j u) e aims other = let w = subst (Looks (start key) (used_at key) W (suc me) v.bound) e (mine.look live) in past u (subst (λ (k : ℕ). Watch (start key) (used_at key) W v.bound k u) aims w) other
+      by_look (Had j u a x) e aims other = let w = subst (Looks (start key) (used_at key) W (suc me) v.bound) e (mine.look live) in past u (subst (λ (k : ℕ). Watch (start key) (used_at key) W v.bound k u) aims w.1) other
+
 -- what quiet steps leave alone
 abbrev pub Same : Book → Book → Type 0
 Same w v = (w.face ≡ v.face) × ((w.numbers ≡ v.numbers) × (w.fresh ≡ v.fresh)) × (w.ticks ≡ v.ticks) × (w.entries ≡ v.entries) × (w.live ≡ true → (v.live ≡ true) × (w.bound ≡ v.bound))
@@ -307,7 +324,7 @@ module _ {S : Type 0} (key : Story) (slots id : ℕ) (me : Me S Book) where
   pub rechecks : (says : Book → Type 0) → ((s : State S Book) (r : IsKept key s) (b : Book) → Mine key s r id b → b.live ≡ true → says b) → (a : ℕ) → me.0.live ≡ true → me.0.face.stage ≡ Unticked → a % 4096 < 4096 → IsLoaded me.0.look a me.0.bound
       → Allows (IsKept key) slots id me (a % 4096 + 1) (λ n. n) (Rechecks says (step slots (a % 4096 + 1) 0 0 none) me)
   rechecks says tells a live calm l had = let back : a % 4096 ≡ a % 4096 + 1 - 1 = omega arith in load_allows (a % 4096 + 1) (checked_at me.0.look me.0) (Rechecks says (step slots (a % 4096 + 1) 0 0 none) me)
-      (λ s r at. let k = checked_mine key s r id me.0 at me.0.look a (get_or s.words (a % 4096 + 1) 0) refl live calm l refl had in (k, (refl, (λ h. tells s r (checked_at me.0.look me.0 (get_or s.words (a % 4096 + 1) 0)) k h), subst (λ (k : ℕ). Unchanged k me.0 (get_or s.words (a % 4096 + 1) 0)) back (unchanged key s r id me.0 at (a % 4096) l))))
+      (λ s r at. let k = checked_mine key s r id me.0 at me.0.look a (get_or s.words (a % 4096 + 1) 0) refl live calm l refl had in (k, (refl, (λ h. tells s r (checked_at me.0.look me.0 (get_or s.words (a % 4096 + 1) 0)) k h), subst (λ (k : ℕ). Unchanged k me.0 (get_or s.words (a % 4096 + 1) 0)) back (unchanged key s r id me.0 at (a % 4096) l), subst (λ (k : ℕ). Moved k me.0 (get_or s.words (a % 4096 + 1) 0)) back (moved key s r id me.0 at (a % 4096) l))))
       (λ n. same_checked me.0.look me.0 n)
 
   pub begins : (says : Book → Type 0) → ((s : State S Book) (r : IsKept key s) (b : Book) → Mine key s r id b → b.live ≡ true → says b) → (c : Call) → me.0.face.held ≡ [] → me.0.face.stage ≡ Unticked

@@ -1,5 +1,5 @@
 -- What a step tells its pass.
-use Rattle.std.specs.Prelude.{◌≡◌, ◌≤◌, ◌-◌, ◌+◌, ◌^◌, ◌*◌, ◌%◌, ℕ, Bool, true, false, []}
+use Rattle.std.specs.Prelude.{◌≡◌, ◌≢◌, ◌⊎◌, ◌<◌, ◌≤◌, ◌-◌, ◌+◌, ◌^◌, ◌*◌, ◌%◌, ℕ, Bool, true, false, []}
 use Rattle.atomic_table.specs.Table.{State, Me, Step}
 use Rattle.jmodel.specs.History.{Call, Entry}
 use mathlib.Core.Option.{none}
@@ -23,6 +23,14 @@ Untouched i v n = v.numbers ≡ 1048576 → v.live ≡ true → lookup v.face.he
 abbrev pub Unchanged : ℕ → Book → ℕ → Type 0
 Unchanged i v n = v.numbers ≡ 1048576 → v.live ≡ true → lookup v.face.held i ≡ none → Aims v.look i → n ≡ word_in v.look 0
 
+-- a stripe's word is held, or has a version over the bound
+abbrev pub IsPast : ℕ → ℕ → Type 0
+IsPast bound n = (n % 2 ≢ 0) ⊎ (2 * bound < n)
+
+-- a stripe shows what a look in flight saw, or it is past the bound
+abbrev pub Moved : ℕ → Book → ℕ → Type 0
+Moved i v n = v.live ≡ true → Aims v.look i → n ≢ word_in v.look 0 → IsPast v.bound n
+
 module _ {S : Type 0} where
   abbrev pub Begins : Call → (Book → Type 0) → Step S → Me S Book → ℕ → Me S Book → Type 0
   Begins call says st m n m' = (m.0.seen ≤ n) × (m' ≡ (begun m.0 call n, m.1)) × says m'.0
@@ -34,7 +42,7 @@ module _ {S : Type 0} where
   Loads st m n m' = m' ≡ (loaded_at m.0.look m.0 (st.word - 4097) n, m.1)
 
   abbrev pub Rechecks : (Book → Type 0) → Step S → Me S Book → ℕ → Me S Book → Type 0
-  Rechecks says st m n m' = (m' ≡ (checked_at m.0.look m.0 n, m.1)) × (m'.0.live ≡ true → says m'.0) × Unchanged (st.word - 1) m.0 n
+  Rechecks says st m n m' = (m' ≡ (checked_at m.0.look m.0 n, m.1)) × (m'.0.live ≡ true → says m'.0) × Unchanged (st.word - 1) m.0 n × Moved (st.word - 1) m.0 n
 
   abbrev pub Finishes : Entry → Step S → Me S Book → ℕ → Me S Book → Type 0
   Finishes e st m n m' = m' ≡ (finished m.0 e, m.1)
@@ -43,7 +51,7 @@ module _ {S : Type 0} where
   Validates a st m n m' = (m' ≡ (validated m.0 a (st.word - 1) n, m.1)) × Untouched (st.word - 1) m.0 n
 
   abbrev pub Takes : ℕ → Step S → Me S Book → ℕ → Me S Book → Type 0
-  Takes a st m n m' = (m' ≡ (tried m.0 (st.word - 1) st.first a n, m.1)) × Unchanged (st.word - 1) m.0 n
+  Takes a st m n m' = (m' ≡ (tried m.0 (st.word - 1) st.first a n, m.1)) × Unchanged (st.word - 1) m.0 n × Moved (st.word - 1) m.0 n
 
   -- the clock is far from its end
   abbrev pub Ticks : Map ℕ → Step S → Me S Book → ℕ → Me S Book → Type 0

@@ -6,6 +6,7 @@ ghost use Rattle.jmodel.specs.Book.{Book, lookup, Unticked, Saw};
 ghost use Rattle.jmodel.specs.Rule.{Snapshot};
 ghost use Rattle.jmodel.specs.Plays.{begun, lost_at, loaded_at, logged, value_in, finished, Aims, IsLoaded, Reads, word_in};
 ghost use Rattle.tx_table.specs.Passes.{book, IsOf, IsSame};
+ghost use Rattle.tx_table.specs.Steps.{IsPast};
 
 use crate::law::{Adding, Begin, Beginning, Checking, Finish, Load, Look, Looking, Recheck};
 use crate::shared::{Pass, Shared, Story};
@@ -95,7 +96,7 @@ impl Pass {
     }
 
     /// Looks again at the stripe of an address that was loaded, and logs the read. A word other than the first look's is a
-    /// conflict, which ends the reading.
+    /// conflict, which ends the reading; it is held, or has a version over the bound.
     pub fn recheck<T: Story>(&mut self, s: &Shared<T>, a: u64) -> Result<(), Conflict>
         requires table { IsOf s.now.table.shared.table_id self.old }
         requires heap { a < s.now.words }
@@ -104,6 +105,7 @@ impl Pass {
         ensures ok { IfOk result (λ _. book self.new ≡ logged (book self.old) a (value_in (book self.old).look)) }
         ensures snapshot { IfOk result (λ _. Snapshot (T.story s.now.table.shared.key.story.value) (book self.new)) }
         ensures err { IfErr result (λ e. (e.word ≢ word_in (book self.old).look 0) × (book self.new ≡ lost_at (book self.old) a e.word)) }
+        ensures past { IfErr result (λ e. IsPast (book self.old).bound e.word) }
         ensures conflict { IfErr result (λ e. (e.address ≡ a) × (e.upto ≡ (book self.old).bound)) }
         ensures sole { (book self.old).numbers ≡ 2 ^ 20 → lookup (book self.old).face.held (a % 4096) ≡ Missing → IsOk result }
     {
@@ -119,6 +121,7 @@ impl Pass {
         ensures ok { IfOk result (λ _. book self.new ≡ logged (book self.old) a (value_in (book self.old).look)) }
         ensures says { IfOk result (λ _. G.says (book self.new)) }
         ensures err { IfErr result (λ e. (e.word ≢ word_in (book self.old).look 0) × (book self.new ≡ lost_at (book self.old) a e.word)) }
+        ensures past { IfErr result (λ e. IsPast (book self.old).bound e.word) }
         ensures conflict { IfErr result (λ e. (e.address ≡ a) × (e.upto ≡ (book self.old).bound)) }
         ensures sole { (book self.old).numbers ≡ 2 ^ 20 → lookup (book self.old).face.held (a % 4096) ≡ Missing → IsOk result }
     {

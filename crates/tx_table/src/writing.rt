@@ -5,6 +5,7 @@ ghost use Rattle.jmodel.specs.History.{Entry};
 ghost use Rattle.jmodel.specs.Book.{Map, lookup, Has, In, Unticked, Ticked, Decided};
 ghost use Rattle.jmodel.specs.Plays.{lost_at, took, ticked_up, decided_up, wrote_back, released, gave_up, Updates, Aims, word_in};
 ghost use Rattle.tx_table.specs.Passes.{book, IsOf, IsSame};
+ghost use Rattle.tx_table.specs.Steps.{IsPast};
 
 use crate::law::{
     Adding, Decide, Keeping, Naming, ReleaseNew, ReleaseOld, Take, Tick, Validate, WriteBack,
@@ -32,6 +33,7 @@ impl Pass {
         ensures same { IsSame self.old self.new }
         ensures ok { IfOk result (λ _. book self.new ≡ took (book self.old) (a % 4096) word a) }
         ensures err { IfErr result (λ e. (e.word ≢ word) × (book self.new ≡ lost_at (book self.old) a e.word)) }
+        ensures past { Aims (book self.old).look (a % 4096) → word ≡ word_in (book self.old).look 0 → IfErr result (λ e. IsPast (book self.old).bound e.word) }
         ensures conflict { IfErr result (λ e. (e.address ≡ a) × (e.upto ≡ (book self.old).bound)) }
         ensures sole { (book self.old).numbers ≡ 2 ^ 20 → lookup (book self.old).face.held (a % 4096) ≡ Missing → Aims (book self.old).look (a % 4096) → word ≡ word_in (book self.old).look 0 → IsOk result }
     {
@@ -52,6 +54,7 @@ impl Pass {
         ensures same { IsSame self.old self.new }
         ensures ok { IfOk result (λ _. book self.new ≡ took (book self.old) (a % 4096) word a) }
         ensures err { IfErr result (λ e. (e.word ≢ word) × (book self.new ≡ lost_at (book self.old) a e.word)) }
+        ensures past { Aims (book self.old).look (a % 4096) → word ≡ word_in (book self.old).look 0 → IfErr result (λ e. IsPast (book self.old).bound e.word) }
         ensures conflict { IfErr result (λ e. (e.address ≡ a) × (e.upto ≡ (book self.old).bound)) }
         ensures sole { (book self.old).numbers ≡ 2 ^ 20 → lookup (book self.old).face.held (a % 4096) ≡ Missing → Aims (book self.old).look (a % 4096) → word ≡ word_in (book self.old).look 0 → IsOk result }
     {
@@ -101,7 +104,7 @@ impl Pass {
         requires live { (book self.old).live ≡ true }
         ensures same { IsSame self.old self.new }
         ensures ok { IfOk result (λ _. book self.new ≡ record (book self.old) { checked = (a % 4096) ∷ (book self.old).checked }) }
-        ensures err { IfErr result (λ e. ((e.word % 2 ≢ 0) ⊎ (2 * (book self.old).bound < e.word)) × (book self.new ≡ lost_at (book self.old) a e.word)) }
+        ensures err { IfErr result (λ e. IsPast (book self.old).bound e.word × (book self.new ≡ lost_at (book self.old) a e.word)) }
         ensures conflict { IfErr result (λ e. (e.address ≡ a) × (e.upto ≡ (book self.old).bound)) }
         ensures sole { (book self.old).numbers ≡ 2 ^ 20 → lookup (book self.old).face.held (a % 4096) ≡ Missing → IsOk result }
     {
@@ -115,7 +118,7 @@ impl Pass {
         requires live { (book self.old).live ≡ true }
         ensures same { IsSame self.old self.new }
         ensures ok { IfOk result (λ _. book self.new ≡ record (book self.old) { checked = (a % 4096) ∷ (book self.old).checked }) }
-        ensures err { IfErr result (λ e. ((e.word % 2 ≢ 0) ⊎ (2 * (book self.old).bound < e.word)) × (book self.new ≡ lost_at (book self.old) a e.word)) }
+        ensures err { IfErr result (λ e. IsPast (book self.old).bound e.word × (book self.new ≡ lost_at (book self.old) a e.word)) }
         ensures conflict { IfErr result (λ e. (e.address ≡ a) × (e.upto ≡ (book self.old).bound)) }
         ensures sole { (book self.old).numbers ≡ 2 ^ 20 → lookup (book self.old).face.held (a % 4096) ≡ Missing → IsOk result }
     {

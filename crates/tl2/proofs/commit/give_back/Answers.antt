@@ -1,4 +1,4 @@
-use Rattle.std.proofs.Common.{◌≡◌, false, refl, sym, inl, ⊎_elim, ◌∙◌, arith}
+use Rattle.std.proofs.Common.{◌≡◌, [], false, refl, sym, inl, ⊎_elim, ◌∙◌, arith}
 use Rattle.jmodel.specs.Book.{Unticked}
 use Rattle.tx_table.specs.Passes.{book}
 use Rattle.tl2.proofs.Stripes.{less, skipped, none_held}
@@ -14,7 +14,7 @@ loop-stripe-preserved g c =
         same = (w.release_old.ensures.same.0 ∙ i.same.0, w.release_old.ensures.same.1 ∙ i.same.1);
         held = less c.args.owners.now c.args.words.now c.loop-stripe.stripe c.args.upto (book c.loop-stripe.pass).face.held i.held;
         over = inl (refl {a = Unticked});
-        rest = rest_given 0 0 (book c.args.pass.now) (book c.loop-stripe.pass) c.loop-stripe.stripe false i.rest;
+        rest = rest_given [] 0 (book c.args.pass.now) (book c.loop-stripe.pass) c.loop-stripe.stripe false i.rest;
       })
       | else-owners-stripe-ne0 w ↦ rw w.pass-is (record {
         same = i.same;

@@ -1,4 +1,4 @@
-use Rattle.std.proofs.Common.{◌≡◌, ◌⊎◌, false}
+use Rattle.std.proofs.Common.{◌≡◌, [], ◌⊎◌, false}
 use Rattle.jmodel.specs.Book.{Unticked}
 use Rattle.tx_table.specs.Passes.{book, IsSame}
 use Rattle.tl2.specs.Commits.{Covers, IsRest}
@@ -9,7 +9,7 @@ invariant-loop-stripe g l = record {
   same : IsSame l.initial.pass l.pass;
   held : Covers l.owners l.words l.stripe l.upto (book l.pass).face.held;
   over : ((book l.pass).face.stage ≡ Unticked) ⊎ ((book l.pass).face.held ≡ (book l.initial.pass).face.held);
-  rest : IsRest 0 0 (book l.initial.pass) (book l.pass);
+  rest : IsRest [] 0 (book l.initial.pass) (book l.pass);
 }
 
 abbrev pub ghost-release_old : goal.ghost-release_old

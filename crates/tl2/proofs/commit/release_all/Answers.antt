@@ -1,4 +1,4 @@
-use Rattle.std.proofs.Common.{◌≡◌, ◌∙◌, inl, refl, slice_index, arith}
+use Rattle.std.proofs.Common.{◌≡◌, [], ◌∙◌, inl, refl, slice_index, arith}
 use Rattle.tx_table.specs.Passes.{book}
 use Rattle.tl2.proofs.Stripes.{less, skipped, none_held}
 use Rattle.tl2.proofs.Rests.{rest_here, rest_released, releasing_one, decided_still, over}
@@ -31,7 +31,7 @@ loop-stripe-preserved g c =
         held = (i.held.0, less c.args.owners.now i.held.0 c.loop-stripe.stripe 4096 (book c.loop-stripe.pass).face.held i.held.1);
         releasing = releasing_one (book c.loop-stripe.pass) c.loop-stripe.stripe;
         left = i.left;
-        rest = rest_released 0 0 (book c.args.pass.now) (book c.loop-stripe.pass) c.loop-stripe.stripe c.requires.stage i.rest;
+        rest = rest_released [] 0 (book c.args.pass.now) (book c.loop-stripe.pass) c.loop-stripe.stripe c.requires.stage i.rest;
       })
       | else-owners-stripe-ne0 w ↦ rw w.pass-is (record {
         same = i.same;

@@ -1,4 +1,4 @@
-use Rattle.std.proofs.Common.{◌≡◌, ℕ, List}
+use Rattle.std.proofs.Common.{◌≡◌, [], ℕ, List}
 use mathlib.Core.Option.{some}
 use Rattle.jmodel.specs.Book.{lookup}
 use Rattle.tx_table.specs.Passes.{book, IsSame}
@@ -11,5 +11,5 @@ invariant-loop-stripe g l = record {
   held : (words : List ℕ) × Covers l.owners words l.stripe 4096 (book l.pass).face.held;
   releasing : IsReleasing (book l.pass);
   left : (b x : ℕ) → lookup (book l.pass).face.left b ≡ some x → ⊥;
-  rest : IsRest 0 0 (book l.initial.pass) (book l.pass);
+  rest : IsRest [] 0 (book l.initial.pass) (book l.pass);
 }

@@ -1,6 +1,7 @@
-use Rattle.std.proofs.Common.{◌≡◌, ◌-◌, ◌+◌, ◌%◌, ℕ, ap, sym, ◌∙◌, slice_index, slice_index_or, arith}
+use Rattle.std.proofs.Common.{◌≡◌, ◌-◌, ◌+◌, ◌%◌, ℕ, ap, sym, ◌∙◌, slice_index, slice_index_or, subst, arith}
 use Rattle.jmodel.specs.Book.{In}
 use Rattle.tx_table.specs.Passes.{book}
+use Rattle.tx_table.specs.Steps.{IsPast}
 use Rattle.tl2.proofs.commit.take_all.Goals as goal
 
 pub take_one-requires-clause-read : goal.take_one-requires-clause-read
@@ -20,4 +21,4 @@ returns-in-Err-clause-conflict g c =
     let first = k.0 in
     let address : c.in-Err.conflict.address ≡ t.0 = omega arith in
     let place : c.in-Err.conflict.address % 4096 ≡ c.loop-stripe.stripe = ap (λ (n : ℕ). n % 4096) address ∙ t.2 in
-    (k.1 ∙ c.loop-stripe.invariant.taking.bound, ap (slice_index c.args.owners.now) place ∙ t.1 ∙ ap (λ (n : ℕ). n + 1) (sym address))
+    (k.1 ∙ c.loop-stripe.invariant.taking.bound, subst (λ (n : ℕ). IsPast n c.in-Err.conflict.word) c.loop-stripe.invariant.taking.bound k.2, ap (slice_index c.args.owners.now) place ∙ t.1 ∙ ap (λ (n : ℕ). n + 1) (sym address))

@@ -29,4 +29,5 @@ returns-in_err-validate-clause-conflict g c =
     let i = c.loop-address.invariant in
     let back = c.from_residual.ensures in
     let here = subst (λ (a : ℕ). In a c.args.reads.now) (sym k.0) (in_at c.args.reads.now c.loop-address.address-index c.loop-address-test.true) in
-    err_says c.from_residual.result back.1 (λ e q. rw q (k.1 ∙ ap (λ (b : Book). b.bound) i.checked.1, here))
+    let bound = ap (λ (b : Book). b.bound) i.checked.1 in
+    err_says c.from_residual.result back.1 (λ e q. rw q (k.1 ∙ bound, rw bound at c.in_err-validate.ensures.err.0, here))

@@ -1,4 +1,4 @@
-use Rattle.std.proofs.Common.{[], sym, ap, ◌∙◌, subst, refl}
+use Rattle.std.proofs.Common.{[], sym, ap, subst, refl}
 use mathlib.Core.Option.{none}
 use Rattle.jmodel.specs.Book.{Book}
 use Rattle.tx_table.specs.Passes.{book}

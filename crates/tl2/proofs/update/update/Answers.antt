@@ -1,7 +1,8 @@
-use Rattle.std.proofs.Common.{◌≡◌, ◌%◌, ℕ, true, refl, sym, ap, inl, inr, ◌∙◌, reverse, slice_index_or, false, arith}
+use Rattle.std.proofs.Common.{◌≡◌, ◌%◌, ℕ, true, refl, sym, ap, inl, inr, ◌∙◌, reverse, slice_index_or, false, subst, arith}
 use Rattle.jmodel.specs.Book.{Book, pairs}
 use Rattle.jmodel.specs.Plays.{keys, ticked_up, lost_at}
 use Rattle.tx_table.specs.Passes.{book}
+use Rattle.tx_table.specs.Steps.{IsPast}
 use Rattle.tl2.specs.Commits.{Covers}
 use Rattle.tl2.specs.Plans.{IsOwning, IsLeft}
 use Rattle.tl2.proofs.Updating.{each_read, covers_same, owners_are, due_held, held_due, newest_some, newest_fits, some_held, ticked_then, ticked_lost, all_safe, updates, added, wanted_due}
@@ -45,7 +46,7 @@ returns-in-Err-clause-err g c =
     lost.1 ∙ ap (λ (b : Book). lost_at (record b { checked = lost.0 }) c.in-Err.conflict.address c.in-Err.conflict.word) c.tick_for-at.ensures.book in
     let same : (book c.validate_all.new.pass).face.held ≡ (book c.take_all.new.pass).face.held = ap (λ (b : Book). b.face.held) is in
     let over = c.give_back.ensures.over (λ e. some_held w c.deref.result.now _ (book c.take_all.new.pass).face.held c.requires.any o ok.1 (sym same ∙ e)) in
-    (1, omega arith, ticked_lost c.tick_for-at.result (pairs w) lost.0 c.in-Err.conflict.address c.in-Err.conflict.word (book c.args.pass.now) (book c.take_all.new.pass) (book c.validate_all.new.pass) (book c.give_back.new.pass) ok.0 is c.give_back.ensures.rest over)
+    (1, omega arith, ticked_lost c.tick_for-at.result (pairs w) lost.0 c.in-Err.conflict (book c.args.pass.now) (book c.take_all.new.pass) (book c.validate_all.new.pass) (book c.give_back.new.pass) (c.in-Err.ensures.conflict.0 ∙ ap (λ (b : Book). b.bound) c.tick_for-at.ensures.book) ok.0 is c.give_back.ensures.rest over)
 
 pub store_all-requires : goal.store_all-requires
 store_all-requires g c κs within =
@@ -116,12 +117,13 @@ pub returns-in-Err-clause-conflict : goal.returns-in-Err-clause-conflict
 returns-in-Err-clause-conflict g c =
     let ok = c.in_ok-take_all.ensures.ok in
     let k = c.in-Err.ensures.conflict in
-    (k.0 ∙ ap (λ (b : Book). b.bound) c.tick_for-at.ensures.book ∙ ok.0.bound, inr k.1)
+    let bound = ap (λ (b : Book). b.bound) c.tick_for-at.ensures.book ∙ ok.0.bound in
+    (k.0 ∙ bound, subst (λ (n : ℕ). IsPast n c.in-Err.conflict.word) bound k.1, inr k.2)
 
 pub returns-in_err-take_all-clause-conflict : goal.returns-in_err-take_all-clause-conflict
 returns-in_err-take_all-clause-conflict g c =
     let k = c.in_err-take_all.ensures.conflict in
     let o : IsOwning (pairs (reverse c.args.writes.now)) c.deref.result.now = rw c.deref.ensures.value c.requires.plan.owning in
     let back = c.from_residual.ensures in
-    let due = wanted_due (pairs (reverse c.args.writes.now)) c.deref.result.now _ o k.1 in
-    err_says c.from_residual.result back.1 (λ e q. rw q (k.0, inl due))
+    let due = wanted_due (pairs (reverse c.args.writes.now)) c.deref.result.now _ o k.2 in
+    err_says c.from_residual.result back.1 (λ e q. rw q (k.0, k.1, inl due))

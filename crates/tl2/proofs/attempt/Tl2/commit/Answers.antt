@@ -8,6 +8,7 @@ use Rattle.jmodel.specs.Book.{Map, Has, In, pairs}
 use Rattle.tx_core.specs.declared.engine.Conflict.{Conflict}
 use Rattle.tx_table.specs.Passes.{book}
 use Rattle.tl2.specs.Commits.{IsAdded, update_of}
+use Rattle.tl2.specs.Conflicts.{Meets}
 use Rattle.tl2.proofs.Entries.{inside, update_fits, adds_update}
 use Rattle.tl2.proofs.Updating.{all_reversed}
 use Rattle.tl2.proofs.attempt.Tl2.commit.Goals as goal
@@ -57,10 +58,11 @@ returns-in-Ok-done-clause-run g c = λ h n r w s.
 pub returns-in-Err-clause-seen : goal.returns-in-Err-clause-seen
 returns-in-Err-clause-seen g c = λ e q.
     let k = c.in-Err.ensures.conflict in
+    let rest = c.in-Err.ensures.err in
     let same : c.in-Err.conflict ≡ e = cc in
     let at = ap (λ (ws : Log). pairs (reverse ws)) c.deref-3.ensures.value in
-    subst (λ (d : Conflict). (d.upto ≡ (book c.args.self.now.pass).bound) × (Has (pairs (reverse c.args.self.now.writes.items)) d.address ⊎ In d.address c.args.self.now.reads.items)) same (
-      k.0,
+    subst (λ (d : Conflict). Meets (book c.args.self.now.pass) (book c.update-done.new.pass) d × (Has (pairs (reverse c.args.self.now.writes.items)) d.address ⊎ In d.address c.args.self.now.reads.items)) same (
+      record { upto = k.0; past = k.1; kept = rest.2.lost },
       ⊎_elim (λ (h : Has (pairs (reverse c.deref-3.result.now)) c.in-Err.conflict.address). inl (subst (λ (m : Map ℕ). Has m c.in-Err.conflict.address) at h))
-          (λ (i : In c.in-Err.conflict.address c.deref-4.result.now). inr (subst (λ (rs : List ℕ). In c.in-Err.conflict.address rs) c.deref-4.ensures.value i)) k.1,
+          (λ (i : In c.in-Err.conflict.address c.deref-4.result.now). inr (subst (λ (rs : List ℕ). In c.in-Err.conflict.address rs) c.deref-4.ensures.value i)) k.2,
     )

@@ -3,10 +3,10 @@ use Rattle.tx_table.specs.Passes.{book}
 use Rattle.tx_table.specs.Trials.{the_call}
 use Rattle.tl2.specs.Standing.{Awaits}
 use Rattle.tl2.proofs.Trials.{awaits_next, waits_more}
-use Rattle.tl2.proofs.tests.adds.Goals as goal
+use Rattle.tl2.proofs.tests.tries.Goals as goal
 
-pub adds_open-requires-clause-stands : goal.adds_open-requires-clause-stands
-adds_open-requires-clause-stands g c =
+pub changes_all-requires-clause-stands : goal.changes_all-requires-clause-stands
+changes_all-requires-clause-stands g c =
     let s = c.requires.stands in
     (s.0, s.1, [], [], c.begin.ensures.run s.0 s.1 (c.set_call.ensures.stands s.0 s.1 s.2 s.3 s.4))
 
@@ -51,7 +51,7 @@ returns-in-Ok-clause-waits g c =
     let set : Awaits (the_call c.set_call.new.self.call.value.lane c.set_call.new.self.call.value.index) (book c.set_call.new.self.pass) call next.0 =
     rw (c.set_call.ensures.call, c.of.ensures, c.set_call.ensures.pass) next.1 in
     let awaits = c.in_default.ensures.awaits call next.0 (c.begin.ensures.awaits call next.0 set) in
-    waits_more c.args.lane c.args.index next.0 (book c.adds_open.new.tx.pass) (book c.commit.new.self.pass) (c.in-Ok.ensures.region call next.0 awaits)
+    waits_more c.args.lane c.args.index next.0 (book c.changes_all.new.tx.pass) (book c.commit.new.self.pass) (c.in-Ok.ensures.region call next.0 awaits)
 
 pub returns-in-Err-commit-clause-stands : goal.returns-in-Err-commit-clause-stands
 returns-in-Err-commit-clause-stands g c =

@@ -2,7 +2,7 @@ use Rattle.std.proofs.Common.{◌+◌}
 use Rattle.tx_table.specs.Passes.{book}
 use Rattle.tl2.specs.Trials.{StandsSomehow}
 use Rattle.tl2.proofs.Trials.{either_way}
-use Rattle.tl2.proofs.tests.adds_open.Goals as goal
+use Rattle.tl2.proofs.tests.changes.Goals as goal
 
 pub returns-in-Err-clause-stands : goal.returns-in-Err-clause-stands
 returns-in-Err-clause-stands g c = let s = c.requires.stands in (s.0, s.1 + 1, s.2, s.3, c.in-Err.ensures.run s.0 s.1 s.2 s.3 s.4)
