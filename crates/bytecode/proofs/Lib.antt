@@ -3,3 +3,9 @@ pub mod NumberLaws
 pub mod FormLaws
 pub mod SwitchLaws
 pub mod CodeLaws
+pub mod SizeLaws
+pub mod BlockLaws
+pub mod TableLaws
+pub mod MovedLaws
+pub mod PutLaws
+pub mod RelocationLaws

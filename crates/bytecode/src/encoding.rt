@@ -46,8 +46,8 @@ fn put_s4(out: &mut Bytes, n: i32) -> Result<(), AllocError>
     put_u4(out, n.cast_unsigned())
 }
 
-// How far a target lies behind a pc.
-fn distance(pc: u16, target: u16) -> i32
+/// How far a target lies behind a pc.
+pub fn distance(pc: u16, target: u16) -> i32
     ensures { result ≡ distance_of pc target }
 {
     i32::from(target) - i32::from(pc)
@@ -313,7 +313,8 @@ fn put_operands(out: &mut Bytes, pc: u16, form: Form, operands: &Operands) -> Re
     }
 }
 
-fn put_instr(out: &mut Bytes, i: &Instr) -> Result<(), AllocError>
+/// Puts an instruction's bytes behind others, with padding of 0.
+pub fn put_instr(out: &mut Bytes, i: &Instr) -> Result<(), AllocError>
     requires { IsInstr i.now }
     ensures { OnOk result (out.new ≡ out.old ++ text i.now) }
 {

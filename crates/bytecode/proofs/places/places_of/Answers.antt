@@ -1,0 +1,14 @@
+use Rattle.std.proofs.Common.{List, ◌∙◌, ap, arith}
+use Rattle.jmodel.specs.declared.instruction.Instr.{Instr}
+use Rattle.jmodel.specs.Relocation.{behind}
+use Rattle.bytecode.specs.Within.{within}
+use Rattle.bytecode.proofs.TableLaws.{filled_next}
+use Rattle.bytecode.proofs.places.places_of.Goals as goal
+
+pub loop-b-preserved : goal.loop-b-preserved
+loop-b-preserved c =
+    let blocks = c.args.blocks.now in
+    let b = c.b-item.result in
+    let l = c.loop-b in
+    let after = c.behind.ensures ∙ ap (λ (is : List Instr). within (behind l.at is)) c.instrs.ensures in
+    rw c.unwrap_or-at.ensures (filled_next blocks l.b-index b l.starts.items c.args.end l.at c.from.result c.behind.result (omega arith) c.b-item.is (omega arith) (c.from.ensures ∙ c.pc.ensures) after l.invariant)
