@@ -16,7 +16,7 @@ use std::thread::{Threads, map_vec, yield_now};
 use tx_table::{Pass, Shared, Story};
 
 /// How many moves each lane makes.
-const MOVES: u64 = 200;
+const MOVES: u64 = 5_000;
 
 /// A story of these words, sixteen lanes, and any entries.
 #[derive(Drop)]
