@@ -215,3 +215,12 @@ IsOutcome words files before now last NotBuilt = IsNotBuilt words files
 -- bytes were appended, where they are told
 abbrev pub Appends : Option (List ℕ) → Option (List ℕ) → List ℕ → Type 0
 Appends before now text = now ≡ append_known before text
+
+-- What was written is a front of what the command that the words ask for is printed as.
+pub record IsCut (words : List (String Global)) (files : Option Files) (faults faults' : ℕ) (last : Option Call) (before now : Option (List ℕ)) : Type 0 where
+  pub outcome : Outcome
+  pub is_outcome : IsOutcome words files faults faults' last outcome
+  pub text : List ℕ
+  pub is_text : IsTextOf outcome text
+  pub many : ℕ
+  pub front : Appends before now (take many text)

@@ -4,7 +4,7 @@ ghost use Rattle.deuce_io.specs.Fault.{Rose};
 ghost use Rattle.jmodel.specs.declared.refusal.Refusal.{Refusal};
 ghost use Rattle.jmodel.specs.Output.{◌and◌, refusal_text, error_text};
 ghost use Rattle.deuce.specs.Command.{IsNoCommand};
-ghost use Rattle.deuce.specs.Ending.{IsOutcome, IsJournalOfWords, IsBadClassOfWords, IsNotBuilt, CanRunWords, FailedOutside, Appends, status_of};
+ghost use Rattle.deuce.specs.Ending.{IsOutcome, IsJournalOfWords, IsBadClassOfWords, IsNotBuilt, CanRunWords, FailedOutside, Appends, IsCut, status_of};
 
 use crate::inputs::{InputEnd, read_inputs};
 use crate::outcome::{Outcome, text_of};
@@ -24,7 +24,7 @@ use std::alloc::Global;
 /// | 3 | the file is no class file; its path and its first fault are printed |
 /// | 8 | a list or a read of this run failed |
 /// | 9 | the sink failed; a front of the output was written |
-/// | 10 | memory ran out |
+/// | 10 | memory ran out; nothing was written, or a front of the output |
 /// | 12 | the folder hasn't one class file alone, or the class or the script isn't of the form that is built so far |
 pub fn deuce<F: Folder, O: Sink>(alloc: Global, words: &[String], folder: &mut F, out: &mut O) -> u8
     // Where the words are of no form, that is said, unless it can't be written or memory runs out.
@@ -49,6 +49,11 @@ pub fn deuce<F: Folder, O: Sink>(alloc: Global, words: &[String], folder: &mut F
         × FailedOutside words.now path (F.faults folder.old) (F.faults folder.new) (F.failed folder.new)
         × Appends (O.written out.old) (O.written out.new) (error_text (codes "8") path) }
     ensures sink { result ≡ 9 → Rose (O.faults out.old) (O.faults out.new) }
+
+    // What a sink took that failed is a front of what was to be printed; where memory ran out, it took that or nothing.
+    ensures cut { result ≡ 9 → IsCut words.now (F.files folder.old) (F.faults folder.old) (F.faults folder.new) (F.failed folder.new) (O.written out.old) (O.written out.new) }
+    ensures cut_or_none { result ≡ 10 → (O.written out.new ≡ O.written out.old)
+        ⊎ IsCut words.now (F.files folder.old) (F.faults folder.old) (F.faults folder.new) (F.failed folder.new) (O.written out.old) (O.written out.new) }
 
     // What can be run is run, unless the folder or the sink fails or memory runs out.
     ensures complete { CanRunWords words.now (F.files folder.old) → (result ≡ 0) ⊎ ((result ≡ 8) ⊎ ((result ≡ 9) ⊎ (result ≡ 10))) }
