@@ -4,11 +4,14 @@
 
 mod adding;
 mod attributes;
+mod by_index;
 mod class_file;
 mod code;
 mod constants;
 mod descriptor;
 pub mod fields;
+mod index;
+mod keys;
 mod meanings;
 mod names;
 mod pool;
