@@ -28,4 +28,6 @@ pub use references::{Descriptors, want_descriptor};
 pub use signature::Descriptor;
 
 #[cfg(test)]
+mod index_tests;
+#[cfg(test)]
 mod tests;
