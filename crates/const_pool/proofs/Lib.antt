@@ -10,3 +10,9 @@ pub mod Signatures
 pub mod Named
 pub mod Parts
 pub mod Reading
+pub mod KeyTests
+pub mod Indexes
+pub mod Grown
+pub mod SameMeaning
+pub mod FirstLemmas
+pub mod TextTests

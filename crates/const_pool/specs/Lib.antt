@@ -1,3 +1,5 @@
 pub mod Uses
 pub mod Kinds
 pub mod Results
+pub mod Firsts
+pub mod Indexed

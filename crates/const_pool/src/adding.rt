@@ -154,11 +154,26 @@ fn settle(pool: &mut Pool, len: usize, outcome: Result<u16, Halt>) -> Result<u16
     outcome
 }
 
+fn add_member(
+    kind: Kind,
+    pool: &mut Pool,
+    class: &[u8],
+    name: &[u8],
+    descriptor: &[u8],
+) -> Result<u16, Halt>
+    ensures adds { Adds result pool.old pool.new (member_of (parts_of kind) (make_of kind) pool.old class.now name.now descriptor.now) }
+{
+    let len = pool.len();
+    let outcome = put_member(kind, pool, class, name, descriptor);
+    settle(pool, len, outcome)
+}
+
 impl Pool {
     /// The index of the text.
     pub fn add_utf8(&mut self, b: &[u8]) -> Result<u16, Halt>
         ensures adds { Adds result self.old self.new (text_of self.old b.now) }
     {
+        self.extend_index()?;
         let len = self.len();
         let outcome = put_text(self, b);
         settle(self, len, outcome)
@@ -168,6 +183,7 @@ impl Pool {
     pub fn add_class(&mut self, name: &[u8]) -> Result<u16, Halt>
         ensures adds { Adds result self.old self.new (class_of self.old name.now) }
     {
+        self.extend_index()?;
         let len = self.len();
         let outcome = put_class(self, name);
         settle(self, len, outcome)
@@ -177,6 +193,7 @@ impl Pool {
     pub fn add_integer(&mut self, n: i32) -> Result<u16, Halt>
         ensures adds { Adds result self.old self.new (integer_of self.old n) }
     {
+        self.extend_index()?;
         let len = self.len();
         let outcome = put_integer(self, n);
         settle(self, len, outcome)
@@ -186,6 +203,7 @@ impl Pool {
     pub fn add_long(&mut self, n: i64) -> Result<u16, Halt>
         ensures adds { Adds result self.old self.new (long_of self.old n) }
     {
+        self.extend_index()?;
         let len = self.len();
         let outcome = put_long(self, n);
         settle(self, len, outcome)
@@ -195,18 +213,16 @@ impl Pool {
     pub fn add_field(&mut self, class: &[u8], name: &[u8], descriptor: &[u8]) -> Result<u16, Halt>
         ensures adds { Adds result self.old self.new (field_of self.old class.now name.now descriptor.now) }
     {
-        let len = self.len();
-        let outcome = put_member(Kind::Field, self, class, name, descriptor);
-        settle(self, len, outcome)
+        self.extend_index()?;
+        add_member(Kind::Field, self, class, name, descriptor)
     }
 
     /// The index of a reference to the method of a class.
     pub fn add_method(&mut self, class: &[u8], name: &[u8], descriptor: &[u8]) -> Result<u16, Halt>
         ensures adds { Adds result self.old self.new (method_of self.old class.now name.now descriptor.now) }
     {
-        let len = self.len();
-        let outcome = put_member(Kind::Method, self, class, name, descriptor);
-        settle(self, len, outcome)
+        self.extend_index()?;
+        add_member(Kind::Method, self, class, name, descriptor)
     }
 
     /// The index of a reference to the method of an interface.
@@ -218,8 +234,7 @@ impl Pool {
     ) -> Result<u16, Halt>
         ensures adds { Adds result self.old self.new (interface_method_of self.old class.now name.now descriptor.now) }
     {
-        let len = self.len();
-        let outcome = put_member(Kind::InterfaceMethod, self, class, name, descriptor);
-        settle(self, len, outcome)
+        self.extend_index()?;
+        add_member(Kind::InterfaceMethod, self, class, name, descriptor)
     }
 }

@@ -4,11 +4,14 @@
 
 mod adding;
 mod attributes;
+mod by_index;
 mod class_file;
 mod code;
 mod constants;
 mod descriptor;
 pub mod fields;
+mod index;
+mod keys;
 mod meanings;
 mod names;
 mod pool;
@@ -24,5 +27,7 @@ pub use pool::Pool;
 pub use references::{Descriptors, want_descriptor};
 pub use signature::Descriptor;
 
+#[cfg(test)]
+mod index_tests;
 #[cfg(test)]
 mod tests;

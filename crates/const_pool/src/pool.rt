@@ -5,9 +5,12 @@ ghost use Rattle.jmodel.specs.declared.refusal.Halt.TheVariants as halts;
 ghost use Rattle.jmodel.specs.declared.refusal.Refusal.TheVariants.{PoolFull};
 ghost use Rattle.jmodel.specs.PoolAdding.{Puts, IsLonger, put as put_entries};
 ghost use Rattle.jmodel.specs.Reading.{Gives};
+ghost use Rattle.const_pool.specs.Indexed.{IsIndexed};
 ghost use Rattle.jmodel.specs.Pool.{entry, utf8 as text_of, class_name as class_of, member_name, MemberName};
 ghost use Rattle.jmodel.specs.PoolReading.{entry_at, utf8_at, class_at, name_and_type_at};
 
+use crate::by_index;
+use crate::index::Index;
 use jmodel::{Bytes, Constant, Halt, Refusal};
 use std::alloc::{AllocError, Global};
 use std::marker::Model;
@@ -16,6 +19,7 @@ use std::marker::Model;
 #[derive(Debug, Drop)]
 pub struct Pool {
     entries: Vec<Constant>,
+    index: Index,
 }
 
 impl Model for Pool {
@@ -27,8 +31,9 @@ impl Model for Pool {
     ghost view = { λ p. p.entries.items };
 
     ghost use Rattle.std.specs.Prelude.{◌<◌, length};
+    ghost use Rattle.const_pool.specs.Indexed.{IsIndexed};
 
-    ghost invariant = { λ p. length p.entries.items < 65535 };
+    ghost invariant = { λ p. (length p.entries.items < 65535) × IsIndexed p.index p.entries.items };
 }
 
 // Refusal of an entry for which there is no room. The caller knows the class.
@@ -45,6 +50,7 @@ impl Pool {
     {
         Pool {
             entries: Vec::new(alloc),
+            index: Index::new(alloc),
         }
     }
 
@@ -53,7 +59,8 @@ impl Pool {
         requires { length entries.items < 65535 }
         ensures { result ≡ entries.items }
     {
-        Pool { entries }
+        let index = Index::new(*entries.allocator());
+        Pool { entries, index }
     }
 
     /// Puts an entry at the end, with the next index. After an error nothing has changed.
@@ -110,7 +117,25 @@ impl Pool {
     pub(crate) fn truncate(&mut self, len: usize)
         ensures { self.new ≡ take len self.old }
     {
+        if len < self.index.count() {
+            self.index = Index::new(self.allocator());
+        }
         self.entries.truncate(len);
+    }
+
+    // The index, which knows the entries at the front.
+    pub(crate) fn index(&self) -> &Index
+        ensures { IsIndexed result.now self.now }
+    {
+        &self.index
+    }
+
+    // Takes the other entries into the index.
+    pub(crate) fn extend_index(&mut self) -> Result<(), AllocError>
+        ensures { self.new ≡ self.old }
+    {
+        let alloc = self.allocator();
+        self.index.extend(alloc, self.entries.as_slice())
     }
 
     /// The entries, that of index 1 first.
@@ -125,30 +150,21 @@ impl Pool {
     pub fn entry(&self, i: u16) -> Option<&Constant>
         ensures { option_copied result ≡ entry self.now i }
     {
-        if i == 0 {
-            return None;
-        }
-        self.entries.as_slice().get(i as usize - 1)
+        by_index::entry(self.entries.as_slice(), i)
     }
 
     /// The bytes of a Utf8, None where the index isn't a Utf8's. Takes no memory.
     pub fn utf8(&self, i: u16) -> Option<&Bytes>
         ensures { option_copied result ≡ text_of self.now i }
     {
-        match self.entry(i) {
-            Some(Constant::Utf8(bytes)) => Some(bytes),
-            _ => None,
-        }
+        by_index::text(self.entries.as_slice(), i)
     }
 
     /// The name of a Class, None where the index isn't a Class's that has a name. Takes no memory.
     pub fn class_name(&self, i: u16) -> Option<&Bytes>
         ensures { option_copied result ≡ class_of self.now i }
     {
-        match self.entry(i) {
-            Some(Constant::Class(name)) => self.utf8(*name),
-            _ => None,
-        }
+        by_index::class_name(self.entries.as_slice(), i)
     }
 
     /// The entry of an index that is to be there. Refused as BadIndex where it is 0, past the end or a second place.

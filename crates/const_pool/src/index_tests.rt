@@ -1,0 +1,79 @@
+use super::*;
+use jmodel::Bytes;
+use std::alloc::{AllocError, Global};
+use std::test::*;
+
+fn text(alloc: Global, text: &[u8]) -> Result<Constant, AllocError> {
+    Ok(Constant::Utf8(Bytes::from_slice(alloc, text)?))
+}
+
+// Two equal texts, and a class, a pair and a reference that name the second.
+fn twice(alloc: Global) -> Result<Pool, AllocError> {
+    let mut entries = Vec::new(alloc);
+    entries.push(Constant::Class(4))?;
+    entries.push(Constant::Field { class: 1, pair: 5 })?;
+    entries.push(text(alloc, b"A")?)?;
+    entries.push(text(alloc, b"A")?)?;
+    entries.push(Constant::NameAndType {
+        name: 4,
+        descriptor: 3,
+    })?;
+    entries.push(Constant::Class(3))?;
+    Ok(Pool::from_entries(entries))
+}
+
+#[test]
+fn finds_the_first_of_two(rt: HostRuntime) -> Result<(), Fail> {
+    let mut pool = twice(rt.alloc())?;
+    assert_eq!(rt; pool.add_class(b"A")?, 1);
+    assert_eq!(rt; pool.add_utf8(b"A")?, 3);
+    assert_eq!(rt; pool.add_field(b"A", b"A", b"A")?, 2);
+    assert_eq!(rt; pool.add_method(b"A", b"A", b"A")?, 7);
+    assert_eq!(rt; pool.add_class(b"A")?, 1);
+    assert_eq!(rt; pool.entries().len(), 7);
+    Ok(())
+}
+
+#[test]
+fn tells_kinds_apart(rt: HostRuntime) -> Result<(), Fail> {
+    let mut pool = Pool::new(rt.alloc());
+    assert_eq!(rt; pool.add_utf8(b"A")?, 1);
+    assert_eq!(rt; pool.add_long(1)?, 2);
+    assert_eq!(rt; pool.add_integer(1)?, 4);
+    assert_eq!(rt; pool.add_field(b"A", b"n", b"I")?, 9);
+    assert_eq!(rt; pool.add_method(b"A", b"n", b"I")?, 10);
+    assert_eq!(rt; pool.add_interface_method(b"A", b"n", b"I")?, 11);
+    assert_eq!(rt; pool.add_field(b"A", b"I", b"n")?, 13);
+    assert_eq!(rt; pool.add_integer(1)?, 4);
+    assert_eq!(rt; pool.add_long(1)?, 2);
+    assert_eq!(rt; pool.add_method(b"A", b"n", b"I")?, 10);
+    assert_eq!(rt; pool.add_field(b"A", b"n", b"I")?, 9);
+    Ok(())
+}
+
+#[test]
+fn takes_in_what_is_put(rt: HostRuntime) -> Result<(), Fail> {
+    let mut pool = Pool::new(rt.alloc());
+    assert_eq!(rt; pool.add_utf8(b"A")?, 1);
+    pool.push(text(rt.alloc(), b"B")?)?;
+    pool.push(Constant::Class(2))?;
+    assert_eq!(rt; pool.add_class(b"B")?, 3);
+    assert_eq!(rt; pool.add_utf8(b"B")?, 2);
+    assert_eq!(rt; pool.add_utf8(b"C")?, 4);
+    Ok(())
+}
+
+// A class that names an entry behind the end means what is put there later.
+#[test]
+fn waits_for_what_is_named(rt: HostRuntime) -> Result<(), Fail> {
+    let mut pool = Pool::new(rt.alloc());
+    pool.push(Constant::Class(3))?;
+    assert_eq!(rt; pool.add_utf8(b"B")?, 2);
+    assert_eq!(rt; pool.add_class(b"B")?, 3);
+    let mut pool = Pool::new(rt.alloc());
+    pool.push(Constant::Class(3))?;
+    assert_eq!(rt; pool.add_utf8(b"B")?, 2);
+    assert_eq!(rt; pool.add_utf8(b"A")?, 3);
+    assert_eq!(rt; pool.add_class(b"A")?, 1);
+    Ok(())
+}
