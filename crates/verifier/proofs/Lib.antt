@@ -1,0 +1,9 @@
+pub mod Lists
+pub mod Outcome
+pub mod Flow
+pub mod Narrow
+pub mod Numbers
+pub mod Outcomes
+pub mod Infers
+pub mod Growth
+pub mod Pours

@@ -1,0 +1,3 @@
+pub mod Effect
+pub mod Search
+pub mod Answer
