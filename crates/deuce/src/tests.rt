@@ -4,6 +4,8 @@ use deuce_io::{Folder, IoEnd, MemFolder, MemSink};
 use std::alloc::{AllocError, Global};
 use std::test::Fail;
 
+mod rewritten;
+
 /// The class of the example, as a compiler wrote it.
 const COUNTER: [u8; 201] = [
     0xca, 0xfe, 0xba, 0xbe, 0x00, 0x00, 0x00, 0x31, 0x00, 0x0e, 0x07, 0x00, 0x02, 0x01, 0x00, 0x07,
