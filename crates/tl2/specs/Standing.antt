@@ -1,8 +1,8 @@
 -- What an engine over a table stands for.
-use Rattle.std.specs.Prelude.{◌≡◌, ◌≢◌, ◌<◌, ◌≤◌, ◌%◌, ℕ, true, List, All, length, reverse}
+use Rattle.std.specs.Prelude.{◌≡◌, ◌≢◌, ◌<◌, ◌≤◌, ◌%◌, ℕ, true, None, List, All, length, reverse}
 use mathlib.Core.Option.{some}
 use Rattle.jmodel.specs.declared.op.Access.{Access}
-use Rattle.jmodel.specs.Attempt.{Log}
+use Rattle.jmodel.specs.Attempt.{Log, access, written}
 use Rattle.jmodel.specs.History.{Call, Entry}
 use Rattle.jmodel.specs.Book.{Book, Region, Saw, Had, lookup, pairs, IsOfLane}
 use Rattle.jmodel.specs.Rule.{Succeeds}
@@ -15,6 +15,14 @@ IsAt words Outside v = ⊥
 IsAt words Inside v = Unit {0}
 IsAt words (Looked a) v = (a < words) × ((version : ℕ) × (v.look ≡ Saw (a % 4096) version) × (version ≤ v.bound))
 IsAt words (Loaded l) v = (l.address < words) × ((version : ℕ) × (v.look ≡ Had (l.address % 4096) version l.address l.word) × (version ≤ v.bound))
+
+-- a look at an address came before, unless the attempt has written it
+abbrev pub IsLooked : ℕ → At → List Access → ℕ → Type 0
+IsLooked words at kept a = a < words → written (reverse kept) a ≡ None → at ≡ Looked a
+
+-- and after it the load that gave x
+abbrev pub IsLoaded : ℕ → At → List Access → ℕ → ℕ → Type 0
+IsLoaded words at kept a x = a < words → written (reverse kept) a ≡ None → at ≡ Loaded (access a x)
 
 -- an attempt at the call c is open
 abbrev pub IsOpen : ℕ → At → Call → Book → Type 0

@@ -7,7 +7,7 @@ use tx_core::{Conflict, Engine, TxEnd};
 impl<'a, T: Ruled, C: Calling> Engine for Tl2<'a, T, C> {
     ghost use Rattle.std.specs.Prelude.{◌≡◌, ◌^◌};
     ghost use Rattle.tx_table.specs.Passes.{book};
-    ghost use Rattle.tl2.specs.Standing.{IsOpen, Awaits, Stands};
+    ghost use Rattle.tl2.specs.Standing.{IsOpen, IsLooked, IsLoaded, Awaits, Stands};
 
     ghost stands = { λ s h n r w. Stands s.shared.now.words s.at s.writes.items (book s.pass) h n r w };
 
@@ -20,6 +20,10 @@ impl<'a, T: Ruled, C: Calling> Engine for Tl2<'a, T, C> {
     ghost is_shared = { Unit {0} };
 
     ghost clock = { λ s. (book s.pass).ticks };
+
+    ghost looked = { λ s a. IsLooked s.shared.now.words s.at s.writes.items a };
+
+    ghost loaded = { λ s a x. IsLoaded s.shared.now.words s.at s.writes.items a x };
 
     // The pass holds every number, so no other pass of the table is in use.
     ghost is_alone = { λ s. (book s.pass).numbers ≡ 2 ^ 20 };

@@ -9,7 +9,7 @@ ghost use Rattle.jmodel.specs.Rule.{Snapshot as Learns};
 ghost use Rattle.tx_core.specs.Engine.{raised, Adds, MayEnd, IsOfWrites};
 ghost use Rattle.tx_table.specs.Passes.{book, IsOf, IsSame, IsKin};
 ghost use Rattle.tl2.specs.Conflicts.{Meets};
-ghost use Rattle.tl2.specs.Standing.{IsOpen, Awaits, Stands};
+ghost use Rattle.tl2.specs.Standing.{IsOpen, IsLooked, IsLoaded, Awaits, Stands};
 
 use crate::attempt::{At, Calling, Ruled, Tl2};
 use jmodel::op::Access;
@@ -83,7 +83,7 @@ impl<'a, T: Ruled, C: Calling> Tl2<'a, T, C> {
         ensures seen { IfErr result (λ e. (e.address ≡ address) × Meets (book self.old.pass) (book self.new.pass) e) }
         ensures sole { (book self.old.pass).numbers ≡ 2 ^ 20 → IsOk result }
         ensures same { IsSame self.old.pass self.new.pass × IsKin (book self.old.pass) (book self.new.pass) }
-        ensures looked { address < self.old.shared.now.words → written (reverse self.old.writes.items) address ≡ None → IfOk result (λ _. self.new.at ≡ At.Looked address) }
+        ensures looked { IfOk result (λ _. IsLooked self.new.shared.now.words self.new.at self.new.writes.items address) }
     {
         if address >= self.shared.words || self.written(address).is_some() {
             return Ok(());
@@ -110,7 +110,7 @@ impl<'a, T: Ruled, C: Calling> Tl2<'a, T, C> {
         ensures awaits { (c : Call) (used : ℕ) → Awaits (C.call self.old.call.value) (book self.old.pass) c used → Awaits (C.call self.new.call.value) (book self.new.pass) c used }
         ensures ticks { (book self.new.pass).ticks ≡ (book self.old.pass).ticks }
         ensures same { IsSame self.old.pass self.new.pass × IsKin (book self.old.pass) (book self.new.pass) }
-        ensures loaded { self.old.at ≡ At.Looked address → written (reverse self.old.writes.items) address ≡ None → self.new.at ≡ At.Loaded (access address result) }
+        ensures loaded { IsLooked self.old.shared.now.words self.old.at self.old.writes.items address → IsLoaded self.new.shared.now.words self.new.at self.new.writes.items address result }
     {
         if let Some(word) = self.written(address) {
             return word;

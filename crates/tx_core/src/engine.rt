@@ -52,6 +52,12 @@ pub trait Engine {
     /// No other engine has a part of the words now, so no attempt meets a conflict. Nothing is said where this is left out.
     ghost is_alone: { Self → Type 0 } = { λ _. ⊥ };
 
+    /// What a look before a read of an address has left.
+    ghost looked: { Self → ℕ → Type 0 } = { λ _ _. Unit {0} };
+
+    /// What is known of the word that was given for an address after the look.
+    ghost loaded: { Self → ℕ → ℕ → Type 0 } = { λ _ _ _. Unit {0} };
+
     /// Begins an attempt. No memory.
     fn begin(&mut self)
         ensures run { (h : List Entry) (n : ℕ) → stands self.old h n [] [] → stands self.new h n [] [] }
@@ -67,6 +73,7 @@ pub trait Engine {
             → MatchResult result (λ _. stands self.new h n r w) (λ _. stands self.new h (n + 1) r w) }
         ensures open { IfOk result (λ _. is_open self.new) }
         ensures awaits { (c : Call) (used : ℕ) → awaits self.old c used → awaits self.new c used }
+        ensures looked { IfOk result (λ _. looked self.new address) }
         ensures alone { is_alone self.old → is_alone self.new × IsOk result }
         ensures ticks { clock self.new ≡ clock self.old };
 
@@ -74,6 +81,7 @@ pub trait Engine {
     fn raw(&mut self, address: u64) -> u64
         requires { is_open self.old }
         ensures run { (h : List Entry) (n : ℕ) (r w : Log) → stands self.old h n r w → stands self.new h n r w }
+        ensures loaded { looked self.old address → loaded self.new address result }
         ensures open { is_open self.new }
         ensures awaits { (c : Call) (used : ℕ) → awaits self.old c used → awaits self.new c used }
         ensures alone { is_alone self.old → is_alone self.new }

@@ -33,6 +33,7 @@ pub struct Solo<K> {
 }
 
 impl<K: Origin> Engine for Solo<K> {
+    ghost use Rattle.std.specs.Prelude.{slice_index};
     ghost use Rattle.tx_core.specs.Serial.{StandsFor};
 
     ghost stands = { λ s h n r w. StandsFor K.rule K.first s.words.items s.clock s.writes.items h n r w };
@@ -48,6 +49,8 @@ impl<K: Origin> Engine for Solo<K> {
     ghost clock = { λ s. s.clock };
 
     ghost is_alone = { λ _. Unit {0} };
+
+    ghost loaded = { λ s a x. slice_index s.words.items a ≡ x };
 
     fn begin(&mut self) {
         self.writes.clear();

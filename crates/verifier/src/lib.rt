@@ -7,4 +7,4 @@ mod inference;
 mod search;
 mod types;
 
-pub use inference::{infer, TypeEnd};
+pub use inference::{TypeEnd, infer};
