@@ -43,7 +43,7 @@ stored_length : (s : Option ℕ) (l : List VType) → length (with_store s l) �
 stored_length None l = refl
 stored_length (Some i) l = length-set l i Int
 
-each_int : (n : ℕ) → AllByRecursion IsStackType (ints n)
+pub each_int : (n : ℕ) → AllByRecursion IsStackType (ints n)
 each_int zero = tt
 each_int (suc n) = (tt, each_int n)
 

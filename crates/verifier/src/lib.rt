@@ -2,9 +2,11 @@
 //! table is tested.
 #![tactic(auto)]
 
+mod checking;
 mod effect;
 mod inference;
 mod search;
 mod types;
 
+pub use checking::check;
 pub use inference::{infer, TypeEnd};
