@@ -169,13 +169,17 @@ module _ (P : Program) (k : Method) (T : Table) where
 
   -- a table that begins rightly and passes is a typing
   pub passes : types_at T 0 ≡ Some (first_types k) → test.keeps_from P k T 0 T ≡ true → IsTyping P k T
-  passes first all = record { first = first; each = λ pc h e. let s = shaped pc h e in
-      record { locals = s.locals; each_local = s.each_local; room = s.room; each_place = s.each_place; keeps = keeps_to shaped pc h s (slice_get k.ops pc) (parts pc h e).1 } }
+  passes first all = record {
+    first = first;
+    each = λ pc h e. let s = shaped pc h e in
+        record { locals = s.locals; each_local = s.each_local; room = s.room; each_place = s.each_place; keeps = keeps_to shaped pc h s (slice_get k.ops pc) (parts pc h e).1 };
+  }
     where
       parts : (pc : ℕ) (h : Types) → types_at T pc ≡ Some h → (test.is_shaped k h ≡ true) × (test.keeps P k T pc h ≡ true)
       parts pc h e =
           let z : 0 + pc ≡ pc = omega arith in
           both (test.is_shaped k h) (test.keeps P k T pc h) (subst (λ (n : ℕ). test.keeps_at P k T n (Some h) ≡ true) z (each_from T 0 pc (Some h) all (to_entry T pc h e)))
+
       shaped : Shaped k T
       shaped pc h e = to_shape k h (parts pc h e).0
 
@@ -202,8 +206,10 @@ module _ (P : Program) (k : Method) (T : Table) where
       past [] (suc i) le = refl
       past (o ∷ os) zero le = absurd (omega arith)
       past (o ∷ os) (suc i) le = let le' : length os ≤ i = omega arith in past os i le'
+
       none : (os : List (Option Types)) (i : ℕ) → os ≡ [] → test.keeps_from P k T i os ≡ true
       none os i e = rw e refl
+
       go : (os : List (Option Types)) (i : ℕ) → length os ≤ i → test.keeps_from P k T i (drop i os) ≡ true
       go [] zero le = refl
       go [] (suc i) le = refl

@@ -113,11 +113,11 @@ grows_trans k s m n a b = record {
   fresh = λ q h e w. a.fresh q h (b.fresh q h e w) (b.waited q w);
   waited = λ q w. a.waited q (b.waited q w);
   there = λ q w. elim (b.there q w) as (λ x. (waits s.waiting q ≡ true) ⊎ ((h : Types) × (types_at n.table q ≡ Some h))) [
-    inl u ↦ elim (a.there q u) as (λ x. (waits s.waiting q ≡ true) ⊎ ((h : Types) × (types_at n.table q ≡ Some h))) [
-      inl v ↦ inl v |
-      inr v ↦ let y = b.kept q v.0 v.1 in inr (y.types, y.there)
-    ] |
-    inr u ↦ inr u
+    | inl u ↦ elim (a.there q u) as (λ x. (waits s.waiting q ≡ true) ⊎ ((h : Types) × (types_at n.table q ≡ Some h))) [
+      | inl v ↦ inl v
+      | inr v ↦ let y = b.kept q v.0 v.1 in inr (y.types, y.there)
+    ]
+    | inr u ↦ inr u
   ];
   shaped = b.shaped;
   less = let x = a.less in let y = b.less in omega arith;
@@ -154,20 +154,20 @@ module _ (k : Method) (s n : State) (to : ℕ) (o : Option Types) (g : Types) (o
       size = rw new (length-set s.table to (Some g));
       first = at_other 0 (λ e. not_first (sym e));
       kept = λ q h e. elim (same_or_not q to) as (λ x. Above n.table q h) [
-        inl x ↦ let e' : types_at s.table to ≡ Some h = subst (λ (i : ℕ). types_at s.table i ≡ Some h) x e in
+        | inl x ↦ let e' : types_at s.table to ≡ Some h = subst (λ (i : ℕ). types_at s.table i ≡ Some h) x e in
             let f : o ≡ Some h = sym (of_entry s.table to o old) ∙ e' in
-            record { types = g; there = subst (λ (i : ℕ). types_at n.table i ≡ Some g) (sym x) at_to; fits = fits h f } |
-        inr x ↦ record { types = h; there = at_other q x ∙ e; fits = fits_self k h (shaped q h e) }
+            record { types = g; there = subst (λ (i : ℕ). types_at n.table i ≡ Some g) (sym x) at_to; fits = fits h f }
+        | inr x ↦ record { types = h; there = at_other q x ∙ e; fits = fits_self k h (shaped q h e) }
       ];
       fresh = λ q h e w. sym (at_other q (put_waited q w).1) ∙ e;
       waited = λ q w. (put_waited q w).0;
       there = λ q w. elim (put_there q w) as (λ x. (waits s.waiting q ≡ true) ⊎ ((h : Types) × (types_at n.table q ≡ Some h))) [
-        inl x ↦ inl x |
-        inr x ↦ inr (g, subst (λ (i : ℕ). types_at n.table i ≡ Some g) (sym x) at_to)
+        | inl x ↦ inl x
+        | inr x ↦ inr (g, subst (λ (i : ℕ). types_at n.table i ≡ Some g) (sym x) at_to)
       ];
       shaped = λ q h e. elim (same_or_not q to) as (λ x. Shape k h) [
-        inl x ↦ let e' : types_at n.table to ≡ Some h = subst (λ (i : ℕ). types_at n.table i ≡ Some h) x e in let f : g ≡ h = cc (e', at_to) in subst (Shape k) f shape |
-        inr x ↦ shaped q h (sym (at_other q x) ∙ e)
+        | inl x ↦ let e' : types_at n.table to ≡ Some h = subst (λ (i : ℕ). types_at n.table i ≡ Some h) x e in let f : g ≡ h = cc (e', at_to) in subst (Shape k) f shape
+        | inr x ↦ shaped q h (sym (at_other q x) ∙ e)
       ];
       less = let a = sum_by-set (weight k.locals) s.table to (Some g) None inside in
           let b : get_or s.table to None ≡ o = get_or_from_slice_get s.table to o None old in
@@ -182,8 +182,8 @@ module _ (k : Method) (s n : State) (to : ℕ) (o : Option Types) (g : Types) (o
 
   pub put_forced : (U : Table) → AreCovered k U s.table → Covers k U g to → AreCovered k U n.table
   put_forced U c d q h e = elim (same_or_not q to) as (λ x. Covers k U h q) [
-    inl x ↦ let e' : types_at n.table to ≡ Some h = subst (λ (i : ℕ). types_at n.table i ≡ Some h) x e in
+    | inl x ↦ let e' : types_at n.table to ≡ Some h = subst (λ (i : ℕ). types_at n.table i ≡ Some h) x e in
         let f : g ≡ h = cc (e', at_to) in
-        subst (λ (i : ℕ). Covers k U h i) (sym x) (subst (λ (y : Types). Covers k U y to) f d) |
-    inr x ↦ c q h (sym (at_other q x) ∙ e)
+        subst (λ (i : ℕ). Covers k U h i) (sym x) (subst (λ (y : Types). Covers k U y to) f d)
+    | inr x ↦ c q h (sym (at_other q x) ∙ e)
   ]

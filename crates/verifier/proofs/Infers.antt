@@ -38,6 +38,7 @@ keeps_up P k T N q h (Some o) up g = go (flow P k q o h) g
     all : (x : Types) (tos : List ℕ) → AllByRecursion (Covers k T x) tos → AllByRecursion (Covers k N x) tos
     all x [] a = tt
     all x (to ∷ tos) a = (covers_up k T N x to up a.0, all x tos a.1)
+
     go : (f : Flow) → Keeps k T f → Keeps k N f
     go Wrong a = absurd a
     go (Leads tos x) a = (a.0, all x tos a.1)
@@ -135,9 +136,15 @@ module _ (P : Program) (k : Method) (last pc : ℕ) (T : Table) (ws : List ℕ) 
 
   before_now : (q : ℕ) → q < now → (U : Table) × IsTypingUpTo P k q U
   before_now q lt = elim (less_or q last) as (λ x. (U : Table) × IsTypingUpTo P k q U) [
-    inl l ↦ known.before q l |
-    inr l ↦ (T, record { first = known.first; each = λ p h le e. let b : p < pc = omega arith in let x = known.shaped p h e in
-        record { locals = x.locals; each_local = x.each_local; room = x.room; each_place = x.each_place; keeps = known.keeps p h e (below p b) } })
+    | inl l ↦ known.before q l
+    | inr l ↦ (
+      T,
+      record {
+        first = known.first;
+        each = λ p h le e. let b : p < pc = omega arith in let x = known.shaped p h e in
+            record { locals = x.locals; each_local = x.each_local; room = x.room; each_place = x.each_place; keeps = known.keeps p h e (below p b) };
+      },
+    )
   ]
 
   forced_now : (U : Table) → IsTypingUpTo P k now U → AreCovered k U T
@@ -180,15 +187,15 @@ module _ (P : Program) (k : Method) (last pc : ℕ) (T : Table) (ws : List ℕ) 
       first = f.grows.first ∙ known.first;
       shaped = f.grows.shaped;
       keeps = λ q g e v. elim (same_or_not q pc) as (λ x. KeepsAt P k n.table q g (slice_get k.ops q)) [
-        inl x ↦ subst (λ (j : ℕ). KeepsAt P k n.table j g (slice_get k.ops j)) (sym x)
+        | inl x ↦ subst (λ (j : ℕ). KeepsAt P k n.table j g (slice_get k.ops j)) (sym x)
             (let e' : types_at T pc ≡ Some g = subst (λ (j : ℕ). types_at T j ≡ Some g) x (f.grows.fresh q g e v) in
             let same : h ≡ g = cc in
-            subst (λ (y : Types). KeepsAt P k n.table pc y (slice_get k.ops pc)) same (subst (KeepsAt P k n.table pc h) (sym i) (to_keeps P k h sh o n.table pc out w c f.covers))) |
-        inr x ↦ keeps_up P k T n.table q g (slice_get k.ops q) f.grows.kept (known.keeps q g (f.grows.fresh q g e v) (still q x (f.grows.waited q v)))
+            subst (λ (y : Types). KeepsAt P k n.table pc y (slice_get k.ops pc)) same (subst (KeepsAt P k n.table pc h) (sym i) (to_keeps P k h sh o n.table pc out w c f.covers)))
+        | inr x ↦ keeps_up P k T n.table q g (slice_get k.ops q) f.grows.kept (known.keeps q g (f.grows.fresh q g e v) (still q x (f.grows.waited q v)))
       ];
       there = λ q v. elim (f.grows.there q v) as (λ x. (g : Types) × (types_at n.table q ≡ Some g)) [
-        inl x ↦ let y = known.there q (waits_more q x) in let z = f.grows.kept q y.0 y.1 in (z.types, z.there) |
-        inr x ↦ x
+        | inl x ↦ let y = known.there q (waits_more q x) in let z = f.grows.kept q y.0 y.1 in (z.types, z.there)
+        | inr x ↦ x
       ];
       forced = λ U t. f.forced U (forced_now U t) (out_covered o out w i c U t);
       before = before_now;
@@ -206,6 +213,7 @@ module _ (P : Program) (k : Method) (last pc : ℕ) (T : Table) (ws : List ℕ) 
             let c = comes P k h sh o out w e in
             let f = flows k pc out s n known.size known.first known.shaped (shape_out P k h sh o out w c) w g in
             (next o out w i c f, f.grows.less)
+
         go : (o : Option Op) → slice_get k.ops pc ≡ o → does o true → Known P k now n × (room k n ≤ room k s)
         go None i g = cc
         go (Some o) i g = step o (outcome_in P k h (Some o)) i refl g
@@ -218,6 +226,7 @@ module _ (P : Program) (k : Method) (last pc : ℕ) (T : Table) (ws : List ℕ) 
         step o (Some (out, w)) i e g U t =
             let c = comes P k h sh o out w e in
             blocked k pc out s n known.size known.first known.shaped (shape_out P k h sh o out w c) w g U t.first (forced_now U t) (out_covered o out w i c U t)
+
         go : (o : Option Op) → slice_get k.ops pc ≡ o → does o false → (U : Table) → IsTypingUpTo P k now U → ⊥
         go None i g U t = let r = rules U t in subst (KeepsAt P k U pc r.0.types) i r.1.keeps
         go (Some o) i g U t = step o (outcome_in P k h (Some o)) i refl g U t
@@ -262,9 +271,12 @@ module _ (P : Program) (k : Method) (last pc : ℕ) (a b n : State) (known : Kno
 
 -- nothing waits
 pub known_typing : (P : Program) (k : Method) (last : ℕ) (s : State) → Known P k last s → s.waiting ≡ [] → IsTyping P k s.table
-known_typing P k last s known e = record { first = known.first; each = λ q h t. let x = known.shaped q h t in
-    let w : waits s.waiting q ≡ false = rw e refl in
-    record { locals = x.locals; each_local = x.each_local; room = x.room; each_place = x.each_place; keeps = known.keeps q h t w } }
+known_typing P k last s known e = record {
+  first = known.first;
+  each = λ q h t. let x = known.shaped q h t in
+      let w : waits s.waiting q ≡ false = rw e refl in
+      record { locals = x.locals; each_local = x.each_local; room = x.room; each_place = x.each_place; keeps = known.keeps q h t w };
+}
 
 pub known_narrowest : (P : Program) (k : Method) (last : ℕ) (s : State) → Known P k last s → IsNarrowest P k s.table
 known_narrowest P k last s known U t = known.forced U (record { first = t.first; each = λ q h l e. t.each q h e })
@@ -279,9 +291,11 @@ first_locals k le =
   where
     both : {a b c d : ℕ} → a ≡ c → b ≡ d → a + b ≡ c + d
     both e f = cc
+
     tops : (n : ℕ) → AllByRecursion IsLocalType (replicate n Top)
     tops zero = tt
     tops (suc n) = (tt, tops n)
+
     ints_tops : (m n : ℕ) → AllByRecursion IsLocalType (replicate m Int ++ replicate n Top)
     ints_tops zero n = tops n
     ints_tops (suc m) n = (tt, ints_tops m n)
@@ -310,6 +324,7 @@ known_start P k some le =
     only : (q : ℕ) (h : Types) → types_at (starting k).table q ≡ Some h → (q ≡ 0) × (first_types k ≡ h)
     only zero h e = (refl, cc)
     only (suc q) h e = let z = none_at (length k.ops - 1) q in absurd (cc (z, e))
+
     waiting : (q : ℕ) → waits (0 ∷ []) q ≡ true → (h : Types) × (types_at (starting k).table q ≡ Some h)
     waiting q w = go (is_at (nat_cmp q) 0) refl
       where
@@ -325,8 +340,11 @@ none_empty P k e = record { none = λ U t. let z : 0 ≤ 0 = omega arith in go U
     go U (Some o) i g = let x = get_within k.ops 0 o i in absurd (omega arith)
 
 pub none_too_long : (P : Program) (k : Method) → k.locals < k.params → IsUntypableAt P k 0
-none_too_long P k lt = record { none = λ U t. let z : 0 ≤ 0 = omega arith in
-    let l = (t.each 0 (first_types k) z t.first).locals in
-    let a = length-append (replicate k.params Int) (replicate (k.locals - k.params) Top) in
-    let b = length-replicate k.params Int in
-    absurd (omega arith); before = λ q l. absurd (omega arith) }
+none_too_long P k lt = record {
+  none = λ U t. let z : 0 ≤ 0 = omega arith in
+      let l = (t.each 0 (first_types k) z t.first).locals in
+      let a = length-append (replicate k.params Int) (replicate (k.locals - k.params) Top) in
+      let b = length-replicate k.params Int in
+      absurd (omega arith);
+  before = λ q l. absurd (omega arith);
+}

@@ -121,8 +121,8 @@ test_false (t ∷ ts) (u ∷ us) e a = test_false ts us (rest (is_within t u) (a
 -- the join of two is within each type above both, and above the first
 pub join_least : (t s u : VType) → IsWithin t u → IsWithin s u → IsWithin (join t s) u
 join_least t s u a b = elim (within_only t u a) as (λ x. IsWithin (join t s) u) [
-  inl e ↦ is_top (join t s) u e |
-  inr e ↦ elim (within_only s u b) as (λ x. IsWithin (join t s) u) [ inl f ↦ is_top (join t s) u f | inr f ↦ rw (e.0, f.0, e.1) tt ]
+  | inl e ↦ is_top (join t s) u e
+  | inr e ↦ elim (within_only s u b) as (λ x. IsWithin (join t s) u) [ inl f ↦ is_top (join t s) u f | inr f ↦ rw (e.0, f.0, e.1) tt ]
 ]
 
 pub joins_least : (t s u : List VType) → AreWithin t u → AreWithin s u → AreWithin (join_all t s) u

@@ -76,6 +76,7 @@ module _ (P : Program) (k : Method) (h : Types) (s : Shape k h) (o : Op) where
           let room : height x h ≤ k.max_stack = grind (arith, nat_tests) in
           let q : ◌≡◌ {A = Types × Ways} (left x (local_types h), x.ways) (out, w) = cc in
           record { effect = x; is = i; takes = p.0; room = room; types = sym (ap (λ y. y.0) q) ∙ ap (left x) (same_types k h s); ways = sym (ap (λ y. y.1) q) }
+
       go : (x : Option Effect) → effect_of P k o h.locals ≡ x → outcome_of k h x ≡ Some (out, w) → Comes P k h o out w
       go None i e = cc
       go (Some x) i e = step x (nat_le x.takes (length h.stack) && nat_le (height x h) k.max_stack) i refl e
@@ -126,6 +127,7 @@ module _ (P : Program) (k : Method) (h : Types) (s : Shape k h) (o : Op) where
           let g0 : length (ints (height x h)) ≤ k.max_stack = g.0 in
           let room : height x h ≤ k.max_stack = omega arith in
           record { out = left x h; ways = x.ways; comes = record { effect = x; is = i; takes = t; room = room; types = refl; ways = refl }; covers = g.1 }
+
       go : (x : Option Effect) → effect_of P k o h.locals ≡ x → Keeps k T (flow_of x pc h) → Kept T pc
       go None i g = absurd g
       go (Some x) i g = step x (nat_le x.takes (length h.stack)) i refl g

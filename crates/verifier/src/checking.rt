@@ -4,7 +4,7 @@ ghost use Rattle.jmodel.specs.Program.{Method as JMethod};
 ghost use Rattle.jmodel.specs.Typing.{IsTyping, first_types};
 ghost use Rattle.verifier.specs.Check.{all_ints, all_local, all_tops, covers, covers_all, is_above, is_shaped, keeps, keeps_at, keeps_effect};
 
-use crate::effect::{effect_of, Effect, Ways};
+use crate::effect::{Effect, Ways, effect_of};
 use crate::types::are_within;
 use hierarchy::{Method, Program};
 use jmodel::{TypeEntry, Typing, VType};
@@ -84,7 +84,13 @@ fn covers(method: &Method, typing: &Typing, entry: &TypeEntry, effect: &Effect, 
 }
 
 /// Whether each place where an instruction goes on has such types.
-fn covers_all(method: &Method, typing: &Typing, entry: &TypeEntry, effect: &Effect, pc: usize) -> bool
+fn covers_all(
+    method: &Method,
+    typing: &Typing,
+    entry: &TypeEntry,
+    effect: &Effect,
+    pc: usize,
+) -> bool
     requires takes { effect.now.takes ≤ length entry.now.stack }
     requires next { pc + 1 < 2 ^ 64 }
     ensures { result ≡ covers_all method.now typing.now entry.now effect.now effect.now.ways pc }
@@ -93,14 +99,21 @@ fn covers_all(method: &Method, typing: &Typing, entry: &TypeEntry, effect: &Effe
         Ways::Following => covers(method, typing, entry, effect, pc + 1),
         Ways::Target(to) => covers(method, typing, entry, effect, to),
         Ways::Either(to) => {
-            covers(method, typing, entry, effect, pc + 1) && covers(method, typing, entry, effect, to)
+            covers(method, typing, entry, effect, pc + 1)
+                && covers(method, typing, entry, effect, to)
         }
         Ways::Nowhere => true,
     }
 }
 
 /// Whether an instruction of this effect has its operands, stays within the stack, and is covered where it goes on.
-fn keeps_effect(method: &Method, typing: &Typing, pc: usize, entry: &TypeEntry, effect: &Effect) -> bool
+fn keeps_effect(
+    method: &Method,
+    typing: &Typing,
+    pc: usize,
+    entry: &TypeEntry,
+    effect: &Effect,
+) -> bool
     requires { pc + 1 < 2 ^ 64 }
     ensures { result ≡ keeps_effect method.now typing.now pc entry.now (Some effect.now) }
 {
@@ -129,7 +142,13 @@ fn keeps(program: &Program, method: &Method, typing: &Typing, pc: usize, entry: 
 }
 
 /// Whether a place has no types, or such as its rules allow.
-fn keeps_at(program: &Program, method: &Method, typing: &Typing, pc: usize, entry: &Option<TypeEntry>) -> bool
+fn keeps_at(
+    program: &Program,
+    method: &Method,
+    typing: &Typing,
+    pc: usize,
+    entry: &Option<TypeEntry>,
+) -> bool
     requires { pc + 1 < 2 ^ 64 }
     ensures { result ≡ keeps_at program.now method.now typing.now pc entry.now }
 {

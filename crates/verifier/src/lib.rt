@@ -9,4 +9,7 @@ mod search;
 mod types;
 
 pub use checking::check;
-pub use inference::{infer, TypeEnd};
+pub use inference::{TypeEnd, infer};
+
+#[cfg(test)]
+mod tests;

@@ -4,7 +4,7 @@ ghost use Rattle.jmodel.specs.Typing.{first_types};
 ghost use Rattle.verifier.specs.Effect.{left};
 ghost use Rattle.verifier.specs.Search.{change_of, GoesOn, IsPour, IsVisit, joined, local_types, merged, outcome_at, starting};
 
-use crate::effect::{effect_of, Effect, Ways};
+use crate::effect::{Effect, Ways, effect_of};
 use crate::types::{are_within, copies, ints, ints_and_tops, join_all};
 use hierarchy::{Method, Program};
 use jmodel::{TypeEntry, Typing, VType};
@@ -76,7 +76,12 @@ enum Change {
 }
 
 /// What types do to those of a place that has some.
-fn merged(alloc: Global, to: usize, entry: &TypeEntry, out: &TypeEntry) -> Result<Change, AllocError>
+fn merged(
+    alloc: Global,
+    to: usize,
+    entry: &TypeEntry,
+    out: &TypeEntry,
+) -> Result<Change, AllocError>
     ensures { IfOk result (λ x. x ≡ merged to out.now entry.now) }
 {
     if out.stack().len() != entry.stack().len() {
@@ -150,7 +155,13 @@ impl Search {
     }
 
     /// Lets types flow to each place where an instruction goes on. False where one can't take them.
-    fn flow_on(&mut self, alloc: Global, pc: usize, ways: Ways, out: &TypeEntry) -> Result<bool, AllocError>
+    fn flow_on(
+        &mut self,
+        alloc: Global,
+        pc: usize,
+        ways: Ways,
+        out: &TypeEntry,
+    ) -> Result<bool, AllocError>
         requires { pc + 1 < 2 ^ 64 }
         ensures { IfOk result (λ b. GoesOn ways pc out.now self.old self.new b) }
     {

@@ -26,8 +26,8 @@ returns-then-count-eq0-clause-err c = λ k e.
     let q = c.entry-entry.ensures.locals in
     subst (λ (x : Method). IsUntypableAt c.args.program.now x 0) (the_code c.methods.result.now c.args.program.now.methods c.args.method c.index-methods-method.result c.methods.ensures c.index-methods-method.is k e)
     (elim c.then-count-eq0.branch [
-      then-count-eq0-via-then-count-eq0 w ↦ none_empty c.args.program.now c.index-methods-method.result (omega arith) |
-      then-count-eq0-via-else-count-eq0+then-entry w ↦ none_too_long c.args.program.now c.index-methods-method.result (omega arith)
+      | then-count-eq0-via-then-count-eq0 w ↦ none_empty c.args.program.now c.index-methods-method.result (omega arith)
+      | then-count-eq0-via-else-count-eq0+then-entry w ↦ none_too_long c.args.program.now c.index-methods-method.result (omega arith)
     ])
 
 pub returns-in_err-search-clause-err : goal.returns-in_err-search-clause-err
