@@ -1,5 +1,5 @@
 -- The tests of a given table, and what they mean.
-use Rattle.std.proofs.Common.{◌≡◌, ◌≢◌, ℕ, zero, suc, ◌+◌, ◌-◌, ◌<◌, ◌≤◌, List, [], ◌∷◌, ◌++◌, length, replicate, take, drop, Option, Some, None, Bool, true, false, refl, sym, ap, subst, ◌∙◌, get_or, arith}
+use Rattle.std.proofs.Common.{◌≡◌, ℕ, zero, suc, ◌+◌, ◌-◌, ◌<◌, ◌≤◌, List, [], ◌∷◌, ◌++◌, length, replicate, take, drop, Option, Some, None, Bool, true, false, refl, sym, ap, subst, ◌∙◌, get_or, arith}
 use Rattle.std.proofs.Math.Seq.{drop-cons}
 use Rattle.std.proofs.lemmas.Bool.Decides.{nat_tests}
 use Rattle.std.proofs.lemmas.List.{length-replicate}
@@ -9,7 +9,7 @@ use Rattle.jmodel.specs.declared.typing.VType.{VType}
 use Rattle.jmodel.specs.declared.typing.VType.TheVariants.{Int, Top}
 use Rattle.jmodel.specs.declared.op.Op.{Op}
 use Rattle.jmodel.specs.Program.{Method, Program}
-use Rattle.jmodel.specs.Typing.{Types, Table, IsLocalType, IsStackType, AreWithin, FitsIn, Covers, KeepsAt, IsTypedAt, IsTyping, types_at, first_types}
+use Rattle.jmodel.specs.Typing.{Types, Table, IsLocalType, IsStackType, AreWithin, Covers, KeepsAt, IsTyping, types_at, first_types}
 use Rattle.verifier.specs.declared.effect.Ways.{Ways}
 use Rattle.verifier.specs.declared.effect.Ways.TheVariants.{Following, Target, Either, Nowhere}
 use Rattle.verifier.specs.declared.effect.Effect.{Effect}
@@ -18,7 +18,7 @@ use Rattle.verifier.specs.Search.{are_within}
 use Rattle.verifier.specs.Check as test
 use Rattle.verifier.proofs.Narrow.{same_length, test_true, test_false}
 use Rattle.verifier.proofs.Numbers.{of_entry, to_entry}
-use Rattle.verifier.proofs.Outcomes.{Shape, Comes, to_keeps, Kept, from_keeps, each_int}
+use Rattle.verifier.proofs.Outcomes.{Shape, to_keeps, from_keeps, each_int}
 use Rattle.verifier.proofs.Growth.{Shaped, stacks_fit}
 
 both : (a b : Bool) → (a && b) ≡ true → (a ≡ true) × (b ≡ true)

@@ -1,5 +1,5 @@
 -- The rules of the definition as tests of a given table.
-use Rattle.std.specs.Prelude.{ℕ, ◌+◌, ◌-◌, List, [], ◌∷◌, length, Option, Some, None, Bool, true, false, ◌&&◌, nat_eq, nat_le, nat_lt, slice_get}
+use Rattle.std.specs.Prelude.{ℕ, ◌+◌, List, [], ◌∷◌, length, Option, Some, None, Bool, true, false, ◌&&◌, nat_eq, nat_le, nat_lt, slice_get}
 use Rattle.jmodel.specs.declared.typing.VType.{VType}
 use Rattle.jmodel.specs.declared.typing.VType.TheVariants.{Int, Top}
 use Rattle.jmodel.specs.declared.op.Op.{Op}
