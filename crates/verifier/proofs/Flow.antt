@@ -1,12 +1,12 @@
 -- What an instruction does over a stack of ints, in the numbers of its effect.
-use Rattle.std.proofs.Common.{◌≡◌, ℕ, zero, suc, ◌+◌, ◌-◌, ◌≤◌, List, [], ◌∷◌, ◌++◌, length, drop, replicate, Option, Some, None, Bool, true, false, refl, sym, ap, subst, ◌∙◌, arith}
+use Rattle.std.proofs.Common.{◌≡◌, ℕ, zero, suc, ◌-◌, List, [], ◌∷◌, ◌++◌, length, drop, Option, Some, None, Bool, true, false, refl, sym, ap, ◌∙◌, arith}
 use Rattle.std.proofs.lemmas.Bool.Decides.{nat_tests}
-use Rattle.std.specs.Prelude.{not, slice_get, slice_set, nat_le, nat_lt, if◌then◌else◌}
+use Rattle.std.specs.Prelude.{not, slice_get, nat_le, nat_lt, if◌then◌else◌}
 use Rattle.std.specs.List.{AllByRecursion}
-use Rattle.std.proofs.lemmas.List.{replicate-append-replicate, length-replicate}
+use Rattle.std.proofs.lemmas.List.{replicate-append-replicate}
 use Rattle.jmodel.specs.declared.value.Value.TheVariants as value
 use Rattle.jmodel.specs.declared.typing.VType.{VType}
-use Rattle.jmodel.specs.declared.typing.VType.TheVariants.{Int, Top}
+use Rattle.jmodel.specs.declared.typing.VType.TheVariants.{Int}
 use Rattle.jmodel.specs.declared.op.WordType.{WordType}
 use Rattle.jmodel.specs.declared.op.WordType.TheVariants as word
 use Rattle.jmodel.specs.declared.op.Op.{Op}
@@ -16,10 +16,9 @@ use Rattle.jmodel.specs.declared.op.Rearrange.TheVariants as rearrange
 use Rattle.jmodel.specs.Program.{Field, Method, Program, method_at, place_at}
 use Rattle.jmodel.specs.Typing.{Types, Flow, Leads, Wrong, IsStackType, on_int, on_ints, flow}
 use Rattle.jmodel.specs.Typing as typed
-use Rattle.verifier.specs.declared.effect.Ways.{Ways}
 use Rattle.verifier.specs.declared.effect.Ways.TheVariants.{Nowhere}
 use Rattle.verifier.specs.declared.effect.Effect.{Effect}
-use Rattle.verifier.specs.Effect.{is_int, effect_of, of_field, of_call, on_stack, going, storing, rearrangement, places, with_store, ints, height, left, flow_of}
+use Rattle.verifier.specs.Effect.{is_int, effect_of, of_field, of_call, on_stack, going, storing, rearrangement, places, with_store, ints, height, flow_of}
 
 -- a stack of ints is so many of them
 pub all_ints : (s : List VType) → AllByRecursion IsStackType s → s ≡ ints (length s)

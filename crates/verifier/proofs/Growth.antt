@@ -1,27 +1,21 @@
 -- Types that flow to a place: the table only widens, and stays within each other typing.
-use Rattle.std.proofs.Common.{◌≡◌, ◌≢◌, ℕ, zero, suc, ◌+◌, ◌*◌, ◌<◌, ◌≤◌, ◌⊎◌, inl, inr, List, [], ◌∷◌, length, Option, Some, None, Bool, true, false, cond, refl, sym, ap, subst, ◌∙◌, get_or, arith}
+use Rattle.std.proofs.Common.{◌≡◌, ◌≢◌, ℕ, suc, ◌+◌, ◌*◌, ◌<◌, ◌≤◌, ◌⊎◌, inl, inr, List, [], ◌∷◌, length, Option, Some, None, Bool, true, false, cond, refl, sym, ap, subst, ◌∙◌, get_or, arith}
 use Rattle.std.proofs.Math.ListN.{length-set}
-use Rattle.std.proofs.lemmas.Bool.Decides.{nat_tests}
-use Rattle.std.proofs.lemmas.List.{length-replicate}
 use Rattle.std.proofs.lemmas.List.Sums.{sum_by-set}
 use Rattle.std.proofs.lemmas.Option.{get_or_from_slice_get}
-use Rattle.std.specs.Prelude.{not, sum_by, slice_get, slice_set, nat_eq, ◌&&◌, if◌then◌else◌}
+use Rattle.std.specs.Prelude.{sum_by, slice_get, slice_set}
 use Rattle.std.specs.List.{AllByRecursion}
 use Rattle.std.specs.Ordering.{nat_cmp}
 use Rattle.std.specs.BTreeMap.{is_at}
 use Rattle.jmodel.specs.declared.typing.VType.{VType}
 use Rattle.jmodel.specs.declared.typing.VType.TheVariants.{Int, Top}
-use Rattle.jmodel.specs.declared.op.Op.{Op}
-use Rattle.jmodel.specs.Program.{Method, Program}
-use Rattle.jmodel.specs.Typing.{Types, Table, IsLocalType, IsStackType, AreWithin, FitsIn, Flow, Leads, Wrong, flow, Covers, Keeps, KeepsAt, types_at, first_types}
-use Rattle.verifier.specs.declared.search.Change.{Change}
-use Rattle.verifier.specs.declared.search.Change.TheVariants.{Nothing, Put, Refused}
-use Rattle.verifier.specs.Effect.{ints}
-use Rattle.verifier.specs.Search.{State, is_within, are_within, join, join_all, joined, local_types, change_of, merged, waits, IsInserted, Makes, IsPour}
+use Rattle.jmodel.specs.Program.{Method}
+use Rattle.jmodel.specs.Typing.{Types, Table, IsLocalType, IsStackType, AreWithin, FitsIn, Covers, types_at}
+use Rattle.verifier.specs.Search.{State, are_within, join_all, waits, IsInserted}
 use Rattle.verifier.proofs.Flow.{all_ints}
-use Rattle.verifier.proofs.Narrow.{fits_trans, same_length, self_within, self_stack, ints_within, test_true, test_false, joins_least, joins_first, joins_second, joins_locals}
-use Rattle.verifier.proofs.Numbers.{same_or_not, get_same, get_other, get_within, get_past, to_entry, of_entry, at_self, at_same}
-use Rattle.verifier.proofs.Outcomes.{Shape, same_types}
+use Rattle.verifier.proofs.Narrow.{fits_trans, self_within, self_stack, ints_within}
+use Rattle.verifier.proofs.Numbers.{same_or_not, get_same, get_other, get_within, of_entry, at_self, at_same}
+use Rattle.verifier.proofs.Outcomes.{Shape}
 
 -- how often an entry can still widen
 abbrev pub int_count : List VType → ℕ

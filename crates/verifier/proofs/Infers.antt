@@ -1,25 +1,24 @@
 -- The search finds the narrowest typing, and else the least place from which on there is none.
-use Rattle.std.proofs.Common.{◌≡◌, ◌≢◌, ℕ, zero, suc, ◌+◌, ◌-◌, ◌*◌, ◌<◌, ◌≤◌, max, ◌⊎◌, inl, inr, List, [], ◌∷◌, ◌++◌, length, replicate, Option, Some, None, Bool, true, false, refl, sym, ap, subst, ◌∙◌, arith}
+use Rattle.std.proofs.Common.{◌≡◌, ◌≢◌, ℕ, zero, suc, ◌+◌, ◌-◌, ◌<◌, ◌≤◌, max, ◌⊎◌, inl, inr, List, [], ◌∷◌, ◌++◌, length, replicate, Option, Some, None, Bool, true, false, refl, sym, ap, subst, ◌∙◌, arith}
 use Rattle.std.proofs.lemmas.Bool.Decides.{nat_tests}
 use Rattle.std.proofs.lemmas.List.{length-replicate, length-append}
-use Rattle.std.specs.Prelude.{slice_get, nat_lt, All, ◌||◌}
+use Rattle.std.specs.Prelude.{slice_get, nat_lt, All}
 use Rattle.std.specs.List.{AllByRecursion}
 use Rattle.std.specs.Ordering.{nat_cmp}
 use Rattle.std.specs.BTreeMap.{is_at}
-use Rattle.jmodel.specs.declared.typing.VType.{VType}
 use Rattle.jmodel.specs.declared.typing.VType.TheVariants.{Int, Top}
 use Rattle.jmodel.specs.declared.op.Op.{Op}
 use Rattle.jmodel.specs.Program.{Method, Program}
-use Rattle.jmodel.specs.Typing.{Types, Table, IsLocalType, AreWithin, FitsIn, Covers, KeepsAt, Keeps, Flow, Leads, Wrong, flow, IsTypedAt, IsTyping, IsTypingUpTo, IsNarrowest, IsUntypableAt, types_at, first_types}
+use Rattle.jmodel.specs.Typing.{Types, Table, IsLocalType, FitsIn, Covers, KeepsAt, Keeps, Flow, Leads, Wrong, flow, IsTypedAt, IsTyping, IsTypingUpTo, IsNarrowest, IsUntypableAt, types_at, first_types}
 use Rattle.verifier.specs.declared.effect.Ways.{Ways}
 use Rattle.verifier.specs.declared.effect.Ways.TheVariants.{Following, Target, Either, Nowhere}
 use Rattle.verifier.specs.Effect.{places}
-use Rattle.verifier.specs.Search.{State, waits, IsPour, Then, GoesOn, outcome_in, outcome_at, DoesOutcome, IsVisit, starting}
-use Rattle.verifier.proofs.Narrow.{fits_trans, self_within}
+use Rattle.verifier.specs.Search.{State, waits, GoesOn, outcome_in, DoesOutcome, IsVisit, starting}
+use Rattle.verifier.proofs.Narrow.{self_within}
 use Rattle.verifier.proofs.Numbers.{same_or_not, waits_not, at_same, at_self, get_within, to_entry}
-use Rattle.verifier.proofs.Outcomes.{Shape, Comes, comes, gives, shape_out, to_keeps, Kept, from_keeps, narrower}
+use Rattle.verifier.proofs.Outcomes.{Shape, Comes, comes, gives, shape_out, to_keeps, from_keeps, narrower}
 use Rattle.verifier.proofs.Growth.{room, Shaped, AreCovered, Above, Grows, covers_up, covers_down, grows_refl, grows_trans}
-use Rattle.verifier.proofs.Pours.{Poured, IsRefused, pours, refuses}
+use Rattle.verifier.proofs.Pours.{Poured, pours, refuses}
 
 -- What is known of a search: its last place is the greatest looked at so far.
 pub record Known (P : Program) (k : Method) (last : ℕ) (s : State) : Type 0 where

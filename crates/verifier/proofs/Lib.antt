@@ -7,3 +7,4 @@ pub mod Outcomes
 pub mod Infers
 pub mod Growth
 pub mod Pours
+pub mod Checks

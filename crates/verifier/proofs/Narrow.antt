@@ -1,20 +1,18 @@
 -- The order of types: what fits into wider types does the same there.
-use Rattle.std.proofs.Common.{◌≡◌, ℕ, zero, suc, ◌+◌, ◌-◌, ◌<◌, ◌≤◌, ◌⊎◌, inl, inr, List, [], ◌∷◌, length, map, replicate, Option, Some, None, Bool, true, false, refl, sym, ap, subst, ◌∙◌, arith}
-use Rattle.std.specs.Prelude.{slice_get, slice_set, nat_le, nat_lt, ◌&&◌, zip, if◌then◌else◌}
+use Rattle.std.proofs.Common.{◌≡◌, ℕ, zero, suc, ◌⊎◌, inl, inr, List, [], ◌∷◌, length, map, Option, Some, None, Bool, true, false, refl, sym, ap, subst, ◌∙◌, arith}
+use Rattle.std.specs.Prelude.{slice_get, slice_set, ◌&&◌, if◌then◌else◌}
 use Rattle.std.specs.List.{AllByRecursion}
-use Rattle.std.proofs.lemmas.List.{length-replicate}
 use Rattle.jmodel.specs.declared.typing.VType.{VType}
 use Rattle.jmodel.specs.declared.typing.VType.TheVariants.{Int, Top}
 use Rattle.jmodel.specs.declared.typing.VType.TheVariants as type
 use Rattle.jmodel.specs.declared.value.Value.TheVariants as value
 use Rattle.jmodel.specs.declared.op.Op.{Op}
 use Rattle.jmodel.specs.declared.op.Op.TheVariants as op
-use Rattle.jmodel.specs.Program.{Method, Program, method_at, place_at}
+use Rattle.jmodel.specs.Program.{Method, Program}
 use Rattle.jmodel.specs.Typing.{Types, IsLocalType, IsStackType, IsWithin, AreWithin, FitsIn}
-use Rattle.verifier.specs.declared.effect.Ways.{Ways}
 use Rattle.verifier.specs.declared.effect.Effect.{Effect}
-use Rattle.verifier.specs.Effect.{is_int, effect_of, with_store, ints, height, left}
-use Rattle.verifier.specs.Search.{is_within, are_within, join, join_all, joined, local_type, local_types, outcome_of, outcome_in}
+use Rattle.verifier.specs.Effect.{is_int, effect_of, with_store, ints}
+use Rattle.verifier.specs.Search.{is_within, are_within, join, join_all, local_type}
 
 pub within_top : (t : VType) → IsWithin t Top
 within_top Int = tt

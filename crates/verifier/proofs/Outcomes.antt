@@ -1,21 +1,21 @@
 -- The outcome of an instruction, and the rules of the definition.
-use Rattle.std.proofs.Common.{◌≡◌, ℕ, zero, suc, ◌+◌, ◌-◌, ◌<◌, ◌≤◌, List, [], ◌∷◌, length, replicate, Option, Some, None, Bool, true, false, refl, sym, ap, subst, ◌∙◌, arith}
+use Rattle.std.proofs.Common.{◌≡◌, ℕ, zero, suc, ◌+◌, ◌-◌, ◌≤◌, List, [], ◌∷◌, length, Option, Some, None, Bool, true, false, refl, sym, ap, subst, ◌∙◌, arith}
 use Rattle.std.proofs.lemmas.Bool.Decides.{nat_tests}
 use Rattle.std.proofs.lemmas.List.{length-replicate}
 use Rattle.std.proofs.Math.ListN.{length-set}
-use Rattle.std.specs.Prelude.{slice_get, slice_set, nat_le, ◌&&◌, if◌then◌else◌}
+use Rattle.std.specs.Prelude.{slice_set, nat_le, ◌&&◌, if◌then◌else◌}
 use Rattle.std.specs.List.{AllByRecursion}
 use Rattle.jmodel.specs.declared.typing.VType.{VType}
-use Rattle.jmodel.specs.declared.typing.VType.TheVariants.{Int, Top}
+use Rattle.jmodel.specs.declared.typing.VType.TheVariants.{Int}
 use Rattle.jmodel.specs.declared.op.Op.{Op}
 use Rattle.jmodel.specs.Program.{Method, Program}
-use Rattle.jmodel.specs.Typing.{Types, Table, IsLocalType, IsStackType, AreWithin, FitsIn, Flow, Leads, Wrong, flow, Covers, Keeps, KeepsAt, types_at}
+use Rattle.jmodel.specs.Typing.{Types, Table, IsLocalType, IsStackType, AreWithin, FitsIn, Leads, Wrong, flow, Covers, Keeps, KeepsAt}
 use Rattle.verifier.specs.declared.effect.Ways.{Ways}
 use Rattle.verifier.specs.declared.effect.Effect.{Effect}
 use Rattle.verifier.specs.Effect.{effect_of, places, with_store, ints, height, left, flow_of}
 use Rattle.verifier.specs.Search.{local_types, outcome_of, outcome_in}
 use Rattle.verifier.proofs.Flow.{all_ints, flow_is}
-use Rattle.verifier.proofs.Narrow.{fits_trans, same_length, copies_same, store_within, ints_within, effect_narrow}
+use Rattle.verifier.proofs.Narrow.{same_length, copies_same, store_within, ints_within, effect_narrow}
 
 -- types of a frame of the method
 pub record Shape (k : Method) (h : Types) : Type 0 where
@@ -43,7 +43,7 @@ stored_length : (s : Option ℕ) (l : List VType) → length (with_store s l) �
 stored_length None l = refl
 stored_length (Some i) l = length-set l i Int
 
-each_int : (n : ℕ) → AllByRecursion IsStackType (ints n)
+pub each_int : (n : ℕ) → AllByRecursion IsStackType (ints n)
 each_int zero = tt
 each_int (suc n) = (tt, each_int n)
 

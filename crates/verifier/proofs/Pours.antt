@@ -1,21 +1,18 @@
 -- Types that flow to a place are taken or refused there.
-use Rattle.std.proofs.Common.{◌≡◌, ◌≢◌, ℕ, zero, suc, ◌+◌, ◌<◌, ◌≤◌, ◌⊎◌, inl, inr, List, [], ◌∷◌, length, Option, Some, None, Bool, true, false, refl, sym, ap, subst, ◌∙◌, arith}
+use Rattle.std.proofs.Common.{◌≡◌, ◌≢◌, ℕ, ◌<◌, ◌≤◌, List, length, Option, Some, None, Bool, true, false, refl, sym, subst, ◌∙◌, arith}
 use Rattle.std.proofs.lemmas.Bool.Decides.{nat_tests}
-use Rattle.std.proofs.lemmas.List.{length-replicate}
 use Rattle.std.specs.Prelude.{not, slice_get, nat_eq, if◌then◌else◌}
 use Rattle.std.specs.List.{AllByRecursion}
 use Rattle.jmodel.specs.declared.typing.VType.{VType}
-use Rattle.jmodel.specs.declared.typing.VType.TheVariants.{Int, Top}
 use Rattle.jmodel.specs.Program.{Method}
 use Rattle.jmodel.specs.Typing.{Types, Table, IsStackType, AreWithin, FitsIn, Covers, types_at, first_types}
 use Rattle.verifier.specs.declared.search.Change.TheVariants.{Nothing, Put, Refused}
-use Rattle.verifier.specs.Effect.{ints}
-use Rattle.verifier.specs.Search.{State, are_within, join_all, joined, local_types, change_of, merged, Makes, IsPour}
+use Rattle.verifier.specs.Search.{State, are_within, joined, local_types, change_of, merged, Makes, IsPour}
 use Rattle.verifier.proofs.Flow.{all_ints}
-use Rattle.verifier.proofs.Narrow.{fits_trans, same_length, ints_within, self_within, self_stack, test_true, test_false, joins_least, joins_first, joins_second, joins_locals}
-use Rattle.verifier.proofs.Numbers.{get_within, get_past, to_entry, of_entry}
+use Rattle.verifier.proofs.Narrow.{same_length, self_stack, test_true, test_false, joins_least, joins_first, joins_second, joins_locals}
+use Rattle.verifier.proofs.Numbers.{get_within, get_past, of_entry}
 use Rattle.verifier.proofs.Outcomes.{Shape, same_types}
-use Rattle.verifier.proofs.Growth.{int_count, weight, count_within, join_less, Shaped, AreCovered, Grows, fits_self, stacks_fit, grows_refl, put_grows, put_covers, put_forced}
+use Rattle.verifier.proofs.Growth.{weight, count_within, join_less, Shaped, AreCovered, Grows, fits_self, stacks_fit, grows_refl, put_grows, put_covers, put_forced}
 
 -- what a flow to a place leaves
 pub record Poured (k : Method) (s n : State) (to : ℕ) (out : Types) : Type 0 where

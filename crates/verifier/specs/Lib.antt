@@ -1,3 +1,4 @@
 pub mod Effect
 pub mod Search
 pub mod Answer
+pub mod Check

@@ -2,9 +2,14 @@
 //! table is tested.
 #![tactic(auto)]
 
+mod checking;
 mod effect;
 mod inference;
 mod search;
 mod types;
 
+pub use checking::check;
 pub use inference::{TypeEnd, infer};
+
+#[cfg(test)]
+mod tests;

@@ -1,12 +1,12 @@
-use Rattle.std.proofs.Common.{◌≡◌, ℕ, ◌+◌, ◌<◌, ◌≤◌, ◌∷◌, [], List, length, Some, true, false, sym, ap, subst, ◌∙◌, get_or, arith}
+use Rattle.std.proofs.Common.{◌≡◌, ℕ, ◌<◌, ◌≤◌, List, length, Some, true, false, sym, ap, subst, ◌∙◌, get_or, arith}
 use Rattle.std.proofs.lemmas.Result.{err_from_is_err_and}
 use Rattle.std.proofs.lemmas.Option.{get_or_from_slice_get}
 use Rattle.std.proofs.lemmas.Bool.Decides.{nat_tests}
 use Rattle.std.specs.Ordering.{ord_max, nat_cmp}
 use Rattle.std.specs.Prelude.{slice_get, max}
-use Rattle.jmodel.specs.Program.{Method, Program}
-use Rattle.jmodel.specs.Typing.{IsTyping, IsNarrowest, IsUntypableAt, Table}
-use Rattle.verifier.specs.Search.{State, IsVisit, starting}
+use Rattle.jmodel.specs.Program.{Method}
+use Rattle.jmodel.specs.Typing.{IsTyping, IsNarrowest, IsUntypableAt}
+use Rattle.verifier.specs.Search.{IsVisit}
 use Rattle.verifier.proofs.Infers.{Known, known_start, known_typing, known_narrowest, none_empty, none_too_long, turn_holds, turn_less, turn_fails, turn_inside}
 use Rattle.verifier.proofs.inference.infer.Goals as goal
 use Rattle.verifier.proofs.inference.infer.Goals.{then-count-eq0-via-then-count-eq0, then-count-eq0-via-else-count-eq0+then-entry}

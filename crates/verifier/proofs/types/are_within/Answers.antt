@@ -1,5 +1,5 @@
-use Rattle.std.proofs.Common.{◌≡◌, sym, ◌∙◌}
-use Rattle.verifier.proofs.Lists.{unequal, step_on, step_off}
+use Rattle.std.proofs.Common.{sym}
+use Rattle.verifier.proofs.Lists.{unequal}
 use Rattle.verifier.proofs.types.are_within.Goals as goal
 
 pub returns-then-locals-wider : goal.returns-then-locals-wider
