@@ -9,3 +9,5 @@ pub mod TableLaws
 pub mod MovedLaws
 pub mod PutLaws
 pub mod RelocationLaws
+pub mod LaidLaws
+pub mod OriginLaws

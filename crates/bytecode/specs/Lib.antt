@@ -1,3 +1,4 @@
 pub mod Marks
 pub mod Within
 pub mod Places
+pub mod Relocated

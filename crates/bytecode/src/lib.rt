@@ -7,6 +7,7 @@ mod encoding;
 mod entries;
 mod forms;
 mod instructions;
+pub mod laws;
 mod numbers;
 mod operands;
 mod places;
