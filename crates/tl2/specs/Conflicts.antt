@@ -1,5 +1,5 @@
 -- The conflicts of an attempt.
-use Rattle.std.specs.Prelude.{◌≡◌, ◌∷◌}
+use Rattle.std.specs.Prelude.{◌≡◌, ◌≢◌, ◌+◌, ◌*◌, ◌∷◌}
 use Rattle.tx_core.specs.declared.engine.Conflict.{Conflict}
 use Rattle.jmodel.specs.Book.{Book, Lost, lookup}
 use Rattle.jmodel.specs.Plays.{used_in}
@@ -16,9 +16,10 @@ lost_to v e = record {
   reads = v.reads;
 }
 
--- The attempt of a book met a conflict: its bound is told, the word that was seen is held or has a version over the bound,
--- and the book then has this conflict and no other one more.
+-- The attempt of a book met a conflict: its bound is told, the word that was seen is held by another or has a version over the
+-- bound, and the book then has this conflict and no other one more.
 pub record Meets (v w : Book) (e : Conflict) : Type 0 where
   pub upto : e.upto ≡ v.bound
   pub past : IsPast v.bound e.word
+  pub other : e.word ≢ 2 * v.face.number + 1
   pub kept : w.lost ≡ lost_to v e ∷ v.lost

@@ -1,5 +1,5 @@
 //! The steps of a commit: the stripes of what was written are taken, and given back.
-ghost use Rattle.std.specs.Prelude.{◌≡◌, ◌≢◌, ◌<◌, ◌≤◌, ◌+◌, ◌%◌, [], ℕ, List, true, false, length, slice_index, slice_index_or, IfOk, IfErr, IsOk, ◌^◌, ◌∷◌};
+ghost use Rattle.std.specs.Prelude.{◌≡◌, ◌≢◌, ◌<◌, ◌≤◌, ◌+◌, ◌*◌, ◌%◌, [], ℕ, List, true, false, length, slice_index, slice_index_or, IfOk, IfErr, IsOk, ◌^◌, ◌∷◌};
 ghost use mathlib.Core.Option.{some as Found, none as Missing};
 ghost use Rattle.jmodel.specs.Book.{Unticked, Decided, In, lookup};
 ghost use Rattle.jmodel.specs.Plays.{lost_at, took};
@@ -28,6 +28,7 @@ fn take_one<T: Story>(
     ensures ok { IfOk result (λ word. book pass.new ≡ took (book pass.old) (address % 4096) word address) }
     ensures err { IfErr result (λ e. book pass.new ≡ lost_at (book pass.old) address e.word) }
     ensures conflict { IfErr result (λ e. (e.address ≡ address) × (e.upto ≡ (book pass.old).bound) × IsPast (book pass.old).bound e.word) }
+    ensures other { lookup (book pass.old).face.held (address % 4096) ≡ Missing → IfErr result (λ e. e.word ≢ 2 * (book pass.old).face.number + 1) }
     ensures sole { (book pass.old).numbers ≡ 2 ^ 20 → lookup (book pass.old).face.held (address % 4096) ≡ Missing → IsOk result }
 {
     let word = pass.look(shared, address, !was_read)?;
@@ -78,6 +79,7 @@ pub(crate) fn take_all<T: Story>(
     ensures ok { IfOk result (λ _. IsTaking (book pass.old) (book pass.new) × Covers owners.now words.new 0 4096 (book pass.new).face.held) }
     ensures err { IfErr result (λ e. IsRest (lost_to (book pass.old) e ∷ []) 0 (book pass.old) (book pass.new) × ((book pass.new).face.held ≡ []) × ((book pass.new).face.stage ≡ Unticked)) }
     ensures conflict { IfErr result (λ e. (e.upto ≡ (book pass.old).bound) × IsPast (book pass.old).bound e.word × (slice_index owners.now (e.address % 4096) ≡ e.address + 1)) }
+    ensures other { IfErr result (λ e. e.word ≢ 2 * (book pass.old).face.number + 1) }
     ensures sole { (book pass.old).numbers ≡ 2 ^ 20 → IsOk result }
 {
     for stripe in 0..STRIPES {
@@ -110,6 +112,7 @@ pub(crate) fn validate_all<T: Story>(
     ensures ok { IfOk result (λ _. IsChecked owners.now reads.now (length reads.now) (book pass.old) (book pass.new)) }
     ensures err { IfErr result (λ e. (checked : List ℕ) × (book pass.new ≡ lost_at (record (book pass.old) { checked = checked }) e.address e.word)) }
     ensures conflict { IfErr result (λ e. (e.upto ≡ (book pass.old).bound) × IsPast (book pass.old).bound e.word × In e.address reads.now) }
+    ensures other { ((s : ℕ) → slice_index owners.now s ≡ 0 → lookup (book pass.old).face.held s ≡ Missing) → IfErr result (λ e. e.word ≢ 2 * (book pass.old).face.number + 1) }
     ensures sole { (book pass.old).numbers ≡ 2 ^ 20 → ((s : ℕ) → slice_index owners.now s ≡ 0 → lookup (book pass.old).face.held s ≡ Missing) → IsOk result }
 {
     for address in reads {

@@ -1,5 +1,5 @@
 //! The commit of an attempt that wrote, over the steps of the table.
-ghost use Rattle.std.specs.Prelude.{◌≡◌, ◌≢◌, ◌⊎◌, ◌<◌, ◌≤◌, ◌%◌, ◌^◌, [], ℕ, true, All, reverse, IfOk, IfErr, IsOk, ◌∷◌};
+ghost use Rattle.std.specs.Prelude.{◌≡◌, ◌≢◌, ◌⊎◌, ◌<◌, ◌≤◌, ◌+◌, ◌*◌, ◌%◌, ◌^◌, [], ℕ, true, All, reverse, IfOk, IfErr, IsOk, ◌∷◌};
 ghost use mathlib.Core.Option.{some as Found};
 ghost use Rattle.jmodel.specs.History.{Entry};
 ghost use Rattle.jmodel.specs.Book.{Map, Has, In, Unticked, Ticked, lookup, pairs};
@@ -81,6 +81,7 @@ pub(crate) fn update<T: Story>(
     ensures ok { IfOk result (λ stamp. (stamp.update ≡ true) × IsAdded (update_of (book pass.old) stamp.at (reverse writes.now) answer.value) (book pass.old) (book pass.new)) }
     ensures conflict { IfErr result (λ e. (e.upto ≡ (book pass.old).bound) × IsPast (book pass.old).bound e.word × (Has (pairs (reverse writes.now)) e.address ⊎ In e.address reads.now)) }
     ensures err { IfErr result (λ e. (moved : ℕ) × (moved ≤ 1) × IsRest (lost_to (book pass.old) e ∷ []) moved (book pass.old) (book pass.new)) }
+    ensures other { IfErr result (λ e. e.word ≢ 2 * (book pass.old).face.number + 1) }
     ensures sole { (book pass.old).numbers ≡ 2 ^ 20 → IsOk result }
 {
     let Plan {

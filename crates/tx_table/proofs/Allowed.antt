@@ -8,14 +8,14 @@ use Rattle.atomic_table.specs.Table.{State}
 use Rattle.jmodel.specs.History.{Entry}
 use Rattle.jmodel.specs.Book.{Map, lookup, Has, In, Unticked, Ticked, Decided, Book}
 use Rattle.jmodel.specs.Rule.{Story, stripe, total}
-use Rattle.tx_table.specs.Steps.{IsKept, Unchanged, Moved}
+use Rattle.tx_table.specs.Steps.{IsKept, Unchanged, Moved, Foreign}
 use prog.Atomic.{either}
 use Rattle.std.proofs.Math.Nat.{mod-eq_of_lt}
 use Rattle.atomic_table.specs.Table.{Me, step, keeps, stepped, Allows}
 use Rattle.jmodel.specs.Plays.{Reads, Updates, lost_at, took, tried, gave_up, ticked_up, decided_up, wrote_back, released, finished}
 use Rattle.tx_table.specs.Steps.{Takes, Ticks, Decides, Writes_back, Releases, Gives, Finishes}
 use Rattle.tx_table.proofs.Private.{quietly}
-use Rattle.tx_table.proofs.ReadSteps.{lost_mine, unchanged, moved}
+use Rattle.tx_table.proofs.ReadSteps.{lost_mine, unchanged, moved, foreign}
 use Rattle.tx_table.proofs.Taking.{takes_kept}
 use Rattle.tx_table.proofs.Giving.{gives_kept}
 use Rattle.tx_table.proofs.Ticking.{ticks_kept}
@@ -40,7 +40,7 @@ module _ {S : Type 0} (key : Story) (slots id : ℕ) (me : Me S Book) where
         keeps,
         tt,
         kept,
-        (ap (λ (k : ℕ). let w : Book = tried me.0 k old a n in let z : Me S Book = (w, me.1) in z) back, subst (λ (k : ℕ). Unchanged k me.0 n) back (unchanged key s r id me.0 at j low), subst (λ (k : ℕ). Moved k me.0 n) back (moved key s r id me.0 at j low)),
+        (ap (λ (k : ℕ). let w : Book = tried me.0 k old a n in let z : Me S Book = (w, me.1) in z) back, subst (λ (k : ℕ). Unchanged k me.0 n) back (unchanged key s r id me.0 at j low), subst (λ (k : ℕ). Moved k me.0 n) back (moved key s r id me.0 at j low), subst (λ (k : ℕ). Foreign k me.0 n) back (foreign key s r id me.0 at j low)),
       )
 
   -- the same, where the address is told

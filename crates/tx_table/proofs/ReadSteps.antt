@@ -8,7 +8,7 @@ use Rattle.atomic_table.specs.Table.{State}
 use Rattle.jmodel.specs.History.{Call, Entry}
 use Rattle.jmodel.specs.Book.{Map, lookup, In, Stage, Unticked, Ticked, Decided, Look, Away, Saw, Had, Face, Book}
 use Rattle.jmodel.specs.Rule.{Story, used_at, start, stripe, last_of, top_of, Faces, World, Sees, Watch, Catch, Looks, face_of, faces, code, IsSole}
-use Rattle.tx_table.specs.Steps.{IsKept, Untouched, Unchanged, IsPast, Moved}
+use Rattle.tx_table.specs.Steps.{IsKept, Untouched, Unchanged, IsPast, Moved, Foreign}
 use Rattle.atomic_table.specs.Table.{Me, step, keeps, Allows}
 use Rattle.jmodel.specs.Plays.{begun, is_free, fits, lost_at, looked, loaded_at, checked_at, validated, Aims, IsLoaded, word_in}
 use Rattle.tx_table.specs.Steps.{Begins, Looks_up, Loads, Rechecks, Validates}
@@ -257,6 +257,24 @@ module _ {S : Type 0} (key : Story) (s : State S Book) (r : IsKept key s) (me : 
       by_look (Saw j u) e aims other = let w = subst (Looks (start key) (used_at key) W (suc me) v.bound) e (mine.look live) in past u (subst (λ (k : ℕ). Watch (start key) (used_at key) W v.bound k u) aims w) other
       by_look (Had j u a x) e aims other = let w = subst (Looks (start key) (used_at key) W (suc me) v.bound) e (mine.look live) in past u (subst (λ (k : ℕ). Watch (start key) (used_at key) W v.bound k u) aims w.1) other
 
+  -- a stripe that this pass does not hold does not show its number
+  pub foreign : (i : ℕ) → i < 4096 → Foreign i v (get_or s.words (i + 1) 0)
+  foreign i l some_numbers free own = by_holder (r.holder i) refl
+    where
+      by_count : (k : ℕ) (w : Book) (c : ℕ) → w.numbers ≡ c → k ≢ me → get_elem? s.views k ≡ some w → lookup w.face.held i ≡ some (2 * r.ver i) → w.face.number ≡ v.face.number → ⊥
+      by_count k w zero c m e h p = none_found (2 * r.ver i) (ap (λ (f : Map ℕ). lookup f i) (sym (r.counts.idle k w e c).1) ∙ h)
+      by_count k w (suc q) c m e h p = let more : 0 < w.numbers = omega arith in r.distinct.differ k me w v m e at more some_numbers p
+
+      by_view : (k : ℕ) (z : Option Book) → get_elem? s.views k ≡ z → lookup (F k).held i ≡ some (2 * r.ver i) → (F k).number ≡ v.face.number → ⊥
+      by_view k none e h p = none_found (2 * r.ver i) (ap (λ z. lookup (face_of z).held i) (sym e) ∙ h)
+      by_view k (some w) e h p = dite (ℕ_discrete k me)
+          (λ m. none_found (2 * r.ver i) (sym free ∙ ap (λ (f : Face). lookup f.held i) (sym face_is) ∙ ap (λ j. lookup (F j).held i) (sym m) ∙ h))
+          (λ m. by_count k w w.numbers refl m e (ap (λ z. lookup (face_of z).held i) (sym e) ∙ h) (ap (λ z. (face_of z).number) (sym e) ∙ p))
+
+      by_holder : (h : ℕ) → r.holder i ≡ h → ⊥
+      by_holder zero e = let g : get_or s.words (i + 1) 0 ≡ 2 * r.ver i = r.stripes i l ∙ ap (λ (k : ℕ). code F k (r.ver i)) e in omega arith
+      by_holder (suc k) e = let g : get_or s.words (i + 1) 0 ≡ 2 * (F k).number + 1 = r.stripes i l ∙ ap (λ (k : ℕ). code F k (r.ver i)) e in by_view k (get_elem? s.views k) refl ((r.locks.grip k).listed i e) (omega arith)
+
 -- what quiet steps leave alone
 abbrev pub Same : Book → Book → Type 0
 Same w v = (w.face ≡ v.face) × ((w.numbers ≡ v.numbers) × (w.fresh ≡ v.fresh)) × (w.ticks ≡ v.ticks) × (w.entries ≡ v.entries) × (w.live ≡ true → (v.live ≡ true) × (w.bound ≡ v.bound))
@@ -304,7 +322,7 @@ module _ {S : Type 0} (key : Story) (slots id : ℕ) (me : Me S Book) where
 
   pub looks : (a : ℕ) (newer : Bool) → a % 4096 < 4096 → Allows (IsKept key) slots id me (a % 4096 + 1) (λ n. n) (Looks_up a newer (step slots (a % 4096 + 1) 0 0 none) me)
   looks a newer l = let back : a % 4096 ≡ a % 4096 + 1 - 1 = omega arith in load_allows (a % 4096 + 1) (looked me.0 a newer) (Looks_up a newer (step slots (a % 4096 + 1) 0 0 none) me)
-      (λ s r at. (looked_mine key s r id me.0 at a newer (get_or s.words (a % 4096 + 1) 0) l refl, (refl, subst (λ (k : ℕ). Untouched k me.0 (get_or s.words (a % 4096 + 1) 0)) back (untouched key s r id me.0 at (a % 4096) l)))) (λ n. same_looked me.0 a newer n)
+      (λ s r at. (looked_mine key s r id me.0 at a newer (get_or s.words (a % 4096 + 1) 0) l refl, (refl, subst (λ (k : ℕ). Untouched k me.0 (get_or s.words (a % 4096 + 1) 0)) back (untouched key s r id me.0 at (a % 4096) l), subst (λ (k : ℕ). Foreign k me.0 (get_or s.words (a % 4096 + 1) 0)) back (foreign key s r id me.0 at (a % 4096) l)))) (λ n. same_looked me.0 a newer n)
 
   -- the same, where the address is told
   pub looks_for : (a b : ℕ) → b ≡ a → (newer : Bool) → a % 4096 < 4096 → Allows (IsKept key) slots id me (a % 4096 + 1) (λ n. n) (Looks_up b newer (step slots (a % 4096 + 1) 0 0 none) me)
@@ -312,7 +330,7 @@ module _ {S : Type 0} (key : Story) (slots id : ℕ) (me : Me S Book) where
 
   pub validates : (a : ℕ) → a % 4096 < 4096 → me.0.live ≡ true → Allows (IsKept key) slots id me (a % 4096 + 1) (λ n. n) (Validates a (step slots (a % 4096 + 1) 0 0 none) me)
   validates a l live = let back : a % 4096 ≡ a % 4096 + 1 - 1 = omega arith in load_allows (a % 4096 + 1) (validated me.0 a (a % 4096 + 1 - 1)) (Validates a (step slots (a % 4096 + 1) 0 0 none) me)
-      (λ s r at. (subst (λ (k : ℕ). Mine key s r id (validated me.0 a k (get_or s.words (a % 4096 + 1) 0))) back (validated_mine key s r id me.0 at a (a % 4096) (get_or s.words (a % 4096 + 1) 0) l live refl), (refl, subst (λ (k : ℕ). Untouched k me.0 (get_or s.words (a % 4096 + 1) 0)) back (untouched key s r id me.0 at (a % 4096) l))))
+      (λ s r at. (subst (λ (k : ℕ). Mine key s r id (validated me.0 a k (get_or s.words (a % 4096 + 1) 0))) back (validated_mine key s r id me.0 at a (a % 4096) (get_or s.words (a % 4096 + 1) 0) l live refl), (refl, subst (λ (k : ℕ). Untouched k me.0 (get_or s.words (a % 4096 + 1) 0)) back (untouched key s r id me.0 at (a % 4096) l), subst (λ (k : ℕ). Foreign k me.0 (get_or s.words (a % 4096 + 1) 0)) back (foreign key s r id me.0 at (a % 4096) l))))
       (λ n. same_validated me.0 a (a % 4096 + 1 - 1) n)
 
   pub loads : (a : ℕ) → me.0.live ≡ true → Aims me.0.look (a % 4096) → Allows (IsKept key) slots id me (a + 4097) (λ n. n) (Loads (step slots (a + 4097) 0 0 none) me)
@@ -324,7 +342,7 @@ module _ {S : Type 0} (key : Story) (slots id : ℕ) (me : Me S Book) where
   pub rechecks : (says : Book → Type 0) → ((s : State S Book) (r : IsKept key s) (b : Book) → Mine key s r id b → b.live ≡ true → says b) → (a : ℕ) → me.0.live ≡ true → me.0.face.stage ≡ Unticked → a % 4096 < 4096 → IsLoaded me.0.look a me.0.bound
       → Allows (IsKept key) slots id me (a % 4096 + 1) (λ n. n) (Rechecks says (step slots (a % 4096 + 1) 0 0 none) me)
   rechecks says tells a live calm l had = let back : a % 4096 ≡ a % 4096 + 1 - 1 = omega arith in load_allows (a % 4096 + 1) (checked_at me.0.look me.0) (Rechecks says (step slots (a % 4096 + 1) 0 0 none) me)
-      (λ s r at. let k = checked_mine key s r id me.0 at me.0.look a (get_or s.words (a % 4096 + 1) 0) refl live calm l refl had in (k, (refl, (λ h. tells s r (checked_at me.0.look me.0 (get_or s.words (a % 4096 + 1) 0)) k h), subst (λ (k : ℕ). Unchanged k me.0 (get_or s.words (a % 4096 + 1) 0)) back (unchanged key s r id me.0 at (a % 4096) l), subst (λ (k : ℕ). Moved k me.0 (get_or s.words (a % 4096 + 1) 0)) back (moved key s r id me.0 at (a % 4096) l))))
+      (λ s r at. let k = checked_mine key s r id me.0 at me.0.look a (get_or s.words (a % 4096 + 1) 0) refl live calm l refl had in (k, (refl, (λ h. tells s r (checked_at me.0.look me.0 (get_or s.words (a % 4096 + 1) 0)) k h), subst (λ (k : ℕ). Unchanged k me.0 (get_or s.words (a % 4096 + 1) 0)) back (unchanged key s r id me.0 at (a % 4096) l), subst (λ (k : ℕ). Moved k me.0 (get_or s.words (a % 4096 + 1) 0)) back (moved key s r id me.0 at (a % 4096) l), subst (λ (k : ℕ). Foreign k me.0 (get_or s.words (a % 4096 + 1) 0)) back (foreign key s r id me.0 at (a % 4096) l))))
       (λ n. same_checked me.0.look me.0 n)
 
   pub begins : (says : Book → Type 0) → ((s : State S Book) (r : IsKept key s) (b : Book) → Mine key s r id b → b.live ≡ true → says b) → (c : Call) → me.0.face.held ≡ [] → me.0.face.stage ≡ Unticked

@@ -31,27 +31,31 @@ IsPast bound n = (n % 2 ≢ 0) ⊎ (2 * bound < n)
 abbrev pub Moved : ℕ → Book → ℕ → Type 0
 Moved i v n = v.live ≡ true → Aims v.look i → n ≢ word_in v.look 0 → IsPast v.bound n
 
+-- a stripe that a pass does not hold does not show its number
+abbrev pub Foreign : ℕ → Book → ℕ → Type 0
+Foreign i v n = 0 < v.numbers → lookup v.face.held i ≡ none → n ≢ 2 * v.face.number + 1
+
 module _ {S : Type 0} where
   abbrev pub Begins : Call → (Book → Type 0) → Step S → Me S Book → ℕ → Me S Book → Type 0
   Begins call says st m n m' = (m.0.seen ≤ n) × (m' ≡ (begun m.0 call n, m.1)) × says m'.0
 
   abbrev pub Looks_up : ℕ → Bool → Step S → Me S Book → ℕ → Me S Book → Type 0
-  Looks_up a newer st m n m' = (m' ≡ (looked m.0 a newer n, m.1)) × Untouched (st.word - 1) m.0 n
+  Looks_up a newer st m n m' = (m' ≡ (looked m.0 a newer n, m.1)) × Untouched (st.word - 1) m.0 n × Foreign (st.word - 1) m.0 n
 
   abbrev pub Loads : Step S → Me S Book → ℕ → Me S Book → Type 0
   Loads st m n m' = m' ≡ (loaded_at m.0.look m.0 (st.word - 4097) n, m.1)
 
   abbrev pub Rechecks : (Book → Type 0) → Step S → Me S Book → ℕ → Me S Book → Type 0
-  Rechecks says st m n m' = (m' ≡ (checked_at m.0.look m.0 n, m.1)) × (m'.0.live ≡ true → says m'.0) × Unchanged (st.word - 1) m.0 n × Moved (st.word - 1) m.0 n
+  Rechecks says st m n m' = (m' ≡ (checked_at m.0.look m.0 n, m.1)) × (m'.0.live ≡ true → says m'.0) × Unchanged (st.word - 1) m.0 n × Moved (st.word - 1) m.0 n × Foreign (st.word - 1) m.0 n
 
   abbrev pub Finishes : Entry → Step S → Me S Book → ℕ → Me S Book → Type 0
   Finishes e st m n m' = m' ≡ (finished m.0 e, m.1)
 
   abbrev pub Validates : ℕ → Step S → Me S Book → ℕ → Me S Book → Type 0
-  Validates a st m n m' = (m' ≡ (validated m.0 a (st.word - 1) n, m.1)) × Untouched (st.word - 1) m.0 n
+  Validates a st m n m' = (m' ≡ (validated m.0 a (st.word - 1) n, m.1)) × Untouched (st.word - 1) m.0 n × Foreign (st.word - 1) m.0 n
 
   abbrev pub Takes : ℕ → Step S → Me S Book → ℕ → Me S Book → Type 0
-  Takes a st m n m' = (m' ≡ (tried m.0 (st.word - 1) st.first a n, m.1)) × Unchanged (st.word - 1) m.0 n × Moved (st.word - 1) m.0 n
+  Takes a st m n m' = (m' ≡ (tried m.0 (st.word - 1) st.first a n, m.1)) × Unchanged (st.word - 1) m.0 n × Moved (st.word - 1) m.0 n × Foreign (st.word - 1) m.0 n
 
   -- the clock is far from its end
   abbrev pub Ticks : Map ℕ → Step S → Me S Book → ℕ → Me S Book → Type 0

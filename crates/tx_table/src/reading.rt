@@ -1,5 +1,5 @@
 //! The steps of an attempt that reads.
-ghost use Rattle.std.specs.Prelude.{◌≡◌, ◌≢◌, ◌⊎◌, ◌≤◌, ◌<◌, ◌*◌, ◌^◌, ◌/◌, ◌%◌, [], ℕ, true, false, IfOk, IfErr, IsOk};
+ghost use Rattle.std.specs.Prelude.{◌≡◌, ◌≢◌, ◌⊎◌, ◌≤◌, ◌<◌, ◌+◌, ◌*◌, ◌^◌, ◌/◌, ◌%◌, [], ℕ, true, false, IfOk, IfErr, IsOk};
 ghost use Rattle.jmodel.specs.History.{Call, Entry};
 ghost use mathlib.Core.Option.{none as Missing};
 ghost use Rattle.jmodel.specs.Book.{Book, lookup, Unticked, Saw};
@@ -52,6 +52,7 @@ impl Pass {
         ensures ok { IfOk result (λ w. (w % 2 ≡ 0) × ((newer ≡ true) ⊎ (w ≤ 2 * (book self.old).bound)) × (book self.new ≡ record (book self.old) { look = Saw (a % 4096) (w / 2) })) }
         ensures err { IfErr result (λ e. ((e.word % 2 ≢ 0) ⊎ ((newer ≡ false) × (2 * (book self.old).bound < e.word))) × (book self.new ≡ lost_at (book self.old) a e.word)) }
         ensures conflict { IfErr result (λ e. (e.address ≡ a) × (e.upto ≡ (book self.old).bound)) }
+        ensures other { lookup (book self.old).face.held (a % 4096) ≡ Missing → IfErr result (λ e. e.word ≢ 2 * (book self.old).face.number + 1) }
         ensures sole { (book self.old).numbers ≡ 2 ^ 20 → lookup (book self.old).face.held (a % 4096) ≡ Missing → IsOk result }
     {
         self.look_as::<T, Brand>(s, a, newer)
@@ -71,6 +72,7 @@ impl Pass {
         ensures ok { IfOk result (λ w. (w % 2 ≡ 0) × ((newer ≡ true) ⊎ (w ≤ 2 * (book self.old).bound)) × (book self.new ≡ record (book self.old) { look = Saw (a % 4096) (w / 2) })) }
         ensures err { IfErr result (λ e. ((e.word % 2 ≢ 0) ⊎ ((newer ≡ false) × (2 * (book self.old).bound < e.word))) × (book self.new ≡ lost_at (book self.old) a e.word)) }
         ensures conflict { IfErr result (λ e. (e.address ≡ a) × (e.upto ≡ (book self.old).bound)) }
+        ensures other { lookup (book self.old).face.held (a % 4096) ≡ Missing → IfErr result (λ e. e.word ≢ 2 * (book self.old).face.number + 1) }
         ensures sole { (book self.old).numbers ≡ 2 ^ 20 → lookup (book self.old).face.held (a % 4096) ≡ Missing → IsOk result }
     {
         let stripe = (a % 4096) as usize;
@@ -107,6 +109,7 @@ impl Pass {
         ensures err { IfErr result (λ e. (e.word ≢ word_in (book self.old).look 0) × (book self.new ≡ lost_at (book self.old) a e.word)) }
         ensures past { IfErr result (λ e. IsPast (book self.old).bound e.word) }
         ensures conflict { IfErr result (λ e. (e.address ≡ a) × (e.upto ≡ (book self.old).bound)) }
+        ensures other { lookup (book self.old).face.held (a % 4096) ≡ Missing → IfErr result (λ e. e.word ≢ 2 * (book self.old).face.number + 1) }
         ensures sole { (book self.old).numbers ≡ 2 ^ 20 → lookup (book self.old).face.held (a % 4096) ≡ Missing → IsOk result }
     {
         self.recheck_as::<T, Brand>(s, a)
@@ -123,6 +126,7 @@ impl Pass {
         ensures err { IfErr result (λ e. (e.word ≢ word_in (book self.old).look 0) × (book self.new ≡ lost_at (book self.old) a e.word)) }
         ensures past { IfErr result (λ e. IsPast (book self.old).bound e.word) }
         ensures conflict { IfErr result (λ e. (e.address ≡ a) × (e.upto ≡ (book self.old).bound)) }
+        ensures other { lookup (book self.old).face.held (a % 4096) ≡ Missing → IfErr result (λ e. e.word ≢ 2 * (book self.old).face.number + 1) }
         ensures sole { (book self.old).numbers ≡ 2 ^ 20 → lookup (book self.old).face.held (a % 4096) ≡ Missing → IsOk result }
     {
         let stripe = (a % 4096) as usize;

@@ -1,5 +1,5 @@
 //! The steps of an attempt that writes.
-ghost use Rattle.std.specs.Prelude.{◌≡◌, ◌≢◌, ◌⊎◌, ◌≤◌, ◌<◌, ◌*◌, ◌/◌, ◌%◌, ◌^◌, ◌∷◌, [], ℕ, Bool, true, false, IfOk, IfErr, IsOk};
+ghost use Rattle.std.specs.Prelude.{◌≡◌, ◌≢◌, ◌⊎◌, ◌≤◌, ◌<◌, ◌+◌, ◌*◌, ◌/◌, ◌%◌, ◌^◌, ◌∷◌, [], ℕ, Bool, true, false, IfOk, IfErr, IsOk};
 ghost use mathlib.Core.Option.{some as Found, none as Missing};
 ghost use Rattle.jmodel.specs.History.{Entry};
 ghost use Rattle.jmodel.specs.Book.{Map, lookup, Has, In, Unticked, Ticked, Decided};
@@ -35,6 +35,7 @@ impl Pass {
         ensures err { IfErr result (λ e. (e.word ≢ word) × (book self.new ≡ lost_at (book self.old) a e.word)) }
         ensures past { Aims (book self.old).look (a % 4096) → word ≡ word_in (book self.old).look 0 → IfErr result (λ e. IsPast (book self.old).bound e.word) }
         ensures conflict { IfErr result (λ e. (e.address ≡ a) × (e.upto ≡ (book self.old).bound)) }
+        ensures other { lookup (book self.old).face.held (a % 4096) ≡ Missing → IfErr result (λ e. e.word ≢ 2 * (book self.old).face.number + 1) }
         ensures sole { (book self.old).numbers ≡ 2 ^ 20 → lookup (book self.old).face.held (a % 4096) ≡ Missing → Aims (book self.old).look (a % 4096) → word ≡ word_in (book self.old).look 0 → IsOk result }
     {
         self.take_as::<T, Brand>(s, a, word)
@@ -56,6 +57,7 @@ impl Pass {
         ensures err { IfErr result (λ e. (e.word ≢ word) × (book self.new ≡ lost_at (book self.old) a e.word)) }
         ensures past { Aims (book self.old).look (a % 4096) → word ≡ word_in (book self.old).look 0 → IfErr result (λ e. IsPast (book self.old).bound e.word) }
         ensures conflict { IfErr result (λ e. (e.address ≡ a) × (e.upto ≡ (book self.old).bound)) }
+        ensures other { lookup (book self.old).face.held (a % 4096) ≡ Missing → IfErr result (λ e. e.word ≢ 2 * (book self.old).face.number + 1) }
         ensures sole { (book self.old).numbers ≡ 2 ^ 20 → lookup (book self.old).face.held (a % 4096) ≡ Missing → Aims (book self.old).look (a % 4096) → word ≡ word_in (book self.old).look 0 → IsOk result }
     {
         let stripe = (a % 4096) as usize;
@@ -106,6 +108,7 @@ impl Pass {
         ensures ok { IfOk result (λ _. book self.new ≡ record (book self.old) { checked = (a % 4096) ∷ (book self.old).checked }) }
         ensures err { IfErr result (λ e. IsPast (book self.old).bound e.word × (book self.new ≡ lost_at (book self.old) a e.word)) }
         ensures conflict { IfErr result (λ e. (e.address ≡ a) × (e.upto ≡ (book self.old).bound)) }
+        ensures other { lookup (book self.old).face.held (a % 4096) ≡ Missing → IfErr result (λ e. e.word ≢ 2 * (book self.old).face.number + 1) }
         ensures sole { (book self.old).numbers ≡ 2 ^ 20 → lookup (book self.old).face.held (a % 4096) ≡ Missing → IsOk result }
     {
         self.validate_as::<T, Brand>(s, a)
@@ -120,6 +123,7 @@ impl Pass {
         ensures ok { IfOk result (λ _. book self.new ≡ record (book self.old) { checked = (a % 4096) ∷ (book self.old).checked }) }
         ensures err { IfErr result (λ e. IsPast (book self.old).bound e.word × (book self.new ≡ lost_at (book self.old) a e.word)) }
         ensures conflict { IfErr result (λ e. (e.address ≡ a) × (e.upto ≡ (book self.old).bound)) }
+        ensures other { lookup (book self.old).face.held (a % 4096) ≡ Missing → IfErr result (λ e. e.word ≢ 2 * (book self.old).face.number + 1) }
         ensures sole { (book self.old).numbers ≡ 2 ^ 20 → lookup (book self.old).face.held (a % 4096) ≡ Missing → IsOk result }
     {
         let stripe = (a % 4096) as usize;

@@ -62,7 +62,7 @@ returns-in-Err-clause-seen g c = λ e q.
     let same : c.in-Err.conflict ≡ e = cc in
     let at = ap (λ (ws : Log). pairs (reverse ws)) c.deref-3.ensures.value in
     subst (λ (d : Conflict). Meets (book c.args.self.now.pass) (book c.update-done.new.pass) d × (Has (pairs (reverse c.args.self.now.writes.items)) d.address ⊎ In d.address c.args.self.now.reads.items)) same (
-      record { upto = k.0; past = k.1; kept = rest.2.lost },
+      record { upto = k.0; past = k.1; other = c.in-Err.ensures.other; kept = rest.2.lost },
       ⊎_elim (λ (h : Has (pairs (reverse c.deref-3.result.now)) c.in-Err.conflict.address). inl (subst (λ (m : Map ℕ). Has m c.in-Err.conflict.address) at h))
           (λ (i : In c.in-Err.conflict.address c.deref-4.result.now). inr (subst (λ (rs : List ℕ). In c.in-Err.conflict.address rs) c.deref-4.ensures.value i)) k.2,
     )
