@@ -35,19 +35,23 @@ fn finds_the_first_of_two(rt: HostRuntime) -> Result<(), Fail> {
 }
 
 #[test]
-fn tells_kinds_apart(rt: HostRuntime) -> Result<(), Fail> {
+fn tells_numbers_apart(rt: HostRuntime) -> Result<(), Fail> {
     let mut pool = Pool::new(rt.alloc());
-    assert_eq!(rt; pool.add_utf8(b"A")?, 1);
-    assert_eq!(rt; pool.add_long(1)?, 2);
-    assert_eq!(rt; pool.add_integer(1)?, 4);
-    assert_eq!(rt; pool.add_field(b"A", b"n", b"I")?, 9);
-    assert_eq!(rt; pool.add_method(b"A", b"n", b"I")?, 10);
-    assert_eq!(rt; pool.add_interface_method(b"A", b"n", b"I")?, 11);
-    assert_eq!(rt; pool.add_field(b"A", b"I", b"n")?, 13);
-    assert_eq!(rt; pool.add_integer(1)?, 4);
-    assert_eq!(rt; pool.add_long(1)?, 2);
-    assert_eq!(rt; pool.add_method(b"A", b"n", b"I")?, 10);
-    assert_eq!(rt; pool.add_field(b"A", b"n", b"I")?, 9);
+    assert_eq!(rt; pool.add_long(1)?, 1);
+    assert_eq!(rt; pool.add_integer(1)?, 3);
+    assert_eq!(rt; pool.add_long(1)?, 1);
+    assert_eq!(rt; pool.add_integer(1)?, 3);
+    Ok(())
+}
+
+#[test]
+fn tells_references_apart(rt: HostRuntime) -> Result<(), Fail> {
+    let mut pool = Pool::new(rt.alloc());
+    assert_eq!(rt; pool.add_field(b"A", b"n", b"I")?, 6);
+    assert_eq!(rt; pool.add_method(b"A", b"n", b"I")?, 7);
+    assert_eq!(rt; pool.add_interface_method(b"A", b"n", b"I")?, 8);
+    assert_eq!(rt; pool.add_field(b"A", b"I", b"n")?, 10);
+    assert_eq!(rt; pool.add_method(b"A", b"n", b"I")?, 7);
     Ok(())
 }
 
@@ -55,7 +59,9 @@ fn tells_kinds_apart(rt: HostRuntime) -> Result<(), Fail> {
 fn takes_in_what_is_put(rt: HostRuntime) -> Result<(), Fail> {
     let mut pool = Pool::new(rt.alloc());
     assert_eq!(rt; pool.add_utf8(b"A")?, 1);
+    assert_eq!(rt; pool.entries().len(), 1);
     pool.push(text(rt.alloc(), b"B")?)?;
+    assert_eq!(rt; pool.entries().len(), 2);
     pool.push(Constant::Class(2))?;
     assert_eq!(rt; pool.add_class(b"B")?, 3);
     assert_eq!(rt; pool.add_utf8(b"B")?, 2);
