@@ -18,7 +18,11 @@ fn branched(is_taken: bool, to: usize) -> Doing
     ensures does { (f : JFrame) → branches is_taken to f ≡ Does result f }
     ensures can { CanDo result }
 {
-    if is_taken { Doing::Jump(to) } else { Doing::Next }
+    if is_taken {
+        Doing::Jump(to)
+    } else {
+        Doing::Next
+    }
 }
 
 impl Frame {

@@ -12,6 +12,8 @@ use std::marker::Brand;
 use std::snapshot::Snapshot;
 use tx_core::{Conflict, Engine, Solo, TxEnd};
 
+mod ints;
+
 const RETRIES: i32 = 3;
 
 fn name(alloc: Global) -> MethodName {
@@ -80,7 +82,17 @@ fn getter(alloc: Global) -> Result<Method, AllocError> {
         Op::Context(ContextCall::OnRead(WordType::Int)),
         Op::ReturnValue,
     ]?;
-    Ok(Method::new(name(alloc), 1, 1, 5, true, false, None, ops, Vec::new(alloc)))
+    Ok(Method::new(
+        name(alloc),
+        1,
+        1,
+        5,
+        true,
+        false,
+        None,
+        ops,
+        Vec::new(alloc),
+    ))
 }
 
 fn setter(alloc: Global) -> Result<Method, AllocError> {
@@ -92,7 +104,17 @@ fn setter(alloc: Global) -> Result<Method, AllocError> {
         Op::Context(ContextCall::OnWrite(WordType::Int)),
         Op::Return,
     ]?;
-    Ok(Method::new(name(alloc), 2, 2, 5, false, false, None, ops, Vec::new(alloc)))
+    Ok(Method::new(
+        name(alloc),
+        2,
+        2,
+        5,
+        false,
+        false,
+        None,
+        ops,
+        Vec::new(alloc),
+    ))
 }
 
 fn duplicate(alloc: Global) -> Result<Method, AllocError> {
