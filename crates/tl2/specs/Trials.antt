@@ -41,5 +41,5 @@ pub record IsStarting (t : TableId) (lane : ℕ) (p : Pass) : Type 0 where
 pub record IsEnding (t : TableId) (p : Pass) : Type 0 where
   pub table : IsOf t p
   pub free : ((book p).face.held ≡ []) × ((book p).face.stage ≡ Unticked)
-  pub ticks : (book p).ticks ≤ 1000000
+  pub ticks : (book p).ticks ≤ 100000000
   pub numbers : ((book p).numbers ≡ 1) × ((book p).fresh ≡ 0)

@@ -13,7 +13,7 @@ use jmodel::op::Access;
 use jmodel::value::Answer;
 use std::alloc::Global;
 use std::snapshot::Snapshot;
-use std::thread::{Threads, join};
+use std::thread::{Threads, join, yield_now};
 use tx_core::{Engine, TxEnd};
 use tx_table::{Pass, Shared, Story};
 
@@ -175,7 +175,7 @@ fn adds_many<'a, T: Ruled>(tx: &mut Tl2<'a, T, CallAt>, lane: u64, wanted: u64) 
     requires stands { StandsSomehow tx.old.shared.now.words tx.old.at tx.old.writes.items (book tx.old.pass) }
     requires waits { IsWaiting lane 0 (book tx.old.pass) }
     requires ticks { (book tx.old.pass).ticks ≡ 0 }
-    ensures ticks { (book tx.new.pass).ticks ≤ 1000000 }
+    ensures ticks { (book tx.new.pass).ticks ≤ 100000000 }
     ensures same { IsSame tx.old.pass tx.new.pass × ((book tx.new.pass).numbers ≡ (book tx.old.pass).numbers) × ((book tx.new.pass).fresh ≡ (book tx.old.pass).fresh) }
 {
     let one = Access {
@@ -184,9 +184,11 @@ fn adds_many<'a, T: Ruled>(tx: &mut Tl2<'a, T, CallAt>, lane: u64, wanted: u64) 
     };
     let mut done = 0;
     let mut index = 0;
-    while index < 1_000_000 && done < wanted {
+    while index < 100_000_000 && done < wanted {
         if tries(tx, lane, index, &[one]).is_ok() {
             done += 1;
+        } else {
+            yield_now();
         }
         index += 1;
     }
@@ -201,7 +203,7 @@ fn runs(alloc: Global, shared: &Shared<Words>, pass: Pass, lane: u64) -> (u64, P
     requires ticks { (book pass).ticks ≡ 0 }
     ensures same { IsSame pass result.1 × ((book result.1).numbers ≡ (book pass).numbers) × ((book result.1).fresh ≡ (book pass).fresh) }
     ensures free { ((book result.1).face.held ≡ []) × ((book result.1).face.stage ≡ Unticked) }
-    ensures ticks { (book result.1).ticks ≤ 1000000 }
+    ensures ticks { (book result.1).ticks ≤ 100000000 }
 {
     let first = CallAt { lane, index: 0 };
     let mut tx = Tl2::new(alloc, shared, pass, Snapshot::of(&first));
@@ -220,8 +222,8 @@ fn both_run<R: Threads + Sync>(
     requires free { ((book one).face.held ≡ []) × ((book one).face.stage ≡ Unticked) × ((book two).face.held ≡ []) × ((book two).face.stage ≡ Unticked) }
     requires waits { IsWaiting 0 0 (book one) × IsWaiting 1 0 (book two) }
     requires ticks { ((book one).ticks ≡ 0) × ((book two).ticks ≡ 0) }
-    ensures one { IsSame one result.0.1 × ((book result.0.1).numbers ≡ (book one).numbers) × ((book result.0.1).fresh ≡ (book one).fresh) × ((book result.0.1).face.held ≡ []) × ((book result.0.1).face.stage ≡ Unticked) × ((book result.0.1).ticks ≤ 1000000) }
-    ensures two { IsSame two result.1.1 × ((book result.1.1).numbers ≡ (book two).numbers) × ((book result.1.1).fresh ≡ (book two).fresh) × ((book result.1.1).face.held ≡ []) × ((book result.1.1).face.stage ≡ Unticked) × ((book result.1.1).ticks ≤ 1000000) }
+    ensures one { IsSame one result.0.1 × ((book result.0.1).numbers ≡ (book one).numbers) × ((book result.0.1).fresh ≡ (book one).fresh) × ((book result.0.1).face.held ≡ []) × ((book result.0.1).face.stage ≡ Unticked) × ((book result.0.1).ticks ≤ 100000000) }
+    ensures two { IsSame two result.1.1 × ((book result.1.1).numbers ≡ (book two).numbers) × ((book result.1.1).fresh ≡ (book two).fresh) × ((book result.1.1).face.held ≡ []) × ((book result.1.1).face.stage ≡ Unticked) × ((book result.1.1).ticks ≤ 100000000) }
 {
     join(
         rt,

@@ -7,7 +7,7 @@ ghost use Rattle.tx_table.specs.Trials.{the_call, Ready};
 use crate::shared::{Pass, Shared, Story};
 use jmodel::NoMemory;
 use std::snapshot::Snapshot;
-use std::thread::{Threads, join_mut};
+use std::thread::{Threads, join_mut, yield_now};
 use tx_core::Conflict;
 
 /// A story of these words, two regions, and any entries.
@@ -132,14 +132,16 @@ fn adds_many<T: Story>(pass: &mut Pass, s: &Shared<T>, lane: u64, wanted: u64) -
     requires runs { (e : Entry) → (T.story s.now.table.shared.key.story.value).runs e }
     requires ready { Ready lane 0 (book pass.old) × ((book pass.old).ticks ≡ 0) }
     ensures same { IsSame pass.old pass.new × ((book pass.new).numbers ≡ (book pass.old).numbers) × ((book pass.new).fresh ≡ (book pass.old).fresh) }
-    ensures ticks { (book pass.new).ticks ≤ 1000000 }
+    ensures ticks { (book pass.new).ticks ≤ 100000000 }
     ensures free { ((book pass.new).face.held ≡ []) × ((book pass.new).face.stage ≡ Unticked) }
 {
     let mut done = 0;
     let mut index = 0;
-    while index < 1_000_000 && done < wanted {
+    while index < 100_000_000 && done < wanted {
         if adds(pass, s, lane, index).is_ok() {
             done += 1;
+        } else {
+            yield_now();
         }
         index += 1;
     }
@@ -156,8 +158,8 @@ fn both_add<R: Threads + Sync>(
     requires heap { 3 < s.now.words }
     requires one { Ready 0 0 (book one.old) × ((book one.old).ticks ≡ 0) }
     requires two { Ready 1 0 (book two.old) × ((book two.old).ticks ≡ 0) }
-    ensures one { IsSame one.old one.new × ((book one.new).numbers ≡ (book one.old).numbers) × ((book one.new).fresh ≡ (book one.old).fresh) × ((book one.new).ticks ≤ 1000000) × ((book one.new).face.held ≡ []) × ((book one.new).face.stage ≡ Unticked) }
-    ensures two { IsSame two.old two.new × ((book two.new).numbers ≡ (book two.old).numbers) × ((book two.new).fresh ≡ (book two.old).fresh) × ((book two.new).ticks ≤ 1000000) × ((book two.new).face.held ≡ []) × ((book two.new).face.stage ≡ Unticked) }
+    ensures one { IsSame one.old one.new × ((book one.new).numbers ≡ (book one.old).numbers) × ((book one.new).fresh ≡ (book one.old).fresh) × ((book one.new).ticks ≤ 100000000) × ((book one.new).face.held ≡ []) × ((book one.new).face.stage ≡ Unticked) }
+    ensures two { IsSame two.old two.new × ((book two.new).numbers ≡ (book two.old).numbers) × ((book two.new).fresh ≡ (book two.old).fresh) × ((book two.new).ticks ≤ 100000000) × ((book two.new).face.held ≡ []) × ((book two.new).face.stage ≡ Unticked) }
 {
     join_mut(
         rt,

@@ -16,7 +16,7 @@ use std::thread::{Threads, map_vec, yield_now};
 use tx_table::{Pass, Shared, Story};
 
 /// How many moves each lane makes.
-const MOVES: u64 = 5_000;
+const MOVES: u64 = 1_000;
 
 /// A story of these words, sixteen lanes, and any entries.
 #[derive(Drop)]
@@ -57,12 +57,12 @@ fn moves_many<'a, T: Ruled>(tx: &mut Tl2<'a, T, CallAt>, lane: u64) -> u64
     requires stands { StandsSomehow tx.old.shared.now.words tx.old.at tx.old.writes.items (book tx.old.pass) }
     requires waits { IsWaiting lane 0 (book tx.old.pass) }
     requires ticks { (book tx.old.pass).ticks ≡ 0 }
-    ensures ticks { (book tx.new.pass).ticks ≤ 1000000 }
+    ensures ticks { (book tx.new.pass).ticks ≤ 100000000 }
     ensures same { IsSame tx.old.pass tx.new.pass × ((book tx.new.pass).numbers ≡ (book tx.old.pass).numbers) × ((book tx.new.pass).fresh ≡ (book tx.old.pass).fresh) }
 {
     let mut done = 0;
     let mut index = 0;
-    while index < 1_000_000 && done < MOVES {
+    while index < 100_000_000 && done < MOVES {
         let from = Access {
             address: account(lane.wrapping_add(done)),
             word: u64::MAX,

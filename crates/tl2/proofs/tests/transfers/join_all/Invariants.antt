@@ -11,7 +11,7 @@ invariant-loop-done l = record {
   few : length l.ended.items ≤ 16;
   numbers : (book l.pass).numbers + length l.ended.items ≡ (book l.initial.pass).numbers + length l.initial.ended.items;
   fresh : (book l.pass).fresh ≡ (book l.initial.pass).fresh;
-  ticks : (book l.pass).ticks + 1000000 * length l.ended.items ≤ 16000000;
+  ticks : (book l.pass).ticks + 100000000 * length l.ended.items ≤ 1600000000;
   free : ((book l.pass).face.held ≡ []) × ((book l.pass).face.stage ≡ Unticked);
 }
 

@@ -9,9 +9,9 @@ invariant-loop-index g l = record {
   waits : IsWaiting l.lane l.index (book l.tx.pass);
   ticks : (book l.tx.pass).ticks ≤ l.index;
   same : IsSame l.fn.tx.pass l.tx.pass × ((book l.tx.pass).numbers ≡ (book l.fn.tx.pass).numbers) × ((book l.tx.pass).fresh ≡ (book l.fn.tx.pass).fresh);
-  few : l.index ≤ 1000000;
+  few : l.index ≤ 100000000;
   done : l.done ≤ l.index;
 }
 
 abbrev pub decreases-loop-index : goal.decreases-loop-index
-decreases-loop-index g l = 1000000 - l.index
+decreases-loop-index g l = 100000000 - l.index
