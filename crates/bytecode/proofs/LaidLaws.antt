@@ -1,10 +1,9 @@
 -- What was laid keeps the rule, and leads to where its blocks stand.
-use Rattle.std.proofs.Common.{◌≡◌, ℕ, zero, suc, ◌+◌, ◌^◌, ◌<◌, ◌≤◌, ◌≢◌, Bool, true, false, cond, ◌&&◌, ◌||◌, eqb, ltb, ℤ, List, [], ◌∷◌, ◌++◌, length, map, Option, Some, None, Result, Ok, Err, refl, sym, ap, subst, ◌∙◌, ◌⊎◌, inl, inr, arith, append_assoc, length-append, eq-eqb, lt-ltb, le-ltb}
-use Rattle.std.specs.List.{flat_map, list_all, list_any, AllByRecursion, position, position_or_len}
-use Rattle.std.proofs.lemmas.Bool.{eqb-true, eqb-false, ne_eqb, ltb-true, ltb-false}
+use Rattle.std.proofs.Common.{◌≡◌, ℕ, suc, ◌+◌, ◌^◌, ◌<◌, ◌≤◌, ◌≢◌, Bool, true, false, cond, ◌||◌, eqb, ltb, ℤ, List, [], ◌∷◌, ◌++◌, length, map, Option, Some, None, Ok, Err, refl, sym, ap, subst, ◌∙◌, ◌⊎◌, inl, inr, arith, append_assoc, length-append, eq-eqb, lt-ltb}
+use Rattle.std.specs.List.{list_all, AllByRecursion, position, position_or_len}
+use Rattle.std.proofs.lemmas.Bool.{eqb-false, ne_eqb, ltb-false}
 use Rattle.std.proofs.lemmas.List.Folds.{list_all-append}
 use Rattle.jmodel.specs.declared.class_file.Handler.{Handler}
-use Rattle.jmodel.specs.declared.refusal.Refusal.{Refusal}
 use Rattle.jmodel.specs.declared.refusal.Refusal.TheVariants.{CodeTooLarge}
 use Rattle.jmodel.specs.declared.instruction.EntryKind.{EntryKind}
 use Rattle.jmodel.specs.declared.instruction.EntryKind.TheVariants as kind
@@ -14,12 +13,12 @@ use Rattle.jmodel.specs.declared.instruction.Operands.{Operands}
 use Rattle.jmodel.specs.declared.instruction.Operands.TheVariants.{Pool, Interface, Dimensions, Target, Table, Lookup}
 use Rattle.jmodel.specs.declared.instruction.Instr.{Instr}
 use Rattle.jmodel.specs.ClassFile.{Pool as Entries}
-use Rattle.jmodel.specs.Instruction.{form_of, zeros, text_as, text, code_text, Names, Counts, FitPool, FitPoolAs, IsInstr, IsInstrOver, targets_of, is_start, AreInOrder, Holds, places_of_handler, AreStarts, AreInstrs, SpellsInstrs}
-use Rattle.jmodel.specs.Relocation.{Block, all_instrs, put_at, size_at, behind, laid, place_from, place_of, end_of, retarget, retargeted, laid_to, relocated, reaches, far_block, moved, first_entry, moved_handlers, laid_out, relocate, IsShapedAs, IsShaped, is_pc, ArePcs, IsAbove, EachInstr, IsHandlerOver, AreBlocks}
+use Rattle.jmodel.specs.Instruction.{form_of, zeros, text_as, code_text, Names, Counts, FitPoolAs, IsInstr, IsInstrOver, targets_of, is_start, AreInOrder, Holds, places_of_handler, AreStarts}
+use Rattle.jmodel.specs.Relocation.{Block, all_instrs, put_at, size_at, behind, place_from, place_of, end_of, retarget, retargeted, laid_to, relocated, reaches, far_block, moved, first_entry, moved_handlers, laid_out, relocate, IsShapedAs, IsShaped, is_pc, ArePcs, IsAbove, EachInstr, IsHandlerOver, AreBlocks}
 use Rattle.const_pool.proofs.Entries.{both_true}
 use Rattle.const_pool.proofs.Takes.{ok_is}
 use Rattle.bytecode.specs.Places.{LeadsInside}
-use Rattle.bytecode.specs.Relocated.{AreLaid, LaidLaw, Fits, HaveInstrs, HasStub, SpelledLaw, number_of, PlaceLaw, SizeLaw}
+use Rattle.bytecode.specs.Relocated.{AreLaid, LaidLaw, Fits, HaveInstrs, HasStub, SpelledLaw, number_of, PlaceLaw}
 use Rattle.bytecode.proofs.SizeLaws.{behind_over}
 use Rattle.bytecode.proofs.BlockLaws.{behind_append, behind_block, all_cons}
 use Rattle.bytecode.proofs.MovedLaws.{size_same, moved_is_instr}
@@ -185,6 +184,7 @@ module _ (bs : List Block) (hs : List Handler) (first : Option ℕ) (stub : List
         let same = ok_is (code_text (relocated bs stub), moved_handlers bs hs first) (code, moved) k in
         record { fits = fits; near = q; spelled = sym (ap (λ (x : List ℕ × List Handler). x.0) same); entries = sym (ap (λ (x : List ℕ × List Handler). x.1) same) }
     by_far (Some pc) q fits k = absurd cc
+
     by_size : (t : Bool) → ltb 65535 (length (code_text (relocated bs stub))) ≡ t → cond t (Err (CodeTooLarge [])) (laid_out (far_block (place_of bs) 0 bs) bs hs first stub) ≡ Ok (code, moved) → IsDone bs hs first stub code moved
     by_size true q k = absurd cc
     by_size false q k =
@@ -198,9 +198,9 @@ module _ (bs : List Block) (hs : List Handler) (first : Option ℕ) (stub : List
   laid_keeps code moved h d =
       let shaped = join_all IsShaped (all_instrs bs) stub (all_of_blocks IsShaped bs h.each) h.each_last in
       let reach : list_all reaches (relocated bs stub) ≡ true =
-          ap (list_all reaches) (laid_append (place_of bs) 0 (all_instrs bs) stub)
-          ∙ list_all-append reaches (laid_to (place_of bs) 0 (all_instrs bs)) (laid_to (place_of bs) (behind 0 (all_instrs bs)) stub)
-          ∙ rw (all_reach (place_of bs) 0 bs d.near, stub_reaches (place_of bs) (behind 0 (all_instrs bs)) stub h.last_leads_nowhere) refl in
+      ap (list_all reaches) (laid_append (place_of bs) 0 (all_instrs bs) stub)
+      ∙ list_all-append reaches (laid_to (place_of bs) 0 (all_instrs bs)) (laid_to (place_of bs) (behind 0 (all_instrs bs)) stub)
+      ∙ rw (all_reach (place_of bs) 0 bs d.near, stub_reaches (place_of bs) (behind 0 (all_instrs bs)) stub h.last_leads_nowhere) refl in
       record {
         each = instrs_are (place_of bs) (place_small d.fits) 0 (all_instrs bs ++ stub) d.fits shaped reach;
         order = in_order (place_of bs) 0 (all_instrs bs ++ stub);
@@ -217,6 +217,7 @@ number_small [] pc h e = absurd cc
 number_small (b ∷ bs) pc h e = by_test (eqb b.pc pc) e (number_small bs pc h.1) where
   len : length (all_instrs (b ∷ bs)) ≡ length b.instrs + length (all_instrs bs)
   len = ap length (all_cons b bs) ∙ length-append b.instrs (all_instrs bs)
+
   by_test : (t : Bool) → (t || is_pc bs pc) ≡ true → (is_pc bs pc ≡ true → number_of bs pc < length (all_instrs bs)) → cond t 0 (length b.instrs + number_of bs pc) < length (all_instrs (b ∷ bs))
   by_test true k others = omega (arith, len, h.0)
   by_test false k others = omega (arith, len, others k)
@@ -230,6 +231,7 @@ module _ (bs : List Block) (stub : List Instr) where
   leads pc lt = by_rest (c.rest ++ stub) (parts pc c) where
     c : IsCut 0 bs pc
     c = cut 0 bs pc
+
     by_rest : (ys : List Instr) → all_instrs bs ++ stub ≡ c.before ++ ys → is_start (relocated bs stub) (place_of bs pc) ≡ true
     by_rest [] e = absurd (omega (arith, lt, ap length e, length-append c.before [], c.count))
     by_rest (y ∷ ys) e = rw (e, c.place) (starts (place_of bs) 0 c.before y ys)
@@ -262,9 +264,11 @@ pub place_is : PlaceLaw
 place_is bs stub pc h k lt = by_rest (c.rest ++ stub) (parts bs stub pc c) where
   c : IsCut 0 bs pc
   c = cut 0 bs pc
+
   before_shaped : (xs ys : List Instr) → AllByRecursion IsShaped (xs ++ ys) → AllByRecursion IsShaped xs
   before_shaped [] ys s = tt
   before_shaped (x ∷ xs) ys s = (s.0, before_shaped xs ys s.1)
+
   by_rest : (ys : List Instr) → all_instrs bs ++ stub ≡ c.before ++ ys → position (λ (i : Instr). eqb i.pc (place_of bs pc)) (relocated bs stub) ≡ Some (number_of bs pc)
   by_rest [] e = absurd (omega (arith, lt, ap length e, length-append c.before [], c.count))
   by_rest (y ∷ ys) e =
@@ -290,6 +294,7 @@ module _ (bs : List Block) (stub : List Instr) (len : ℕ) (whole : len ≡ behi
   end_leads n (inr above) ne = by_stub stub refl where
     p : (place_of bs n ≡ end_of bs) × (number_of bs n ≡ length (all_instrs bs))
     p = place_above 0 bs n above
+
     by_stub : (ys : List Instr) → stub ≡ ys → is_start (relocated bs stub) (place_of bs n) ≡ true
     by_stub [] e = absurd (ne (p.0 ∙ sym (whole ∙ ap (λ (is : List Instr). behind 0 (all_instrs bs ++ is)) e ∙ behind_append 0 (all_instrs bs) [])))
     by_stub (y ∷ ys) e = leads bs stub n (omega (arith, p.1, length-append (all_instrs bs) stub, ap length e))

@@ -11,3 +11,4 @@ pub mod PutLaws
 pub mod RelocationLaws
 pub mod LaidLaws
 pub mod OriginLaws
+pub mod GrownLaws

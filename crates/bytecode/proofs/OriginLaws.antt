@@ -1,5 +1,5 @@
 -- Blocks that stand for the instructions of code.
-use Rattle.std.proofs.Common.{◌≡◌, ℕ, zero, suc, ◌+◌, ◌^◌, ◌<◌, ◌≤◌, Bool, true, false, cond, ◌||◌, eqb, List, [], ◌∷◌, ◌++◌, length, Option, Some, None, refl, sym, ap, subst, ◌∙◌, ◌⊎◌, inl, inr, arith, length-append, FitsSigned}
+use Rattle.std.proofs.Common.{◌≡◌, ℕ, ◌+◌, ◌<◌, ◌≤◌, Bool, true, false, cond, eqb, List, [], ◌∷◌, length, Option, Some, None, refl, sym, ap, subst, ◌∙◌, inl, inr, arith, length-append}
 use Rattle.std.specs.List.{AllByRecursion}
 use Rattle.std.proofs.lemmas.Bool.{eqb-true}
 use Rattle.jmodel.specs.declared.class_file.Handler.{Handler}
@@ -10,9 +10,9 @@ use Rattle.jmodel.specs.declared.instruction.Operands.TheVariants.{Target}
 use Rattle.jmodel.specs.declared.instruction.Instr.{Instr}
 use Rattle.jmodel.specs.ClassFile.{Pool as Entries}
 use Rattle.std.specs.Int.{Width, w16, w32}
-use Rattle.jmodel.specs.Instruction.{form_of, text_as, text_with, IsTarget, IsSizedAs, FitPoolAs, IsInstrOver, is_start, Holds, places_of_handler, AreStarts, AreInstrs, SpellsInstrs}
+use Rattle.jmodel.specs.Instruction.{form_of, text_as, text_with, IsTarget, IsSizedAs, FitPoolAs, IsInstrOver, is_start, Holds, places_of_handler, AreStarts}
 use Rattle.jmodel.specs.Relocation.{Block, IsJump, IsShapedAs, IsShaped, is_pc, AscendFrom, ArePcs, IsAbove, IsHandlerOver}
-use Rattle.bytecode.specs.Relocated.{StandFor, HaveOrigin, OriginLaw}
+use Rattle.bytecode.specs.Relocated.{StandFor, OriginLaw}
 
 -- ---- shapes
 

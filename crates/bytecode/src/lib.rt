@@ -23,4 +23,6 @@ pub use jmodel::{EntryKind, Form, Instr, Operands, Pairs, Targets};
 pub use relocation::relocate;
 
 #[cfg(test)]
+mod relocation_tests;
+#[cfg(test)]
 mod tests;

@@ -285,10 +285,8 @@ fn taken_by(rearrange: Rearrange) -> usize
     match rearrange {
         Rearrange::Nothing => 0,
         Rearrange::Pop | Rearrange::Duplicate => 1,
-        Rearrange::PopTwo
-        | Rearrange::DuplicateUnder
-        | Rearrange::DuplicateTwo
-        | Rearrange::Swap => 2,
+        Rearrange::PopTwo | Rearrange::DuplicateUnder | Rearrange::DuplicateTwo | Rearrange::Swap =>
+            2,
     }
 }
 

@@ -203,15 +203,7 @@ fn coded_method(
     let ops = ops_of(alloc, symbols, list.as_slice())?;
     let handlers = code.handlers.as_slice();
     let catches = entries_of(alloc, &class.pool, list.as_slice(), bytes.len(), handlers)?;
-    Ok(make_method(
-        alloc,
-        symbols,
-        counted,
-        method,
-        code,
-        shape,
-        (ops, catches),
-    )?)
+    Ok(make_method(alloc, symbols, counted, method, code, shape, (ops, catches))?)
 }
 
 /// What a method of a rewritten class means; its frames count or don't.
