@@ -1,21 +1,19 @@
 -- Entries that name none behind the end mean the same in a longer pool.
-use Rattle.std.proofs.Common.{◌≡◌, ℕ, zero, suc, ◌+◌, ◌<◌, ◌≤◌, Bool, true, false, ◌&&◌, List, [], ◌∷◌, ◌++◌, length, take, drop, Option, Some, None, refl, sym, ap, subst, ◌∙◌, leb, arith, leb-true}
-use Rattle.std.specs.Prelude.{option_map, option_and_then, slice_get, nat_le, position}
-use Rattle.std.specs.List.{list_all}
-use Rattle.std.proofs.lemmas.List.{take-append-drop, length-take-le, take-append-le}
+use Rattle.std.proofs.Common.{◌≡◌, ℕ, zero, suc, ◌+◌, ◌<◌, ◌≤◌, Bool, true, false, ◌&&◌, List, [], ◌∷◌, ◌++◌, length, Option, Some, None, refl, sym, ap, ◌∙◌, arith, leb-true}
+use Rattle.std.specs.Prelude.{option_map, option_and_then, slice_get, nat_le}
 use Rattle.jmodel.specs.declared.class_file.Constant.{Constant}
 use Rattle.jmodel.specs.declared.class_file.Constant.TheVariants as entries
 use Rattle.jmodel.specs.ClassFile.{Pool}
-use Rattle.jmodel.specs.Pool.{entry, text_in, utf8, name_in, class_name, pair_in, pair, both}
+use Rattle.jmodel.specs.Pool.{entry, text_in, utf8, name_in, class_name, pair_in, pair}
 use Rattle.jmodel.specs.ClassRules.{same_text}
 use Rattle.jmodel.specs.PoolAdding.{means_text, means_class, means_pair, pair_means, parts_mean, means_member}
 use Rattle.const_pool.specs.declared.meanings.Kind.{Kind}
 use Rattle.const_pool.specs.declared.meanings.Kind.TheVariants as kinds
 use Rattle.const_pool.specs.declared.keys.Key.{Key}
-use Rattle.const_pool.specs.declared.keys.Key.TheVariants.{Class, Pair, Field, Method, InterfaceMethod}
+use Rattle.const_pool.specs.declared.keys.Key.TheVariants.{Class}
 use Rattle.const_pool.specs.Kinds.{parts_of}
-use Rattle.const_pool.specs.Firsts.{first, has_key, text_place, class_place, pair_place, key_of, name_key, member_key, stays_within}
-use Rattle.const_pool.proofs.FirstLemmas.{first_stays, first_behind, first_congr, position_first}
+use Rattle.const_pool.specs.Firsts.{first, has_key, text_place, class_place, pair_place, name_key, member_key, stays_within}
+use Rattle.const_pool.proofs.FirstLemmas.{first_stays, first_behind, first_congr}
 use Rattle.const_pool.proofs.SameMeaning.{has_text, has_class, has_pair}
 
 both_true : (a b : Bool) → (a && b) ≡ true → (a ≡ true) × (b ≡ true)

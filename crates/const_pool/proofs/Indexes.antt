@@ -1,11 +1,10 @@
 -- Look-ups in a pool through its index, and indexes of longer and shorter pools.
-use Rattle.std.proofs.Common.{◌≡◌, ℕ, zero, suc, ◌+◌, ◌-◌, ◌<◌, ◌≤◌, Bool, true, false, ◌&&◌, List, [], ◌∷◌, ◌++◌, length, take, drop, Option, Some, None, Vec, ◌⊎◌, inl, inr, ⊎_elim, refl, sym, ap, subst, ◌∙◌, arith, length-append, leb-true}
-use Rattle.std.specs.Prelude.{ℤ, option_map, option_and_then, slice_get, nat_le, position, IfSome}
-use Rattle.std.specs.List.{list_all, position_or_len}
+use Rattle.std.proofs.Common.{◌≡◌, ℕ, zero, suc, ◌+◌, ◌-◌, ◌≤◌, Bool, true, false, ◌&&◌, List, [], ◌∷◌, ◌++◌, length, take, drop, Option, Some, None, Vec, ◌⊎◌, inl, inr, ⊎_elim, refl, sym, ap, subst, ◌∙◌, arith, length-append, leb-true}
+use Rattle.std.specs.Prelude.{ℤ, option_map, option_and_then, slice_get, nat_le, position}
+use Rattle.std.specs.List.{list_all}
 use Rattle.std.specs.BTreeMap.{BTreeMap}
 use Rattle.std.proofs.lemmas.List.{take-append-drop, length-take-le, length-take, length-drop, take-append-le}
 use Rattle.std.proofs.Math.Seq.{take-length}
-use Rattle.std.proofs.lemmas.Grind.{common_steps}
 use Rattle.std.proofs.lemmas.Bool.Decides.{nat_tests}
 use Rattle.jmodel.specs.declared.class_file.Constant.{Constant}
 use Rattle.jmodel.specs.declared.class_file.Constant.TheVariants as entries
@@ -19,7 +18,7 @@ use Rattle.const_pool.specs.declared.index.Index.{Index}
 use Rattle.const_pool.specs.Kinds.{parts_of}
 use Rattle.const_pool.specs.Firsts.{first, has_key, text_known, key_known, key_of, key_for, name_key, member_key, stays_within, Knows}
 use Rattle.const_pool.specs.Indexed.{IsIndexed, class_known, pair_known, member_known, in_order}
-use Rattle.const_pool.proofs.FirstLemmas.{position_first, first_stands}
+use Rattle.const_pool.proofs.FirstLemmas.{position_first}
 use Rattle.const_pool.proofs.SameMeaning.{class_by_name, pair_by_names, integer_by_number, long_by_number, member_by_names}
 use Rattle.const_pool.proofs.Grown.{IsClosed, found_in_front, found_behind, front_means_class, front_means_pair, front_means_member, names_in_front, members_in_front}
 

@@ -1,10 +1,10 @@
 -- Look-ups in maps from keys and texts to places.
-use Rattle.std.proofs.Common.{◌≡◌, ℕ, Bool, true, false, ◌&&◌, cond, List, [], ◌∷◌, Option, Some, None, refl, sym, ap, ◌∙◌, subst, eqb, arith, rules}
-use Rattle.std.specs.Prelude.{bytes_eq, nat_eq, is_some}
+use Rattle.std.proofs.Common.{◌≡◌, ℕ, Bool, true, false, ◌&&◌, cond, List, [], ◌∷◌, Option, Some, None, refl, sym, ap, ◌∙◌, rules}
+use Rattle.std.specs.Prelude.{nat_eq, is_some}
 use Rattle.std.specs.Map.{lookup}
 use Rattle.std.specs.BTreeMap.{BTreeMap, get, is_at}
-use Rattle.std.specs.Ordering.{int_eq, nat_cmp, int_cmp, is_eq, ordering_then}
-use Rattle.std.proofs.lemmas.Bool.{eqb-true, eq-eqb}
+use Rattle.std.specs.Ordering.{nat_cmp, is_eq}
+use Rattle.std.proofs.lemmas.Bool.{eqb-true}
 use Rattle.const_pool.specs.declared.keys.Key.{Key}
 use Rattle.const_pool.specs.declared.keys.Key.TheVariants.{Integer, Long, Class, Pair, Field, Method, InterfaceMethod}
 use Rattle.const_pool.specs.contracts.keys.KeyOrd.TheImpl.{cmp-value}

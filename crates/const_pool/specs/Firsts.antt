@@ -1,5 +1,5 @@
 -- Where the first entries stand, by text and by key. Places count from 0.
-use Rattle.std.specs.Prelude.{◌≡◌, ℕ, length, slice_get, suc, ◌≤◌, List, [], ◌∷◌, Option, Some, None, Bool, true, false, ◌&&◌, if◌then◌else◌, nat_eq, nat_le, option_map, option_and_then, Vec}
+use Rattle.std.specs.Prelude.{◌≡◌, ℕ, length, slice_get, suc, List, [], ◌∷◌, Option, Some, None, Bool, true, false, ◌&&◌, if◌then◌else◌, nat_eq, nat_le, option_map, option_and_then, Vec}
 use Rattle.std.specs.Ordering.{int_eq, nat_cmp}
 use Rattle.std.specs.Map.{lookup}
 use Rattle.std.specs.BTreeMap.{BTreeMap, get_by}

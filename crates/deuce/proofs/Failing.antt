@@ -1,5 +1,5 @@
 -- The read of a class file that failed.
-use Rattle.std.proofs.Common.{◌≡◌, ◌≤◌, ℕ, List, Option, refl, sym, inl, inr}
+use Rattle.std.proofs.Common.{◌≡◌, ◌≤◌, ℕ, List, Option, refl, inr}
 use Rattle.deuce_io.specs.Fault.{Call, read_of, HasFailed, rose_since}
 use Rattle.deuce_io.specs.Files.{Files, inside}
 use Rattle.deuce_io.specs.declared.end.IoEnd.{IoEnd}

@@ -1,9 +1,8 @@
 -- A call of a rewritten method makes an attempt before it is spent.
-use Rattle.std.proofs.Common.{◌≡◌, ℕ, ℤ, zero, suc, ◌+◌, ◌-◌, ◌<◌, ◌≤◌, List, [], ◌∷◌, length, Option, Some, Bool, true, false, refl, sym, ap, subst, arith, nat_lt, min}
+use Rattle.std.proofs.Common.{◌≡◌, ℕ, ℤ, zero, suc, ◌+◌, ◌-◌, ◌<◌, ◌≤◌, List, [], ◌∷◌, length, Option, Some, Bool, true, false, refl, sym, ap, ◌∙◌, subst, arith, nat_lt, min}
 use Rattle.std.proofs.lemmas.Bool.Decides.{nat_tests}
 use Rattle.std.specs.Prelude.{slice_get}
 use Rattle.jmodel.specs.declared.value.Value.{Value}
-use Rattle.jmodel.specs.declared.op.Slot.{Slot}
 use Rattle.jmodel.specs.declared.op.Phase.{Phase}
 use Rattle.jmodel.specs.declared.op.Phase.TheVariants.{Ready, Open, Doomed, Closed}
 use Rattle.jmodel.specs.declared.op.Request.{Request}
@@ -18,7 +17,10 @@ use Rattle.jmodel.proofs.Places.{rewrites}
 use Rattle.jmodel.proofs.Replies.{Holds, IsOfEnds, on_leads, on_reply}
 use Rattle.jmodel.proofs.Rows.{frame}
 use Rattle.jmodel.proofs.Wrapper.{wrapper_is, loop_first, loop_begins, starts_up}
-use Rattle.jmodel.proofs.Begins.{locals_first, locals_then, set_first, starts_first, room_first}
+use Rattle.std.specs.List.{flat_map, AllByRecursion}
+use Rattle.jmodel.specs.declared.op.WordType.TheVariants as word
+use Rattle.jmodel.specs.Value.{slots_of, IsOfType}
+use Rattle.jmodel.proofs.Begins.{args_length, locals_first, locals_then, set_first, starts_first, room_first}
 
 -- at least so many attempts were begun
 abbrev HasTried : ℕ → Run → Type 0
@@ -141,23 +143,25 @@ tried_of (Ended x m w r) h = omega (arith, h)
 tried_of Stuck h = tt
 
 -- a call that is over has made an attempt
-pub first_try : (P : Program) (B : Bounds) (m : ℕ) (k : Method) (n : ℤ) → slice_get P.methods m ≡ Some k → k.retries ≡ Some n → k.params ≡ 0 → 0 < count_of n → 0 < B.attempts
-    → (used : ℕ) (vs : List Reply) → IsTried (run (rewritten P) B vs (run_start (rewritten P) m [] used))
-first_try P B m k n at marked bare some room used vs =
+pub first_try : (P : Program) (B : Bounds) (m : ℕ) (k : Method) (n : ℤ) → slice_get P.methods m ≡ Some k → k.retries ≡ Some n
+    → (args : List Value) → AllByRecursion (IsOfType word.Int) args → length args ≡ k.params → 0 < count_of n → 0 < B.attempts
+    → (used : ℕ) (vs : List Reply) → IsTried (run (rewritten P) B vs (run_start (rewritten P) m args used))
+first_try P B m k n at marked args ints count some room used vs =
     let Q = rewritten P in
     let R = rewrites P in
     let found = R.wrapper m k n at marked in
     let id = found.0 in
     let wm = wrapper_method P id m n k in
     let W = wrapper_is P id m n k in
+    let slots = flat_map slots_of args in
     let two : wm.locals - wm.params ≡ 2 = omega arith in
-    let len : length {A = Slot} [] ≡ k.params = sym bare in
-    let first = set_first k.params [] len in
+    let len : length slots ≡ k.params = args_length args ints ∙ count in
+    let first = set_first k.params slots len in
     let M : Meter = record { turns = 0; tried = 0; used = used } in
-    let begins : (v : Reply) → Holds Q B IsTried (length vs) (begun (nat_lt 0 (min (count_of n) B.attempts)) B (frame m 5 (locals_then k.params []) [] ∷ []) M) = λ v.
+    let begins : (v : Reply) → Holds Q B IsTried (length vs) (begun (nat_lt 0 (min (count_of n) B.attempts)) B (frame m 5 (locals_then k.params slots) [] ∷ []) M) = λ v.
     (let yes : nat_lt 0 (min (count_of n) B.attempts) ≡ true = grind (arith, nat_tests) in
     rw yes (λ us le. tried_of _ (stays_on Q B 1 us _ (omega arith)))) in
-    subst IsTried (ap (run Q B vs) (sym (starts_first Q m [] used wm found.1 two)))
-    (on_leads Q B IsTried of_ends 2 (length vs) _ _ (starts_up Q B m wm found.1 k.params id (duplicate P m) n (6 + k.params) (conflict_at k.gives k.params) k.gives W (locals_then k.params []) first.here M [] [] (locals_first []) (room_first k.params [] len) refl)
-    (on_leads Q B IsTried of_ends 3 (length vs) _ _ (loop_first Q B m wm found.1 k.params id (duplicate P m) n (6 + k.params) (conflict_at k.gives k.params) k.gives W (locals_then k.params []) first.here M [] [])
-    (on_reply Q B IsTried of_ends (length vs) _ (λ v. subst (Holds Q B IsTried (length vs)) (sym (loop_begins Q B m wm found.1 k.params id (duplicate P m) n (6 + k.params) (conflict_at k.gives k.params) k.gives W (locals_then k.params []) first.here M [] [] v)) (begins v)))) vs (omega arith))
+    subst IsTried (ap (run Q B vs) (sym (starts_first Q m args used wm found.1 two)))
+    (on_leads Q B IsTried of_ends 2 (length vs) _ _ (starts_up Q B m wm found.1 k.params id (duplicate P m) n (6 + k.params) (conflict_at k.gives k.params) k.gives W (locals_then k.params slots) first.here M [] [] (locals_first slots) (room_first k.params slots len) refl)
+    (on_leads Q B IsTried of_ends 3 (length vs) _ _ (loop_first Q B m wm found.1 k.params id (duplicate P m) n (6 + k.params) (conflict_at k.gives k.params) k.gives W (locals_then k.params slots) first.here M [] [])
+    (on_reply Q B IsTried of_ends (length vs) _ (λ v. subst (Holds Q B IsTried (length vs)) (sym (loop_begins Q B m wm found.1 k.params id (duplicate P m) n (6 + k.params) (conflict_at k.gives k.params) k.gives W (locals_then k.params slots) first.here M [] [] v)) (begins v)))) vs (omega arith))

@@ -1,7 +1,7 @@
 -- The one class file among the items of a folder.
-use Rattle.std.proofs.Common.{Bor, ◌≡◌, ◌<◌, ◌≤◌, ◌+◌, ◌∙◌, ◌↔◌, inl, inr, ℕ, suc, Bool, true, false, List, [], ◌∷◌, length, get_or, ap, sym, refl, subst, Contains, Option, Some, None, arith}
+use Rattle.std.proofs.Common.{Bor, ◌≡◌, ◌<◌, ◌+◌, ◌∙◌, inl, inr, ℕ, Bool, true, false, List, length, get_or, ap, sym, refl, subst, Contains, Option, Some, None, arith}
 use Rattle.std.specs.Prelude.{MatchOption, IfSome, is_some}
-use Rattle.std.proofs.lemmas.List.{length-map, get_or_default}
+use Rattle.std.proofs.lemmas.List.{get_or_default}
 use Rattle.std.proofs.lemmas.Bool.{cases_lt}
 use Rattle.deuce_io.specs.declared.folder.Item.{Item}
 use Rattle.deuce_io.specs.Files.{Files, NoRepeats, IsListing, StandsIn, seen_items}

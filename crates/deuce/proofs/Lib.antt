@@ -1,12 +1,13 @@
 pub mod Lists
-pub mod Items
 pub mod FirstTry
 pub mod Calling
 pub mod Made
 pub mod Serially
-pub mod Numbered
+pub mod Knowing
 pub mod Reading
 pub mod Running
 pub mod Folders
 pub mod Failing
 pub mod Complete
+pub mod Filed
+pub mod Placed

@@ -1,7 +1,7 @@
 -- Lists of a known length.
-use Rattle.std.proofs.Common.{◌≡◌, List, [], ◌∷◌, length, slice_index_or, refl, arith, Bool, true, false, Result, Ok, Err}
+use Rattle.std.proofs.Common.{◌+◌, add-one, take, slice_get, Some, None, ◌≡◌, ◌<◌, ℕ, zero, suc, get_or, subst, sym, List, [], ◌∷◌, length, slice_index_or, refl, arith, Result, Ok, Err}
 use Rattle.std.specs.Prelude.{IfOk}
-use Rattle.std.specs.Bool.{OnTrue}
+use Rattle.std.specs.List.{AllByRecursion}
 
 -- a list of three by its elements
 pub three : {X : Type 0} (xs : List X) (a b c : X) → length xs ≡ 3 → a ≡ slice_index_or xs 0 a → b ≡ slice_index_or xs 1 b → c ≡ slice_index_or xs 2 c
@@ -12,12 +12,25 @@ three (p ∷ q ∷ []) a b c n x y z = absurd (omega (arith, n))
 three (p ∷ q ∷ r ∷ []) a b c n x y z = cc
 three (p ∷ q ∷ r ∷ s ∷ t) a b c n x y z = absurd (omega (arith, n))
 
--- a fact of one value of a test
-pub on_true : (r : Bool) (P : Type 0) → (r ≡ true → P) → OnTrue r P
-on_true true P f = f refl
-on_true false P f = tt
-
 -- what follows from a fact of the value in an Ok
 pub on_ok : {A E : Type 0} (r : Result A E) (P Q : A → Type 0) → ((x : A) → P x → Q x) → IfOk r P → IfOk r Q
 on_ok (Ok x) P Q f h = f x h
 on_ok (Err e) P Q f h = tt
+
+-- what holds of each holds of the one at a place
+pub all_here : {A : Type 0} (P : A → Type 0) (xs : List A) (i : ℕ) (x : A) → AllByRecursion P xs → i < length xs → x ≡ get_or xs i x → P x
+all_here P [] i x all h is = absurd (omega (arith, h))
+all_here P (y ∷ xs) zero x all h is = subst P (sym is) all.0
+all_here P (y ∷ xs) (suc i) x all h is = all_here P xs i x all.1 (omega (arith, h)) is
+
+-- what holds of each up to a place, and there, holds of each up to the next
+pub all_more : {A : Type 0} (P : A → Type 0) (xs : List A) (n : ℕ) → AllByRecursion P (take n xs) → ((x : A) → slice_get xs n ≡ Some x → P x) → AllByRecursion P (take (n + 1) xs)
+all_more P xs n so_far next = rw add-one (go P xs n so_far next)
+  where
+    go : {A : Type 0} (P : A → Type 0) (xs : List A) (n : ℕ) → AllByRecursion P (take n xs) → ((x : A) → slice_get xs n ≡ Some x → P x) → AllByRecursion P (take (suc n) xs)
+    go P [] n so_far next = tt
+    go P (x ∷ xs) zero so_far next = (next x refl, tt)
+    go P (x ∷ xs) (suc n) so_far next = (so_far.0, go P xs n so_far.1 next)
+
+pub some_not_none : {A : Type 0} (x : A) → Some x ≡ None → ⊥
+some_not_none x h = cc

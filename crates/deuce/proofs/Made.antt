@@ -1,7 +1,6 @@
 -- Calls that were made, one after another.
-use Rattle.std.proofs.Math.Seq.{take-suc}
-use Rattle.std.proofs.lemmas.List.{length-take}
-use Rattle.std.proofs.Common.{◌≡◌, ℕ, suc, ◌+◌, ◌<◌, take, get_or, subst, add-one, List, [], ◌∷◌, ◌++◌, length, map, Bool, true, false, refl, sym, ◌∙◌, ap, arith, length-append}
+use Rattle.std.proofs.lemmas.List.{length-take, take_more}
+use Rattle.std.proofs.Common.{◌≡◌, ℕ, suc, ◌+◌, ◌<◌, take, get_or, subst, List, [], ◌∷◌, ◌++◌, length, map, Bool, true, false, refl, sym, ◌∙◌, ap, arith, length-append}
 use Rattle.std.specs.Prelude.{filter}
 use Rattle.std.specs.Bool.{MatchBool}
 use Rattle.std.proofs.lemmas.List.{map-append, append-nil}
@@ -10,28 +9,28 @@ use Rattle.jmodel.specs.declared.value.Answer.{Answer}
 use Rattle.jmodel.specs.declared.journal.Line.{Line}
 use Rattle.jmodel.specs.Program.{Program}
 use Rattle.jmodel.specs.History.{Call, Entry}
-use Rattle.deuce.specs.Headline.{Made, made_from, is_placed, is_unplaced, is_memory, line_of, call_of}
+use Rattle.deuce.specs.Headline.{Known, Made, made_of, made_from, is_placed, is_unplaced, is_memory, line_with, line_of, call_of}
 use Rattle.deuce.specs.Rule.{AddsOne, AddsCall, HasRun}
 
-made_more : (i : ℕ) (ms : List ℕ) (xs : List Answer) (m : ℕ) (x : Answer) → length xs ≡ length ms
-    → made_from i (ms ++ m ∷ []) (xs ++ x ∷ []) ≡ made_from i ms xs ++ record { index = i + length ms; method = m; answer = x } ∷ []
-made_more i [] [] m x h = let z : i ≡ i + 0 = omega arith in ap (λ (j : ℕ). record { index = j; method = m; answer = x } ∷ []) z
-made_more i [] (y ∷ xs) m x h = absurd (omega (arith, h))
-made_more i (k ∷ ms) [] m x h = absurd (omega (arith, h))
-made_more i (k ∷ ms) (y ∷ xs) m x h =
-    let z : suc i + length ms ≡ i + suc (length ms) = omega arith in
-    ap (λ (l : List Made). record { index = i; method = k; answer = y } ∷ l)
-    (made_more (suc i) ms xs m x (omega (arith, h)) ∙ ap (λ (j : ℕ). made_from (suc i) ms xs ++ record { index = j; method = m; answer = x } ∷ []) z)
+made_more : (i : ℕ) (cs : List Known) (xs : List Answer) (c : Known) (x : Answer) → length xs ≡ length cs
+    → made_from i (cs ++ c ∷ []) (xs ++ x ∷ []) ≡ made_from i cs xs ++ made_of (i + length cs) c x ∷ []
+made_more i [] [] c x h = let z : i ≡ i + 0 = omega arith in ap (λ (j : ℕ). made_of j c x ∷ []) z
+made_more i [] (y ∷ xs) c x h = absurd (omega (arith, h))
+made_more i (k ∷ cs) [] c x h = absurd (omega (arith, h))
+made_more i (k ∷ cs) (y ∷ xs) c x h =
+    let z : suc i + length cs ≡ i + suc (length cs) = omega arith in
+    ap (λ (l : List Made). made_of i k y ∷ l)
+    (made_more (suc i) cs xs c x (omega (arith, h)) ∙ ap (λ (j : ℕ). made_from (suc i) cs xs ++ made_of j c x ∷ []) z)
 
 -- the last call added to those before it
-module _ (P : Program) (S S' : List Entry → Type 0) (ms : List ℕ) (m : ℕ) (x : Answer) where
+module _ (P : Program) (S S' : List Entry → Type 0) (ms : List Known) (m : Known) (x : Answer) where
   abbrev call : Made
-  call = record { index = length ms; method = m; answer = x }
+  call = made_of (length ms) m x
 
   more : (xs : List Answer) → length xs ≡ length ms → made_from 0 (ms ++ m ∷ []) (xs ++ x ∷ []) ≡ made_from 0 ms xs ++ call ∷ []
   more xs h =
       let z : 0 + length ms ≡ length ms = omega arith in
-      made_more 0 ms xs m x h ∙ ap (λ (j : ℕ). made_from 0 ms xs ++ record { index = j; method = m; answer = x } ∷ []) z
+      made_more 0 ms xs m x h ∙ ap (λ (j : ℕ). made_from 0 ms xs ++ made_of j m x ∷ []) z
 
   abbrev AreLines : Bool → List Line → List Line → List Line → List Line → Type 0
   AreLines b p u p' u' = MatchBool b ((p' ≡ p) × (u' ≡ u ++ line_of P call ∷ [])) ((p' ≡ p ++ line_of P call ∷ []) × (u' ≡ u))
@@ -85,28 +84,15 @@ module _ (P : Program) (S S' : List Entry → Type 0) (ms : List ℕ) (m : ℕ) 
             unplaced_are = lines.1 ∙ run.unplaced_are ∙ ap (map (line_of P)) (sym unplaced);
           }
 
--- no calls yet
-pub runs_none : (P : Program) (S : List Entry → Type 0) → S [] → HasRun P S [] [] []
-runs_none P S s = record {
-  history = [];
-  answers = [];
-  as_many = refl;
-  stands = s;
-  entries = record { calls = refl; answers_are = refl };
-  placed_are = refl;
-  unplaced_are = refl;
-}
-
 -- one turn of the loop over the calls
-pub runs_step : (P : Program) (S S' : List Entry → Type 0) (ns : List ℕ) (i : ℕ) (x : Answer) (p u p' u' : List Line) → i < length ns → HasRun P S (take i ns) p u
-    → ((h : List Entry) (j : ℕ) → S h → AddsCall S' h (record { index = j; method = get_or ns i 0; answer = x }))
-    → MatchBool (is_memory x) ((p' ≡ p) × (u' ≡ u ++ line_of P (record { index = i; method = get_or ns i 0; answer = x }) ∷ []))
-    ((p' ≡ p ++ line_of P (record { index = i; method = get_or ns i 0; answer = x }) ∷ []) × (u' ≡ u))
-    → HasRun P S' (take (i + 1) ns) p' u'
-runs_step P S S' ns i x p u p' u' less run adds lines =
-    let count : length (take i ns) ≡ i = omega (arith, length-take i ns) in
-    let next : take (i + 1) ns ≡ take i ns ++ get_or ns i 0 ∷ [] = rw add-one (take-suc ns i 0 less) in
-    let Lines : ℕ → Type 0 = λ j. MatchBool (is_memory x) ((p' ≡ p) × (u' ≡ u ++ line_of P (record { index = j; method = get_or ns i 0; answer = x }) ∷ []))
-    ((p' ≡ p ++ line_of P (record { index = j; method = get_or ns i 0; answer = x }) ∷ []) × (u' ≡ u)) in
-    let Runs : List ℕ → Type 0 = λ l. HasRun P S' l p' u' in
-    subst Runs (sym next) (runs_more P S S' (take i ns) (get_or ns i 0) x p u p' u' run (λ h s. adds h (length (take i ns)) s) (subst Lines (sym count) lines))
+pub runs_step : (P : Program) (S S' : List Entry → Type 0) (cs : List Known) (i : ℕ) (c : Known) (m : ℕ) (x : Answer) (p u p' u' : List Line) → i < length cs → c ≡ get_or cs i c → m ≡ c.method
+    → HasRun P S (take i cs) p u → ((h : List Entry) (j : ℕ) → S h → AddsCall S' h (made_of j c x))
+    → MatchBool (is_memory x) ((p' ≡ p) × (u' ≡ u ++ line_with P i m x ∷ [])) ((p' ≡ p ++ line_with P i m x ∷ []) × (u' ≡ u))
+    → HasRun P S' (take (i + 1) cs) p' u'
+runs_step P S S' cs i c m x p u p' u' less is method run adds lines =
+    let count : length (take i cs) ≡ i = omega (arith, length-take i cs) in
+    let next : take (i + 1) cs ≡ take i cs ++ c ∷ [] = take_more cs i c less ∙ ap (λ (d : Known). take i cs ++ d ∷ []) (sym is) in
+    let Lines : ℕ → ℕ → Type 0 = λ j n. MatchBool (is_memory x) ((p' ≡ p) × (u' ≡ u ++ line_with P j n x ∷ [])) ((p' ≡ p ++ line_with P j n x ∷ []) × (u' ≡ u)) in
+    let Runs : List Known → Type 0 = λ l. HasRun P S' l p' u' in
+    subst Runs (sym next)
+    (runs_more P S S' (take i cs) c x p u p' u' run (λ h s. adds h (length (take i cs)) s) (subst (λ (j : ℕ). Lines j c.method) (sym count) (subst (Lines i) method lines)))

@@ -6,6 +6,7 @@ use Rattle.deuce_io.specs.Files.{Files, inside}
 use Rattle.deuce.specs.declared.inputs.Inputs.{Inputs}
 use Rattle.deuce.specs.Headline.{IsRun}
 use Rattle.jmodel.specs.declared.refusal.Refusal.{Refusal}
+use Rattle.jmodel.specs.ClassFile.{ClassFile}
 use Rattle.deuce.specs.declared.run.RunEnd.TheVariants as ends
 use Rattle.std.specs.Prelude.{String, string_bytes, codes}
 use Rattle.jmodel.specs.Output.{◌and◌, refusal_text, error_text}
@@ -14,8 +15,8 @@ use Rattle.deuce_io.specs.Fault.{Call}
 use Rattle.deuce.specs.declared.words.Command.{Command}
 use Rattle.deuce.specs.declared.words.Command.TheVariants.{Run}
 use Rattle.deuce.specs.declared.outcome.Outcome.{Outcome}
-use Rattle.deuce.specs.declared.outcome.Outcome.TheVariants.{Journal, Usage, BadClass, Outside, NotBuilt}
-use Rattle.deuce.specs.Ending.{IsFrontOf, Holds, AreInputs, IsJournalOf, IsFileFault, IsBadClass, IsNotRun, EndsRun, IsJournalOfWords, IsBadClassOfWords, IsOutcome, IsTextOf, Appends, status_of}
+use Rattle.deuce.specs.declared.outcome.Outcome.TheVariants.{Journal, Usage, BadClass, BadProgram, Untyped, Outside, NotBuilt}
+use Rattle.deuce.specs.Ending.{IsFrontOf, Holds, AreInputs, IsJournalOf, IsFileFault, IsBadClass, HasClass, IsOfClass, IsBadProgram, IsUntypable, IsOfWords, IsNotRunOn, IsNotRun, EndsRun, IsJournalOfWords, IsBadClassOfWords, IsOutcome, IsTextOf, Appends, status_of}
 
 whole : (most limit : ℕ) (o : Option (List ℕ)) (bytes : List ℕ) → most ≡ suc limit → option_map (take most) o ≡ Some bytes → length bytes ≤ limit → o ≡ Some bytes
 whole most limit None bytes m e le = absurd (cc)
@@ -53,18 +54,24 @@ bad_class files dir script inputs r a fault = record {
   fault = fault;
 }
 
--- what was read could not be run
-pub not_run : (files : Option Files) (dir script : List ℕ) (inputs : Inputs) → AreInputs files dir script inputs → EndsRun inputs.class inputs.script ends.NotBuilt → IsNotRun files dir script
-not_run files dir script inputs a h = record {
+-- what holds of the class that was read holds of that of the folder
+pub has_class : (files : Option Files) (dir script : List ℕ) (inputs : Inputs) (Holding : ClassFile → Type 0) → AreInputs files dir script inputs → IsOfClass inputs.class Holding → HasClass files dir Holding
+has_class files dir script inputs Holding a h = record {
   name = a.name;
   class_file = a.class_file;
   class_bytes = inputs.class;
   class = holds files (inside dir a.name) 1048577 1048576 inputs.class refl a.class h.0;
   file = h.1;
   spells = h.2;
+  holding = h.3;
+}
+
+-- what was read could not be run
+pub not_run : (files : Option Files) (dir script : List ℕ) (inputs : Inputs) → AreInputs files dir script inputs → EndsRun inputs.class inputs.script ends.NotBuilt → IsNotRun files dir script
+not_run files dir script inputs a h = record {
   script_bytes = inputs.script;
   script_front = a.script_bytes;
-  not = h.3;
+  of_class = has_class files dir script inputs (IsNotRunOn inputs.script) a h;
 }
 
 -- what was printed with status 0 is a run's journal
@@ -74,6 +81,8 @@ pub journal_printed : (words : List (String Global)) (files : Option Files) (bef
 journal_printed words files before now last (Journal text) printed old new status h s is all z = (text, h, rw is at all)
 journal_printed words files before now last Usage printed old new status h s is all z = absurd (omega (arith, s, z))
 journal_printed words files before now last (BadClass path refusal) printed old new status h s is all z = absurd (omega (arith, s, z))
+journal_printed words files before now last (BadProgram r) printed old new status h s is all z = absurd (omega (arith, s, z))
+journal_printed words files before now last (Untyped r) printed old new status h s is all z = absurd (omega (arith, s, z))
 journal_printed words files before now last (Outside path) printed old new status h s is all z = absurd (omega (arith, s, z))
 journal_printed words files before now last NotBuilt printed old new status h s is all z = absurd (omega (arith, s, z))
 
@@ -84,8 +93,34 @@ pub fault_printed : (words : List (String Global)) (files : Option Files) (befor
 fault_printed words files before now last (Journal text) printed old new status h s is all z = absurd (omega (arith, s, z))
 fault_printed words files before now last Usage printed old new status h s is all z = absurd (omega (arith, s, z))
 fault_printed words files before now last (BadClass path refusal) printed old new status h s is all z = (string_bytes path, refusal, h, rw is at all)
+fault_printed words files before now last (BadProgram r) printed old new status h s is all z = absurd (omega (arith, s, z))
+fault_printed words files before now last (Untyped r) printed old new status h s is all z = absurd (omega (arith, s, z))
 fault_printed words files before now last (Outside path) printed old new status h s is all z = absurd (omega (arith, s, z))
 fault_printed words files before now last NotBuilt printed old new status h s is all z = absurd (omega (arith, s, z))
+
+-- what was printed with status 4 is a fault of the class's program, or a limit
+pub program_printed : (words : List (String Global)) (files : Option Files) (before now : ℕ) (last : Option Call) (o : Outcome) (printed : List ℕ) (old new : Option (List ℕ)) (status : ℕ)
+    → IsOutcome words files before now last o → status ≡ status_of o → IsTextOf o printed → Appends old new printed → status ≡ 4
+    → (r : Refusal) × IsOfWords words files IsBadProgram r × Appends old new (error_text (codes "4") (refusal_text r))
+program_printed words files before now last (Journal text) printed old new status h s is all z = absurd (omega (arith, s, z))
+program_printed words files before now last Usage printed old new status h s is all z = absurd (omega (arith, s, z))
+program_printed words files before now last (BadClass path refusal) printed old new status h s is all z = absurd (omega (arith, s, z))
+program_printed words files before now last (BadProgram r) printed old new status h s is all z = (r, h, rw is at all)
+program_printed words files before now last (Untyped r) printed old new status h s is all z = absurd (omega (arith, s, z))
+program_printed words files before now last (Outside path) printed old new status h s is all z = absurd (omega (arith, s, z))
+program_printed words files before now last NotBuilt printed old new status h s is all z = absurd (omega (arith, s, z))
+
+-- what was printed with status 5 is a method without a typing
+pub untyped_printed : (words : List (String Global)) (files : Option Files) (before now : ℕ) (last : Option Call) (o : Outcome) (printed : List ℕ) (old new : Option (List ℕ)) (status : ℕ)
+    → IsOutcome words files before now last o → status ≡ status_of o → IsTextOf o printed → Appends old new printed → status ≡ 5
+    → (r : Refusal) × IsOfWords words files IsUntypable r × Appends old new (error_text (codes "5") (refusal_text r))
+untyped_printed words files before now last (Journal text) printed old new status h s is all z = absurd (omega (arith, s, z))
+untyped_printed words files before now last Usage printed old new status h s is all z = absurd (omega (arith, s, z))
+untyped_printed words files before now last (BadClass path refusal) printed old new status h s is all z = absurd (omega (arith, s, z))
+untyped_printed words files before now last (BadProgram r) printed old new status h s is all z = absurd (omega (arith, s, z))
+untyped_printed words files before now last (Untyped r) printed old new status h s is all z = (r, h, rw is at all)
+untyped_printed words files before now last (Outside path) printed old new status h s is all z = absurd (omega (arith, s, z))
+untyped_printed words files before now last NotBuilt printed old new status h s is all z = absurd (omega (arith, s, z))
 
 -- the one command there is
 pub one_command : (cmd : Command) → (d : Bor (List ℕ)) × (s : Bor (List ℕ)) × (cmd ≡ Run d s)

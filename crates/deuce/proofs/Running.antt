@@ -1,18 +1,14 @@
 -- What the parts of a run make together.
-use Rattle.std.proofs.Common.{◌≡◌, ◌≤◌, ℕ, List, [], ◌∷◌, length, Option, Some, None, Result, Ok, refl, sym, ◌∙◌, subst}
-use Rattle.jmodel.specs.declared.refusal.Refusal.{Refusal}
-use Rattle.jmodel.specs.declared.refusal.Halt.{Halt}
-use Rattle.jmodel.specs.declared.refusal.Halt.TheVariants as halts
-use Rattle.jmodel.specs.Reading.{Fails}
-use Rattle.hierarchy.specs.declared.outcome.BuildEnd.{BuildEnd}
-use Rattle.hierarchy.specs.declared.outcome.BuildEnd.TheVariants as built
-use Rattle.hierarchy.specs.Built.{Ends}
-use Rattle.deuce.specs.declared.script.ScriptEnd.{ScriptEnd}
-use Rattle.deuce.specs.declared.script.ScriptEnd.TheVariants as script
+use Rattle.std.proofs.Common.{◌≡◌, ℕ, List, [], ◌∷◌, Some, None, Result, Ok, Err, inl, inr, refl, sym, ◌∙◌, subst}
+use Rattle.std.specs.Prelude.{IfErr}
+use Rattle.std.specs.Result.{IsErrAnd}
+use Rattle.std.specs.List.{AllByRecursion}
 use Rattle.deuce.specs.declared.run.RunEnd.{RunEnd}
 use Rattle.deuce.specs.declared.run.RunEnd.TheVariants as run_ends
-use Rattle.deuce.specs.Ending.{IsEndOfHalt, IsEndOfBuild, IsEndOfScript, EndsReading, EndsRun}
-use Rattle.deuce.proofs.Items.{same_names}
+use Rattle.script.specs.declared.reading.ScriptEnd.{ScriptEnd}
+use Rattle.script.specs.declared.reading.ScriptEnd.TheVariants as script
+use Rattle.deuce.specs.Ending.{IsEndOfScript, EndsOnClass, EndsBuild, EndsTyping, EndsRewriting, EndsScript}
+use Rattle.script.proofs.Items.{same_scripts}
 use Rattle.jmodel.specs.ClassFile.{ClassFile}
 use Rattle.jmodel.specs.ClassRules.{IsClassFile, Spells}
 use Rattle.jmodel.specs.Program.{Program}
@@ -20,67 +16,96 @@ use Rattle.jmodel.specs.Layout.{opening_state}
 use Rattle.jmodel.specs.Decoding.{each}
 use Rattle.jmodel.specs.Linking.{linked, relinked}
 use Rattle.jmodel.specs.Rewriting.{rewritten}
+use Rattle.jmodel.specs.Typing.{IsTypable}
 use Rattle.jmodel.proofs.Linked.{links}
 use Rattle.rewriter.specs.Rewritten.{rewritten_class}
+use Rattle.rewriter.specs.Meaning.{AreFiled}
 use Rattle.rewriter.proofs.Assembled.{law}
-use Rattle.deuce.specs.Headline.{method_number, AreCalls, IsRun, CanRun}
+use Rattle.script.specs.Script.{Wanted, Script, IsScript}
+use Rattle.deuce.specs.Headline.{Known, known, AreCalls, IsRun, IsRunnable, IsScriptFor}
 use Rattle.deuce.specs.Rule.{IsReady}
-use Rattle.deuce.specs.Script.{IsScript}
+use Rattle.deuce.proofs.Lists.{some_not_none}
+
+-- the rewriting of a typed program that a class means is ready to run
+pub ready : (c : ClassFile) (P Q : Program) → linked c ≡ Some P → AllByRecursion (IsTypable P) P.methods → Q ≡ rewritten P → IsReady P Q
+ready c P Q is typed code = record { code = code; typed = record { source = (links c P is).source; typed = typed }; marked = (links c P is).marked }
+
+pub runnable : (c : ClassFile) (P : Program) (new : ClassFile) → linked c ≡ Some P → AllByRecursion (IsTypable P) P.methods → rewritten_class P c ≡ Ok new → IsRunnable c P
+runnable c P new is typed made = record { links = is; typed = typed; instrumented = new; rewrites = made }
 
 -- what is linked again is the rewriting of what was linked
-pub ready : (c new : ClassFile) (P Q : Program) → IsClassFile c → linked c ≡ Some P → rewritten_class P c ≡ Ok new → relinked P new ≡ Some Q → IsReady P Q
-ready c new P Q form is made again =
-    let both : Some Q ≡ Some (rewritten P) = sym again ∙ law c new P form is made in
-    let same : Q ≡ rewritten P = cc (both) in
-    record { code = same; straight = (links c P is).straight; marked = (links c P is).marked }
+pub is_rewritten : (c new : ClassFile) (P Q : Program) → IsClassFile c → AreFiled c → linked c ≡ Some P → rewritten_class P c ≡ Ok new → relinked P new ≡ Some Q → Q ≡ rewritten P
+is_rewritten c new P Q form filed is made again = let both : Some Q ≡ Some (rewritten P) = sym again ∙ law c new P form filed is made in cc (both)
 
-pub is_run : (class script : List ℕ) (c : ClassFile) (P : Program) (names seen_names : List (List ℕ)) (numbers seen_numbers : List ℕ) (text : List ℕ) → Spells class c → linked c ≡ Some P → IsScript script names
-    → seen_names ≡ names → each (method_number P) seen_names ≡ Some numbers → seen_numbers ≡ numbers → AreCalls P (opening_state (c ∷ [])) seen_numbers text → IsRun class script text
-is_run class script c P names seen_names numbers seen_numbers text spells is is_script same found same_numbers calls = record {
+-- the rewriting of a class has a program
+pub has_program : (c new : ClassFile) (P : Program) → IsClassFile c → AreFiled c → linked c ≡ Some P → rewritten_class P c ≡ Ok new → relinked P new ≡ None → ⊥
+has_program c new P form filed is made none = some_not_none (rewritten P) (sym (law c new P form filed is made) ∙ none)
+
+pub is_run : (bytes script : List ℕ) (c : ClassFile) (P : Program) (s : Script) (wanted : List Wanted) (calls seen : List Known) (text : List ℕ) → Spells bytes c → linked c ≡ Some P → AllByRecursion (IsTypable P) P.methods → IsScript script s
+    → wanted ≡ s.calls → each (known P) wanted ≡ Some calls → seen ≡ calls → AreCalls P s.budget (opening_state (c ∷ [])) seen text → IsRun bytes script text
+is_run bytes script c P s wanted calls seen text spells is typed is_script same found same_calls are = record {
   file = c;
   spells = spells;
   program = P;
   links = is;
-  names = names;
+  typed = typed;
+  script = s;
   is_script = is_script;
-  numbers = numbers;
-  numbered = subst (λ (ns : List (List ℕ)). each (method_number P) ns ≡ Some numbers) same found;
-  calls = subst (λ (ns : List ℕ). AreCalls P (opening_state (c ∷ [])) ns text) same_numbers calls;
+  calls = calls;
+  known_calls = subst (λ (ws : List Wanted). each (known P) ws ≡ Some calls) same found;
+  are_calls = subst (λ (ks : List Known). AreCalls P s.budget (opening_state (c ∷ [])) ks text) same_calls are;
 }
 
--- a class that has a program is built
-pub not_linked : (e : BuildEnd) (end : ScriptEnd) (m : Option Program) (P : Program) → Ends e m → IsEndOfBuild e end → m ≡ Some P → end ≡ script.NotBuilt → ⊥
-not_linked built.NotBuilt end m P none is links same = cc
-not_linked built.NoMemory end m P none is links same = cc
-
--- a class that has a rewriting is rewritten
-pub not_rewritten : (h : Halt) (end : ScriptEnd) (r : Result ClassFile Refusal) (new : ClassFile) → Fails h r → IsEndOfHalt h end → r ≡ Ok new → end ≡ script.NotBuilt → ⊥
-not_rewritten (halts.Refused r) end m new fault is made same = cc
-not_rewritten halts.NoMemory end m new fault is made same = cc
-
--- the calls of a script that can be run have numbers
-pub not_numbered : (file : ClassFile) (bytes : List ℕ) (P : Program) (names seen : List (List ℕ)) → linked file ≡ Some P → IsScript bytes names → seen ≡ names
-    → each (method_number P) seen ≡ None → CanRun file bytes → ⊥
-not_numbered file bytes P names seen links is_script same none can =
-    let one : can.program ≡ P = let both = can.links in cc in
-    let calls : can.names ≡ names = same_names bytes can.names names can.is_script is_script in
-    let found : each (method_number P) names ≡ Some can.numbers = rw (one, calls) at can.numbered in
-    let lost : each (method_number P) names ≡ None = rw same at none in
+-- the calls of a script for a program are known
+pub not_known : (P : Program) (bytes : List ℕ) (s t : Script) (calls : List Known) (wanted : List Wanted) → IsScript bytes s → wanted ≡ s.calls → each (known P) wanted ≡ None → IsScriptFor P bytes t calls → ⊥
+not_known P bytes s t calls wanted is same none for =
+    let one : t.calls ≡ s.calls = same_scripts bytes t s for.is_script is in
+    let found : each (known P) s.calls ≡ Some calls = subst (λ (ws : List Wanted). each (known P) ws ≡ Some calls) one for.known_calls in
+    let lost : each (known P) s.calls ≡ None = subst (λ (ws : List Wanted). each (known P) ws ≡ None) same none in
     cc
 
--- the rewriting of a class is linked again
-pub is_rebuilt : (c new : ClassFile) (P : Program) (e : BuildEnd) (end : ScriptEnd) → IsClassFile c → linked c ≡ Some P → rewritten_class P c ≡ Ok new → Ends e (relinked P new) → IsEndOfBuild e end
-    → end ≡ script.NotBuilt → ⊥
-is_rebuilt c new P e end form is made ends end_is same = not_linked e end (relinked P new) (rewritten P) ends end_is (law c new P form is made) same
+-- ---- ends
 
--- a run that is not built has no journal
-pub ends_run : (class bytes : List ℕ) (file : ClassFile) (e : ScriptEnd) (end : RunEnd) → length class ≤ 1048576 → Spells class file → (e ≡ script.NotBuilt → CanRun file bytes → ⊥) → IsEndOfScript e end
-    → EndsRun class bytes end
-ends_run class bytes file script.NotBuilt end few spells not is = subst (EndsRun class bytes) (sym is) (few, file, spells, not refl)
-ends_run class bytes file script.NoMemory end few spells not is = subst (EndsRun class bytes) (sym is) tt
+-- the end that a `?` hands on
+pub err_is : {A : Type 0} (r : Result A RunEnd) (e : RunEnd) (Q : RunEnd → Type 0) → IsErrAnd r (λ y. y ≡ e) → Q e → IfErr r Q
+err_is (Ok x) e Q h q = tt
+err_is (Err y) e Q h q = subst Q (sym h) q
 
--- a file that can't be read has no journal
-pub ends_reading : (class bytes : List ℕ) (end : RunEnd) → EndsReading class end → EndsRun class bytes end
-ends_reading class bytes (run_ends.BadClass r) h = h
-ends_reading class bytes run_ends.NotBuilt h = absurd h
-ends_reading class bytes run_ends.NoMemory h = tt
+-- the end of a script that isn't read, or that isn't one for the program
+pub script_end : {A : Type 0} (r : Result A RunEnd) (e : ScriptEnd) (P : Program) (bytes : List ℕ) → IsErrAnd r (IsEndOfScript e)
+    → (e ≡ script.NotBuilt → (s : Script) (calls : List Known) → IsScriptFor P bytes s calls → ⊥) → IfErr r (EndsScript P bytes)
+script_end (Ok x) e P bytes h none = tt
+script_end (Err y) script.NotBuilt P bytes h none = subst (EndsScript P bytes) (sym h) (none refl)
+script_end (Err y) script.NoMemory P bytes h none = subst (EndsScript P bytes) (sym h) tt
+
+pub on_err : {A : Type 0} (r : Result A RunEnd) (P Q : RunEnd → Type 0) → ((e : RunEnd) → P e → Q e) → IfErr r P → IfErr r Q
+on_err (Ok x) P Q f h = tt
+on_err (Err e) P Q f h = f e h
+
+pub of_build : (c : ClassFile) (bytes : List ℕ) (e : RunEnd) → EndsBuild c e → EndsOnClass c bytes e
+of_build c bytes (run_ends.BadClass r) h = absurd h
+of_build c bytes (run_ends.BadProgram r) h = inl h
+of_build c bytes (run_ends.Untyped r) h = absurd h
+of_build c bytes run_ends.NotBuilt h = inl h
+of_build c bytes run_ends.NoMemory h = tt
+
+pub of_typing : (c : ClassFile) (bytes : List ℕ) (e : RunEnd) → EndsTyping c e → EndsOnClass c bytes e
+of_typing c bytes (run_ends.BadClass r) h = absurd h
+of_typing c bytes (run_ends.BadProgram r) h = absurd h
+of_typing c bytes (run_ends.Untyped r) h = h
+of_typing c bytes run_ends.NotBuilt h = absurd h
+of_typing c bytes run_ends.NoMemory h = tt
+
+pub of_rewriting : (P : Program) (c : ClassFile) (bytes : List ℕ) (e : RunEnd) → linked c ≡ Some P → AllByRecursion (IsTypable P) P.methods → EndsRewriting P c e → EndsOnClass c bytes e
+of_rewriting P c bytes (run_ends.BadClass r) is typed h = absurd h
+of_rewriting P c bytes (run_ends.BadProgram r) is typed h = inr (P, is, typed, h)
+of_rewriting P c bytes (run_ends.Untyped r) is typed h = absurd h
+of_rewriting P c bytes run_ends.NotBuilt is typed h = absurd h
+of_rewriting P c bytes run_ends.NoMemory is typed h = tt
+
+pub of_script : (P : Program) (c : ClassFile) (bytes : List ℕ) (e : RunEnd) → IsRunnable c P → EndsScript P bytes e → EndsOnClass c bytes e
+of_script P c bytes (run_ends.BadClass r) is h = absurd h
+of_script P c bytes (run_ends.BadProgram r) is h = absurd h
+of_script P c bytes (run_ends.Untyped r) is h = absurd h
+of_script P c bytes run_ends.NotBuilt is h = inr (P, is, h)
+of_script P c bytes run_ends.NoMemory is h = tt

@@ -1,5 +1,5 @@
 -- What the program writes, and why it ends as it does.
-use Rattle.std.specs.Prelude.{◌≡◌, ◌⊎◌, ℕ, ◌<◌, ◌≤◌, pos, List, ◌++◌, length, Bool, false, Option, Some, Err, codes, string_bytes, String}
+use Rattle.std.specs.Prelude.{◌≡◌, ◌⊎◌, ℕ, ◌<◌, ◌≤◌, pos, List, ◌++◌, length, Bool, false, Option, Some, None, Ok, Err, slice_get, codes, string_bytes, String}
 use Rattle.std.specs.Prelude.{option_map, take}
 use Rattle.std.specs.Option.{ForSome}
 use Rattle.std.specs.Io.KnownBytes.{append_known}
@@ -7,28 +7,32 @@ use Rattle.deuce_io.specs.Fault.{Call, list_of, read_of, Rose}
 use Rattle.deuce_io.specs.Files.{Files, inside, StandsIn}
 use Rattle.deuce_io.specs.declared.end.IoEnd.{IoEnd}
 use Rattle.deuce_io.specs.declared.end.IoEnd.TheVariants as io
-use Rattle.hierarchy.specs.declared.outcome.BuildEnd.{BuildEnd}
-use Rattle.hierarchy.specs.declared.outcome.BuildEnd.TheVariants as built
-use Rattle.jmodel.specs.declared.refusal.Halt.{Halt}
-use Rattle.jmodel.specs.declared.refusal.Halt.TheVariants as halts
 use Rattle.jmodel.specs.declared.refusal.Refusal.{Refusal}
-use Rattle.jmodel.specs.declared.refusal.Refusal.TheVariants.{OverLimit}
+use Rattle.jmodel.specs.declared.refusal.Refusal.TheVariants.{OverLimit, PoolFull, Untypable}
 use Rattle.jmodel.specs.ClassFile.{ClassFile}
 use Rattle.jmodel.specs.ClassRules.{Spells}
 use Rattle.jmodel.specs.ClassFileReading.{class_file_of}
+use Rattle.std.specs.List.{AllByRecursion}
+use Rattle.jmodel.specs.Name.{printed}
+use Rattle.jmodel.specs.Program.{Method, Program}
+use Rattle.jmodel.specs.Decoding.{own_name}
+use Rattle.jmodel.specs.Linking.{linking, linked, pc_of}
+use Rattle.jmodel.specs.Typing.{IsTypable, IsUntypableAt}
+use Rattle.rewriter.specs.Rewritten.{rewritten_class}
 use Rattle.jmodel.specs.Output.{◌and◌, refusal_text, error_text}
 use Rattle.std.specs.declared.alloc.Global.{Global}
 use Rattle.deuce.specs.Command.{seen_words, run_words, IsNoCommand}
-use Rattle.deuce.specs.Headline.{IsRun, CanRun}
+use Rattle.script.specs.Script.{Script}
+use Rattle.deuce.specs.Headline.{Known, IsRun, CanRun, IsRunnable, IsScriptFor}
 use Rattle.deuce.specs.declared.inputs.Inputs.{Inputs}
 use Rattle.deuce.specs.declared.inputs.InputEnd.{InputEnd}
 use Rattle.deuce.specs.declared.inputs.InputEnd.TheVariants as ends
-use Rattle.deuce.specs.declared.script.ScriptEnd.{ScriptEnd}
-use Rattle.deuce.specs.declared.script.ScriptEnd.TheVariants as script
+use Rattle.script.specs.declared.reading.ScriptEnd.{ScriptEnd}
+use Rattle.script.specs.declared.reading.ScriptEnd.TheVariants as script
 use Rattle.deuce.specs.declared.run.RunEnd.{RunEnd}
 use Rattle.deuce.specs.declared.run.RunEnd.TheVariants as run_ends
 use Rattle.deuce.specs.declared.outcome.Outcome.{Outcome}
-use Rattle.deuce.specs.declared.outcome.Outcome.TheVariants.{Journal, Usage, BadClass, Outside, NotBuilt}
+use Rattle.deuce.specs.declared.outcome.Outcome.TheVariants.{Journal, Usage, BadClass, BadProgram, Untyped, Outside, NotBuilt}
 
 -- the name of a class file: it ends in `.class`
 abbrev pub IsClassFileName : List ℕ → Type 0
@@ -66,6 +70,8 @@ abbrev pub IsTextOf : Outcome → List ℕ → Type 0
 IsTextOf (Journal text) printed = printed ≡ text
 IsTextOf Usage printed = printed ≡ error_text (codes "2") (codes "usage")
 IsTextOf (BadClass path refusal) printed = printed ≡ error_text (codes "3") (string_bytes path and refusal_text refusal)
+IsTextOf (BadProgram refusal) printed = printed ≡ error_text (codes "4") (refusal_text refusal)
+IsTextOf (Untyped refusal) printed = printed ≡ error_text (codes "5") (refusal_text refusal)
 IsTextOf (Outside path) printed = printed ≡ error_text (codes "8") (string_bytes path)
 IsTextOf NotBuilt printed = printed ≡ error_text (codes "12") (codes "NotBuilt")
 
@@ -110,17 +116,56 @@ pub record IsBadClass (files : Option Files) (dir path : List ℕ) (r : Refusal)
   pub front : IsFrontOf files path 1048577 bytes
   pub fault : IsFileFault bytes r
 
--- A folder has one good class file, but the script can't be run on it, or it isn't of the form that is built so far.
-pub record IsNotRun (files : Option Files) (dir script : List ℕ) : Type 0 where
+-- A folder has one good class file, of which this holds.
+pub record HasClass (files : Option Files) (dir : List ℕ) (Holding : ClassFile → Type 0) : Type 0 where
   pub name : List ℕ
   pub class_file : HoldsOneClass files dir name
   pub class_bytes : List ℕ
   pub class : Holds files (inside dir name) class_bytes
   pub file : ClassFile
   pub spells : Spells class_bytes file
+  pub holding : Holding file
+
+-- a full pool is named by its class
+abbrev pub in_class : List ℕ → Refusal → Refusal
+in_class name (PoolFull n) = PoolFull name
+in_class name r = r
+
+-- the first limit that the rewriting of a class passes
+abbrev pub PassesLimit : Program → ClassFile → Refusal → Type 0
+PassesLimit P file r = (fault : Refusal) × (rewritten_class P file ≡ Err fault) × (r ≡ in_class (own_name file) fault)
+
+-- Why a class whose file is good is refused: its code has this fault, the first; or it means a program of which each method has
+-- a typing, and this is the first limit that its rewriting passes.
+abbrev pub IsBadProgram : Refusal → ClassFile → Type 0
+IsBadProgram r file = (linking file ≡ Err r)
+    ⊎ ((P : Program) × (linked file ≡ Some P) × AllByRecursion (IsTypable P) P.methods × PassesLimit P file r)
+
+-- The methods before number m of the program that a class means have typings, and that has none, for the instruction at this
+-- place, as the refusal says.
+pub record IsUntypable (r : Refusal) (file : ClassFile) : Type 0 where
+  pub program : Program
+  pub links : linked file ≡ Some program
+  pub number : ℕ
+  pub method : Method
+  pub there : slice_get program.methods number ≡ Some method
+  pub before : AllByRecursion (IsTypable program) (take number program.methods)
+  pub place : ℕ
+  pub untypable : IsUntypableAt program method place
+  pub pc : ℕ
+  pub pc_is : pc_of file number place ≡ Some pc
+  pub refusal : r ≡ Untypable (printed method.name) (pos pc)
+
+-- A class isn't of the form that is built so far; or it is, and can be run, and the script isn't one of calls of its methods.
+abbrev pub IsNotRunOn : List ℕ → ClassFile → Type 0
+IsNotRunOn script file = (linking file ≡ Ok None)
+    ⊎ ((P : Program) × IsRunnable file P × ((s : Script) (calls : List Known) → IsScriptFor P script s calls → ⊥))
+
+-- A folder has one good class file, on which the script, of which at most one byte over the limit is looked at, can't be run.
+pub record IsNotRun (files : Option Files) (dir script : List ℕ) : Type 0 where
   pub script_bytes : List ℕ
   pub script_front : IsFrontOf files script 16777217 script_bytes
-  pub not : CanRun file script_bytes → ⊥
+  pub of_class : HasClass files dir (IsNotRunOn script_bytes)
 
 -- The files of a folder, as it tells them, let the script at a path be run on the folder's one class file.
 pub record CanRunIn (told : Files) (dir script : List ℕ) : Type 0 where
@@ -141,19 +186,64 @@ EndsInRun files dir script before now last (ends.Outside path) = FailedInRun dir
 EndsInRun files dir script before now last ends.NotBuilt = HasNoOneClass files dir
 EndsInRun files dir script before now last ends.NoMemory = Unit {0}
 
+-- a class that bytes spell, which aren't too many, of which this holds
+abbrev pub IsOfClass : List ℕ → (ClassFile → Type 0) → Type 0
+IsOfClass class Holding = (length class ≤ 1048576) × (file : ClassFile) × Spells class file × Holding file
+
 -- why a run of a script on the bytes of a class file has no journal
 abbrev pub EndsRun : List ℕ → List ℕ → RunEnd → Type 0
 EndsRun class script (run_ends.BadClass r) = IsFileFault class r
-EndsRun class script run_ends.NotBuilt = (length class ≤ 1048576) × (file : ClassFile) × Spells class file × (CanRun file script → ⊥)
+EndsRun class script (run_ends.BadProgram r) = IsOfClass class (IsBadProgram r)
+EndsRun class script (run_ends.Untyped r) = IsOfClass class (IsUntypable r)
+EndsRun class script run_ends.NotBuilt = IsOfClass class (IsNotRunOn script)
 EndsRun class script run_ends.NoMemory = Unit {0}
 
 -- why there is no class of these bytes
 abbrev pub EndsReading : List ℕ → RunEnd → Type 0
 EndsReading class (run_ends.BadClass r) = IsFileFault class r
-EndsReading class run_ends.NotBuilt = ⊥
 EndsReading class run_ends.NoMemory = Unit {0}
+EndsReading class end = ⊥
 
--- the end of a run on a class
+-- why a run of a script on a class has no journal
+abbrev pub EndsOnClass : ClassFile → List ℕ → RunEnd → Type 0
+EndsOnClass file script (run_ends.BadClass r) = ⊥
+EndsOnClass file script (run_ends.BadProgram r) = IsBadProgram r file
+EndsOnClass file script (run_ends.Untyped r) = IsUntypable r file
+EndsOnClass file script run_ends.NotBuilt = IsNotRunOn script file
+EndsOnClass file script run_ends.NoMemory = Unit {0}
+
+-- why a class has no program
+abbrev pub EndsBuild : ClassFile → RunEnd → Type 0
+EndsBuild file (run_ends.BadProgram r) = linking file ≡ Err r
+EndsBuild file run_ends.NotBuilt = linking file ≡ Ok None
+EndsBuild file run_ends.NoMemory = Unit {0}
+EndsBuild file end = ⊥
+
+-- why not each method of a class's program has a typing
+abbrev pub EndsTyping : ClassFile → RunEnd → Type 0
+EndsTyping file (run_ends.Untyped r) = IsUntypable r file
+EndsTyping file run_ends.NoMemory = Unit {0}
+EndsTyping file end = ⊥
+
+-- why a class has no rewriting
+abbrev pub EndsRewriting : Program → ClassFile → RunEnd → Type 0
+EndsRewriting P file (run_ends.BadProgram r) = PassesLimit P file r
+EndsRewriting P file run_ends.NoMemory = Unit {0}
+EndsRewriting P file end = ⊥
+
+-- the end of a run on a class whose rewriting has this fault
+abbrev pub IsLimit : ClassFile → Refusal → RunEnd → Type 0
+IsLimit file fault (run_ends.BadProgram r) = r ≡ in_class (own_name file) fault
+IsLimit file fault run_ends.NoMemory = Unit {0}
+IsLimit file fault end = ⊥
+
+-- why a script isn't run on a class that can be
+abbrev pub EndsScript : Program → List ℕ → RunEnd → Type 0
+EndsScript P script run_ends.NotBuilt = (s : Script) (calls : List Known) → IsScriptFor P script s calls → ⊥
+EndsScript P script run_ends.NoMemory = Unit {0}
+EndsScript P script end = ⊥
+
+-- the end of a run whose script isn't read
 abbrev pub IsEndOfScript : ScriptEnd → RunEnd → Type 0
 IsEndOfScript script.NotBuilt end = end ≡ run_ends.NotBuilt
 IsEndOfScript script.NoMemory end = end ≡ run_ends.NoMemory
@@ -165,27 +255,23 @@ IsOutsideAt io.NoMemory path (ends.Outside p) = ⊥
 IsOutsideAt e path ends.NotBuilt = ⊥
 IsOutsideAt e path ends.NoMemory = Unit {0}
 
--- the end of a run for which a part gave no answer
-abbrev pub IsEndOfHalt : Halt → ScriptEnd → Type 0
-IsEndOfHalt (halts.Refused r) end = end ≡ script.NotBuilt
-IsEndOfHalt halts.NoMemory end = end ≡ script.NoMemory
-
--- the end of a run whose program isn't built
-abbrev pub IsEndOfBuild : BuildEnd → ScriptEnd → Type 0
-IsEndOfBuild built.NotBuilt end = end ≡ script.NotBuilt
-IsEndOfBuild built.NoMemory end = end ≡ script.NoMemory
-
 -- the status of an outcome that is printed whole
 abbrev pub status_of : Outcome → ℕ
 status_of (Journal text) = 0
 status_of Usage = 2
 status_of (BadClass path refusal) = 3
+status_of (BadProgram refusal) = 4
+status_of (Untyped refusal) = 5
 status_of (Outside path) = 8
 status_of NotBuilt = 12
 
 -- the words ask for a run, in whose folder the class file at this path has this fault
 abbrev pub IsBadClassOfWords : List (String Global) → Option Files → List ℕ → Refusal → Type 0
 IsBadClassOfWords words files path r = (dir : List ℕ) × (script : List ℕ) × (seen_words words ≡ run_words dir script) × IsBadClass files dir path r
+
+-- the words ask for a run, in whose folder stands one good class file, of which this is said
+abbrev pub IsOfWords : List (String Global) → Option Files → (Refusal → ClassFile → Type 0) → Refusal → Type 0
+IsOfWords words files Says r = (dir : List ℕ) × (script : List ℕ) × (seen_words words ≡ run_words dir script) × HasClass files dir (Says r)
 
 -- The words ask for a run, and its folder hasn't one class file alone, or it has, and the script can't be run on that.
 abbrev pub IsNotBuilt : List (String Global) → Option Files → Type 0
@@ -209,6 +295,8 @@ abbrev pub IsOutcome : List (String Global) → Option Files → ℕ → ℕ →
 IsOutcome words files before now last (Journal text) = IsJournalOfWords words files text
 IsOutcome words files before now last Usage = IsNoCommand words
 IsOutcome words files before now last (BadClass path refusal) = IsBadClassOfWords words files (string_bytes path) refusal
+IsOutcome words files before now last (BadProgram refusal) = IsOfWords words files IsBadProgram refusal
+IsOutcome words files before now last (Untyped refusal) = IsOfWords words files IsUntypable refusal
 IsOutcome words files before now last (Outside path) = FailedOutside words (string_bytes path) before now last
 IsOutcome words files before now last NotBuilt = IsNotBuilt words files
 

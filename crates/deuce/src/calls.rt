@@ -1,25 +1,21 @@
 //! The calls of one lane, made one after another over the engine of one thread.
-ghost use Rattle.std.specs.Prelude.{◌≡◌, ◌≤◌, ◌<◌, ◌+◌, ◌*◌, ◌^◌, ℕ, List, [], All, length, IfOk, OnOk};
-ghost use Rattle.jmodel.specs.ClassFile.{ClassFile};
+ghost use Rattle.std.specs.Prelude.{◌≡◌, ◌≤◌, ◌<◌, ◌+◌, ◌^◌, ℕ, List, [], length, IfOk, OnOk};
 ghost use Rattle.jmodel.specs.Attempt.{Log};
 ghost use Rattle.jmodel.specs.History.{Call, Entry};
-ghost use Rattle.jmodel.specs.Linking.{linked};
-ghost use Rattle.jmodel.specs.Layout.{opening_words, opening_state};
 ghost use Rattle.jmodel.specs.Program.{method_at};
-ghost use Rattle.deuce.specs.Headline.{AreCalls, Made, line_of};
-ghost use Rattle.deuce.specs.Rule.{IsRuled, IsReady, AddsCall, HasRun};
+ghost use Rattle.std.specs.List.{AllByRecursion};
+ghost use Rattle.deuce.specs.Headline.{made_of, name_in};
+ghost use Rattle.deuce.specs.Rule.{IsRuled, IsReady, IsCallOf, AddsCall, HasRun};
 
+use crate::known::Known;
 use hierarchy::Program;
 use jmodel::{Answer, Bytes, Line, MethodName};
 use machine::{Limits, Machine};
 use std::alloc::{AllocError, Global};
 use tx_core::Engine;
 
-/// What each call may use.
-pub const LIMITS: Limits = Limits {
-    budget: 100_000,
-    attempts: 1_000_000,
-};
+/// The attempts that each call may make.
+const ATTEMPTS: u64 = 1_000_000;
 
 /// What is to be printed of calls.
 #[derive(Drop)]
@@ -37,50 +33,63 @@ fn call_next<E: Engine>(
     original: &Program,
     rewritten: &Program,
     engine: &mut E,
-    number: usize,
+    budget: u64,
+    call: &Known,
 ) -> Answer
     requires ready { IsReady original.now rewritten.now }
-    requires number { number < length original.now.methods }
+    requires call { IsCallOf original.now call.now }
     requires alone { (s : E) (h : List Entry) (n : ℕ) (r w : Log) → E.stands s h n r w → n ≡ 0 }
     requires awaits { (s : E) (c : Call) (used : ℕ) → E.awaits s c used }
-    requires rule { (e : Entry) → IsRuled original.now e → E.allows e }
+    requires rule { (e : Entry) → IsRuled original.now budget e → E.allows e }
     requires clock { E.clock engine.old + 1000000 ≤ 2 ^ 40 }
     requires stands { (h : List Entry) × E.stands engine.old h 0 [] [] }
     ensures adds { (h : List Entry) (index : ℕ) → E.stands engine.old h 0 [] []
-        → AddsCall (λ h. E.stands engine.new h 0 [] []) h (record { index = index; method = number; answer = result }) }
+        → AddsCall (λ h. E.stands engine.new h 0 [] []) h (made_of index call.now result) }
     ensures clock { E.clock engine.new ≤ E.clock engine.old + 1000000 }
 {
-    match Machine::call(alloc, rewritten, engine, LIMITS, number, &[]) {
+    let limits = Limits {
+        budget,
+        attempts: ATTEMPTS,
+    };
+    match Machine::call(
+        alloc,
+        rewritten,
+        engine,
+        limits,
+        call.method,
+        call.args.as_slice(),
+    ) {
         Ok((answer, _)) => answer,
         Err(_) => unreachable!(),
     }
 }
 
-/// Calls methods one after another. The numbers are those of methods of the original program.
+/// Makes calls of methods of the original program one after another.
 pub fn call_all<E: Engine>(
     alloc: Global,
     original: &Program,
     rewritten: &Program,
     engine: &mut E,
-    numbers: &[usize],
+    budget: u64,
+    calls: &[Known],
 ) -> Result<Lines, AllocError>
     requires ready { IsReady original.now rewritten.now }
-    requires numbers { All (λ m. m < length original.now.methods) numbers.now }
-    requires few { length numbers.now ≤ 1000 }
+    requires calls { AllByRecursion (IsCallOf original.now) calls.now }
+    requires few { length calls.now ≤ 100000 }
     requires alone { (s : E) (h : List Entry) (n : ℕ) (r w : Log) → E.stands s h n r w → n ≡ 0 }
     requires awaits { (s : E) (c : Call) (used : ℕ) → E.awaits s c used }
-    requires rule { (e : Entry) → IsRuled original.now e → E.allows e }
+    requires rule { (e : Entry) → IsRuled original.now budget e → E.allows e }
     requires clock { E.clock engine.old ≡ 0 }
     requires stands { E.stands engine.old [] 0 [] [] }
-    ensures { IfOk result (λ lines. HasRun original.now (λ h. E.stands engine.new h 0 [] []) numbers.now lines.placed.items lines.unplaced.items) }
+    ensures { IfOk result (λ lines. HasRun original.now (λ h. E.stands engine.new h 0 [] []) calls.now lines.placed.items lines.unplaced.items) }
 {
     let mut lines = Lines {
         placed: Vec::new(alloc),
         unplaced: Vec::new(alloc),
     };
-    for (index, number) in numbers.iter().enumerate() {
-        let answer = call_next(alloc, original, rewritten, engine, *number);
-        lines.add(alloc, original, index, *number, answer)?;
+    for (index, call) in calls.iter().enumerate() {
+        let answer = call_next(alloc, original, rewritten, engine, budget, call);
+        lines.add(alloc, original, index, call.method, answer)?;
     }
     Ok(lines)
 }
@@ -88,7 +97,7 @@ pub fn call_all<E: Engine>(
 impl Lines {
     ghost use Rattle.std.specs.Prelude.{◌++◌, ◌∷◌, []};
     ghost use Rattle.std.specs.Bool.{MatchBool};
-    ghost use Rattle.deuce.specs.Headline.{is_memory};
+    ghost use Rattle.deuce.specs.Headline.{is_memory, line_with};
 
     /// Adds the line of a call.
     fn add(
@@ -99,10 +108,10 @@ impl Lines {
         number: usize,
         answer: Answer,
     ) -> Result<(), AllocError>
-        requires { index < 1000 }
+        requires { index < 100000 }
         ensures { OnOk result (MatchBool (is_memory answer)
-            ((self.new.placed.items ≡ self.old.placed.items) × (self.new.unplaced.items ≡ self.old.unplaced.items ++ line_of original.now (record { index = index; method = number; answer = answer }) ∷ []))
-            ((self.new.placed.items ≡ self.old.placed.items ++ line_of original.now (record { index = index; method = number; answer = answer }) ∷ []) × (self.new.unplaced.items ≡ self.old.unplaced.items))) }
+            ((self.new.placed.items ≡ self.old.placed.items) × (self.new.unplaced.items ≡ self.old.unplaced.items ++ line_with original.now index number answer ∷ []))
+            ((self.new.placed.items ≡ self.old.placed.items ++ line_with original.now index number answer ∷ []) × (self.new.unplaced.items ≡ self.old.unplaced.items))) }
     {
         let is_unplaced = matches!(answer, Answer::NoMemory);
         let line = Line {
@@ -120,8 +129,6 @@ impl Lines {
         Ok(())
     }
 }
-
-ghost use Rattle.deuce.specs.Headline.{name_in};
 
 /// The name of a method; empty where there is no such method.
 fn name_of(alloc: Global, program: &Program, number: usize) -> Result<MethodName, AllocError>

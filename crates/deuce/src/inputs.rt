@@ -1,5 +1,5 @@
 //! What a run reads from its folder.
-ghost use Rattle.std.specs.Prelude.{◌≡◌, IfOk, IfErr, IfSome, string_bytes};
+ghost use Rattle.std.specs.Prelude.{◌≡◌, IfOk, IfErr, IfSome};
 ghost use Rattle.std.specs.Prelude.{◌↔◌, ℕ, List, Contains, IsTrue, MatchOption};
 ghost use Rattle.deuce_io.specs.Files.{NoRepeats, seen_items};
 ghost use Rattle.deuce.specs.Ending.{IsClassFileName, IsOneClass, AreInputs, EndsInRun, IsOutsideAt};

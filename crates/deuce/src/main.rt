@@ -3,15 +3,15 @@
 
 mod calls;
 mod inputs;
+mod known;
 mod lane;
-mod numbers;
 mod outcome;
 mod print;
 mod refusal;
 mod run;
-mod script;
 mod text;
 mod top;
+mod typed;
 mod words;
 
 use deuce_io::{RealFolder, StdSink};

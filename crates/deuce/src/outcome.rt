@@ -1,5 +1,5 @@
 //! How a command ends, before anything is written.
-ghost use Rattle.std.specs.Prelude.{◌≡◌, IfOk, codes};
+ghost use Rattle.std.specs.Prelude.{◌≡◌, ◌++◌, ◌∷◌, [], IfOk, codes};
 ghost use Rattle.jmodel.specs.Output.{◌and◌, refusal_text, error_text};
 ghost use Rattle.deuce.specs.Ending.{IsTextOf};
 
@@ -16,9 +16,13 @@ pub enum Outcome {
     Usage,
     /// The file at this path is no class file, with the first fault.
     BadClass { path: String, refusal: Refusal },
+    /// The class has this fault, or its rewriting passes this limit.
+    BadProgram(Refusal),
+    /// A method of the class has no typing.
+    Untyped(Refusal),
     /// A list or a read of the folder failed at this path.
     Outside(String),
-    /// The folder or the script isn't of the form that is built so far.
+    /// The folder, the class or the script isn't of the form that is built so far.
     NotBuilt,
 }
 
@@ -33,6 +37,16 @@ fn bad_class_line(alloc: Global, path: &str, refusal: &Refusal) -> Result<Bytes,
     Ok(line)
 }
 
+// The line of a refusal that has no path, behind its head.
+fn refusal_line(alloc: Global, head: &[u8], refusal: &Refusal) -> Result<Bytes, AllocError>
+    ensures { IfOk result (λ line. line ≡ head.now ++ (refusal_text refusal.now ++ 10 ∷ [])) }
+{
+    let mut line = Bytes::from_slice(alloc, head)?;
+    push_refusal(alloc, &mut line, refusal)?;
+    line.push(b'\n')?;
+    Ok(line)
+}
+
 /// The text that is printed.
 pub fn text_of(alloc: Global, outcome: Outcome) -> Result<Bytes, AllocError>
     ensures { IfOk result (IsTextOf outcome) }
@@ -41,6 +55,8 @@ pub fn text_of(alloc: Global, outcome: Outcome) -> Result<Bytes, AllocError>
         Outcome::Journal(text) => Ok(text),
         Outcome::Usage => Bytes::from_slice(alloc, b"error 2 usage\n"),
         Outcome::BadClass { path, refusal } => bad_class_line(alloc, path.as_str(), &refusal),
+        Outcome::BadProgram(refusal) => refusal_line(alloc, b"error 4 ", &refusal),
+        Outcome::Untyped(refusal) => refusal_line(alloc, b"error 5 ", &refusal),
         Outcome::Outside(path) => {
             let line = format!(in alloc; "error 8 {path}\n")?;
             Bytes::from_slice(alloc, line.as_bytes())
@@ -61,6 +77,8 @@ impl Outcome {
             Outcome::Journal(_) => 0,
             Outcome::Usage => 2,
             Outcome::BadClass { .. } => 3,
+            Outcome::BadProgram(_) => 4,
+            Outcome::Untyped(_) => 5,
             Outcome::Outside(_) => 8,
             Outcome::NotBuilt => 12,
         }

@@ -1,18 +1,26 @@
 //! A run, from the bytes of a class file and a script to the text of its journal.
-ghost use Rattle.std.specs.Prelude.{◌≡◌, ◌≤◌, ℕ, List, length, pos, codes, IfOk, IfErr, OnOk};
+ghost use Rattle.std.specs.Prelude.{◌≡◌, ◌≤◌, ℕ, List, length, Some, Ok, IfOk, IfErr, OnOk};
+ghost use Rattle.jmodel.specs.ClassFile.{ClassFile as Form};
 ghost use Rattle.jmodel.specs.ClassRules.{IsClassFile, Spells};
-ghost use Rattle.deuce.specs.Headline.{IsRun, CanRun};
-ghost use Rattle.deuce.specs.Ending.{EndsReading, EndsRun};
+ghost use Rattle.jmodel.specs.Linking.{linked};
+ghost use Rattle.jmodel.specs.Rewriting.{rewritten as rewritten_program};
+ghost use Rattle.rewriter.specs.Meaning.{AreFiled};
+ghost use Rattle.rewriter.specs.Rewritten.{rewritten_class};
+ghost use Rattle.deuce.specs.Headline.{IsRun};
+ghost use Rattle.deuce.specs.Ending.{EndsReading, EndsRun, EndsOnClass, EndsBuild, EndsRewriting, EndsScript, IsLimit};
+ghost use Rattle.deuce.specs.Rule.{IsReady};
 
 use crate::inputs::{CLASS_LIMIT, SCRIPT_LIMIT};
+use crate::known::known_calls;
 use crate::lane::run_lane;
-use crate::numbers::method_numbers;
-use crate::script::{ScriptEnd, call_names};
+use crate::typed::type_all;
 use class_reader::read_class;
 use const_pool::ClassFile;
-use hierarchy::{Program, opening_words};
+use hierarchy::symbols::own_name;
+use hierarchy::{BuildEnd, Program, opening_words};
 use jmodel::{Bytes, Halt, Refusal};
 use rewriter::rewrite;
+use script::{ScriptEnd, read_script};
 use std::alloc::{AllocError, Global};
 
 /// Why a run has no journal.
@@ -20,6 +28,10 @@ use std::alloc::{AllocError, Global};
 pub enum RunEnd {
     /// The bytes are no class file, with the first fault.
     BadClass(Refusal),
+    /// The code of the class has this fault, or its rewriting passes this limit.
+    BadProgram(Refusal),
+    /// A method has no typing.
+    Untyped(Refusal),
     /// The class or the script isn't of the form that is built so far.
     NotBuilt,
     NoMemory,
@@ -57,13 +69,14 @@ pub fn run(alloc: Global, class: &[u8], script: &[u8]) -> Result<Bytes, RunEnd>
     ensures cause { IfErr result (EndsRun class.now script.now) }
 {
     let file = class_of(alloc, class)?;
-    Ok(run_class(alloc, &file, script)?)
+    run_class(alloc, &file, script)
 }
 
 /// The class of a class file.
 fn class_of(alloc: Global, bytes: &[u8]) -> Result<ClassFile, RunEnd>
     ensures within { OnOk result (length bytes.now ≤ 1048576) }
     ensures class { IfOk result (Spells bytes.now) }
+    ensures filed { IfOk result AreFiled }
     ensures cause { IfErr result (EndsReading bytes.now) }
 {
     if bytes.len() > CLASS_LIMIT {
@@ -77,21 +90,109 @@ fn class_of(alloc: Global, bytes: &[u8]) -> Result<ClassFile, RunEnd>
     }
 }
 
-/// Runs a script on a class. NotBuilt exactly where it can't be run on that.
-fn run_class(alloc: Global, class: &ClassFile, script: &[u8]) -> Result<Bytes, ScriptEnd>
-    requires { IsClassFile class.now }
+/// Runs a script on a class.
+fn run_class(alloc: Global, class: &ClassFile, script: &[u8]) -> Result<Bytes, RunEnd>
+    requires form { IsClassFile class.now }
+    requires filed { AreFiled class.now }
     ensures run { IfOk result (λ text. (bytes : List ℕ) → Spells bytes class.now → IsRun bytes script.now text) }
     ensures script { OnOk result (length script.now ≤ 16777216) }
-    ensures not_built { result ≡ Err ScriptEnd.NotBuilt → CanRun class.now script.now → ⊥ }
+    ensures cause { IfErr result (EndsOnClass class.now script.now) }
 {
-    let original = Program::build(alloc, class)?;
-    if script.len() > SCRIPT_LIMIT {
-        return Err(ScriptEnd::NotBuilt);
+    let original = build(alloc, class)?;
+    type_all(alloc, class, &original)?;
+    let rewritten = instrument(alloc, class, &original)?;
+    run_script(alloc, class, &original, &rewritten, script)
+}
+
+/// The program that a class means.
+fn build(alloc: Global, class: &ClassFile) -> Result<Program, RunEnd>
+    ensures links { IfOk result (λ p. linked class.now ≡ Some p) }
+    ensures cause { IfErr result (EndsBuild class.now) }
+{
+    match Program::build(alloc, class) {
+        Ok(program) => Ok(program),
+        Err(BuildEnd::Refused(refusal)) => Err(RunEnd::BadProgram(refusal)),
+        Err(BuildEnd::NotBuilt) => Err(RunEnd::NotBuilt),
+        Err(BuildEnd::NoMemory) => Err(RunEnd::NoMemory),
     }
-    let names = call_names(alloc, script)?;
-    let numbers = method_numbers(alloc, &original, names.as_slice())?;
-    let instrumented = rewrite(alloc, class, &original)?;
-    let rewritten = Program::rebuilt(alloc, &instrumented, &original)?;
+}
+
+/// The rewriting of a class's program, by way of the rewritten class.
+fn instrument(alloc: Global, class: &ClassFile, original: &Program) -> Result<Program, RunEnd>
+    requires form { IsClassFile class.now }
+    requires filed { AreFiled class.now }
+    requires links { linked class.now ≡ Some original.now }
+    ensures rewritten { IfOk result (λ p. (p ≡ rewritten_program original.now) × (new : Form) × (rewritten_class original.now class.now ≡ Ok new)) }
+    ensures cause { IfErr result (EndsRewriting original.now class.now) }
+{
+    match rewrite(alloc, class, original) {
+        Ok(instrumented) => rebuilt(alloc, class, &instrumented, original),
+        Err(Halt::Refused(refusal)) => Err(limit(alloc, class, refusal)),
+        Err(Halt::NoMemory) => Err(RunEnd::NoMemory),
+    }
+}
+
+/// The program of a rewritten class. It has one.
+fn rebuilt(
+    alloc: Global,
+    class: &ClassFile,
+    instrumented: &ClassFile,
+    original: &Program,
+) -> Result<Program, RunEnd>
+    requires form { IsClassFile class.now }
+    requires filed { AreFiled class.now }
+    requires links { linked class.now ≡ Some original.now }
+    requires rewrites { rewritten_class original.now class.now ≡ Ok instrumented.now }
+    ensures rewritten { IfOk result (λ p. p ≡ rewritten_program original.now) }
+    ensures cause { IfErr result (λ e. e ≡ RunEnd.NoMemory) }
+{
+    match Program::rebuilt(alloc, instrumented, original) {
+        Ok(program) => Ok(program),
+        Err(BuildEnd::NoMemory) => Err(RunEnd::NoMemory),
+        Err(BuildEnd::Refused(_)) => unreachable!(),
+        Err(BuildEnd::NotBuilt) => unreachable!(),
+    }
+}
+
+/// The end of a run on a class whose rewriting passes a limit; a full pool is named by its class.
+fn limit(alloc: Global, class: &ClassFile, refusal: Refusal) -> RunEnd
+    ensures { IsLimit class.now refusal result }
+{
+    match refusal {
+        Refusal::PoolFull(_) => match Bytes::from_slice(alloc, own_name(class)) {
+            Ok(name) => RunEnd::BadProgram(Refusal::PoolFull(name)),
+            Err(_) => RunEnd::NoMemory,
+        },
+        other => RunEnd::BadProgram(other),
+    }
+}
+
+/// Runs a script on a class's program by its rewriting.
+fn run_script(
+    alloc: Global,
+    class: &ClassFile,
+    original: &Program,
+    rewritten: &Program,
+    script: &[u8],
+) -> Result<Bytes, RunEnd>
+    requires links { linked class.now ≡ Some original.now }
+    requires ready { IsReady original.now rewritten.now }
+    ensures run { IfOk result (λ text. (bytes : List ℕ) → Spells bytes class.now → IsRun bytes script.now text) }
+    ensures script { OnOk result (length script.now ≤ 16777216) }
+    ensures cause { IfErr result (EndsScript original.now script.now) }
+{
+    if script.len() > SCRIPT_LIMIT {
+        return Err(RunEnd::NotBuilt);
+    }
+    let wanted = read_script(alloc, script)?;
+    let calls = known_calls(alloc, original, wanted.calls.as_slice())?;
     let words = opening_words(alloc, class)?;
-    Ok(run_lane(alloc, &original, &rewritten, words, numbers.as_slice())?)
+    Ok(run_lane(
+        alloc,
+        original,
+        rewritten,
+        words,
+        wanted.budget,
+        calls.as_slice(),
+    )?)
 }

@@ -4,6 +4,8 @@ use deuce_io::{Folder, IoEnd, MemFolder, MemSink};
 use std::alloc::{AllocError, Global};
 use std::test::Fail;
 
+mod code;
+mod ints;
 mod rewritten;
 
 /// The class of the example, as a compiler wrote it.
@@ -173,22 +175,6 @@ fn a_byte_behind_a_class_is_told(rt: HostRuntime) -> Result<(), Fail> {
 }
 
 #[test]
-fn a_pop_in_place_of_the_return_is_not_built(rt: HostRuntime) -> Result<(), Fail> {
-    let mut class = COUNTER;
-    class[182] = 0x57;
-    assert!(rt;
-        runs(
-            rt.alloc(),
-            class.as_slice(),
-            ONE_CALL,
-            12,
-            "error 12 NotBuilt\n"
-        )?
-    );
-    Ok(())
-}
-
-#[test]
 fn a_second_file_or_a_folder_is_not_built(rt: HostRuntime) -> Result<(), Fail> {
     let alloc = rt.alloc();
     for path in ["d/Other.class", "d/e/f"].as_slice() {
@@ -217,7 +203,7 @@ fn scripts_of_no_form_are_not_built(rt: HostRuntime) -> Result<(), Fail> {
     Ok(())
 }
 
-/// Whether a run of one call on a class ends: with its answer, with a fault of the file, or as not built.
+/// Whether a run of one call on a class ends: with its answer, with a fault of the file or of its code, or as not built.
 fn ends(alloc: Global, class: &[u8]) -> Result<bool, IoEnd> {
     let words = words_of(alloc, ["run", "d", "s"].as_slice())?;
     let mut folder = folder_of(alloc, class, ONE_CALL)?;
@@ -227,6 +213,11 @@ fn ends(alloc: Global, class: &[u8]) -> Result<bool, IoEnd> {
     Ok(match status {
         0 => written.starts_with(b"history 1\n"),
         3 => written.starts_with(b"error 3 d/Counter.class "),
+        4 => {
+            written.starts_with(b"error 4 13 BadInstr Counter.inc()I ")
+                || written.starts_with(b"error 4 14 BadTarget Counter.inc()I ")
+        }
+        5 => written.starts_with(b"error 5 32 Untypable Counter.inc()I "),
         12 => written == b"error 12 NotBuilt\n".as_slice(),
         _ => false,
     })
@@ -254,14 +245,20 @@ fn a_file_over_the_limit_is_told(rt: HostRuntime) -> Result<(), Fail> {
     Ok(())
 }
 
-/// Counter's class file with other code in `inc`, of less than 128 bytes, and room for so many values on the stack.
-fn with_code(alloc: Global, stack: u8, code: &[u8]) -> Result<Vec<u8>, AllocError> {
-    let length = (code.len() % 128) as u8;
+/// Counter's class file with other code in `inc`, and room for so many locals, and so many values on the stack.
+fn with_locals(alloc: Global, stack: u8, locals: u8, code: &[u8]) -> Result<Vec<u8>, AllocError> {
     let mut class = Vec::from_slice(alloc, &COUNTER[..161])?;
-    class.extend_from_slice(&[0, 0, 0, 12 + length, 0, stack, 0, 0, 0, 0, 0, length])?;
+    push_size(&mut class, 12 + code.len())?;
+    class.extend_from_slice(&[0, stack, 0, locals])?;
+    push_size(&mut class, code.len())?;
     class.extend_from_slice(code)?;
     class.extend_from_slice(&COUNTER[183..])?;
     Ok(class)
+}
+
+/// Counter's class file with other code in `inc`, and room for so many values on the stack.
+fn with_code(alloc: Global, stack: u8, code: &[u8]) -> Result<Vec<u8>, AllocError> {
+    with_locals(alloc, stack, 0, code)
 }
 
 /// Whether a call of `inc` with this code on a stack of four gives this answer.
@@ -339,16 +336,11 @@ fn a_field_is_read_and_written_twice(rt: HostRuntime) -> Result<(), Fail> {
     Ok(())
 }
 
-#[test]
-fn a_stack_too_small_is_not_built(rt: HostRuntime) -> Result<(), Fail> {
-    let alloc = rt.alloc();
-    let code = [0x04, 0x05, 0x60, 0xac];
-    let class = with_code(alloc, 1, code.as_slice())?;
-    assert!(rt; runs(alloc, class.as_slice(), ONE_CALL, 12, "error 12 NotBuilt\n")?);
-    let class = with_code(alloc, 2, code.as_slice())?;
-    let text = "history 1\n0 0 0 Counter.inc()I 3\nunplaced 0\n";
-    assert!(rt; runs(alloc, class.as_slice(), ONE_CALL, 0, text)?);
-    Ok(())
+/// A size in four bytes, of which the first is 0.
+fn push_size(out: &mut Vec<u8>, size: usize) -> Result<(), AllocError> {
+    out.push(0)?;
+    out.push((size / 65536 % 256) as u8)?;
+    push_pair(out, size)
 }
 
 fn push_pair(out: &mut Vec<u8>, number: usize) -> Result<(), AllocError> {

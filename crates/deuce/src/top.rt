@@ -1,10 +1,10 @@
 //! The top call: all that the program does.
-ghost use Rattle.std.specs.Prelude.{◌≡◌, ◌⊎◌, ℕ, List, IfOk, codes, string_bytes};
+ghost use Rattle.std.specs.Prelude.{◌≡◌, ◌⊎◌, ℕ, List, IfOk, codes};
 ghost use Rattle.deuce_io.specs.Fault.{Rose};
 ghost use Rattle.jmodel.specs.declared.refusal.Refusal.{Refusal};
 ghost use Rattle.jmodel.specs.Output.{◌and◌, refusal_text, error_text};
 ghost use Rattle.deuce.specs.Command.{IsNoCommand};
-ghost use Rattle.deuce.specs.Ending.{IsOutcome, IsJournalOfWords, IsBadClassOfWords, IsNotBuilt, CanRunWords, FailedOutside, Appends, IsCut, status_of};
+ghost use Rattle.deuce.specs.Ending.{IsOutcome, IsJournalOfWords, IsBadClassOfWords, IsBadProgram, IsUntypable, IsOfWords, IsNotBuilt, CanRunWords, FailedOutside, Appends, IsCut};
 
 use crate::inputs::{InputEnd, read_inputs};
 use crate::outcome::{Outcome, text_of};
@@ -22,6 +22,8 @@ use std::alloc::Global;
 /// | 0 | the journal of the run was written whole |
 /// | 2 | the words are none of the forms |
 /// | 3 | the file is no class file; its path and its first fault are printed |
+/// | 4 | the code of the class has a fault, or its rewriting passes a limit; that is printed |
+/// | 5 | a method of the class has no typing; the first is printed |
 /// | 8 | a list or a read of this run failed |
 /// | 9 | the sink failed; a front of the output was written |
 /// | 10 | memory ran out; nothing was written, or a front of the output |
@@ -40,7 +42,15 @@ pub fn deuce<F: Folder, O: Sink>(alloc: Global, words: &[String], folder: &mut F
         × IsBadClassOfWords words.now (F.files folder.old) path refusal
         × Appends (O.written out.old) (O.written out.new) (error_text (codes "3") (path and refusal_text refusal)) }
 
-    // The folder hasn't one class file alone, or the script can't be run on that.
+    // The one class file is good, and its code has this fault, or its rewriting passes this limit.
+    ensures bad_program { result ≡ 4 → (refusal : Refusal) × IsOfWords words.now (F.files folder.old) IsBadProgram refusal
+        × Appends (O.written out.old) (O.written out.new) (error_text (codes "4") (refusal_text refusal)) }
+
+    // It is of the form, and this method of it is the first that has no typing.
+    ensures untypable { result ≡ 5 → (refusal : Refusal) × IsOfWords words.now (F.files folder.old) IsUntypable refusal
+        × Appends (O.written out.old) (O.written out.new) (error_text (codes "5") (refusal_text refusal)) }
+
+    // The folder hasn't one class file alone, or that isn't of the form, or the script isn't one of calls of its methods.
     ensures not_built { result ≡ 12 → IsNotBuilt words.now (F.files folder.old) }
     ensures not_built_line { result ≡ 12 → Appends (O.written out.old) (O.written out.new) (error_text (codes "12") (codes "NotBuilt")) }
 
@@ -58,7 +68,7 @@ pub fn deuce<F: Folder, O: Sink>(alloc: Global, words: &[String], folder: &mut F
     // What can be run is run, unless the folder or the sink fails or memory runs out.
     ensures complete { CanRunWords words.now (F.files folder.old) → (result ≡ 0) ⊎ ((result ≡ 8) ⊎ ((result ≡ 9) ⊎ (result ≡ 10))) }
 
-    ensures statuses { (result ≡ 0) ⊎ ((result ≡ 2) ⊎ ((result ≡ 3) ⊎ ((result ≡ 8) ⊎ ((result ≡ 9) ⊎ ((result ≡ 10) ⊎ (result ≡ 12)))))) }
+    ensures statuses { (result ≡ 0) ⊎ ((result ≡ 2) ⊎ ((result ≡ 3) ⊎ ((result ≡ 4) ⊎ ((result ≡ 5) ⊎ ((result ≡ 8) ⊎ ((result ≡ 9) ⊎ ((result ≡ 10) ⊎ (result ≡ 12)))))))) }
 {
     let Ok(outcome) = outcome_of(alloc, words, folder) else {
         return 10;
@@ -97,6 +107,8 @@ fn outcome_of<F: Folder>(
             path: inputs.path,
             refusal,
         }),
+        Err(RunEnd::BadProgram(refusal)) => Ok(Outcome::BadProgram(refusal)),
+        Err(RunEnd::Untyped(refusal)) => Ok(Outcome::Untyped(refusal)),
         Err(RunEnd::NotBuilt) => Ok(Outcome::NotBuilt),
         Err(RunEnd::NoMemory) => Err(NoMemory),
     }

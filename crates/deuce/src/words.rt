@@ -1,5 +1,5 @@
 //! The words of the command line.
-ghost use Rattle.std.specs.Prelude.{◌≡◌, string_bytes, map, MatchOption};
+ghost use Rattle.std.specs.Prelude.{MatchOption};
 ghost use Rattle.deuce.specs.Command.{AreWords, IsNoCommand};
 
 /// What the words ask for. The paths are words of the command line.

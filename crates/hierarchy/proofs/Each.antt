@@ -3,7 +3,7 @@ use Rattle.std.proofs.Common.{◌≡◌, ℕ, suc, ◌+◌, ◌≤◌, ◌<◌, 
 use Rattle.std.proofs.lemmas.List.{append-nil, drop_all}
 use Rattle.jmodel.specs.Decoding.{in_front, each}
 use Rattle.hierarchy.specs.declared.outcome.BuildEnd.{BuildEnd}
-use Rattle.hierarchy.specs.declared.outcome.BuildEnd.TheVariants.{NotBuilt, NoMemory}
+use Rattle.hierarchy.specs.declared.outcome.BuildEnd.TheVariants.{Refused, NotBuilt, NoMemory}
 use Rattle.hierarchy.specs.Built.{Ends}
 
 -- what was collected before, and what is still collected
@@ -45,6 +45,7 @@ module _ {A B : Type 0} (f : A → Option B) where
 
   pub ends : (e : BuildEnd) (front : List B) (xs : List A) (i : ℕ) (x : A) (total : Option (List B)) → drop i xs ≡ x ∷ drop (i + 1) xs → Ends e (f x)
       → with_front front (each f (drop i xs)) ≡ total → Ends e total
+  ends (Refused r) front xs i x total item gives so_far = absurd gives
   ends NoMemory front xs i x total item gives so_far = tt
   ends NotBuilt front xs i x total item gives so_far =
       let one : each f (drop i xs) ≡ in_front None (each f (drop (i + 1) xs)) = ap (each f) item ∙ ap (λ (o : Option B). in_front o (each f (drop (i + 1) xs))) gives in

@@ -1,4 +1,7 @@
 pub mod Parts
 pub mod Each
-pub mod Straight
 pub mod Relinked
+pub mod Numbering
+pub mod Decoded
+pub mod Source
+pub mod Zipped

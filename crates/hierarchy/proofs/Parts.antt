@@ -1,7 +1,10 @@
 -- Parts of texts, and tests of what is seen of items.
 use Rattle.std.proofs.Common.{◌≡◌, ℕ, suc, ◌+◌, ◌<◌, List, length, drop, get_or, ◌∷◌, false, refl, ap, ◌∙◌, sym, nat_eq, add-one, drop-cons}
 use Rattle.std.specs.List.{starts_with, list_any}
-use Rattle.std.specs.Prelude.{◌||◌, map, [], Bool}
+use Rattle.std.specs.Prelude.{◌||◌, map, [], Bool, Option, Some, None, Err}
+use Rattle.jmodel.specs.declared.refusal.Refusal.{Refusal}
+use Rattle.jmodel.specs.Descriptor.{Signature}
+use Rattle.jmodel.specs.DescriptorReading.{signature_or}
 use Rattle.jmodel.specs.Linking.{has_part}
 
 -- a part that doesn't begin at a place is behind it or nowhere
@@ -16,3 +19,8 @@ has_part_after part text i h none =
 pub any_map : {A B : Type 0} (p : B → Bool) (f : A → B) (xs : List A) → list_any p (map f xs) ≡ list_any (λ x. p (f x)) xs
 any_map p f [] = refl
 any_map p f (x ∷ xs) = ap (λ b. p (f x) || b) (any_map p f xs)
+
+-- a text that is refused has no signature
+pub no_signature : (q r : Refusal) (o : Option Signature) → signature_or q o ≡ Err r → o ≡ None
+no_signature q r None h = refl
+no_signature q r (Some s) h = cc

@@ -1,12 +1,12 @@
 -- The methods of a class's program, seen behind references.
 use Rattle.std.proofs.Common.{◌≡◌, ℕ, ◌-◌, List, length, map, take, drop, Option, None, Bool, true, false, Bor, sym, ap, ◌∙◌}
-use Rattle.std.specs.Prelude.{nat_le, if◌then◌else◌}
+use Rattle.std.specs.Prelude.{nat_le, zip, if◌then◌else◌}
 use Rattle.std.proofs.lemmas.List.{length-map, take-map, drop-map}
 use Rattle.jmodel.specs.declared.name.MethodName.{MethodName}
 use Rattle.jmodel.specs.ClassFile.{Member, ClassFile}
 use Rattle.jmodel.specs.Program.{Field, Method}
 use Rattle.jmodel.specs.Decoding.{Symbols, each, name_of}
-use Rattle.jmodel.specs.Linking.{method_of, linked_method, joined, relinked_methods, program_methods, symbols_of}
+use Rattle.jmodel.specs.Linking.{Coded, form_method, method_of, joined, relinked_methods, program_methods, symbols_of}
 use Rattle.hierarchy.specs.Built.{relinked_seen}
 use Rattle.hierarchy.proofs.Each.{each_seen, map_seen}
 
@@ -43,10 +43,11 @@ module _ (c : ClassFile) (fields : List Field) (names : List MethodName) (ms : L
   same : symbols c fields names ≡ symbols_of c fields
   same = ap (symbols c fields) (named ∙ map_seen (name_of c) ms ∙ ap (map (name_of c)) are)
 
-  pub linked_all : each (λ m. linked_method (symbols c fields names) m.now) ms ≡ each (linked_method (symbols_of c fields)) (program_methods c)
-  linked_all =
-      each_seen (linked_method (symbols c fields names)) ms ∙ ap (each (linked_method (symbols c fields names))) are
-      ∙ ap (λ (s : Symbols). each (linked_method s) (program_methods c)) same
+  pub form_all : (ks : List Coded) → each (λ (p : Member × Coded). form_method (symbols c fields names) p.0 p.1) (zip (map (λ m. m.now) ms) ks)
+      ≡ each (λ (p : Member × Coded). form_method (symbols_of c fields) p.0 p.1) (zip (program_methods c) ks)
+  form_all ks =
+      ap (λ (l : List Member). each (λ (p : Member × Coded). form_method (symbols c fields names) p.0 p.1) (zip l ks)) are
+      ∙ ap (λ (s : Symbols). each (λ (p : Member × Coded). form_method s p.0 p.1) (zip (program_methods c) ks)) same
 
   pub relinked_all : (n : ℕ) → relinked_seen (symbols c fields names) n ms ≡ relinked_methods (symbols_of c fields) n (program_methods c)
   relinked_all n =

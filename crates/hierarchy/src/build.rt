@@ -1,15 +1,17 @@
 //! Programs of class files.
-ghost use Rattle.std.specs.Prelude.{◌≡◌, [], ◌∷◌, length, map, IfOk};
-ghost use Rattle.hierarchy.specs.Built.{Builds, relinked_seen};
-ghost use Rattle.jmodel.specs.Source.{IsStraightProgram};
+ghost use Rattle.std.specs.Prelude.{◌≡◌, [], ◌∷◌, length, map, zip, IfOk};
+ghost use Rattle.hierarchy.specs.Built.{Builds, Links, relinked_seen};
+ghost use Rattle.jmodel.specs.Source.{IsSource};
 ghost use Rattle.jmodel.specs.Layout.{fields_from, statics, opening_word as first_word, opening_words as all_opening_words};
 ghost use Rattle.jmodel.specs.Decoding.{each};
-ghost use Rattle.jmodel.specs.Linking.{original_fields, symbols_of, method_of as meaning, linked_method as linked_one, linked as linked_program, program_methods as methods_of_program, relinked_methods, relinked};
+ghost use Rattle.jmodel.specs.ClassFile.{Member};
+ghost use Rattle.jmodel.specs.Linking.{Coded as CodedForm, original_fields, symbols_of, method_of as meaning, form_method, form_methods as all_form_methods, form_program as program_of_form, linking, program_methods as methods_of_program, relinked_methods, relinked};
 
+use crate::code::{Coded, all_decoded};
 use crate::constants::int_value;
 use crate::form::{is_form_class, program_methods};
 use crate::meaning::Symbols;
-use crate::method::{linked_method, method_of};
+use crate::method::{form_method, method_of};
 use crate::outcome::BuildEnd;
 use crate::program::{Field, Method, Program};
 use crate::symbols::{is_static, names_of, own_name, text};
@@ -103,34 +105,53 @@ fn copies(alloc: Global, fields: &[Field]) -> Result<Vec<Field>, AllocError>
     Ok(copied)
 }
 
-fn linked_each(
+fn form_methods(
     alloc: Global,
     symbols: &Symbols,
     methods: &[&Member],
+    coded: &[Coded],
 ) -> Result<Vec<Method>, BuildEnd>
-    ensures { Builds (λ v. v.items) result (each (λ m. linked_one symbols.now m.now) methods.now) }
+    ensures { Builds (λ v. v.items) result (each (λ (p : Member × CodedForm). form_method symbols.now p.0 p.1) (zip (map (λ m. m.now) methods.now) coded.now)) }
 {
     let mut built = Vec::new(alloc);
-    for method in methods {
-        built.push(linked_method(alloc, symbols, method)?)?;
+    for (method, code) in methods.iter().zip(coded) {
+        built.push(form_method(alloc, symbols, method, code)?)?;
     }
     Ok(built)
 }
 
-fn linked_methods(
+fn form_methods_of(
     alloc: Global,
     class: &ClassFile,
     fields: &[Field],
+    methods: &[&Member],
+    coded: &[Coded],
 ) -> Result<Vec<Method>, BuildEnd>
-    ensures { Builds (λ v. v.items) result (each (linked_one (symbols_of class.now fields.now)) (methods_of_program class.now)) }
+    requires are { map (λ m. m.now) methods.now ≡ methods_of_program class.now }
+    requires fields_are { fields.now ≡ original_fields class.now }
+    ensures { Builds (λ v. v.items) result (all_form_methods class.now coded.now) }
 {
-    let methods = program_methods(alloc, class)?;
     let symbols = Symbols {
         class,
         fields,
-        methods: names_of(alloc, class, methods.as_slice())?,
+        methods: names_of(alloc, class, methods)?,
     };
-    linked_each(alloc, &symbols, methods.as_slice())
+    form_methods(alloc, &symbols, methods, coded)
+}
+
+// The program of a class of the form with these methods, whose code this is.
+fn form_program(
+    alloc: Global,
+    class: &ClassFile,
+    methods: &[&Member],
+    coded: &[Coded],
+) -> Result<Program, BuildEnd>
+    requires { map (λ m. m.now) methods.now ≡ methods_of_program class.now }
+    ensures { Builds (λ p. p) result (program_of_form class.now coded.now) }
+{
+    let fields = fields_of(alloc, class)?;
+    let built = form_methods_of(alloc, class, fields.as_slice(), methods, coded)?;
+    Ok(Program::new(fields, built))
 }
 
 fn methods_of(
@@ -185,31 +206,37 @@ fn relinked_of(
     rewritten_methods(alloc, &symbols, count, methods.as_slice())
 }
 
-// The program of a class of the form.
+// The program of a class.
 fn linked(alloc: Global, class: &ClassFile) -> Result<Program, BuildEnd>
-    ensures { Builds (λ p. p) result (linked_program class.now) }
+    ensures { Links (λ p. p) result (linking class.now) }
 {
-    if !is_form_class(class) {
+    if !is_form_class(alloc, class)? {
         return Err(BuildEnd::NotBuilt);
     }
-    let fields = fields_of(alloc, class)?;
-    let methods = linked_methods(alloc, class, fields.as_slice())?;
-    Ok(Program::new(fields, methods))
+    let methods = program_methods(alloc, class)?;
+    let coded = all_decoded(alloc, class, methods.as_slice())?;
+    form_program(alloc, class, methods.as_slice(), coded.as_slice())
 }
 
 impl Program {
-    /// The program of an original class. NotBuilt exactly where the class isn't of the form that is known so far, which is
-    /// temporary: one class right under Object, whose static fields are ints, whose methods that are marked as atomic are
-    /// static, marked without elements, and take nothing and give an int by straight-line code, and which has no static
-    /// initialiser. The program has the static fields and the marked methods.
+    /// The program of an original class: its static fields, and the methods that are marked as atomic.
+    ///
+    /// NotBuilt exactly where the class isn't of the form that is known so far, which is temporary: one class right under
+    /// Object, whose static fields are ints, whose methods that are marked are static, marked without elements, take ints and
+    /// give an int or nothing, by code on ints without exception entries, and which has no static initialiser. Refused, with
+    /// the method's printed name, exactly where that code has a fault:
+    ///
+    /// - `BadInstr` with the least pc at which no instruction stands;
+    /// - else `BadTarget` with the least pc of a jump or a switch that leads to no instruction, or of an exception entry.
     pub fn build(alloc: Global, class: &ClassFile) -> Result<Program, BuildEnd>
-        ensures built { Builds (λ p. p) result (linked_program class.now) }
-        ensures straight { IfOk result IsStraightProgram }
+        ensures built { Links (λ p. p) result (linking class.now) }
+        ensures source { IfOk result IsSource }
     {
         linked(alloc, class)
     }
 
-    /// The program of a rewritten class over that of its original. NotBuilt exactly where the class has none.
+    /// The program of a rewritten class over that of its original. NotBuilt exactly where the class has none; never
+    /// Refused.
     pub fn rebuilt(
         alloc: Global,
         class: &ClassFile,

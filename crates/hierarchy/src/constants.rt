@@ -1,11 +1,17 @@
 //! The numbers that entries of a pool hold, and the constants of fields (JVM Specification, Java SE 7, sections 4.4.4,
 //! 4.4.5 and 4.7.2).
 ghost use Rattle.std.specs.Prelude.{◌≡◌, option_copied, option_and_then};
-ghost use Rattle.jmodel.specs.Constants.{integer_in, integer as integer_of, named_entry as entry_named, constant_of as constant_of_field, long_value as long_of, int_value as int_of};
+ghost use Rattle.jmodel.specs.Constants.{integer_in, integer as integer_of, named_entry as entry_named, constant_of as constant_of_field, long_value as long_of, int_value as int_of, pair_number as number_of};
 
-use crate::decode::pair_number;
 use crate::symbols::find_attribute;
 use const_pool::{Constant, Member, Pool};
+
+/// The number that two bytes make, the highest first.
+pub fn pair_number(high: u8, low: u8) -> u16
+    ensures { result ≡ number_of high low }
+{
+    high as u16 * 256 + low as u16
+}
 
 // The int of an entry.
 #[tactic(auto, using(jmodel::proofs::Moved::narrow))]

@@ -1,20 +1,22 @@
-//! The form of the classes of which programs are built so far: straight-line int code of static methods without
-//! parameters. Temporary: the form grows until it has every program that is accepted.
+//! The form of the classes of which programs are built so far: int code of static methods that take ints and give an int or
+//! nothing. Temporary: the form grows until it has every program that is accepted.
 ghost use Rattle.std.specs.Prelude.{◌≡◌, ◌≤◌, length, filter, map, bytes_eq, codes, not, if◌then◌else◌, IfOk};
 ghost use Rattle.jmodel.specs.Pool.{utf8};
 ghost use Rattle.jmodel.specs.ClassRules.{same_text};
 ghost use Rattle.std.specs.List.{list_all, list_any};
-ghost use Rattle.jmodel.specs.declared.op.Op.TheVariants as op;
-ghost use Rattle.jmodel.specs.Source.{takes as taken, leaves as left, is_return as returns};
 ghost use Rattle.jmodel.specs.Layout.{library as library_names, is_static as static_member};
-ghost use Rattle.jmodel.specs.Linking.{has_part as part_of, is_reserved as reserved, is_form_constant as form_constant, is_form_field as form_field, is_plain_mark as plain_mark, is_mark as mark, is_marked as marked, takes_context as with_context, is_program_method as program_method, program_methods as methods_of_program, is_form_attribute as form_attribute, is_special as special, is_form_atomic as form_atomic, is_form_method as form_method, is_free_name as free_name, are_form_fields as form_fields, are_form_methods as form_methods, is_form_head as form_head, is_form_class as form_class, is_form_code as form_code, is_form_op as form_op, is_straight_within as straight_within};
+ghost use Rattle.jmodel.specs.Linking.{has_part as part_of, is_reserved as reserved, is_form_constant as form_constant, is_form_field as form_field, is_plain_mark as plain_mark, is_mark as mark, is_marked as marked, takes_context as with_context, is_program_method as program_method, program_methods as methods_of_program, is_form_attribute as form_attribute, is_special as special, is_form_atomic as form_atomic, is_form_method as form_method, is_free_name as free_name, are_form_fields as form_fields, are_form_methods as form_methods, is_form_head as form_head, is_form_class as form_class, is_form_code as form_code, is_of_reference as of_reference, widened as widened_op, is_form_instr as form_instr, is_form_op as form_op, is_form_method_of as form_method_of};
 
-use crate::decode::pair_number;
+use crate::code::Coded;
+use crate::constants::pair_number;
+use crate::program::Method;
+use crate::shape::{has_context, shape_of};
 use crate::symbols::{equal, is_named, is_static, is_text, own_name, text};
 use const_pool::{Attribute, ClassFile, Code, Constant, Member, Pool};
-use jmodel::op::{Op, Rearrange};
+use jmodel::op::Op;
 use jmodel::value::Value;
-use std::alloc::{AllocError, Global};
+use jmodel::{Instr, NoMemory, Operands};
+use std::alloc::Global;
 
 fn has_part(part: &[u8], text: &[u8]) -> bool
     ensures { result ≡ part_of part.now text.now }
@@ -81,32 +83,30 @@ pub fn is_marked(pool: &Pool, method: &Member) -> bool
     method.attributes.iter().any(|a| is_mark(pool, a))
 }
 
-// Whether a method has the descriptor of an accessor or a duplicate.
-fn takes_context(pool: &Pool, method: &Member) -> bool
-    ensures { result ≡ with_context pool.now method.now }
+// Whether a method takes a transaction's context, as accessors and duplicates do.
+fn takes_context(alloc: Global, pool: &Pool, method: &Member) -> Result<bool, NoMemory>
+    ensures { IfOk result (λ b. b ≡ with_context pool.now method.now) }
 {
-    let descriptor = pool.utf8(method.descriptor);
-    is_text(descriptor, b"(Lorg/deuce/transaction/Context;)I")
-        || is_text(descriptor, b"(ILorg/deuce/transaction/Context;)V")
+    has_context(alloc, text(pool, method.descriptor))
 }
 
 /// Whether a method is one of the program that its class means: it is marked, or takes a transaction's context.
-pub fn is_program_method(pool: &Pool, method: &Member) -> bool
-    ensures { result ≡ program_method pool.now method.now }
+pub fn is_program_method(alloc: Global, pool: &Pool, method: &Member) -> Result<bool, NoMemory>
+    ensures { IfOk result (λ b. b ≡ program_method pool.now method.now) }
 {
-    is_marked(pool, method) || takes_context(pool, method)
+    if is_marked(pool, method) {
+        return Ok(true);
+    }
+    takes_context(alloc, pool, method)
 }
 
 /// The methods of a class that its program has, in the order of the file.
-pub fn program_methods<'a>(
-    alloc: Global,
-    class: &'a ClassFile,
-) -> Result<Vec<&'a Member>, AllocError>
+pub fn program_methods<'a>(alloc: Global, class: &'a ClassFile) -> Result<Vec<&'a Member>, NoMemory>
     ensures { IfOk result (λ v. map (λ b. b.now) v.items ≡ methods_of_program class.now) }
 {
     let mut methods = Vec::new(alloc);
     for method in &class.methods {
-        if is_program_method(&class.pool, method) {
+        if is_program_method(alloc, &class.pool, method)? {
             methods.push(method)?;
         }
     }
@@ -133,30 +133,38 @@ fn is_special(name: &[u8]) -> bool
     name.starts_with(b"<")
 }
 
-// A static method without parameters that gives an int, with code and without a monitor.
-fn is_form_atomic(pool: &Pool, method: &Member) -> bool
-    ensures { result ≡ form_atomic pool.now method.now }
+// A static method that takes ints and gives an int or nothing, with code and without a monitor.
+fn is_form_atomic(alloc: Global, pool: &Pool, method: &Member) -> Result<bool, NoMemory>
+    ensures { IfOk result (λ b. b ≡ form_atomic pool.now method.now) }
 {
-    method.flags & 0x528 == 8
-        && is_text(pool.utf8(method.descriptor), b"()I")
-        && !is_special(text(pool, method.name))
+    let has_shape = shape_of(alloc, text(pool, method.descriptor))?.is_some();
+    let with_context = takes_context(alloc, pool, method)?;
+    Ok(
+        method.flags & 0x528 == 8
+            && has_shape
+            && !with_context
+            && !is_special(text(pool, method.name)),
+    )
 }
 
 // A method that isn't one of the program may be anything but a static initialiser.
-fn is_form_kind(pool: &Pool, method: &Member) -> bool
-    ensures { result ≡ (if program_method pool.now method.now then form_atomic pool.now method.now else not (same_text (utf8 pool.now method.now.name) (codes "<clinit>"))) }
+fn is_form_kind(alloc: Global, pool: &Pool, method: &Member) -> Result<bool, NoMemory>
+    ensures { IfOk result (λ b. b ≡ (if program_method pool.now method.now then form_atomic pool.now method.now else not (same_text (utf8 pool.now method.now.name) (codes "<clinit>")))) }
 {
-    if is_program_method(pool, method) {
-        is_form_atomic(pool, method)
+    if is_program_method(alloc, pool, method)? {
+        is_form_atomic(alloc, pool, method)
     } else {
-        !is_text(pool.utf8(method.name), b"<clinit>")
+        Ok(!is_text(pool.utf8(method.name), b"<clinit>"))
     }
 }
 
-fn is_form_method(pool: &Pool, method: &Member) -> bool
-    ensures { result ≡ form_method pool.now method.now }
+fn is_form_method(alloc: Global, pool: &Pool, method: &Member) -> Result<bool, NoMemory>
+    ensures { IfOk result (λ b. b ≡ form_method pool.now method.now) }
 {
-    each_is_attribute(pool, method.attributes.as_slice()) && is_form_kind(pool, method)
+    if !each_is_attribute(pool, method.attributes.as_slice()) {
+        return Ok(false);
+    }
+    is_form_kind(alloc, pool, method)
 }
 
 fn library() -> [&'static [u8]; 20]
@@ -218,26 +226,24 @@ fn are_form_fields(class: &ClassFile) -> bool
     count_statics(fields) <= 100 && each_is_field(&class.pool, fields)
 }
 
-fn each_is_method(pool: &Pool, methods: &[Member]) -> bool
-    ensures { result ≡ list_all (form_method pool.now) methods.now }
+fn each_is_method(alloc: Global, pool: &Pool, methods: &[Member]) -> Result<bool, NoMemory>
+    ensures { IfOk result (λ b. b ≡ list_all (form_method pool.now) methods.now) }
 {
-    methods.iter().all(|m| is_form_method(pool, m))
+    for method in methods {
+        if !is_form_method(alloc, pool, method)? {
+            return Ok(false);
+        }
+    }
+    Ok(true)
 }
 
-fn count_program(pool: &Pool, methods: &[Member]) -> usize
-    ensures { result ≡ length (filter (program_method pool.now) methods.now) }
+fn are_form_methods(alloc: Global, class: &ClassFile) -> Result<bool, NoMemory>
+    ensures { IfOk result (λ b. b ≡ form_methods class.now) }
 {
-    methods
-        .iter()
-        .filter(|m| is_program_method(pool, m))
-        .count()
-}
-
-fn are_form_methods(class: &ClassFile) -> bool
-    ensures { result ≡ form_methods class.now }
-{
-    let methods = class.methods.as_slice();
-    count_program(&class.pool, methods) <= 100 && each_is_method(&class.pool, methods)
+    if program_methods(alloc, class)?.len() > 100 {
+        return Ok(false);
+    }
+    each_is_method(alloc, &class.pool, class.methods.as_slice())
 }
 
 fn each_is_constant(entries: &[Constant]) -> bool
@@ -260,111 +266,86 @@ fn is_form_head(class: &ClassFile) -> bool
 }
 
 /// Whether a class is of the form, but for its code.
-pub fn is_form_class(class: &ClassFile) -> bool
-    ensures { result ≡ form_class class.now }
+pub fn is_form_class(alloc: Global, class: &ClassFile) -> Result<bool, NoMemory>
+    ensures { IfOk result (λ b. b ≡ form_class class.now) }
 {
-    each_is_constant(class.pool.entries())
-        && is_form_head(class)
-        && are_form_fields(class)
-        && are_form_methods(class)
+    if !each_is_constant(class.pool.entries()) || !is_form_head(class) || !are_form_fields(class) {
+        return Ok(false);
+    }
+    are_form_methods(alloc, class)
 }
 
-/// Whether a Code is of the form, but for its instructions.
-pub fn is_form_code(code: &Code) -> bool
+// A Code without exception entries, of at most 200 locals.
+fn is_form_code(code: &Code) -> bool
     ensures { result ≡ form_code code.now }
 {
-    code.code.len() <= 10000
-        && code.max_stack <= 1000
-        && code.max_locals <= 1000
-        && code.handlers.is_empty()
+    code.max_locals <= 200 && code.handlers.is_empty()
 }
 
-fn taken_by(rearrange: Rearrange) -> usize
-    ensures { result ≡ taken (op.Rearrange rearrange) }
+// Loads and stores of references: aload, astore and their short forms.
+fn is_of_reference(opcode: u8) -> bool
+    ensures { result ≡ of_reference opcode }
 {
-    match rearrange {
-        Rearrange::Nothing => 0,
-        Rearrange::Pop | Rearrange::Duplicate => 1,
-        Rearrange::PopTwo | Rearrange::DuplicateUnder | Rearrange::DuplicateTwo | Rearrange::Swap =>
-            2,
+    matches!(opcode, 25 | 58 | 42..=45 | 75..=78)
+}
+
+// The opcode that wide stands before.
+fn widened(opcode: u8, operands: &Operands) -> u8
+    ensures { result ≡ widened_op opcode operands.now }
+{
+    match operands {
+        Operands::Wide { op, .. } => *op,
+        _ => opcode,
     }
 }
 
-fn left_by(rearrange: Rearrange) -> usize
-    ensures exact { result ≡ left (op.Rearrange rearrange) }
-    ensures few { result ≤ 4 }
+fn is_form_instr(i: &Instr) -> bool
+    ensures { result ≡ form_instr i.now }
 {
-    match rearrange {
-        Rearrange::Nothing | Rearrange::Pop | Rearrange::PopTwo => 0,
-        Rearrange::Duplicate | Rearrange::Swap => 2,
-        Rearrange::DuplicateUnder => 3,
-        Rearrange::DuplicateTwo => 4,
-    }
+    !is_of_reference(widened(i.op, &i.operands))
 }
 
-// How many slots an instruction of the form takes from the stack.
-fn takes(op: &Op) -> usize
-    ensures { result ≡ taken op.now }
+// What may stand in a method with so many locals that gives a value or nothing.
+fn is_form_op(locals: usize, gives: bool, op: &Op) -> bool
+    ensures { result ≡ form_op locals gives op.now }
 {
     match op {
-        Op::Rearrange(r) => taken_by(*r),
-        Op::Binary(_) => 2,
-        Op::Unary(_) | Op::PutStatic(_) => 1,
-        _ => 0,
-    }
-}
-
-// And how many it leaves there in their place.
-fn leaves(op: &Op) -> usize
-    ensures exact { result ≡ left op.now }
-    ensures few { result ≤ 4 }
-{
-    match op {
-        Op::Constant(_) | Op::GetStatic(_) => 1,
-        Op::Rearrange(r) => left_by(*r),
-        Op::Binary(_) | Op::Unary(_) => 1,
-        _ => 0,
-    }
-}
-
-fn is_form_op(op: &Op) -> bool
-    ensures { result ≡ form_op op.now }
-{
-    matches!(
-        op,
         Op::Constant(Value::Int(_))
-            | Op::Rearrange(_)
-            | Op::Binary(_)
-            | Op::Unary(_)
-            | Op::GetStatic(_)
-            | Op::PutStatic(_)
-    )
-}
-
-fn is_return(op: &Op) -> bool
-    ensures { result ≡ returns op.now }
-{
-    matches!(op, Op::ReturnValue)
-}
-
-/// Whether instructions are straight-line code of the form, on a stack of at most `limit` slots.
-pub fn is_straight_within(limit: u16, ops: &[Op]) -> bool
-    ensures { result ≡ straight_within limit 0 ops.now }
-{
-    let mut height: usize = 0;
-    let mut rest = ops;
-    while let [op, others @ ..] = rest {
-        if others.is_empty() {
-            return is_return(op) && 1 <= height;
-        }
-        if !is_form_op(op) || height < takes(op) {
-            return false;
-        }
-        height = height - takes(op) + leaves(op);
-        if height > limit as usize {
-            return false;
-        }
-        rest = others;
+        | Op::Rearrange(_)
+        | Op::Binary(_)
+        | Op::Unary(_)
+        | Op::Branch(_, _)
+        | Op::BranchInts(_, _)
+        | Op::Goto(_)
+        | Op::GetStatic(_)
+        | Op::PutStatic(_)
+        | Op::InvokeStatic(_) => true,
+        Op::Load(i) | Op::Store(i) | Op::Increment(i, _) => *i < locals,
+        Op::Return => !gives,
+        Op::ReturnValue => gives,
+        _ => false,
     }
-    false
+}
+
+fn are_form_instrs(instrs: &[Instr]) -> bool
+    ensures { result ≡ list_all form_instr instrs.now }
+{
+    instrs.iter().all(|i| is_form_instr(i))
+}
+
+fn are_form_ops(locals: usize, gives: bool, ops: &[Op]) -> bool
+    ensures { result ≡ list_all (form_op locals gives) ops.now }
+{
+    ops.iter().all(|op| is_form_op(locals, gives, op))
+}
+
+/// Whether a method that code means is of the form.
+pub fn is_form_method_of(coded: &Coded, method: &Method) -> bool
+    ensures { result ≡ form_method_of coded.now method.now }
+{
+    let entry = method.entry();
+    is_form_code(&coded.code)
+        && are_form_instrs(coded.instrs.as_slice())
+        && entry.params <= entry.locals
+        && are_form_ops(entry.locals, method.gives(), method.ops())
 }

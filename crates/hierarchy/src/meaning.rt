@@ -1,16 +1,16 @@
 //! What instructions mean, with every name resolved (JVM Specification, Java SE 7, chapter 6).
 ghost use Rattle.std.specs.Prelude.{◌≡◌, find, option_copied};
-ghost use Rattle.jmodel.specs.Decoding.{is_member as is_member_of, is_field_of as is_same_field, is_method_of as is_same_method, field_number as number_of_field, method_number as number_of_method, long_field as long_field_of, is_base as is_base_of, is_called as is_call_of, is_get_context as is_context_getter, short_local_op as short_local, simple_op as simple, number_op as number, is_target as leads, target as target_of, jump_op as jump, get_op as get, put_op as put, static_call_op as static_call, context_op as context_call, virtual_call_op as virtual_call, pool_op as pooled, operand_op as with_operand, op_of as meaning};
+ghost use Rattle.jmodel.specs.Decoding.{is_member as is_member_of, is_field_of as is_same_field, is_method_of as is_same_method, field_number as number_of_field, method_number as number_of_method, long_field as long_field_of, is_base as is_base_of, is_called as is_call_of, is_get_context as is_context_getter, short_local_op as short_local, arithmetic_op as arithmetic, rearranging_op as rearranging, leaving_op as leaving, simple_op as simple, number_op as number, local_op as local, wide_op as wide, test_of as test, jump_to as jump_to_number, jump_op as jump, get_op as get, put_op as put, static_call_op as static_call, context_op as context_call, virtual_call_op as virtual_call, pool_op as pooled, meaning as meaning_of, op_of as op_of_instr};
 
 use crate::constants::{integer, long_value};
-use crate::decode::{Instruction, operand_bytes};
+use crate::numbered::Numbered;
 use crate::program::Field;
 use crate::reference::{Reference, field_reference, method_reference};
 use crate::symbols::{equal, is_text, own_name, same};
 use const_pool::{ClassFile, Member, Pool};
-use jmodel::MethodName;
 use jmodel::op::{Binary, ContextCall, Op, Rearrange, Test, Unary, WordType};
 use jmodel::value::Value;
+use jmodel::{Instr, MethodName, Operands};
 use std::marker::Model;
 
 /// A class, the static fields of its program, and the names of its methods in order of their numbers.
@@ -106,64 +106,131 @@ fn short_local_op(opcode: u8) -> Option<Op>
     }
 }
 
-// An instruction without operands.
-fn simple_op(opcode: u8) -> Option<Op>
-    ensures { result ≡ simple opcode }
+// What takes ints from the stack and leaves an int.
+fn arithmetic_op(opcode: u8) -> Option<Op>
+    ensures { result ≡ arithmetic opcode }
 {
     match opcode {
-        0 => Some(Op::Rearrange(Rearrange::Nothing)),
-        2..=8 => Some(Op::Constant(Value::Int(opcode as i32 - 3))),
-        87 => Some(Op::Rearrange(Rearrange::Pop)),
-        89 => Some(Op::Rearrange(Rearrange::Duplicate)),
         96 => Some(Op::Binary(Binary::Add)),
         100 => Some(Op::Binary(Binary::Subtract)),
         104 => Some(Op::Binary(Binary::Multiply)),
         116 => Some(Op::Unary(Unary::Negate)),
+        120 => Some(Op::Binary(Binary::ShiftLeft)),
+        122 => Some(Op::Binary(Binary::ShiftRight)),
+        124 => Some(Op::Binary(Binary::UnsignedShiftRight)),
+        126 => Some(Op::Binary(Binary::And)),
+        128 => Some(Op::Binary(Binary::Or)),
+        130 => Some(Op::Binary(Binary::Xor)),
+        145 => Some(Op::Unary(Unary::ToByte)),
+        146 => Some(Op::Unary(Unary::ToChar)),
+        147 => Some(Op::Unary(Unary::ToShort)),
+        _ => None,
+    }
+}
+
+// What rearranges the stack.
+fn rearranging_op(opcode: u8) -> Option<Op>
+    ensures { result ≡ rearranging opcode }
+{
+    match opcode {
+        0 => Some(Op::Rearrange(Rearrange::Nothing)),
+        87 => Some(Op::Rearrange(Rearrange::Pop)),
+        88 => Some(Op::Rearrange(Rearrange::PopTwo)),
+        89 => Some(Op::Rearrange(Rearrange::Duplicate)),
+        90 => Some(Op::Rearrange(Rearrange::DuplicateUnder)),
+        92 => Some(Op::Rearrange(Rearrange::DuplicateTwo)),
+        95 => Some(Op::Rearrange(Rearrange::Swap)),
+        _ => None,
+    }
+}
+
+// What leaves the method.
+fn leaving_op(opcode: u8) -> Option<Op>
+    ensures { result ≡ leaving opcode }
+{
+    match opcode {
         172 => Some(Op::ReturnValue),
         177 => Some(Op::Return),
         191 => Some(Op::Throw),
+        _ => None,
+    }
+}
+
+// An instruction without operands; the constants from -1 to 5 have the opcodes from 2 to 8.
+fn simple_op(opcode: u8) -> Option<Op>
+    ensures { result ≡ simple opcode }
+{
+    match opcode {
+        2..=8 => Some(Op::Constant(Value::Int(opcode as i32 - 3))),
+        0 | 87..=95 => rearranging_op(opcode),
+        96..=147 => arithmetic_op(opcode),
+        172..=255 => leaving_op(opcode),
         _ => short_local_op(opcode),
     }
 }
 
-// One with a number or a local.
-fn number_op(opcode: u8, n: u16) -> Option<Op>
+// A number that goes on the stack.
+fn number_op(opcode: u8, n: i32) -> Option<Op>
     ensures { result ≡ number opcode n }
 {
     match opcode {
-        16 => Some(Op::Constant(Value::Int(((n % 256) as u8).cast_signed() as i32))),
-        17 => Some(Op::Constant(Value::Int(n.cast_signed() as i32))),
+        16 | 17 => Some(Op::Constant(Value::Int(n))),
+        _ => None,
+    }
+}
+
+// A load or a store of an int or a reference.
+fn local_op(opcode: u8, n: u16) -> Option<Op>
+    ensures { result ≡ local opcode n }
+{
+    match opcode {
         21 | 25 => Some(Op::Load(n as usize)),
         54 | 58 => Some(Op::Store(n as usize)),
         _ => None,
     }
 }
 
-// Whether a jump at a pc by an offset of two bytes leads to an instruction.
-fn is_target(pc: usize, offset: u16, i: &Instruction) -> bool
-    ensures { result ≡ leads pc offset i.now }
-{
-    if offset < 32768 {
-        pc <= i.pc && i.pc - pc == offset as usize
-    } else {
-        i.pc <= pc && pc - i.pc == 65536 - offset as usize
-    }
-}
-
-fn target(list: &[Instruction], pc: usize, offset: u16) -> Option<usize>
-    ensures { result ≡ target_of list.now pc offset }
-{
-    list.iter().position(|i| is_target(pc, offset, i))
-}
-
-fn jump_op(list: &[Instruction], pc: usize, opcode: u8, offset: u16) -> Option<Op>
-    ensures { result ≡ jump list.now pc opcode offset }
+// The instruction behind wide.
+fn wide_op(opcode: u8, n: u16, add: i16) -> Option<Op>
+    ensures { result ≡ wide opcode n add }
 {
     match opcode {
-        153 => Some(Op::Branch(Test::Equal, target(list, pc, offset)?)),
-        167 => Some(Op::Goto(target(list, pc, offset)?)),
+        132 => Some(Op::Increment(n as usize, add as i32)),
+        _ => local_op(opcode, n),
+    }
+}
+
+// The tests of an opcode and the next five.
+fn test_of(first: u8, opcode: u8) -> Option<Test>
+    ensures { result ≡ test first opcode }
+{
+    match opcode.checked_sub(first)? {
+        0 => Some(Test::Equal),
+        1 => Some(Test::NotEqual),
+        2 => Some(Test::Less),
+        3 => Some(Test::GreaterOrEqual),
+        4 => Some(Test::Greater),
+        5 => Some(Test::LessOrEqual),
         _ => None,
     }
+}
+
+// A jump to the instruction of a number.
+fn jump_to(opcode: u8, to: usize) -> Option<Op>
+    ensures { result ≡ jump_to_number opcode to }
+{
+    match opcode {
+        153..=158 => Some(Op::Branch(test_of(153, opcode)?, to)),
+        159..=164 => Some(Op::BranchInts(test_of(159, opcode)?, to)),
+        167 | 200 => Some(Op::Goto(to)),
+        _ => None,
+    }
+}
+
+fn jump_op(code: &Numbered, opcode: u8, target: u16) -> Option<Op>
+    ensures { result ≡ jump code.now opcode target }
+{
+    jump_to(opcode, code.number_at(target)?)
 }
 
 fn get_op(symbols: &Symbols, r: &Reference) -> Option<Op>
@@ -250,7 +317,7 @@ fn pool_op(symbols: &Symbols, opcode: u8, i: u16) -> Option<Op>
     let class = symbols.class;
     let pool = &class.pool;
     match opcode {
-        19 => Some(Op::Constant(Value::Int(integer(pool, i)?))),
+        18 | 19 => Some(Op::Constant(Value::Int(integer(pool, i)?))),
         178 => get_op(symbols, &field_reference(pool, i)?),
         179 => put_op(symbols, &field_reference(pool, i)?),
         182 => virtual_call_op(&method_reference(pool, i)?),
@@ -259,22 +326,25 @@ fn pool_op(symbols: &Symbols, opcode: u8, i: u16) -> Option<Op>
     }
 }
 
-fn operand_op(symbols: &Symbols, list: &[Instruction], pc: usize, opcode: u8, n: u16) -> Option<Op>
-    ensures { result ≡ with_operand symbols.now list.now pc opcode n }
+// What an opcode with its operands means, among instructions of one code.
+fn meaning(symbols: &Symbols, code: &Numbered, opcode: u8, operands: &Operands) -> Option<Op>
+    ensures { result ≡ meaning_of symbols.now code.now opcode operands.now }
 {
-    match opcode {
-        153..=168 => jump_op(list, pc, opcode, n),
-        19 | 178..=255 => pool_op(symbols, opcode, n),
-        _ => number_op(opcode, n),
+    match operands {
+        Operands::Nothing => simple_op(opcode),
+        Operands::Number(n) => number_op(opcode, *n),
+        Operands::Local(n) => local_op(opcode, *n),
+        Operands::LocalAdd(n, add) => Some(Op::Increment(*n as usize, *add as i32)),
+        Operands::Pool(i) => pool_op(symbols, opcode, *i),
+        Operands::Target(target) => jump_op(code, opcode, *target),
+        Operands::Wide { op, local, add } => wide_op(*op, *local, *add),
+        _ => None,
     }
 }
 
 /// What an instruction of a list of them means, None where it has no meaning so far.
-pub fn op_of(symbols: &Symbols, list: &[Instruction], i: &Instruction) -> Option<Op>
-    ensures { result ≡ meaning symbols.now list.now i.now }
+pub fn op_of(symbols: &Symbols, code: &Numbered, i: &Instr) -> Option<Op>
+    ensures { result ≡ op_of_instr symbols.now code.now i.now }
 {
-    if operand_bytes(i.opcode) == 0 {
-        return simple_op(i.opcode);
-    }
-    operand_op(symbols, list, i.pc, i.opcode, i.operand?)
+    meaning(symbols, code, i.op, &i.operands)
 }

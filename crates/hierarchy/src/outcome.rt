@@ -1,18 +1,32 @@
 //! Why no program is built.
 ghost use Rattle.std.specs.Prelude.{◌≡◌};
 ghost use Rattle.hierarchy.specs.declared.outcome.BuildEnd.TheVariants as ends;
+ghost use Rattle.hierarchy.specs.Ends.{end_of};
 
-use jmodel::NoMemory;
+use jmodel::{Halt, NoMemory, Refusal};
 use std::alloc::{AllocError, AllocFailed};
 
 /// Why no program is built.
-#[derive(Clone, Copy, Debug)]
+#[derive(Debug, Drop)]
 pub enum BuildEnd {
+    /// The code of one of the program's methods has this fault.
+    Refused(Refusal),
     /// The class isn't of the form that is known so far. Temporary: the form grows until it has every program that is
     /// accepted.
     NotBuilt,
     /// Memory ran out.
     NoMemory,
+}
+
+impl From<Halt> for BuildEnd {
+    ghost from_gives = { λ h e. e ≡ end_of h };
+
+    fn from(h: Halt) -> BuildEnd {
+        match h {
+            Halt::Refused(r) => BuildEnd::Refused(r),
+            Halt::NoMemory => BuildEnd::NoMemory,
+        }
+    }
 }
 
 impl From<AllocError> for BuildEnd {

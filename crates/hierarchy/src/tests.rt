@@ -1,8 +1,8 @@
-use crate::{BuildEnd, Program, opening_words};
+use crate::{BuildEnd, Program, opening_words, pc_of};
 use const_pool::{Attribute, ClassFile, Constant, Member, Pool};
-use jmodel::Bytes;
 use jmodel::op::{Binary, Op, Rearrange};
 use jmodel::value::Value;
+use jmodel::{Bytes, Refusal};
 use std::alloc::{AllocError, Global};
 
 const GOOD: [u8; 10] = [0xb2, 0, 10, 4, 0x60, 0x59, 0xb3, 0, 10, 0xac];
@@ -13,6 +13,7 @@ fn utf8(alloc: Global, text: &[u8]) -> Result<Constant, AllocError> {
 
 fn entry(alloc: Global, tag: u8, a: u16, b: u16, text: &str) -> Result<Constant, AllocError> {
     match tag {
+        3 => Ok(Constant::Integer(70000)),
         7 => Ok(Constant::Class(a)),
         9 => Ok(Constant::Field { class: a, pair: b }),
         10 => Ok(Constant::Method { class: a, pair: b }),
@@ -193,15 +194,6 @@ fn builds_counter(rt: HostRuntime) {
     assert!(&rt; words.as_slice() == [0, 0, 22 << 32, 0].as_slice());
 }
 
-#[test]
-fn refuses_a_pop_in_place_of_the_return(rt: HostRuntime) {
-    let alloc = rt.alloc();
-    let class = counter(alloc, &[0xb2, 0, 10, 4, 0x60, 0x59, 0xb3, 0, 10, 0x57]).expect(
-        &rt, "memory",
-    );
-    assert!(&rt; matches!(Program::build(alloc, &class), Err(BuildEnd::NotBuilt)));
-}
-
 // A class whose last method alone is a duplicate means itself, but for its first fields.
 #[test]
 fn links_a_class_over_a_program(rt: HostRuntime) {
@@ -269,4 +261,264 @@ fn opens_with_a_constant(rt: HostRuntime) {
     assert_eq!(&rt; program.fields().len(), 2);
     let words = opening_words(alloc, &class).expect(&rt, "memory");
     assert!(&rt; words.as_slice() == [0, 0, 22 << 32, 0, 0xffff_ffff_ffff_fff9].as_slice());
+}
+
+// Counter's pool, with a number and a method that takes two ints and gives nothing or an int.
+const WIDE: [(u8, u16, u16, &str); 20] = [
+    (7, 2, 0, ""),
+    (1, 0, 0, "Counter"),
+    (7, 4, 0, ""),
+    (1, 0, 0, "java/lang/Object"),
+    (1, 0, 0, "n"),
+    (1, 0, 0, "I"),
+    (1, 0, 0, "inc"),
+    (1, 0, 0, "()I"),
+    (1, 0, 0, "Code"),
+    (9, 1, 11, ""),
+    (12, 5, 6, ""),
+    (1, 0, 0, "RuntimeVisibleAnnotations"),
+    (1, 0, 0, "Lorg/deuce/Atomic;"),
+    (1, 0, 0, "(II)V"),
+    (1, 0, 0, "(II)I"),
+    (10, 1, 17, ""),
+    (12, 7, 14, ""),
+    (10, 1, 19, ""),
+    (12, 7, 15, ""),
+    (3, 0, 0, ""),
+];
+
+// A marked static method `inc` of a descriptor, with 6 places of stack and so many locals.
+fn atomic(alloc: Global, descriptor: u16, locals: u8, code: &[u8]) -> Result<Member, AllocError> {
+    let mut bytes = Bytes::from_slice(alloc, &[0, 6, 0, locals, 0, 0, 0])?;
+    bytes.push(code.len() as u8)?;
+    bytes.extend_from_slice(code)?;
+    bytes.extend_from_slice(&[0, 0, 0, 0])?;
+    Ok(Member {
+        flags: 9,
+        name: 7,
+        descriptor,
+        attributes: vec![in alloc;
+            Attribute { name: 9, bytes },
+            attribute(alloc, 12, &[0, 1, 0, 13, 0, 0])?,
+        ]?,
+    })
+}
+
+// Counter with these methods.
+fn with_methods(alloc: Global, methods: Vec<Member>) -> Result<ClassFile, AllocError> {
+    let n = Member {
+        flags: 8,
+        name: 5,
+        descriptor: 6,
+        attributes: Vec::new(alloc),
+    };
+    Ok(ClassFile {
+        minor: 0,
+        major: 49,
+        pool: pool_of(alloc, &WIDE)?,
+        flags: 0x21,
+        this_class: 1,
+        super_class: 3,
+        interfaces: Vec::new(alloc),
+        fields: vec![in alloc; n]?,
+        methods,
+        attributes: Vec::new(alloc),
+    })
+}
+
+// Counter with one method of two ints that gives an int.
+fn with_code(alloc: Global, locals: u8, code: &[u8]) -> Result<ClassFile, AllocError> {
+    let method = atomic(alloc, 15, locals, code)?;
+    with_methods(alloc, vec![in alloc; method]?)
+}
+
+// The instructions of a method, one behind the other.
+fn shown(alloc: Global, class: &ClassFile, method: usize) -> Result<String, AllocError> {
+    let mut text = String::new(alloc);
+    if let Ok(program) = Program::build(alloc, class) {
+        if let Some(m) = program.method(method) {
+            for op in m.ops() {
+                write!(text, "{op:?} ")?;
+            }
+        }
+    }
+    Ok(text)
+}
+
+fn is_shown(alloc: Global, code: &[u8], text: &str) -> Result<bool, AllocError> {
+    let class = with_code(alloc, 4, code)?;
+    Ok(shown(alloc, &class, 0)?.as_str() == text)
+}
+
+#[test]
+fn constants_and_locals(rt: HostRuntime) {
+    let alloc = rt.alloc();
+    let constants = [2, 8, 0x10, 0xf0, 0x11, 0x80, 0, 0x12, 20, 0x13, 0, 20];
+    assert!(&rt;
+        is_shown(
+            alloc,
+            &constants,
+            "Constant(Int(-1)) Constant(Int(5)) Constant(Int(-16)) Constant(Int(-32768)) Constant(Int(70000)) Constant(Int(70000)) "
+        )
+        .expect(&rt, "memory")
+    );
+    let locals = [0x15, 3, 0x1a, 0x1d, 0x36, 2, 0x3b, 0x3e, 0x84, 1, 0xff];
+    assert!(&rt;
+        is_shown(
+            alloc,
+            &locals,
+            "Load(3) Load(0) Load(3) Store(2) Store(0) Store(3) Increment(1, -1) "
+        )
+        .expect(&rt, "memory")
+    );
+    let wide = [
+        0xc4, 0x15, 0, 1, 0xc4, 0x36, 0, 2, 0xc4, 0x84, 0, 3, 0x80, 0,
+    ];
+    assert!(&rt;
+        is_shown(alloc, &wide, "Load(1) Store(2) Increment(3, -32768) ").expect(&rt, "memory")
+    );
+}
+
+#[test]
+fn arithmetic(rt: HostRuntime) {
+    let alloc = rt.alloc();
+    let binary = [0x60, 0x64, 0x68, 0x78, 0x7a, 0x7c, 0x7e, 0x80, 0x82];
+    assert!(&rt;
+        is_shown(
+            alloc,
+            &binary,
+            "Binary(Add) Binary(Subtract) Binary(Multiply) Binary(ShiftLeft) Binary(ShiftRight) Binary(UnsignedShiftRight) Binary(And) Binary(Or) Binary(Xor) "
+        )
+        .expect(&rt, "memory")
+    );
+    let unary = [0x74, 0x91, 0x92, 0x93];
+    assert!(&rt;
+        is_shown(
+            alloc,
+            &unary,
+            "Unary(Negate) Unary(ToByte) Unary(ToChar) Unary(ToShort) "
+        )
+        .expect(&rt, "memory")
+    );
+    let rearranging = [0, 0x57, 0x58, 0x59, 0x5a, 0x5c, 0x5f];
+    assert!(&rt;
+        is_shown(
+            alloc,
+            &rearranging,
+            "Rearrange(Nothing) Rearrange(Pop) Rearrange(PopTwo) Rearrange(Duplicate) Rearrange(DuplicateUnder) Rearrange(DuplicateTwo) Rearrange(Swap) "
+        )
+        .expect(&rt, "memory")
+    );
+    let fields = [0xb2, 0, 10, 0xb3, 0, 10, 0xb8, 0, 18, 0xac];
+    assert!(&rt;
+        is_shown(
+            alloc,
+            &fields,
+            "GetStatic(0) PutStatic(0) InvokeStatic(0) ReturnValue "
+        )
+        .expect(&rt, "memory")
+    );
+}
+
+// Targets are counted in instructions: forward, backward, to pc 0, and by four bytes.
+#[test]
+fn jumps(rt: HostRuntime) {
+    let alloc = rt.alloc();
+    let tests = [
+        0x99, 0, 3, 0x9a, 0, 3, 0x9b, 0, 3, 0x9c, 0, 3, 0x9d, 0, 3, 0x9e, 0, 3, 0xac,
+    ];
+    assert!(&rt;
+        is_shown(
+            alloc,
+            &tests,
+            "Branch(Equal, 1) Branch(NotEqual, 2) Branch(Less, 3) Branch(GreaterOrEqual, 4) Branch(Greater, 5) Branch(LessOrEqual, 6) ReturnValue "
+        )
+        .expect(&rt, "memory")
+    );
+    let compares = [
+        0x9f, 0, 3, 0xa0, 0, 3, 0xa1, 0, 3, 0xa2, 0, 3, 0xa3, 0, 3, 0xa4, 0, 3, 0xac,
+    ];
+    assert!(&rt;
+        is_shown(
+            alloc,
+            &compares,
+            "BranchInts(Equal, 1) BranchInts(NotEqual, 2) BranchInts(Less, 3) BranchInts(GreaterOrEqual, 4) BranchInts(Greater, 5) BranchInts(LessOrEqual, 6) ReturnValue "
+        )
+        .expect(&rt, "memory")
+    );
+    let gotos = [4, 0xa7, 0xff, 0xff, 0xc8, 0, 0, 0, 5, 0xa7, 0xff, 0xfb];
+    assert!(&rt;
+        is_shown(alloc, &gotos, "Constant(Int(1)) Goto(0) Goto(3) Goto(2) ").expect(&rt, "memory")
+    );
+}
+
+// Two methods of one name; the first takes two ints and gives nothing.
+#[test]
+fn a_method_that_gives_nothing(rt: HostRuntime) {
+    let alloc = rt.alloc();
+    let first = atomic(alloc, 14, 2, &[0x1b, 0xb3, 0, 10, 0xb1]).expect(&rt, "memory");
+    let second = atomic(alloc, 15, 2, &[0x1a, 0x1b, 0xb8, 0, 16, 4, 0xac]).expect(&rt, "memory");
+    let methods = vec![in alloc; first, second].expect(&rt, "memory");
+    let class = with_methods(alloc, methods).expect(&rt, "memory");
+    let program = Program::build(alloc, &class).expect(&rt, "a program");
+    let set = program.method(0).expect(&rt, "a method");
+    assert!(&rt; !set.gives());
+    assert_eq!(&rt; set.entry().params, 2);
+    assert_eq!(&rt; set.max_stack(), 6);
+    assert!(&rt; matches!(program.op(0, 2), Some(Op::Return)));
+    assert!(&rt; matches!(program.op(1, 2), Some(Op::InvokeStatic(0))));
+    let pc = pc_of(alloc, &class, 1, 3).expect(&rt, "memory");
+    assert_eq!(&rt; pc, Some(5));
+    let none = pc_of(alloc, &class, 1, 5).expect(&rt, "memory");
+    assert_eq!(&rt; none, None);
+}
+
+#[test]
+fn refuses_a_byte_that_is_no_instruction(rt: HostRuntime) {
+    let alloc = rt.alloc();
+    let class = counter(alloc, &[0xb2, 0, 10, 0xba, 0, 0x59, 0xb3, 0, 10, 0xac]).expect(
+        &rt, "memory",
+    );
+    match Program::build(alloc, &class) {
+        Err(BuildEnd::Refused(Refusal::BadInstr(name, pc))) => {
+            assert!(&rt; name.as_slice() == b"Counter.inc()I".as_slice());
+            assert_eq!(&rt; pc, 3);
+        }
+        _ => assert!(&rt; false),
+    }
+}
+
+#[test]
+fn refuses_a_jump_into_an_instruction(rt: HostRuntime) {
+    let alloc = rt.alloc();
+    let class = with_code(alloc, 2, &[4, 0xac, 0xa7, 0xff, 0xff, 0xac]).expect(&rt, "memory");
+    assert!(&rt; Program::build(alloc, &class).is_ok());
+    let class = with_code(alloc, 2, &[4, 0xac, 0xa7, 0, 2, 0xac]).expect(&rt, "memory");
+    match Program::build(alloc, &class) {
+        Err(BuildEnd::Refused(Refusal::BadTarget(name, pc))) => {
+            assert!(&rt; name.as_slice() == b"Counter.inc(II)I".as_slice());
+            assert_eq!(&rt; pc, 2);
+        }
+        _ => assert!(&rt; false),
+    }
+}
+
+fn is_not_built(alloc: Global, locals: u8, code: &[u8]) -> Result<bool, AllocError> {
+    let class = with_code(alloc, locals, code)?;
+    Ok(matches!(Program::build(alloc, &class), Err(BuildEnd::NotBuilt)))
+}
+
+// References, locals past the last, a return without a value, and fewer locals than parameters.
+#[test]
+fn leaves_what_is_not_of_the_form(rt: HostRuntime) {
+    let alloc = rt.alloc();
+    assert!(&rt; is_not_built(alloc, 2, &[0x2a, 0xac]).expect(&rt, "memory"));
+    assert!(&rt; is_not_built(alloc, 2, &[0x19, 0, 0xac]).expect(&rt, "memory"));
+    assert!(&rt; is_not_built(alloc, 2, &[0xc4, 0x19, 0, 0, 0xac]).expect(&rt, "memory"));
+    assert!(&rt; is_not_built(alloc, 2, &[0x1c, 0xac]).expect(&rt, "memory"));
+    assert!(&rt; is_not_built(alloc, 2, &[0x84, 2, 1, 4, 0xac]).expect(&rt, "memory"));
+    assert!(&rt; is_not_built(alloc, 2, &[0xb1]).expect(&rt, "memory"));
+    assert!(&rt; is_not_built(alloc, 1, &[4, 0xac]).expect(&rt, "memory"));
+    assert!(&rt; is_not_built(alloc, 201, &[4, 0xac]).expect(&rt, "memory"));
+    assert!(&rt; !is_not_built(alloc, 200, &[4, 0xac]).expect(&rt, "memory"));
 }

@@ -1,7 +1,7 @@
 -- What an instruction does to a frame of original code, and what the one that stands for it does to the duplicate's frame.
-use Rattle.std.proofs.Common.{◌≡◌, ℕ, ℤ, ◌+◌, ◌<◌, ◌%◌, ◌/◌, ◌^◌, List, [], ◌∷◌, length, Option, Some, None, Bool, true, false, refl, sym, ap, ◌∙◌, arith}
+use Rattle.std.proofs.Common.{◌≡◌, ℕ, ℤ, ◌<◌, ◌^◌, List, [], ◌∷◌, length, Option, Some, None, Bool, true, false, refl, arith}
 use Rattle.std.specs.Prelude.{pos, negsuc, slice_get, slice_set, nat_lt, FitsSigned}
-use Rattle.std.specs.Int.{w8, w16, w32, cast_signed, cast_unsigned, int_shr}
+use Rattle.std.specs.Int.{w32, int_shr}
 use Rattle.std.proofs.lemmas.Int.{ints}
 use Rattle.std.proofs.lemmas.Nat.{shr_le}
 use borrow.Author.Gap.{read_sfits}
@@ -15,10 +15,9 @@ use Rattle.jmodel.specs.declared.op.Binary.{Binary}
 use Rattle.jmodel.specs.declared.op.Binary.TheVariants.{Add, Subtract, Multiply, ShiftLeft, ShiftRight, UnsignedShiftRight, And, Or, Xor}
 use Rattle.jmodel.specs.declared.op.Unary.{Unary}
 use Rattle.jmodel.specs.declared.op.Unary.TheVariants.{Negate, ToByte, ToChar, ToShort}
-use Rattle.jmodel.specs.declared.op.Test.{Test}
 use Rattle.jmodel.specs.declared.op.Rearrange.TheVariants as rearrange
 use Rattle.jmodel.specs.Program.{Method, Program}
-use Rattle.jmodel.specs.Step.{Frame, Did, Does, Wrong, does, on_top, on_int, branches, stores, slot_in, int_in, binary, unary, holds, shift}
+use Rattle.jmodel.specs.Step.{Did, Does, Wrong, does, on_top, on_int, branches, stores, slot_in, int_in, binary, unary, holds, shift}
 use Rattle.jmodel.specs.Rewriting.{moved, block, block_at}
 use Rattle.jmodel.specs.Source.{IsSourceOp}
 use Rattle.jmodel.proofs.Rows.{frame}

@@ -23,6 +23,9 @@ pub mod LawExamples
 pub mod Preserves
 pub mod Sound
 pub mod Constants
+pub mod Typed
+pub mod Numbers
 pub mod Linked
 pub mod Counter
-pub mod Typed
+pub mod Untypable
+pub mod Told

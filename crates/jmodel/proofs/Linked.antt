@@ -1,10 +1,19 @@
--- What is linked is a program of straight-line methods, each of them marked.
-use Rattle.std.proofs.Common.{◌≡◌, ℕ, ℤ, zero, suc, ◌+◌, ◌-◌, ◌<◌, ◌≤◌, List, [], ◌∷◌, ◌++◌, length, map, slice_get, Bool, true, false, not, ◌&&◌, ◌||◌, nat_le, nat_eq, nat_lt, Option, Some, None, refl, sym, ◌∙◌, ap, subst, arith}
-use Rattle.std.specs.Prelude.{if◌then◌else◌, codes, filter, pos, option_map, option_and_then, position, ◌==◌, ◌^◌, ◌%◌, ◌-ℤ◌, FitsSigned}
-use Rattle.std.specs.List.{AllByRecursion, list_all, list_any}
+-- What is linked is a program of source code, each of whose methods is marked.
+use Rattle.std.proofs.Common.{◌≡◌, ℕ, ℤ, suc, ◌+◌, ◌-◌, ◌<◌, ◌≤◌, List, [], ◌∷◌, ◌++◌, length, Bool, true, false, not, ◌&&◌, ◌||◌, nat_le, nat_eq, nat_lt, Option, Some, None, Result, Ok, Err, refl, sym, ◌∙◌, ap, subst, arith}
+use Rattle.std.specs.Prelude.{if◌then◌else◌, codes, filter, pos, option_map, option_and_then, zip, ◌==◌, ◌-ℤ◌, FitsSigned}
+use Rattle.std.specs.List.{AllByRecursion, list_all}
+use Rattle.std.specs.Int.{w32}
 use Rattle.std.proofs.lemmas.Bool.Decides.{nat_tests}
+use Rattle.std.proofs.lemmas.Int.{ints}
+use Rattle.std.proofs.lemmas.List.{length-map}
 use Rattle.std.proofs.lemmas.List.Quantifiers.{position-Some}
-use Rattle.std.proofs.lemmas.List.Filters.{length-filter_both}
+use Rattle.std.proofs.lemmas.Slice.Zip.{length-zip}
+use Rattle.jmodel.specs.declared.name.MethodName.{MethodName}
+use Rattle.jmodel.specs.declared.class_file.Handler.{Handler}
+use Rattle.jmodel.specs.declared.instruction.Operands.{Operands}
+use Rattle.jmodel.specs.declared.instruction.Operands.TheVariants as operands
+use Rattle.jmodel.specs.declared.instruction.Instr.{Instr}
+use Rattle.jmodel.specs.declared.refusal.Refusal.{Refusal}
 use Rattle.jmodel.specs.declared.op.WordType.TheVariants as word
 use Rattle.jmodel.specs.declared.value.Value.TheVariants as value
 use Rattle.jmodel.specs.declared.op.Op.{Op}
@@ -12,70 +21,89 @@ use Rattle.jmodel.specs.declared.op.Op.TheVariants as op
 use Rattle.jmodel.specs.declared.op.Rearrange.TheVariants as rearrange
 use Rattle.jmodel.specs.declared.op.Binary.TheVariants as binary
 use Rattle.jmodel.specs.declared.op.Unary.TheVariants as unary
-use Rattle.jmodel.specs.declared.op.Test.TheVariants as test
 use Rattle.jmodel.specs.declared.op.ContextCall.TheVariants as context
-use Rattle.std.specs.Int.{w8, w16, w32, cast_signed}
-use Rattle.std.proofs.lemmas.Int.{ints}
-use Rattle.jmodel.specs.ClassFile.{Attribute, Member, Pool, ClassFile, Code}
-use Rattle.std.proofs.lemmas.Slice.Eq.{bytes_eq-Decides}
+use Rattle.jmodel.specs.declared.op.Catch.{Catch}
+use Rattle.jmodel.specs.ClassFile.{Member, Pool, ClassFile, Code}
 use Rattle.jmodel.specs.Pool.{utf8, MemberName, field_name, method_name}
 use Rattle.jmodel.specs.ClassRules.{same_text}
 use Rattle.jmodel.specs.Constants.{integer}
+use Rattle.jmodel.specs.Reading.{◌>>=◌}
 use Rattle.jmodel.specs.Program.{Field, Method, Program}
-use Rattle.jmodel.specs.Source.{IsSourceOp, IsSourceMethod, IsSourceField, IsSource, IsStraight, IsStraightProgram, is_straight, is_plain, is_return, takes, leaves}
-use Rattle.jmodel.specs.Decoding.{Instruction, Symbols, operand_bytes, simple_op, short_local_op, number_op, jump_op, target, get_op, put_op, static_call_op, context_op, virtual_call_op, pool_op, operand_op, op_of, ops_of, instructions, name_of, in_front, each, field_number, method_number, is_field_of, long_field}
-use Rattle.jmodel.specs.Linking.{is_form_op, are_form_fields, is_form_field, is_form_atomic, is_form_attribute, is_straight_within, straight, form_method, linked_method, is_form_code, is_form_class, is_form_method, are_form_methods, is_marked, takes_context, is_program_method, program_methods, linked, code_in, make_method, original_fields, symbols_of, retries_of}
-use Rattle.jmodel.specs.Layout.{fields_from, fields_of, statics, base_of, is_static}
+use Rattle.jmodel.specs.Source.{IsSourceOp, IsSourceMethod, IsSourceField}
+use Rattle.jmodel.specs.Decoding.{Symbols, number_at, name_of, simple_op, short_local_op, arithmetic_op, rearranging_op, leaving_op, number_op, local_op, wide_op, test_of, jump_to, jump_op, get_op, put_op, static_call_op, context_op, virtual_call_op, pool_op, meaning, op_of, ops_of, in_front, each, field_number, method_number, is_field_of, is_method_of, long_field}
+use Rattle.jmodel.specs.InstructionReading.{instrs_of}
+use Rattle.jmodel.specs.Linking.{catch_of, Shape, code_in, retries_of, Coded, make_method, descriptor_of, shape_of, named_fault, decoded_code, decoded, all_decoded, is_marked, takes_context, is_program_method, program_methods, is_form_attribute, is_form_atomic, is_form_method, is_form_field, are_form_fields, are_form_methods, is_form_class, is_form_code, is_form_instr, is_form_op, is_form_method_of, if_form, form_method, symbols_of, original_fields, form_methods, form_program, program_in, linked}
+use Rattle.jmodel.specs.Layout.{fields_from, statics, base_of}
 use Rattle.jmodel.specs.LinkedLaw.{IsMarked, IsLinked}
 use Rattle.jmodel.proofs.Constants.{IsSmall, integer_small}
+use Rattle.jmodel.proofs.Numbers.{Has, IsSmallNumber, IsSmallInstr, read_small}
 
 -- both tests hold
 both : (a b : Bool) → (a && b) ≡ true → (a ≡ true) × (b ≡ true)
 both true b h = (refl, h)
 both false b h = cc
 
-chosen : {A : Type 0} (b : Bool) (x : Option A) (y : A) → (if b then x else None) ≡ Some y → (b ≡ true) × (x ≡ Some y)
-chosen true x y h = (refl, h)
-chosen false x y h = cc
+both_true : (a b : Bool) → a ≡ true → b ≡ true → (a && b) ≡ true
+both_true true true p q = refl
+both_true true false p q = q
+both_true false b p q = p
 
--- ---- the fields that instructions name are there
+is_not : (b : Bool) → not b ≡ true → b ≡ false
+is_not false h = refl
+is_not true h = cc
 
-abbrev IsBound : ℕ → Op → Type 0
-IsBound n (op.GetStatic f) = f < n
-IsBound n (op.PutStatic f) = f < n
-IsBound n (op.Constant (value.Int x)) = FitsSigned w32 x
-IsBound n o = Unit {0}
+-- ---- the fields, methods and targets that instructions name are there
 
-abbrev IsFine : ℕ → Option Op → Type 0
-IsFine n None = Unit {0}
-IsFine n (Some o) = IsBound n o
+-- how many fields, instructions and methods there are
+record Bounds : Type 0 where
+  fields : ℕ
+  ops : ℕ
+  methods : ℕ
 
--- what an instruction means names no field beyond n
-record Fine (n : ℕ) (o : Option Op) : Type 0 where
-  fine : IsFine n o
+abbrev IsBound : Bounds → Op → Type 0
+IsBound b (op.GetStatic f) = f < b.fields
+IsBound b (op.PutStatic f) = f < b.fields
+IsBound b (op.InvokeStatic m) = m < b.methods
+IsBound b (op.Branch t to) = to < b.ops
+IsBound b (op.BranchInts t to) = to < b.ops
+IsBound b (op.Goto to) = to < b.ops
+IsBound b (op.Constant (value.Int x)) = FitsSigned w32 x
+IsBound b o = Unit {0}
 
-nothing : (n : ℕ) → Fine n None
-nothing n = record { fine = tt }
+abbrev IsFine : Bounds → Option Op → Type 0
+IsFine b None = Unit {0}
+IsFine b (Some o) = IsBound b o
 
-leaf : (n : ℕ) (o : Op) → IsBound n o → Fine n (Some o)
-leaf n o h = record { fine = h }
+-- what an instruction means names nothing beyond the bounds
+record Fine (b : Bounds) (o : Option Op) : Type 0 where
+  fine : IsFine b o
 
-either : (n : ℕ) (b : Bool) (x y : Option Op) → Fine n x → Fine n y → Fine n (if b then x else y)
-either n true x y p q = p
-either n false x y p q = q
+nothing : (b : Bounds) → Fine b None
+nothing b = record { fine = tt }
 
-mapped : (n : ℕ) {A : Type 0} (f : A → Op) (o : Option A) → ((x : A) → o ≡ Some x → IsBound n (f x)) → Fine n (option_map f o)
-mapped n f None h = nothing n
-mapped n f (Some x) h = leaf n (f x) (h x refl)
+leaf : (b : Bounds) (o : Op) → IsBound b o → Fine b (Some o)
+leaf b o h = record { fine = h }
 
-chained : (n : ℕ) {A : Type 0} (f : A → Option Op) (o : Option A) → ((x : A) → Fine n (f x)) → Fine n (option_and_then f o)
-chained n f None h = nothing n
-chained n f (Some x) h = h x
+either : (b : Bounds) (t : Bool) (x y : Option Op) → Fine b x → Fine b y → Fine b (if t then x else y)
+either b true x y p q = p
+either b false x y p q = q
 
 -- the same, where it matters that the test holds
-when : (n : ℕ) (b : Bool) (x y : Option Op) → (b ≡ true → Fine n x) → Fine n y → Fine n (if b then x else y)
-when n true x y p q = p refl
-when n false x y p q = q
+when : (b : Bounds) (t : Bool) (x y : Option Op) → (t ≡ true → Fine b x) → Fine b y → Fine b (if t then x else y)
+when b true x y p q = p refl
+when b false x y p q = q
+
+-- an instruction, where the test holds
+plain : (b : Bounds) (t : Bool) (o : Op) (y : Option Op) → IsBound b o → Fine b y → Fine b (if t then Some o else y)
+plain b t o y p q = either b t (Some o) y (leaf b o p) q
+
+mapped : (b : Bounds) {A : Type 0} (f : A → Op) (o : Option A) → ((x : A) → o ≡ Some x → IsBound b (f x)) → Fine b (option_map f o)
+mapped b f None h = nothing b
+mapped b f (Some x) h = leaf b (f x) (h x refl)
+
+chained : (b : Bounds) {A : Type 0} (f : A → Option Op) (o : Option A) → ((x : A) → o ≡ Some x → Fine b (f x)) → Fine b (option_and_then f o)
+chained b f None h = nothing b
+chained b f (Some x) h = h x refl
 
 -- iconst is of -1 to 5
 small : (c : ℕ) → (nat_le 2 c && nat_le c 8) ≡ true → FitsSigned w32 (pos c -ℤ pos 3)
@@ -85,242 +113,220 @@ small c h =
     let high : c ≤ 8 = let u = t.1 in grind (arith, nat_tests) in
     omega (arith, ints)
 
-byte_fits : (x : ℕ) → FitsSigned w32 (cast_signed w8 (x % 256))
-byte_fits x = omega (arith, ints)
+short_fine : (b : Bounds) (c : ℕ) → Fine b (short_local_op c)
+short_fine b c =
+    plain b _ (op.Load (c - 26)) _ tt (plain b _ (op.Load (c - 42)) _ tt (plain b _ (op.Store (c - 59)) _ tt (plain b _ (op.Store (c - 75)) None tt (nothing b))))
 
-pair_fits : (x : ℕ) → FitsSigned w32 (cast_signed w16 x)
-pair_fits x = omega (arith, ints)
+arithmetic_fine : (b : Bounds) (c : ℕ) → Fine b (arithmetic_op c)
+arithmetic_fine b c =
+    plain b _ (op.Binary binary.Add) _ tt (plain b _ (op.Binary binary.Subtract) _ tt (plain b _ (op.Binary binary.Multiply) _ tt (plain b _ (op.Unary unary.Negate) _ tt
+    (plain b _ (op.Binary binary.ShiftLeft) _ tt (plain b _ (op.Binary binary.ShiftRight) _ tt (plain b _ (op.Binary binary.UnsignedShiftRight) _ tt
+    (plain b _ (op.Binary binary.And) _ tt (plain b _ (op.Binary binary.Or) _ tt (plain b _ (op.Binary binary.Xor) _ tt
+    (plain b _ (op.Unary unary.ToByte) _ tt (plain b _ (op.Unary unary.ToChar) _ tt (plain b _ (op.Unary unary.ToShort) None tt (nothing b)))))))))))))
 
--- an instruction that names no field, where the test holds
-plain : (n : ℕ) (b : Bool) (o : Op) (y : Option Op) → IsBound n o → Fine n y → Fine n (if b then Some o else y)
-plain n b o y p q = either n b (Some o) y (leaf n o p) q
+rearranging_fine : (b : Bounds) (c : ℕ) → Fine b (rearranging_op c)
+rearranging_fine b c =
+    plain b _ (op.Rearrange rearrange.Nothing) _ tt (plain b _ (op.Rearrange rearrange.Pop) _ tt (plain b _ (op.Rearrange rearrange.PopTwo) _ tt
+    (plain b _ (op.Rearrange rearrange.Duplicate) _ tt (plain b _ (op.Rearrange rearrange.DuplicateUnder) _ tt
+    (plain b _ (op.Rearrange rearrange.DuplicateTwo) _ tt (plain b _ (op.Rearrange rearrange.Swap) None tt (nothing b)))))))
 
-short_fine : (n c : ℕ) → Fine n (short_local_op c)
-short_fine n c =
-    plain n _ (op.Load (c - 26)) _ tt (plain n _ (op.Load (c - 42)) _ tt (plain n _ (op.Store (c - 59)) _ tt (plain n _ (op.Store (c - 75)) None tt (nothing n))))
+leaving_fine : (b : Bounds) (c : ℕ) → Fine b (leaving_op c)
+leaving_fine b c = plain b _ op.ReturnValue _ tt (plain b _ op.Return _ tt (plain b _ op.Throw None tt (nothing b)))
 
-simple_fine : (n c : ℕ) → Fine n (simple_op c)
-simple_fine n c =
-    plain n _ (op.Rearrange rearrange.Nothing) _ tt (when n (nat_le 2 c && nat_le c 8) (Some (op.Constant (value.Int (pos c -ℤ pos 3)))) _ (λ t. leaf n _ (small c t)) (plain n _ (op.Rearrange rearrange.Pop) _ tt
-    (plain n _ (op.Rearrange rearrange.Duplicate) _ tt (plain n _ (op.Binary binary.Add) _ tt (plain n _ (op.Binary binary.Subtract) _ tt
-    (plain n _ (op.Binary binary.Multiply) _ tt (plain n _ (op.Unary unary.Negate) _ tt (plain n _ op.ReturnValue _ tt (plain n _ op.Return _ tt
-    (plain n _ op.Throw (short_local_op c) tt (short_fine n c)))))))))))
+simple_fine : (b : Bounds) (c : ℕ) → Fine b (simple_op c)
+simple_fine b c =
+    when b (nat_le 2 c && nat_le c 8) (Some (op.Constant (value.Int (pos c -ℤ pos 3)))) _ (λ t. leaf b _ (small c t))
+    (either b _ _ _ (rearranging_fine b c) (either b _ _ _ (arithmetic_fine b c) (either b _ _ _ (leaving_fine b c) (short_fine b c))))
 
-number_fine : (n c x : ℕ) → Fine n (number_op c x)
-number_fine n c x =
-    plain n _ (op.Constant (value.Int (cast_signed w8 (x % 256)))) _ (byte_fits x) (plain n _ (op.Constant (value.Int (cast_signed w16 x))) _ (pair_fits x)
-    (plain n _ (op.Load x) _ tt (plain n _ (op.Store x) None tt (nothing n))))
+number_fine : (b : Bounds) (c : ℕ) (n : ℤ) → FitsSigned w32 n → Fine b (number_op c n)
+number_fine b c n h = plain b _ (op.Constant (value.Int n)) None h (nothing b)
 
-jump_fine : (n : ℕ) (is : List Instruction) (pc c offset : ℕ) → Fine n (jump_op is pc c offset)
-jump_fine n is pc c offset =
-    either n _ _ _ (mapped n (op.Branch test.Equal) (target is pc offset) (λ x e. tt)) (either n _ _ None (mapped n op.Goto (target is pc offset) (λ x e. tt)) (nothing n))
+local_fine : (b : Bounds) (c n : ℕ) → Fine b (local_op c n)
+local_fine b c n = plain b _ (op.Load n) _ tt (plain b _ (op.Store n) None tt (nothing b))
+
+wide_fine : (b : Bounds) (c n : ℕ) (add : ℤ) → Fine b (wide_op c n add)
+wide_fine b c n add = plain b _ (op.Increment n add) _ tt (local_fine b c n)
+
+jump_to_fine : (b : Bounds) (c to : ℕ) → to < b.ops → Fine b (jump_to c to)
+jump_to_fine b c to h =
+    either b _ _ _ (mapped b (λ t. op.Branch t to) (test_of 153 c) (λ t e. h))
+    (either b _ _ _ (mapped b (λ t. op.BranchInts t to) (test_of 159 c) (λ t e. h)) (plain b _ (op.Goto to) None h (nothing b)))
+
+-- ---- numbers of fields, methods and instructions
 
 field_there : (fields : List Field) (m : MemberName) (i : ℕ) → field_number fields m ≡ Some i → i < length fields
-field_there fields m i is = (position-Some (is_field_of m) fields i (first fields) is).0
+field_there fields m i is = (position-Some (is_field_of m) fields i blank is).0
   where
     blank : Field
     blank = record { class = []; name = []; place = record { object = 0; index = 0 }; type = word.Int }
 
-    first : List Field → Field
-    first fs = blank
+method_there : (methods : List MethodName) (m : MemberName) (i : ℕ) → method_number methods m ≡ Some i → i < length methods
+method_there methods m i is = (position-Some (is_method_of m) methods i blank is).0
+  where
+    blank : MethodName
+    blank = record { class = []; name = []; descriptor = [] }
 
-get_fine : (s : Symbols) (m : MemberName) → Fine (length s.fields) (get_op s m)
-get_fine s m =
-    let n = length s.fields in
-    either n _ _ _ (mapped n op.GetStatic (field_number s.fields m) (field_there s.fields m))
-    (either n _ _ _ (mapped n (λ x. op.Constant (value.Long x)) (long_field s.class m) (λ x e. tt))
-    (plain n _ (op.Constant (value.Ref (base_of (s.class ∷ []) 0))) None tt (nothing n)))
+target_there : (is : List Instr) (pc i : ℕ) → number_at is pc ≡ Some i → i < length is
+target_there is pc i e = (position-Some (λ (i : Instr). nat_eq i.pc pc) is i blank e).0
+  where
+    blank : Instr
+    blank = record { pc = 0; op = 0; operands = operands.Nothing }
 
-put_fine : (s : Symbols) (m : MemberName) → Fine (length s.fields) (put_op s m)
-put_fine s m = either _ _ _ None (mapped _ op.PutStatic (field_number s.fields m) (field_there s.fields m)) (nothing _)
+-- ---- what instructions mean
 
-static_fine : (n : ℕ) (s : Symbols) (m : MemberName) → Fine n (static_call_op s m)
-static_fine n s m = plain n _ op.GetContext _ tt (mapped n op.InvokeStatic (method_number s.methods m) (λ x e. tt))
+module _ (s : Symbols) (is : List Instr) where
+  abbrev bounds : Bounds
+  bounds = record { fields = length s.fields; ops = length is; methods = length s.methods }
 
-context_fine : (n : ℕ) (m : MemberName) → Fine n (context_op m)
-context_fine n m =
-    plain n _ (op.Context context.Init) _ tt (plain n _ (op.Context context.BeforeRead) _ tt (plain n _ (op.Context (context.OnRead word.Int)) _ tt
-    (plain n _ (op.Context (context.OnWrite word.Int)) _ tt (plain n _ (op.Context context.Commit) _ tt (plain n _ (op.Context context.Rollback) None tt (nothing n))))))
+  jump_fine : (c target : ℕ) → Fine bounds (jump_op is c target)
+  jump_fine c target = chained bounds (jump_to c) (number_at is target) (λ to e. jump_to_fine bounds c to (target_there is target to e))
 
-virtual_fine : (n : ℕ) (m : MemberName) → Fine n (virtual_call_op m)
-virtual_fine n m = either n _ _ None (context_fine n m) (nothing n)
+  get_fine : (m : MemberName) → Fine bounds (get_op s m)
+  get_fine m =
+      either bounds _ _ _ (mapped bounds op.GetStatic (field_number s.fields m) (field_there s.fields m))
+      (either bounds _ _ _ (mapped bounds (λ x. op.Constant (value.Long x)) (long_field s.class m) (λ x e. tt))
+      (plain bounds _ (op.Constant (value.Ref (base_of (s.class ∷ []) 0))) None tt (nothing bounds)))
 
-int_fine : (n : ℕ) (o : Option ℤ) → IsSmall o → Fine n (option_map (λ x. op.Constant (value.Int x)) o)
-int_fine n None h = nothing n
-int_fine n (Some x) h = leaf n _ h
+  put_fine : (m : MemberName) → Fine bounds (put_op s m)
+  put_fine m = either bounds _ _ None (mapped bounds op.PutStatic (field_number s.fields m) (field_there s.fields m)) (nothing bounds)
 
-pool_fine : (s : Symbols) (c i : ℕ) → Fine (length s.fields) (pool_op s c i)
-pool_fine s c i =
-    let n = length s.fields in
-    either n _ _ _ (int_fine n (integer s.class.pool i) (integer_small s.class.pool i))
-    (either n _ _ _ (chained n (get_op s) (field_name s.class.pool i) (get_fine s))
-    (either n _ _ _ (chained n (put_op s) (field_name s.class.pool i) (put_fine s))
-    (either n _ _ _ (chained n virtual_call_op (method_name s.class.pool i) (virtual_fine n))
-    (either n _ _ None (chained n (static_call_op s) (method_name s.class.pool i) (static_fine n s)) (nothing n)))))
+  static_fine : (m : MemberName) → Fine bounds (static_call_op s m)
+  static_fine m = plain bounds _ op.GetContext _ tt (mapped bounds op.InvokeStatic (method_number s.methods m) (method_there s.methods m))
 
-operand_fine : (s : Symbols) (is : List Instruction) (pc c n : ℕ) → Fine (length s.fields) (operand_op s is pc c n)
-operand_fine s is pc c n = either _ _ _ _ (jump_fine _ is pc c n) (either _ _ _ _ (pool_fine s c n) (number_fine _ c n))
+  context_fine : (m : MemberName) → Fine bounds (context_op m)
+  context_fine m =
+      plain bounds _ (op.Context context.Init) _ tt (plain bounds _ (op.Context context.BeforeRead) _ tt (plain bounds _ (op.Context (context.OnRead word.Int)) _ tt
+      (plain bounds _ (op.Context (context.OnWrite word.Int)) _ tt (plain bounds _ (op.Context context.Commit) _ tt
+      (plain bounds _ (op.Context context.Rollback) None tt (nothing bounds))))))
 
-op_fine : (s : Symbols) (is : List Instruction) (i : Instruction) → Fine (length s.fields) (op_of s is i)
-op_fine s is i = either _ _ _ _ (simple_fine _ i.opcode) (chained _ _ i.operand (λ n. operand_fine s is i.pc i.opcode n))
+  virtual_fine : (m : MemberName) → Fine bounds (virtual_call_op m)
+  virtual_fine m = either bounds _ _ None (context_fine m) (nothing bounds)
+
+  int_fine : (o : Option ℤ) → IsSmall o → Fine bounds (option_map (λ x. op.Constant (value.Int x)) o)
+  int_fine None h = nothing bounds
+  int_fine (Some x) h = leaf bounds _ h
+
+  pool_fine : (c i : ℕ) → Fine bounds (pool_op s c i)
+  pool_fine c i =
+      either bounds _ _ _ (int_fine (integer s.class.pool i) (integer_small s.class.pool i))
+      (either bounds _ _ _ (chained bounds (get_op s) (field_name s.class.pool i) (λ m e. get_fine m))
+      (either bounds _ _ _ (chained bounds (put_op s) (field_name s.class.pool i) (λ m e. put_fine m))
+      (either bounds _ _ _ (chained bounds virtual_call_op (method_name s.class.pool i) (λ m e. virtual_fine m))
+      (either bounds _ _ None (chained bounds (static_call_op s) (method_name s.class.pool i) (λ m e. static_fine m)) (nothing bounds)))))
+
+  meaning_fine : (c : ℕ) (o : Operands) → IsSmallNumber o → Fine bounds (meaning s is c o)
+  meaning_fine c operands.Nothing h = simple_fine bounds c
+  meaning_fine c (operands.Number n) h = number_fine bounds c n h
+  meaning_fine c (operands.Local n) h = local_fine bounds c n
+  meaning_fine c (operands.LocalAdd n add) h = leaf bounds (op.Increment n add) tt
+  meaning_fine c (operands.Pool i) h = pool_fine c i
+  meaning_fine c (operands.Target t) h = jump_fine c t
+  meaning_fine c (operands.Wide w n add) h = wide_fine bounds w n add
+  meaning_fine c o h = nothing bounds
+
+  op_fine : (i : Instr) (o : Op) → IsSmallInstr i → op_of s is i ≡ Some o → IsBound bounds o
+  op_fine i o h e = (let f = meaning_fine i.op i.operands h in rw e at f).fine
 
 -- ---- lists of what each gives
 
-each_all : {A B : Type 0} (f : A → Option B) (p : A → Bool) (Q : B → Type 0) → ((x : A) (y : B) → p x ≡ true → f x ≡ Some y → Q y)
-    → (xs : List A) (ys : List B) → list_all p xs ≡ true → each f xs ≡ Some ys → AllByRecursion Q ys
-each_all f p Q h [] [] all is = tt
-each_all f p Q h [] (y ∷ ys) all is = cc
-each_all {A} {B} f p Q h (x ∷ xs) ys all is = go (f x) refl (each f xs) (λ zs es. each_all f p Q h xs zs (both _ _ all).1 es) refl is
+pub each_all : {A B : Type 0} (f : A → Option B) (P : A → Type 0) (Q : B → Type 0) → ((x : A) (y : B) → P x → f x ≡ Some y → Q y)
+    → (xs : List A) (ys : List B) → AllByRecursion P xs → each f xs ≡ Some ys → AllByRecursion Q ys × (length ys ≡ length xs)
+each_all f P Q h [] [] all is = (tt, refl)
+each_all f P Q h [] (y ∷ ys) all is = cc
+each_all {A} {B} f P Q h (x ∷ xs) ys all is = go (f x) refl (each f xs) (λ zs es. each_all f P Q h xs zs all.1 es) refl is
   where
-    go : (o : Option B) → f x ≡ o → (os : Option (List B)) → ((zs : List B) → each f xs ≡ Some zs → AllByRecursion Q zs) → each f xs ≡ os
-        → in_front o os ≡ Some ys → AllByRecursion Q ys
+    go : (o : Option B) → f x ≡ o → (os : Option (List B)) → ((zs : List B) → each f xs ≡ Some zs → AllByRecursion Q zs × (length zs ≡ length xs)) → each f xs ≡ os
+        → in_front o os ≡ Some ys → AllByRecursion Q ys × (length ys ≡ length (x ∷ xs))
     go None e os rest es h2 = cc
     go (Some y) e None rest es h2 = cc
     go (Some y) e (Some zs) rest es h2 =
         let same : ys ≡ y ∷ zs = cc in
-        rw same (h x y (both _ _ all).0 e, rest zs es)
+        let r = rest zs es in
+        let Both : List B → Type 0 = λ l. AllByRecursion Q l × (length l ≡ length (x ∷ xs)) in
+        subst Both (sym same) ((h x y all.0 e, r.0), ap suc r.1)
 
--- ---- straight-line code
+-- ---- instructions of the form
 
-form_plain : (o : Op) → is_form_op o ≡ true → is_plain o ≡ true
-form_plain (op.Constant (value.Int n)) h = refl
-form_plain (op.Constant (value.Long n)) h = cc
-form_plain (op.Constant (value.Ref n)) h = cc
-form_plain (op.Rearrange r) h = refl
-form_plain (op.Binary b) h = refl
-form_plain (op.Unary u) h = refl
-form_plain (op.GetStatic f) h = refl
-form_plain (op.PutStatic f) h = refl
-form_plain (op.Load i) h = cc
-form_plain (op.Store i) h = cc
-form_plain (op.Increment i n) h = cc
-form_plain (op.Branch t to) h = cc
-form_plain (op.BranchInts t to) h = cc
-form_plain (op.Goto to) h = cc
-form_plain (op.InvokeStatic m) h = cc
-form_plain op.Return h = cc
-form_plain op.ReturnValue h = cc
-form_plain op.Throw h = cc
-form_plain op.GetContext h = cc
-form_plain (op.Context k) h = cc
+abbrev bounds_of : Program → Method → Bounds
+bounds_of P k = record { fields = length P.fields; ops = length k.ops; methods = length P.methods }
 
-form_source : (P : Program) (k : Method) (o : Op) → is_form_op o ≡ true → IsBound (length P.fields) o → IsSourceOp P k o
+below : (i n : ℕ) → nat_lt i n ≡ true → i < n
+below i n h = grind (arith, nat_tests)
+
+form_source : (P : Program) (k : Method) (o : Op) → is_form_op k.locals k.gives o ≡ true → IsBound (bounds_of P k) o → IsSourceOp P k o
 form_source P k (op.Constant (value.Int n)) h b = b
 form_source P k (op.Constant (value.Long n)) h b = cc
 form_source P k (op.Constant (value.Ref n)) h b = cc
+form_source P k (op.Load i) h b = below i k.locals h
+form_source P k (op.Store i) h b = below i k.locals h
 form_source P k (op.Rearrange r) h b = tt
 form_source P k (op.Binary x) h b = tt
-form_source P k (op.Unary u) h b = tt
+form_source P k (op.Unary x) h b = tt
+form_source P k (op.Increment i n) h b = below i k.locals h
+form_source P k (op.Branch t to) h b = b
+form_source P k (op.BranchInts t to) h b = b
+form_source P k (op.Goto to) h b = b
 form_source P k (op.GetStatic f) h b = b
 form_source P k (op.PutStatic f) h b = b
-form_source P k (op.Load i) h b = cc
-form_source P k (op.Store i) h b = cc
-form_source P k (op.Increment i n) h b = cc
-form_source P k (op.Branch t to) h b = cc
-form_source P k (op.BranchInts t to) h b = cc
-form_source P k (op.Goto to) h b = cc
-form_source P k (op.InvokeStatic m) h b = cc
-form_source P k op.Return h b = cc
-form_source P k op.ReturnValue h b = cc
+form_source P k (op.InvokeStatic m) h b = b
+form_source P k op.Return h b = is_not k.gives h
+form_source P k op.ReturnValue h b = h
 form_source P k op.Throw h b = cc
 form_source P k op.GetContext h b = cc
 form_source P k (op.Context x) h b = cc
 
-return_source : (P : Program) (k : Method) (o : Op) → k.gives ≡ true → is_return o ≡ true → IsSourceOp P k o
-return_source P k op.ReturnValue g h = g
-return_source P k (op.Constant v) g h = cc
-return_source P k (op.Rearrange r) g h = cc
-return_source P k (op.Binary x) g h = cc
-return_source P k (op.Unary u) g h = cc
-return_source P k (op.GetStatic f) g h = cc
-return_source P k (op.PutStatic f) g h = cc
-return_source P k (op.Load i) g h = cc
-return_source P k (op.Store i) g h = cc
-return_source P k (op.Increment i n) g h = cc
-return_source P k (op.Branch t to) g h = cc
-return_source P k (op.BranchInts t to) g h = cc
-return_source P k (op.Goto to) g h = cc
-return_source P k (op.InvokeStatic m) g h = cc
-return_source P k op.Return g h = cc
-return_source P k op.Throw g h = cc
-return_source P k op.GetContext g h = cc
-return_source P k (op.Context x) g h = cc
-
--- both of them, from each
-both_true : (a b : Bool) → a ≡ true → b ≡ true → (a && b) ≡ true
-both_true true true p q = refl
-both_true true false p q = q
-both_true false b p q = p
-
-straight_of : (limit h : ℕ) (ops : List Op) → is_straight_within limit h ops ≡ true → is_straight h ops ≡ true
-straight_of limit h [] is = is
-straight_of limit h (o ∷ []) is = is
-straight_of limit h (o ∷ p ∷ os) is =
-    let a = both _ _ is in
-    let b = both _ _ a.0 in
-    let d = both _ _ b.0 in
-    both_true _ _ (both_true _ _ (form_plain o d.0) d.1) (straight_of limit (h - takes o + leaves o) (p ∷ os) a.1)
-
-source_of : (P : Program) (k : Method) → k.gives ≡ true → (limit h : ℕ) (ops : List Op) → is_straight_within limit h ops ≡ true
-    → AllByRecursion (IsBound (length P.fields)) ops → AllByRecursion (IsSourceOp P k) ops
-source_of P k g limit h [] is bound = tt
-source_of P k g limit h (o ∷ []) is bound = (return_source P k o g (both _ _ is).0, tt)
-source_of P k g limit h (o ∷ p ∷ os) is bound =
-    let a = both _ _ is in
-    let b = both _ _ a.0 in
-    let d = both _ _ b.0 in
-    (form_source P k o d.0 bound.0, source_of P k g limit (h - takes o + leaves o) (p ∷ os) a.1 bound.1)
-
-all_true : {A : Type 0} (xs : List A) → list_all (λ x. true) xs ≡ true
-all_true [] = refl
-all_true (x ∷ xs) = all_true xs
-
-bound_ops : (s : Symbols) (is : List Instruction) (ops : List Op) → ops_of s is ≡ Some ops → AllByRecursion (IsBound (length s.fields)) ops
-bound_ops s is ops h = each_all (op_of s is) (λ x. true) (IsBound (length s.fields)) (λ i o t e. (let f = op_fine s is i in rw e at f).fine) is ops (all_true is) h
+all_source : (P : Program) (k : Method) (os : List Op) → list_all (is_form_op k.locals k.gives) os ≡ true → AllByRecursion (IsBound (bounds_of P k)) os
+    → AllByRecursion (IsSourceOp P k) os
+all_source P k [] h b = tt
+all_source P k (o ∷ os) h b =
+    let t = both (is_form_op k.locals k.gives o) (list_all (is_form_op k.locals k.gives) os) h in
+    (form_source P k o t.0 b.0, all_source P k os t.1 b.1)
 
 -- ---- methods
 
-abbrev meant : Symbols → Member → Code → List Op → Method
-meant s m k ops = record {
+abbrev pub meant : Symbols → Member → Coded → Shape → List Op → List Catch → Method
+meant s m k shape ops catches = record {
   name = name_of s.class m;
-  params = 0;
-  locals = k.max_locals;
-  max_stack = k.max_stack;
-  gives = true;
+  params = shape.params;
+  locals = k.code.max_locals;
+  max_stack = k.code.max_stack;
+  gives = shape.gives;
   counted = true;
   retries = retries_of s.class.pool m;
   ops = ops;
-  catches = [];
+  catches = catches;
 }
 
--- a method of the form means its straight-line code
-record Means (s : Symbols) (m : Member) (k : Method) : Type 0 where
-  code : Code
-  ops : List Op
-  is : k ≡ meant s m code ops
-  told : ops_of s (instructions code.code) ≡ Some ops
-  straight_ops : is_straight_within code.max_stack 0 ops ≡ true
+-- what a method of the form means
+pub record Means (s : Symbols) (m : Member) (k : Coded) (p : Method) : Type 0 where
+  pub shape : Shape
+  pub ops : List Op
+  pub catches : List Catch
+  pub is : p ≡ meant s m k shape ops catches
+  pub told : ops_of s k.instrs ≡ Some ops
+  pub caught : each (catch_of s.class.pool k.instrs (length k.code.code)) k.code.handlers ≡ Some catches
+  pub form : is_form_method_of k p ≡ true
 
-means_of : (s : Symbols) (m : Member) (k : Method) → linked_method s m ≡ Some k → Means s m k
-means_of s m k h = go (code_in s.class.pool m) h
+pub means_of : (s : Symbols) (m : Member) (k : Coded) (p : Method) → form_method s m k ≡ Some p → Means s m k p
+means_of s m k p h = go (shape_of (descriptor_of s.class.pool m)) (ops_of s k.instrs) refl (each (catch_of s.class.pool k.instrs (length k.code.code)) k.code.handlers) refl h
   where
-    last : (code : Code) (o : Option (List Op)) → ops_of s (instructions code.code) ≡ o
-        → make_method s true m code (Some (record { params = 0; gives = true })) (straight code.max_stack o) (Some []) ≡ Some k → Means s m k
-    last code None e h = cc
-    last code (Some ops) e h = choose (is_straight_within code.max_stack 0 ops) refl h
-      where
-        choose : (b : Bool) → is_straight_within code.max_stack 0 ops ≡ b
-            → make_method s true m code (Some (record { params = 0; gives = true })) (if b then Some ops else None) (Some []) ≡ Some k → Means s m k
-        choose true is h = record { code = code; ops = ops; is = cc; told = e; straight_ops = is }
-        choose false is h = cc
+    choose : (shape : Shape) (ops : List Op) (catches : List Catch) → ops_of s k.instrs ≡ Some ops
+        → each (catch_of s.class.pool k.instrs (length k.code.code)) k.code.handlers ≡ Some catches
+        → (b : Bool) → is_form_method_of k (meant s m k shape ops catches) ≡ b → (if b then Some (meant s m k shape ops catches) else None) ≡ Some p → Means s m k p
+    choose shape ops catches t c true e h =
+        let same : p ≡ meant s m k shape ops catches = cc in
+        record { shape = shape; ops = ops; catches = catches; is = same; told = t; caught = c; form = rw same e }
+    choose shape ops catches t c false e h = cc
 
-    go : (o : Option Code) → option_and_then (form_method s m) o ≡ Some k → Means s m k
-    go None h = cc
-    go (Some code) h = last code (ops_of s (instructions code.code)) refl (chosen (is_form_code code) _ k h).1
+    go : (shape : Option Shape) (ops : Option (List Op)) → ops_of s k.instrs ≡ ops → (catches : Option (List Catch))
+        → each (catch_of s.class.pool k.instrs (length k.code.code)) k.code.handlers ≡ catches
+        → if_form k (make_method s true m k.code shape ops catches) ≡ Some p → Means s m k p
+    go (Some shape) (Some ops) t (Some catches) c h = choose shape ops catches t c (is_form_method_of k (meant s m k shape ops catches)) refl h
+    go (Some shape) (Some ops) t None c h = cc
+    go (Some shape) None t catches c h = cc
+    go None ops t catches c h = cc
 
-same_is : (o : Option (List ℕ)) (t : List ℕ) → same_text o t ≡ true → o ≡ Some t
-same_is None t h = cc
-same_is (Some x) t h = ap Some ((bytes_eq-Decides x t).0 h)
+-- ---- which methods are of the form
 
 marked_alone : (a b : Bool) → b ≡ false → (a || b) ≡ true → a ≡ true
 marked_alone true b h k = refl
@@ -328,14 +334,11 @@ marked_alone false b h k = absurd cc
 
 -- of the program's methods an original class has the marked ones
 pub program_marked : (pool : Pool) (m : Member) → is_program_method pool m ≡ true → is_form_atomic pool m ≡ true → is_marked pool m ≡ true
-program_marked pool m h form =
-    let t = same_is (utf8 pool m.descriptor) (codes "()I") (both _ _ (both _ _ form).0).1 in
-    let none : takes_context pool m ≡ false = rw t refl in
-    marked_alone (is_marked pool m) (takes_context pool m) none h
+program_marked pool m h form = marked_alone (is_marked pool m) (takes_context pool m) (is_not (takes_context pool m) (both _ _ (both _ _ form).0).1) h
 
 -- a method of the program is of the form
-abbrev pub is_form_program : Pool → Member → Bool
-is_form_program pool m = is_program_method pool m && is_form_method pool m
+abbrev pub IsFormProgram : Pool → Member → Type 0
+IsFormProgram pool m = (is_program_method pool m ≡ true) × (is_form_method pool m ≡ true)
 
 pub filter_keeps : {A : Type 0} (p : A → Bool) (x : A) (xs : List A) → p x ≡ true → filter p (x ∷ xs) ≡ x ∷ filter p xs
 filter_keeps p x xs e = rw e refl
@@ -343,50 +346,66 @@ filter_keeps p x xs e = rw e refl
 pub filter_drops : {A : Type 0} (p : A → Bool) (x : A) (xs : List A) → p x ≡ false → filter p (x ∷ xs) ≡ filter p xs
 filter_drops p x xs e = rw e refl
 
-form_where : (pool : Pool) (ms : List Member) → list_all (is_form_method pool) ms ≡ true → list_all (is_form_program pool) (filter (is_program_method pool) ms) ≡ true
-form_where pool [] h = refl
-form_where pool (m ∷ ms) h = let a = both _ _ h in go (is_program_method pool m) refl a.0 (form_where pool ms a.1)
+form_where : (pool : Pool) (ms : List Member) → list_all (is_form_method pool) ms ≡ true → AllByRecursion (IsFormProgram pool) (filter (is_program_method pool) ms)
+form_where pool [] h = tt
+form_where pool (m ∷ ms) h = let a = both (is_form_method pool m) (list_all (is_form_method pool) ms) h in go (is_program_method pool m) refl a.0 (form_where pool ms a.1)
   where
-    go : (b : Bool) → is_program_method pool m ≡ b → is_form_method pool m ≡ true → list_all (is_form_program pool) (filter (is_program_method pool) ms) ≡ true
-        → list_all (is_form_program pool) (filter (is_program_method pool) (m ∷ ms)) ≡ true
+    go : (b : Bool) → is_program_method pool m ≡ b → is_form_method pool m ≡ true → AllByRecursion (IsFormProgram pool) (filter (is_program_method pool) ms)
+        → AllByRecursion (IsFormProgram pool) (filter (is_program_method pool) (m ∷ ms))
     go true e t r =
-        let Fine : List Member → Type 0 = λ l. list_all (is_form_program pool) l ≡ true in
-        subst Fine (sym (filter_keeps (is_program_method pool) m ms e)) (both_true _ _ (both_true _ _ e t) r)
+        let Fine : List Member → Type 0 = λ l. AllByRecursion (IsFormProgram pool) l in
+        subst Fine (sym (filter_keeps (is_program_method pool) m ms e)) ((e, t), r)
     go false e t r =
-        let Fine : List Member → Type 0 = λ l. list_all (is_form_program pool) l ≡ true in
+        let Fine : List Member → Type 0 = λ l. AllByRecursion (IsFormProgram pool) l in
         subst Fine (sym (filter_drops (is_program_method pool) m ms e)) r
 
-pub form_methods : (c : ClassFile) → are_form_methods c ≡ true → list_all (is_form_program c.pool) (program_methods c) ≡ true
-form_methods c h = form_where c.pool c.methods (both (nat_le (length (program_methods c)) 100) (list_all (is_form_method c.pool) c.methods) h).1
+pub form_each : (c : ClassFile) → are_form_methods c ≡ true → AllByRecursion (IsFormProgram c.pool) (program_methods c)
+form_each c h = form_where c.pool c.methods (both (nat_le (length (program_methods c)) 100) (list_all (is_form_method c.pool) c.methods) h).1
 
 -- what the form says of a method of the program
-pub form_atomic : (pool : Pool) (m : Member) → is_form_program pool m ≡ true → (is_form_atomic pool m ≡ true) × (is_marked pool m ≡ true)
+pub form_atomic : (pool : Pool) (m : Member) → IsFormProgram pool m → (is_form_atomic pool m ≡ true) × (is_marked pool m ≡ true)
 form_atomic pool m h =
-    let a = both (is_program_method pool m) (is_form_method pool m) h in
-    let t = (both (list_all (is_form_attribute pool) m.attributes) (if is_program_method pool m then is_form_atomic pool m else not (same_text (utf8 pool m.name) (codes "<clinit>"))) a.1).1 in
-    let is = a.0 in
+    let t = (both (list_all (is_form_attribute pool) m.attributes) (if is_program_method pool m then is_form_atomic pool m else not (same_text (utf8 pool m.name) (codes "<clinit>"))) h.1).1 in
+    let is = h.0 in
     let atomic : is_form_atomic pool m ≡ true = rw is at t in
-    (atomic, program_marked pool m a.0 atomic)
+    (atomic, program_marked pool m h.0 atomic)
+
+-- ---- a method of the program
 
 -- what a linked method keeps
 record IsMethodOf (P : Program) (k : Method) : Type 0 where
   source : IsSourceMethod P k
-  straight_method : IsStraight k
   marked : IsMarked k
 
-method_of : (P : Program) (s : Symbols) (m : Member) (k : Method) → P.fields ≡ s.fields → is_form_program s.class.pool m ≡ true → linked_method s m ≡ Some k → IsMethodOf P k
-method_of P s m k same form h =
-    let means = means_of s m k h in
-    let bound = bound_ops s (instructions means.code.code) means.ops means.told in
+no_handlers : (hs : List Handler) → (length hs == 0) ≡ true → hs ≡ []
+no_handlers [] h = refl
+no_handlers (x ∷ hs) h = absurd (grind (arith, nat_tests))
+
+each_none : {A B : Type 0} (f : A → Option B) (xs : List A) (ys : List B) → xs ≡ [] → each f xs ≡ Some ys → ys ≡ []
+each_none f [] ys e h = cc
+each_none f (x ∷ xs) ys e h = cc
+
+method_of : (P : Program) (s : Symbols) (m : Member) (k : Coded) (p : Method) → length P.fields ≡ length s.fields → length P.methods ≡ length s.methods
+    → IsFormProgram s.class.pool m → AllByRecursion IsSmallInstr k.instrs → form_method s m k ≡ Some p → IsMethodOf P p
+method_of P s m k p same many form smalls h =
+    let means = means_of s m k p h in
+    let q = meant s m k means.shape means.ops means.catches in
+    let ends = both _ _ (let f = means.form in let same_method = means.is in rw same_method at f) in
+    let rooms = both _ _ ends.0 in
+    let codes_are : (nat_le k.code.max_locals 200 ≡ true) × ((length k.code.handlers == 0) ≡ true) = both _ _ (both (is_form_code k.code) (list_all is_form_instr k.instrs) rooms.0).0 in
+    let all = each_all (op_of s k.instrs) IsSmallInstr (IsBound (bounds s k.instrs)) (op_fine s k.instrs) k.instrs means.ops smalls means.told in
+    let fits : bounds s k.instrs ≡ bounds_of P q = cc in
     let mark = (form_atomic s.class.pool m form).1 in
+    let empty : means.catches ≡ [] =
+    each_none (catch_of s.class.pool k.instrs (length k.code.code)) k.code.handlers means.catches (no_handlers k.code.handlers codes_are.1) means.caught in
+    let room : means.shape.params ≤ k.code.max_locals = let t = rooms.1 in grind (arith, nat_tests) in
     rw means.is (record {
       source = record {
         counted = refl;
-        room = omega arith;
-        no_entries = refl;
-        each = source_of P (meant s m means.code means.ops) refl means.code.max_stack 0 means.ops means.straight_ops (rw same bound);
+        room = room;
+        no_entries = empty;
+        each = all_source P q means.ops ends.1 (rw (← fits) all.0);
       };
-      straight_method = record { no_params = refl; gives_value = refl; code = straight_of means.code.max_stack 0 means.ops means.straight_ops };
       marked = rw mark refl;
     })
 
@@ -397,46 +416,98 @@ fields_source c j [] h = tt
 fields_source c j (m ∷ ms) h =
     (record { object = omega arith; index = omega arith; address = omega (arith, h) }, fields_source c (suc j) ms (omega (arith, h)))
 
-split_methods : (P : Program) (ks : List Method) → AllByRecursion (IsMethodOf P) ks
-    → AllByRecursion (IsSourceMethod P) ks × AllByRecursion IsStraight ks × AllByRecursion IsMarked ks
-split_methods P [] h = (tt, tt, tt)
+split_methods : (P : Program) (ks : List Method) → AllByRecursion (IsMethodOf P) ks → AllByRecursion (IsSourceMethod P) ks × AllByRecursion IsMarked ks
+split_methods P [] h = (tt, tt)
 split_methods P (k ∷ ks) h =
     let r = split_methods P ks h.1 in
-    ((h.0.source, r.0), (h.0.straight_method, r.1), (h.0.marked, r.2))
+    ((h.0.source, r.0), (h.0.marked, r.1))
 
 pub few_statics : (c : ClassFile) → are_form_fields c ≡ true → length (statics c) ≤ 100
 few_statics c h = let few = (both (nat_le (length (statics c)) 100) (list_all (is_form_field c.pool) c.fields) h).0 in grind (arith, nat_tests)
 
-pub links : (c : ClassFile) (P : Program) → linked c ≡ Some P → IsLinked c P
-links c P h =
-    let t = chosen (is_form_class c) _ P h in
-    let e = both _ _ t.0 in
-    let d = both _ _ e.0 in
-    go (each (linked_method (symbols_of c (original_fields c))) (program_methods c)) refl t.1 d.1 (form_methods c e.1)
-  where
-    s : Symbols
-    s = symbols_of c (original_fields c)
+-- code that is decoded has small numbers alone
+abbrev IsSmallCode : Coded → Type 0
+IsSmallCode k = AllByRecursion IsSmallInstr k.instrs
 
-    go : (o : Option (List Method)) → each (linked_method (symbols_of c (original_fields c))) (program_methods c) ≡ o
-        → option_map (λ ms. record { fields = original_fields c; methods = ms }) o ≡ Some P
-        → are_form_fields c ≡ true → list_all (is_form_program c.pool) (program_methods c) ≡ true → IsLinked c P
-    go None is h fields methods = cc
-    go (Some ms) is h fields methods =
-        let same : P ≡ record { fields = original_fields c; methods = ms } = cc in
-        let all = each_all (linked_method (symbols_of c (original_fields c))) (is_form_program c.pool) (IsMethodOf P)
-        (λ m k form e. method_of P (symbols_of c (original_fields c)) m k (ap (λ (p : Program). p.fields) same) form e) (program_methods c) ms methods is in
-        let parts = split_methods P ms all in
-        let members : P.methods ≡ ms = ap (λ (p : Program). p.methods) same in
-        let statics_are : P.fields ≡ original_fields c = ap (λ (p : Program). p.fields) same in
-        let few : 0 + length (statics c) ≤ 1000 = omega (arith, few_statics c fields) in
-        let Sources : List Method → Type 0 = λ ks. AllByRecursion (IsSourceMethod P) ks in
-        let Straights : List Method → Type 0 = λ ks. AllByRecursion IsStraight ks in
-        let Marks : List Method → Type 0 = λ ks. AllByRecursion IsMarked ks in
-        record {
-          straight = record {
+small_code : (pool : Pool) (o : Option Code) (k : Coded) → decoded_code pool o ≡ Ok k → IsSmallCode k
+small_code pool None k h = cc
+small_code pool (Some code) k h = go (instrs_of pool code.handlers code.code) (read_small pool code.handlers code.code) h
+  where
+    go : (r : Result (List Instr) Refusal) → Has (λ is. AllByRecursion IsSmallInstr is) r → (r >>= λ is. Ok (record { code = code; instrs = is })) ≡ Ok k → IsSmallCode k
+    go (Ok is) s e = let same : k ≡ record { code = code; instrs = is } = cc in rw same s
+    go (Err f) s e = cc
+
+small_named : (n : MethodName) (r : Result Coded Refusal) (k : Coded) → ((j : Coded) → r ≡ Ok j → IsSmallCode j) → named_fault n r ≡ Ok k → IsSmallCode k
+small_named n (Ok j) k s h = let same : k ≡ j = cc in rw same (s j refl)
+small_named n (Err e) k s h = cc
+
+all_small : (c : ClassFile) (ms : List Member) (ks : List Coded) → all_decoded c ms ≡ Ok ks → AllByRecursion IsSmallCode ks × (length ks ≡ length ms)
+all_small c [] [] h = (tt, refl)
+all_small c [] (k ∷ ks) h = cc
+all_small c (m ∷ ms) ks h = go (decoded c m) refl (all_decoded c ms) (λ js e. all_small c ms js e) refl h
+  where
+    go : (r : Result Coded Refusal) → decoded c m ≡ r → (rs : Result (List Coded) Refusal)
+        → ((js : List Coded) → all_decoded c ms ≡ Ok js → AllByRecursion IsSmallCode js × (length js ≡ length ms)) → all_decoded c ms ≡ rs
+        → (r >>= λ k. rs >>= λ js. Ok (k ∷ js)) ≡ Ok ks → AllByRecursion IsSmallCode ks × (length ks ≡ length (m ∷ ms))
+    go (Ok k) e (Ok js) rest es h2 =
+        let same : ks ≡ k ∷ js = cc in
+        let r = rest js es in
+        let Both : List Coded → Type 0 = λ l. AllByRecursion IsSmallCode l × (length l ≡ length (m ∷ ms)) in
+        subst Both (sym same) ((small_named (name_of c m) (decoded_code c.pool (code_in c.pool m)) k (small_code c.pool (code_in c.pool m)) e, r.0), ap suc r.1)
+    go (Ok k) e (Err f) rest es h2 = cc
+    go (Err f) e rs rest es h2 = cc
+
+-- a method of the form with its small code
+abbrev IsGoodPair : Pool → Member × Coded → Type 0
+IsGoodPair pool p = IsFormProgram pool p.0 × IsSmallCode p.1
+
+good_pairs : (pool : Pool) (ms : List Member) (ks : List Coded) → AllByRecursion (IsFormProgram pool) ms → AllByRecursion IsSmallCode ks → AllByRecursion (IsGoodPair pool) (zip ms ks)
+good_pairs pool [] ks a b = tt
+good_pairs pool (m ∷ ms) [] a b = tt
+good_pairs pool (m ∷ ms) (k ∷ ks) a b = ((a.0, b.0), good_pairs pool ms ks a.1 b.1)
+
+-- the program of a class of the form with its code
+module _ (c : ClassFile) (P : Program) (fields_are : are_form_fields c ≡ true) (methods_are : are_form_methods c ≡ true) where
+  abbrev own : Symbols
+  own = symbols_of c (original_fields c)
+
+  program_of : (ks : List Coded) → AllByRecursion IsSmallCode ks → length ks ≡ length (program_methods c) → form_program c ks ≡ Some P → IsLinked c P
+  program_of ks smalls long h = go (form_methods c ks) refl h
+    where
+      go : (o : Option (List Method)) → form_methods c ks ≡ o → option_map (λ ms. record { fields = original_fields c; methods = ms }) o ≡ Some P → IsLinked c P
+      go None e h2 = cc
+      go (Some ms) e h2 =
+          let same : P ≡ record { fields = original_fields c; methods = ms } = cc in
+          let statics_are : P.fields ≡ original_fields c = ap (λ (p : Program). p.fields) same in
+          let members : P.methods ≡ ms = ap (λ (p : Program). p.methods) same in
+          let pairs = good_pairs c.pool (program_methods c) ks (form_each c methods_are) smalls in
+          let lengths = (each_all (λ (p : Member × Coded). form_method own p.0 p.1) (IsGoodPair c.pool) (λ k. Unit {0}) (λ p k g e. tt) (zip (program_methods c) ks) ms pairs e).1 in
+          let names : length own.methods ≡ length (program_methods c) = length-map _ _ in
+          let zipped : length (zip (program_methods c) ks) ≡ length (program_methods c) = length-zip (program_methods c) ks ∙ omega (arith, long) in
+          let many : length P.methods ≡ length own.methods = ap length members ∙ lengths ∙ zipped ∙ sym names in
+          let all = (each_all (λ (p : Member × Coded). form_method own p.0 p.1) (IsGoodPair c.pool) (IsMethodOf P)
+          (λ p k g e. method_of P own p.0 p.1 k (ap length statics_are) many g.0 g.1 e) (zip (program_methods c) ks) ms pairs e).0 in
+          let parts = split_methods P ms all in
+          let few : 0 + length (statics c) ≤ 1000 = omega (arith, few_statics c fields_are) in
+          let Sources : List Method → Type 0 = λ l. AllByRecursion (IsSourceMethod P) l in
+          let Marks : List Method → Type 0 = λ l. AllByRecursion IsMarked l in
+          record {
             source = record { fields = rw statics_are (fields_source c 0 (statics c) few); methods = subst Sources (sym members) parts.0 };
-            straight = subst Straights (sym members) parts.1;
-          };
-          marked = subst Marks (sym members) parts.2;
-          fields = statics_are;
-        }
+            marked = subst Marks (sym members) parts.1;
+            fields = statics_are;
+          }
+
+pub links : (c : ClassFile) (P : Program) → linked c ≡ Some P → IsLinked c P
+links c P h = go (is_form_class c) refl h
+  where
+    read : (r : Result (List Coded) Refusal) → all_decoded c (program_methods c) ≡ r → is_form_class c ≡ true → program_in (r >>= λ ks. Ok (form_program c ks)) ≡ Some P → IsLinked c P
+    read (Ok ks) e is h =
+        let ends = both _ _ is in
+        let fields = both _ _ ends.0 in
+        let smalls = all_small c (program_methods c) ks e in
+        program_of c P fields.1 ends.1 ks smalls.0 smalls.1 h
+    read (Err f) e is h = cc
+
+    go : (b : Bool) → is_form_class c ≡ b → program_in (if b then (all_decoded c (program_methods c) >>= λ ks. Ok (form_program c ks)) else Ok None) ≡ Some P → IsLinked c P
+    go true is h = read (all_decoded c (program_methods c)) refl is h
+    go false is h = cc

@@ -22,14 +22,14 @@ use Rattle.jmodel.proofs.Alone.{Alone, next_alone}
 use Rattle.jmodel.proofs.Alone as alone
 use Rattle.jmodel.proofs.Alike.{Alike, neither, goes, jumps as leaps, gives_value, gives_none, op_alike}
 use Rattle.jmodel.specs.Attempt.{Log, Reply, Bounds, Meter, Run, On, Stuck, next_run, on_asked, with_turns, with_depth, address, written, recorded, access}
-use Rattle.jmodel.specs.Rewriting.{moved, block, block_len, block_at, duplicate, duplicate_method}
+use Rattle.jmodel.specs.Rewriting.{block, block_len, block_at, duplicate, duplicate_method}
 use Rattle.jmodel.specs.Source.{IsSource, IsSourceOp}
 use Rattle.jmodel.proofs.Places.{Rewrites, HasAt, has_block, has_stub, next_block, blocks_grow, blocks_most, past_end}
 use Rattle.jmodel.proofs.Replies.{Leads}
 use Rattle.jmodel.proofs.Rows.{frame}
 use Rattle.jmodel.proofs.Wrapper.{IsWrapper, end_first, end_commits, end_again, end_last, bare_first, bare_commits, bare_again, bare_last}
 use Rattle.jmodel.proofs.Fields.{each_at, some_at, field_at}
-use Rattle.jmodel.proofs.Moved.{IsPlain, ArePlain, plain_append, plain_empty, plain_at, plain_set, fits_here, fits_get, fits_set, fits_room, fits_start, TakenAlike, few, took, takes_alike, get_set_same, get_set_other}
+use Rattle.jmodel.proofs.Moved.{ArePlain, plain_append, plain_empty, fits_here, fits_start, TakenAlike, few, took, takes_alike, get_set_same, get_set_other}
 use Rattle.jmodel.proofs.Walk.{read_int, IsWalk, turned_alike, entered_alike}
 use Rattle.jmodel.proofs.Follow.{IsSet, FrameAlike, Callers, bottom, caller}
 use Rattle.jmodel.proofs.Callers.{source_at, depth_alike, depth_alike_more}

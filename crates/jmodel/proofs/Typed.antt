@@ -11,7 +11,6 @@ use Rattle.jmodel.specs.declared.op.Slot.TheVariants as slot
 use Rattle.jmodel.specs.declared.op.WordType.TheVariants as word
 use Rattle.jmodel.specs.declared.op.Op.{Op}
 use Rattle.jmodel.specs.declared.op.Op.TheVariants as op
-use Rattle.jmodel.specs.declared.op.Test.{Test}
 use Rattle.jmodel.specs.declared.op.Rearrange.{Rearrange}
 use Rattle.jmodel.specs.declared.op.Rearrange.TheVariants as rearrange
 use Rattle.jmodel.specs.declared.op.Place.{Place}
@@ -19,19 +18,17 @@ use Rattle.jmodel.specs.declared.op.WordType.{WordType}
 use Rattle.jmodel.specs.declared.op.Request.TheVariants as request
 use Rattle.jmodel.specs.declared.op.Doing.{Doing}
 use Rattle.jmodel.specs.declared.op.Doing.TheVariants as doing
-use Rattle.jmodel.specs.declared.op.Asking.{Asking}
 use Rattle.jmodel.specs.declared.op.Asking.TheVariants as asking
-use Rattle.jmodel.specs.Value.{IsOfType, slots_of, pushed, stored}
+use Rattle.jmodel.specs.Value.{IsOfType, slots_of, stored}
 use Rattle.jmodel.specs.Program.{Field, Method, Program, op_at, method_at, place_at}
 use Rattle.jmodel.specs.Step.{Frame, Frames, Did, Does, Asked, Asks, Fails, with_stack, with_locals, at, next, started, received, does, step, on_top, on_int, int_in, slot_in, value_in, field_in, holds, branches, stores, rearranged, Took, take_args, goes, enters, invokes, gives, on_doing, on_did, acts, advanced, resumed}
 use Rattle.jmodel.specs.Step as wrong
 use Rattle.jmodel.specs.Free.{Free, On, Ended, Stuck, next_free, free, free_start, turned, IsNeverStuck}
 use Rattle.jmodel.specs.Free as any
-use Rattle.jmodel.specs.Source.{IsSourceMethod, IsSource}
 use Rattle.jmodel.specs.Typing.{Types, Table, types_at, IsWithin, AreWithin, FitsIn, Flow, Leads, flow, first_types, results, Covers, Keeps, KeepsAt, IsTypedAt, IsTyping, IsTypable}
 use Rattle.jmodel.specs.Typing as typed
 use Rattle.jmodel.specs.TypingLaw.{IsTypedProgram, TypedSafety, TypedSoundness}
-use Rattle.jmodel.proofs.Fields.{each_at, field_at}
+use Rattle.jmodel.proofs.Fields.{each_at}
 use Rattle.jmodel.proofs.Rows.{frame}
 use Rattle.jmodel.proofs.Preserves.{preservation}
 

@@ -1,5 +1,5 @@
 -- What a pass over the table of shared words knows: the entries that it made, the regions it holds, and its attempt.
-use Rattle.std.specs.Prelude.{◌≡◌, ◌⊎◌, ℕ, suc, Bool, true, false, cond, ◌==◌, List, [], ◌∷◌, nat_lt}
+use Rattle.std.specs.Prelude.{◌≡◌, ◌⊎◌, ℕ, suc, Bool, cond, ◌==◌, List, [], ◌∷◌, nat_lt}
 use mathlib.Core.Option.{Option, none, some}
 use Rattle.jmodel.specs.Attempt.{Log}
 use Rattle.jmodel.specs.History.{Call, Entry, round, first_by}

@@ -1,56 +1,29 @@
 -- What the instructions of a class's code mean (JVM Specification, Java SE 7, chapters 4 and 6), of those that this stage knows.
-use Rattle.std.specs.Prelude.{ℕ, ℤ, zero, suc, pos, ◌+◌, ◌-◌, ◌*◌, ◌%◌, ◌-ℤ◌, List, [], ◌∷◌, Option, Some, None, Bool, ◌==◌, ◌&&◌, ◌||◌, nat_lt, nat_le, nat_eq, if◌then◌else◌, codes, bytes_eq, find, position, option_map, option_and_then}
-use Rattle.std.specs.Int.{w8, w16, cast_signed}
-use Rattle.jmodel.specs.declared.class_file.Constant.{Constant}
-use Rattle.jmodel.specs.declared.class_file.Constant.TheVariants as constants
+use Rattle.std.specs.Prelude.{ℕ, ℤ, pos, ◌-◌, ◌-ℤ◌, List, [], ◌∷◌, Option, Some, None, Bool, ◌==◌, ◌&&◌, ◌||◌, nat_le, nat_eq, if◌then◌else◌, codes, bytes_eq, find, position, option_map, option_and_then}
 use Rattle.jmodel.specs.declared.name.MethodName.{MethodName}
 use Rattle.jmodel.specs.declared.value.Value.TheVariants as value
+use Rattle.jmodel.specs.declared.instruction.Operands.{Operands}
+use Rattle.jmodel.specs.declared.instruction.Operands.TheVariants as operands
+use Rattle.jmodel.specs.declared.instruction.Instr.{Instr}
 use Rattle.jmodel.specs.declared.op.Op.{Op}
 use Rattle.jmodel.specs.declared.op.Op.TheVariants as op
-use Rattle.jmodel.specs.declared.op.Rearrange.TheVariants.{Nothing, Pop, Duplicate}
-use Rattle.jmodel.specs.declared.op.Binary.TheVariants.{Add, Subtract, Multiply}
-use Rattle.jmodel.specs.declared.op.Unary.TheVariants.{Negate}
-use Rattle.jmodel.specs.declared.op.Test.TheVariants.{Equal}
+use Rattle.jmodel.specs.declared.op.Rearrange.TheVariants.{Nothing, Pop, PopTwo, Duplicate, DuplicateUnder, DuplicateTwo, Swap}
+use Rattle.jmodel.specs.declared.op.Binary.TheVariants.{Add, Subtract, Multiply, ShiftLeft, ShiftRight, UnsignedShiftRight, And, Or, Xor}
+use Rattle.jmodel.specs.declared.op.Unary.TheVariants.{Negate, ToByte, ToChar, ToShort}
+use Rattle.jmodel.specs.declared.op.Test.{Test}
+use Rattle.jmodel.specs.declared.op.Test.TheVariants.{Equal, NotEqual, Less, GreaterOrEqual, Greater, LessOrEqual}
 use Rattle.jmodel.specs.declared.op.ContextCall.TheVariants.{Init, BeforeRead, OnRead, OnWrite, Commit, Rollback}
 use Rattle.jmodel.specs.declared.op.WordType.TheVariants as word
-use Rattle.jmodel.specs.ClassFile.{Attribute, Member, Pool, ClassFile}
-use Rattle.jmodel.specs.Pool.{entry, utf8, class_name, MemberName, field_name, method_name}
-use Rattle.jmodel.specs.ClassRules.{same_text, is_named}
-use Rattle.jmodel.specs.Constants.{pair_number, integer, long_value}
+use Rattle.jmodel.specs.ClassFile.{Member, Pool, ClassFile}
+use Rattle.jmodel.specs.Pool.{utf8, class_name, MemberName, field_name, method_name}
+use Rattle.jmodel.specs.ClassRules.{same_text}
+use Rattle.jmodel.specs.Constants.{integer, long_value}
 use Rattle.jmodel.specs.Program.{Field}
 use Rattle.jmodel.specs.Layout.{text_or_none, base_of}
 
--- ---- instructions
-
--- An instruction as it lies in code, and the number that its operand bytes make, None where the code ends before them.
-pub record Instruction : Type 0 where
-  pub pc : ℕ
-  pub opcode : ℕ
-  pub operand : Option ℕ
-
--- how many operand bytes follow an opcode of those that have a meaning here
-abbrev pub operand_bytes : ℕ → ℕ
-operand_bytes c =
-    if (c == 16) || (nat_le 21 c && nat_le c 25) || (nat_le 54 c && nat_le c 58) then 1
-    else if (c == 17) || (c == 19) || (nat_le 153 c && nat_le c 168) || (nat_le 178 c && nat_le c 184) then 2
-    else 0
-
--- the number that up to two bytes at the front make
-abbrev pub operand : ℕ → List ℕ → Option ℕ
-operand zero bs = Some 0
-operand (suc n) [] = None
-operand (suc zero) (a ∷ bs) = Some a
-operand (suc (suc n)) (a ∷ []) = None
-operand (suc (suc n)) (a ∷ b ∷ bs) = Some (pair_number a b)
-
--- the instructions of code from a pc on, where so many operand bytes are still to be passed over
-abbrev pub split : ℕ → ℕ → List ℕ → List Instruction
-split pc skip [] = []
-split pc zero (b ∷ bs) = record { pc = pc; opcode = b; operand = operand (operand_bytes b) bs } ∷ split (pc + 1) (operand_bytes b) bs
-split pc (suc n) (b ∷ bs) = split (pc + 1) n bs
-
-abbrev pub instructions : List ℕ → List Instruction
-instructions code = split 0 0 code
+-- the number of the instruction at a place of code
+abbrev pub number_at : List Instr → ℕ → Option ℕ
+number_at is pc = position (λ (i : Instr). nat_eq i.pc pc) is
 
 -- ---- what names stand for
 
@@ -105,45 +78,89 @@ short_local_op c =
     else if nat_le 75 c && nat_le c 78 then Some (op.Store (c - 75))
     else None
 
--- an instruction without operands
-abbrev pub simple_op : ℕ → Option Op
-simple_op c =
-    if c == 0 then Some (op.Rearrange Nothing)
-    else if nat_le 2 c && nat_le c 8 then Some (op.Constant (value.Int (pos c -ℤ pos 3)))
-    else if c == 87 then Some (op.Rearrange Pop)
-    else if c == 89 then Some (op.Rearrange Duplicate)
-    else if c == 96 then Some (op.Binary Add)
+-- what takes ints from the stack and leaves an int
+abbrev pub arithmetic_op : ℕ → Option Op
+arithmetic_op c =
+    if c == 96 then Some (op.Binary Add)
     else if c == 100 then Some (op.Binary Subtract)
     else if c == 104 then Some (op.Binary Multiply)
     else if c == 116 then Some (op.Unary Negate)
-    else if c == 172 then Some op.ReturnValue
+    else if c == 120 then Some (op.Binary ShiftLeft)
+    else if c == 122 then Some (op.Binary ShiftRight)
+    else if c == 124 then Some (op.Binary UnsignedShiftRight)
+    else if c == 126 then Some (op.Binary And)
+    else if c == 128 then Some (op.Binary Or)
+    else if c == 130 then Some (op.Binary Xor)
+    else if c == 145 then Some (op.Unary ToByte)
+    else if c == 146 then Some (op.Unary ToChar)
+    else if c == 147 then Some (op.Unary ToShort)
+    else None
+
+-- what rearranges the stack
+abbrev pub rearranging_op : ℕ → Option Op
+rearranging_op c =
+    if c == 0 then Some (op.Rearrange Nothing)
+    else if c == 87 then Some (op.Rearrange Pop)
+    else if c == 88 then Some (op.Rearrange PopTwo)
+    else if c == 89 then Some (op.Rearrange Duplicate)
+    else if c == 90 then Some (op.Rearrange DuplicateUnder)
+    else if c == 92 then Some (op.Rearrange DuplicateTwo)
+    else if c == 95 then Some (op.Rearrange Swap)
+    else None
+
+-- what leaves the method
+abbrev pub leaving_op : ℕ → Option Op
+leaving_op c =
+    if c == 172 then Some op.ReturnValue
     else if c == 177 then Some op.Return
     else if c == 191 then Some op.Throw
+    else None
+
+-- an instruction without operands; the constants from -1 to 5 have the opcodes from 2 to 8
+abbrev pub simple_op : ℕ → Option Op
+simple_op c =
+    if nat_le 2 c && nat_le c 8 then Some (op.Constant (value.Int (pos c -ℤ pos 3)))
+    else if (c == 0) || (nat_le 87 c && nat_le c 95) then rearranging_op c
+    else if nat_le 96 c && nat_le c 147 then arithmetic_op c
+    else if nat_le 172 c then leaving_op c
     else short_local_op c
 
--- one with a number or a local
-abbrev pub number_op : ℕ → ℕ → Option Op
-number_op c n =
-    if c == 16 then Some (op.Constant (value.Int (cast_signed w8 (n % 256))))
-    else if c == 17 then Some (op.Constant (value.Int (cast_signed w16 n)))
-    else if (c == 21) || (c == 25) then Some (op.Load n)
+-- a number that goes on the stack
+abbrev pub number_op : ℕ → ℤ → Option Op
+number_op c n = if (c == 16) || (c == 17) then Some (op.Constant (value.Int n)) else None
+
+-- a load or a store of an int or a reference
+abbrev pub local_op : ℕ → ℕ → Option Op
+local_op c n =
+    if (c == 21) || (c == 25) then Some (op.Load n)
     else if (c == 54) || (c == 58) then Some (op.Store n)
     else None
 
--- whether a jump at a pc by an offset of two bytes leads to an instruction
-abbrev pub is_target : ℕ → ℕ → Instruction → Bool
-is_target pc offset i =
-    if nat_lt offset 32768 then nat_le pc i.pc && nat_eq (i.pc - pc) offset
-    else nat_le i.pc pc && nat_eq (pc - i.pc) (65536 - offset)
+-- the instruction behind wide
+abbrev pub wide_op : ℕ → ℕ → ℤ → Option Op
+wide_op c n add = if c == 132 then Some (op.Increment n add) else local_op c n
 
-abbrev pub target : List Instruction → ℕ → ℕ → Option ℕ
-target is pc offset = position (is_target pc offset) is
-
-abbrev pub jump_op : List Instruction → ℕ → ℕ → ℕ → Option Op
-jump_op is pc c offset =
-    if c == 153 then option_map (op.Branch Equal) (target is pc offset)
-    else if c == 167 then option_map op.Goto (target is pc offset)
+-- the tests of an opcode and the next five
+abbrev pub test_of : ℕ → ℕ → Option Test
+test_of first c =
+    if c == first then Some Equal
+    else if c - first == 1 then Some NotEqual
+    else if c - first == 2 then Some Less
+    else if c - first == 3 then Some GreaterOrEqual
+    else if c - first == 4 then Some Greater
+    else if c - first == 5 then Some LessOrEqual
     else None
+
+-- a jump to the instruction of a number
+abbrev pub jump_to : ℕ → ℕ → Option Op
+jump_to c to =
+    if nat_le 153 c && nat_le c 158 then option_map (λ t. op.Branch t to) (test_of 153 c)
+    else if nat_le 159 c && nat_le c 164 then option_map (λ t. op.BranchInts t to) (test_of 159 c)
+    else if (c == 167) || (c == 200) then Some (op.Goto to)
+    else None
+
+abbrev pub jump_op : List Instr → ℕ → ℕ → Option Op
+jump_op is c target = option_and_then (jump_to c) (number_at is target)
 
 abbrev pub get_op : Symbols → MemberName → Option Op
 get_op s m =
@@ -185,22 +202,27 @@ virtual_call_op m = if bytes_eq m.class context_class then context_op m else Non
 -- one with an index of the pool
 abbrev pub pool_op : Symbols → ℕ → ℕ → Option Op
 pool_op s c i =
-    if c == 19 then option_map (λ n. op.Constant (value.Int n)) (integer s.class.pool i)
+    if (c == 18) || (c == 19) then option_map (λ n. op.Constant (value.Int n)) (integer s.class.pool i)
     else if c == 178 then option_and_then (get_op s) (field_name s.class.pool i)
     else if c == 179 then option_and_then (put_op s) (field_name s.class.pool i)
     else if c == 182 then option_and_then virtual_call_op (method_name s.class.pool i)
     else if c == 184 then option_and_then (static_call_op s) (method_name s.class.pool i)
     else None
 
-abbrev pub operand_op : Symbols → List Instruction → ℕ → ℕ → ℕ → Option Op
-operand_op s is pc c n =
-    if nat_le 153 c && nat_le c 168 then jump_op is pc c n
-    else if (c == 19) || nat_le 178 c then pool_op s c n
-    else number_op c n
+-- what an opcode with its operands means, among instructions of one code
+abbrev pub meaning : Symbols → List Instr → ℕ → Operands → Option Op
+meaning s is c operands.Nothing = simple_op c
+meaning s is c (operands.Number n) = number_op c n
+meaning s is c (operands.Local n) = local_op c n
+meaning s is c (operands.LocalAdd n add) = Some (op.Increment n add)
+meaning s is c (operands.Pool i) = pool_op s c i
+meaning s is c (operands.Target t) = jump_op is c t
+meaning s is c (operands.Wide w n add) = wide_op w n add
+meaning s is c o = None
 
 -- what an instruction of a list of them means
-abbrev pub op_of : Symbols → List Instruction → Instruction → Option Op
-op_of s is i = if operand_bytes i.opcode == 0 then simple_op i.opcode else option_and_then (operand_op s is i.pc i.opcode) i.operand
+abbrev pub op_of : Symbols → List Instr → Instr → Option Op
+op_of s is i = meaning s is i.op i.operands
 
 abbrev pub in_front : {A : Type 0} → Option A → Option (List A) → Option (List A)
 in_front (Some x) (Some xs) = Some (x ∷ xs)
@@ -211,5 +233,5 @@ abbrev pub each : {A B : Type 0} → (A → Option B) → List A → Option (Lis
 each f [] = Some []
 each f (x ∷ xs) = in_front (f x) (each f xs)
 
-abbrev pub ops_of : Symbols → List Instruction → Option (List Op)
+abbrev pub ops_of : Symbols → List Instr → Option (List Op)
 ops_of s is = each (op_of s is) is

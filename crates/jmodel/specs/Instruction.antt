@@ -1,6 +1,6 @@
 -- The form of code (JVM Specification, Java SE 7, chapter 6): the table of opcodes, and how instructions are spelled.
 use Rattle.std.specs.Prelude.{◌≡◌, ℕ, suc, ◌+◌, ◌-◌, ◌%◌, ◌<◌, ◌^◌, ℤ, pos, ◌+ℤ◌, ◌-ℤ◌, ◌≤ℤ◌, List, [], ◌∷◌, ◌++◌, length, map, replicate, Option, Some, None, Bool, true, false, nat_le, int_lt, ◌==◌, ◌&&◌, if◌then◌else◌, option_and_then, option_map, FitsSigned}
-use Rattle.std.specs.List.{flat_map, list_any, list_all, AllByRecursion}
+use Rattle.std.specs.List.{flat_map, list_any, AllByRecursion}
 use Rattle.std.specs.Int.{Width, w8, w16, w32, to_be_bytes, cast_unsigned}
 use Rattle.jmodel.specs.declared.class_file.Constant.{Constant}
 use Rattle.jmodel.specs.declared.class_file.Constant.TheVariants as constants

@@ -1,5 +1,5 @@
 -- Reading code: its instructions from the front, then their targets, then the places of exception entries.
-use Rattle.std.specs.Prelude.{ℕ, zero, suc, ◌^◌, min, ℤ, pos, negsuc, ◌+ℤ◌, ◌-ℤ◌, List, [], ◌∷◌, length, Option, Some, None, Result, Ok, Err, Bool, false, not, nat_lt, nat_le, int_le, nat_abs, ◌==◌, ◌&&◌, if◌then◌else◌}
+use Rattle.std.specs.Prelude.{ℕ, zero, suc, ◌^◌, min, ℤ, pos, negsuc, ◌+ℤ◌, ◌-ℤ◌, List, [], ◌∷◌, length, Option, Some, None, Result, Ok, Err, Bool, false, nat_lt, nat_le, ◌==◌, ◌&&◌, if◌then◌else◌}
 use Rattle.std.specs.List.{list_all, flat_map}
 use Rattle.std.specs.Int.{Width, w8, w16, w32, cast_signed}
 use Rattle.jmodel.specs.declared.class_file.Handler.{Handler}

@@ -3,7 +3,7 @@ use Rattle.std.specs.Prelude.{◌≡◌, pos, [], ◌∷◌, Some}
 use Rattle.std.specs.List.{AllByRecursion}
 use Rattle.jmodel.specs.ClassFile.{ClassFile}
 use Rattle.jmodel.specs.Program.{Method, Program}
-use Rattle.jmodel.specs.Source.{IsStraightProgram}
+use Rattle.jmodel.specs.Source.{IsSource}
 use Rattle.jmodel.specs.Layout.{fields_of}
 use Rattle.jmodel.specs.Linking.{linked}
 
@@ -11,9 +11,9 @@ use Rattle.jmodel.specs.Linking.{linked}
 abbrev pub IsMarked : Method → Type 0
 IsMarked k = k.retries ≡ Some (pos 2147483647)
 
--- straight-line methods, each of them marked, over the class's own static fields
+-- source code in each method, each of them marked, over the class's own static fields
 pub record IsLinked (c : ClassFile) (P : Program) : Type 0 where
-  pub straight : IsStraightProgram P
+  pub source : IsSource P
   pub marked : AllByRecursion IsMarked P.methods
   pub fields : P.fields ≡ fields_of (c ∷ []) 0 (c ∷ [])
 

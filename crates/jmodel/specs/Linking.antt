@@ -1,35 +1,43 @@
--- What a class means as a program: original classes of a temporary form, and rewritten ones. The form has the straight-line
--- int code of static methods without parameters.
-use Rattle.std.specs.Prelude.{ℕ, ℤ, pos, ◌+◌, ◌-◌, List, [], ◌∷◌, ◌++◌, length, map, filter, take, drop, Option, Some, None, Bool, true, false, not, ◌==◌, ◌&&◌, ◌||◌, nat_lt, nat_le, nat_eq, if◌then◌else◌, codes, bytes_eq, bit_and, find, position, option_map, option_and_then, is_some}
+-- What a class means as a program: original classes of a temporary form, and rewritten ones. The form has the int code of static
+-- methods that take ints and give an int or nothing.
+use Rattle.std.specs.Prelude.{ℕ, ℤ, pos, ◌-◌, List, [], ◌∷◌, ◌++◌, length, map, filter, take, drop, zip, Option, Some, None, Result, Ok, Err, Bool, true, false, not, ◌==◌, ◌&&◌, ◌||◌, nat_lt, nat_le, nat_eq, if◌then◌else◌, codes, bytes_eq, bit_and, find, option_map, option_and_then, is_some, slice_get}
 use Rattle.std.specs.List.{list_any, list_all, starts_with}
 use Rattle.jmodel.specs.declared.class_file.Constant.{Constant}
 use Rattle.jmodel.specs.declared.class_file.Constant.TheVariants as constants
+use Rattle.jmodel.specs.declared.class_file.FieldType.{FieldType}
+use Rattle.jmodel.specs.declared.class_file.FieldType.TheVariants as types
 use Rattle.jmodel.specs.declared.class_file.Handler.{Handler}
+use Rattle.jmodel.specs.declared.instruction.Operands.{Operands}
+use Rattle.jmodel.specs.declared.instruction.Operands.TheVariants as operands
+use Rattle.jmodel.specs.declared.instruction.Instr.{Instr}
+use Rattle.jmodel.specs.declared.name.MethodName.{MethodName}
+use Rattle.jmodel.specs.declared.refusal.Refusal.{Refusal}
+use Rattle.jmodel.specs.declared.refusal.Refusal.TheVariants.{BadCode, BadInstr, BadTarget}
 use Rattle.jmodel.specs.declared.value.Value.TheVariants as value
 use Rattle.jmodel.specs.declared.op.Op.{Op}
 use Rattle.jmodel.specs.declared.op.Op.TheVariants as op
 use Rattle.jmodel.specs.declared.op.Catch.{Catch}
 use Rattle.jmodel.specs.declared.op.Catches.{Catches}
 use Rattle.jmodel.specs.declared.op.Catches.TheVariants.{Conflict, Any}
+use Rattle.jmodel.specs.Name.{printed}
 use Rattle.jmodel.specs.ClassFile.{Attribute, Member, Pool, ClassFile, Code}
 use Rattle.jmodel.specs.Pool.{utf8, class_name}
 use Rattle.jmodel.specs.ClassRules.{same_text, is_named}
 use Rattle.jmodel.specs.ClassReading.{code_of}
+use Rattle.jmodel.specs.Descriptor.{Signature}
+use Rattle.jmodel.specs.DescriptorReading.{signature_of}
+use Rattle.jmodel.specs.InstructionReading.{instrs_of}
+use Rattle.jmodel.specs.Reading.{◌>>=◌}
 use Rattle.jmodel.specs.Program.{Field, Method, Program}
-use Rattle.jmodel.specs.Rewriting.{context_type}
-use Rattle.jmodel.specs.Source.{takes, leaves, is_return}
 use Rattle.jmodel.specs.Layout.{library, is_static, statics, text_or_none, fields_of}
 use Rattle.jmodel.specs.Constants.{pair_number}
-use Rattle.jmodel.specs.Decoding.{Instruction, instructions, Symbols, own_name, name_of, each, ops_of}
+use Rattle.jmodel.specs.Decoding.{number_at, context_class, Symbols, own_name, name_of, each, ops_of}
 
 -- ---- exception entries, by numbers of instructions
 
-abbrev pub index_at : List Instruction → ℕ → Option ℕ
-index_at is pc = position (λ (i : Instruction). nat_eq i.pc pc) is
-
 -- the end may be that of the code
-abbrev pub end_at : List Instruction → ℕ → ℕ → Option ℕ
-end_at is len pc = if nat_eq pc len then Some (length is) else index_at is pc
+abbrev pub end_at : List Instr → ℕ → ℕ → Option ℕ
+end_at is len pc = if nat_eq pc len then Some (length is) else number_at is pc
 
 abbrev pub catches_of : Pool → ℕ → Option Catches
 catches_of pool class =
@@ -41,8 +49,8 @@ abbrev pub make_catch : Option ℕ → Option ℕ → Option ℕ → Option Catc
 make_catch (Some from) (Some to) (Some at) (Some catches) = Some (record { from = from; to = to; at = at; catches = catches })
 make_catch from to at catches = None
 
-abbrev pub catch_of : Pool → List Instruction → ℕ → Handler → Option Catch
-catch_of pool is len h = make_catch (index_at is h.start) (end_at is len h.end) (index_at is h.handler) (catches_of pool h.catch_type)
+abbrev pub catch_of : Pool → List Instr → ℕ → Handler → Option Catch
+catch_of pool is len h = make_catch (number_at is h.start) (end_at is len h.end) (number_at is h.handler) (catches_of pool h.catch_type)
 
 -- ---- methods
 
@@ -51,12 +59,26 @@ pub record Shape : Type 0 where
   pub params : ℕ
   pub gives : Bool
 
+abbrev pub is_context : FieldType → Bool
+is_context (types.Reference name) = bytes_eq name context_class
+is_context t = false
+
+-- an int, or a transaction's context: each takes one place
+abbrev pub is_parameter : FieldType → Bool
+is_parameter types.Int = true
+is_parameter t = is_context t
+
+-- an int or nothing
+abbrev pub is_result : Option FieldType → Bool
+is_result None = true
+is_result (Some types.Int) = true
+is_result (Some t) = false
+
+abbrev pub shape_in : Signature → Option Shape
+shape_in s = if list_all is_parameter s.parameters && is_result s.result then Some (record { params = length s.parameters; gives = is_some s.result }) else None
+
 abbrev pub shape_of : List ℕ → Option Shape
-shape_of d =
-    if bytes_eq d (codes "()I") then Some (record { params = 0; gives = true })
-    else if bytes_eq d (codes "(" ++ context_type ++ codes ")I") then Some (record { params = 1; gives = true })
-    else if bytes_eq d (codes "(I" ++ context_type ++ codes ")V") then Some (record { params = 2; gives = false })
-    else None
+shape_of d = option_and_then shape_in (signature_of d)
 
 abbrev pub code_in : Pool → Member → Option Code
 code_in pool m = option_and_then (λ (a : Attribute). code_of pool a.bytes) (find (is_named pool (codes "Code")) m.attributes)
@@ -76,6 +98,11 @@ is_marked pool m = list_any (is_mark pool) m.attributes
 abbrev pub retries_of : Pool → Member → Option ℤ
 retries_of pool m = if is_marked pool m then Some (pos 2147483647) else None
 
+-- the Code of a method with its instructions
+pub record Coded : Type 0 where
+  pub code : Code
+  pub instrs : List Instr
+
 abbrev pub make_method : Symbols → Bool → Member → Code → Option Shape → Option (List Op) → Option (List Catch) → Option Method
 make_method s counted m k (Some shape) (Some ops) (Some catches) = Some (record {
   name = name_of s.class m;
@@ -90,20 +117,58 @@ make_method s counted m k (Some shape) (Some ops) (Some catches) = Some (record 
 })
 make_method s counted m k shape ops catches = None
 
-abbrev pub coded_method : Symbols → Bool → Member → Code → Option Method
-coded_method s counted m k = let is = instructions k.code in
-    make_method s counted m k (shape_of (text_or_none (utf8 s.class.pool m.descriptor))) (ops_of s is) (each (catch_of s.class.pool is (length k.code)) k.handlers)
+abbrev pub descriptor_of : Pool → Member → List ℕ
+descriptor_of pool m = text_or_none (utf8 pool m.descriptor)
 
--- what a method means; its frames count or don't
+-- what a method with its instructions means; its frames count or don't
+abbrev pub coded_method : Symbols → Bool → Member → Coded → Option Method
+coded_method s counted m k =
+    make_method s counted m k.code (shape_of (descriptor_of s.class.pool m)) (ops_of s k.instrs) (each (catch_of s.class.pool k.instrs (length k.code.code)) k.code.handlers)
+
+-- ---- code
+
+-- the fault of code, in the method of this name
+abbrev pub in_method : MethodName → Refusal → Refusal
+in_method m (BadInstr name at) = BadInstr (printed m) at
+in_method m (BadTarget name at) = BadTarget (printed m) at
+in_method m r = r
+
+abbrev pub named_fault : {A : Type 0} → MethodName → Result A Refusal → Result A Refusal
+named_fault m (Ok x) = Ok x
+named_fault m (Err r) = Err (in_method m r)
+
+abbrev pub decoded_code : Pool → Option Code → Result Coded Refusal
+decoded_code pool None = Err (BadCode [])
+decoded_code pool (Some k) = instrs_of pool k.handlers k.code >>= λ is. Ok (record { code = k; instrs = is })
+
+-- the Code of a method with its instructions, or the first fault of its instructions
+abbrev pub decoded : ClassFile → Member → Result Coded Refusal
+decoded c m = named_fault (name_of c m) (decoded_code c.pool (code_in c.pool m))
+
+-- what each gives, or the first fault
+abbrev pub all_decoded : ClassFile → List Member → Result (List Coded) Refusal
+all_decoded c [] = Ok []
+all_decoded c (m ∷ ms) = decoded c m >>= λ k. all_decoded c ms >>= λ ks. Ok (k ∷ ks)
+
+abbrev pub decoded_or_none : Result Coded Refusal → Option Coded
+decoded_or_none (Ok k) = Some k
+decoded_or_none (Err r) = None
+
+-- what a method of a rewritten class means
 abbrev pub method_of : Symbols → Bool → Member → Option Method
-method_of s counted m = option_and_then (coded_method s counted m) (code_in s.class.pool m)
+method_of s counted m = option_and_then (coded_method s counted m) (decoded_or_none (decoded s.class m))
 
--- whether a method has the descriptor of an accessor or a duplicate, which take a transaction's context
+-- ---- the methods of a program
+
+abbrev pub has_context : Option Signature → Bool
+has_context None = false
+has_context (Some s) = list_any is_context s.parameters
+
+-- whether a method takes a transaction's context, as accessors and duplicates do
 abbrev pub takes_context : Pool → Member → Bool
-takes_context pool m = same_text (utf8 pool m.descriptor) (codes "(" ++ context_type ++ codes ")I") || same_text (utf8 pool m.descriptor) (codes "(I" ++ context_type ++ codes ")V")
+takes_context pool m = has_context (signature_of (descriptor_of pool m))
 
--- Whether a method is one of the program that a class means: it is marked, or takes a context. What is neither can't be
--- called from the code that a program has so far.
+-- Whether a method is one of the program that a class means: it is marked, or takes a context.
 abbrev pub is_program_method : Pool → Member → Bool
 is_program_method pool m = is_marked pool m || takes_context pool m
 
@@ -141,9 +206,10 @@ is_form_attribute pool a = not (is_named pool (codes "RuntimeVisibleAnnotations"
 abbrev pub is_special : List ℕ → Bool
 is_special name = starts_with nat_eq name (60 ∷ [])
 
--- A static method without parameters that gives an int; of the flags 0008, 0020, 0100 and 0400 the first alone is set.
+-- A static method that takes ints and gives an int or nothing; of the flags 0008, 0020, 0100 and 0400 the first alone is set.
 abbrev pub is_form_atomic : Pool → Member → Bool
-is_form_atomic pool m = nat_eq (bit_and m.flags 0x528) 8 && same_text (utf8 pool m.descriptor) (codes "()I") && not (is_special (text_or_none (utf8 pool m.name)))
+is_form_atomic pool m = nat_eq (bit_and m.flags 0x528) 8 && is_some (shape_of (descriptor_of pool m)) && not (takes_context pool m)
+    && not (is_special (text_or_none (utf8 pool m.name)))
 
 -- a method that isn't one of the program may be anything but a static initialiser
 abbrev pub is_form_method : Pool → Member → Bool
@@ -167,38 +233,51 @@ is_form_head c = nat_eq (bit_and c.flags 0x200) 0 && is_free_name (own_name c) &
 abbrev pub is_form_class : ClassFile → Bool
 is_form_class c = list_all is_form_constant c.pool && is_form_head c && are_form_fields c && are_form_methods c
 
--- a Code of moderate size without exception entries
+-- a Code without exception entries, of at most 200 locals
 abbrev pub is_form_code : Code → Bool
-is_form_code k = nat_le (length k.code) 10000 && nat_le k.max_stack 1000 && nat_le k.max_locals 1000 && is_empty k.handlers
+is_form_code k = nat_le k.max_locals 200 && is_empty k.handlers
 
--- what may stand before the return
-abbrev pub is_form_op : Op → Bool
-is_form_op (op.Constant (value.Int n)) = true
-is_form_op (op.Rearrange r) = true
-is_form_op (op.Binary b) = true
-is_form_op (op.Unary u) = true
-is_form_op (op.GetStatic f) = true
-is_form_op (op.PutStatic f) = true
-is_form_op o = false
+-- loads and stores of references: aload, astore and their short forms
+abbrev pub is_of_reference : ℕ → Bool
+is_of_reference c = (c == 25) || (c == 58) || (nat_le 42 c && nat_le c 45) || (nat_le 75 c && nat_le c 78)
 
--- Straight-line code on a stack of height h: no instruction takes more than is there, nor leaves more than the limit, and
--- the one return comes last.
-abbrev pub is_straight_within : ℕ → ℕ → List Op → Bool
-is_straight_within limit h [] = false
-is_straight_within limit h (o ∷ []) = is_return o && nat_le 1 h
-is_straight_within limit h (o ∷ p ∷ os) = is_form_op o && nat_le (takes o) h && nat_le (h - takes o + leaves o) limit
-    && is_straight_within limit (h - takes o + leaves o) (p ∷ os)
+-- the opcode that wide stands before
+abbrev pub widened : ℕ → Operands → ℕ
+widened c (operands.Wide w n add) = w
+widened c o = c
 
-abbrev pub straight : ℕ → Option (List Op) → Option (List Op)
-straight limit None = None
-straight limit (Some ops) = if is_straight_within limit 0 ops then Some ops else None
+abbrev pub is_form_instr : Instr → Bool
+is_form_instr i = not (is_of_reference (widened i.op i.operands))
 
-abbrev pub form_method : Symbols → Member → Code → Option Method
-form_method s m k = if is_form_code k then make_method s true m k (Some (record { params = 0; gives = true })) (straight k.max_stack (ops_of s (instructions k.code))) (Some []) else None
+-- what may stand in a method with so many locals that gives a value or nothing
+abbrev pub is_form_op : ℕ → Bool → Op → Bool
+is_form_op locals gives (op.Constant (value.Int n)) = true
+is_form_op locals gives (op.Load i) = nat_lt i locals
+is_form_op locals gives (op.Store i) = nat_lt i locals
+is_form_op locals gives (op.Increment i n) = nat_lt i locals
+is_form_op locals gives (op.Rearrange r) = true
+is_form_op locals gives (op.Binary b) = true
+is_form_op locals gives (op.Unary u) = true
+is_form_op locals gives (op.Branch t to) = true
+is_form_op locals gives (op.BranchInts t to) = true
+is_form_op locals gives (op.Goto to) = true
+is_form_op locals gives (op.GetStatic f) = true
+is_form_op locals gives (op.PutStatic f) = true
+is_form_op locals gives (op.InvokeStatic m) = true
+is_form_op locals gives op.Return = not gives
+is_form_op locals gives op.ReturnValue = gives
+is_form_op locals gives o = false
 
--- a method of the form
-abbrev pub linked_method : Symbols → Member → Option Method
-linked_method s m = option_and_then (form_method s m) (code_in s.class.pool m)
+abbrev pub is_form_method_of : Coded → Method → Bool
+is_form_method_of k p = is_form_code k.code && list_all is_form_instr k.instrs && nat_le p.params p.locals && list_all (is_form_op p.locals p.gives) p.ops
+
+abbrev pub if_form : Coded → Option Method → Option Method
+if_form k None = None
+if_form k (Some p) = if is_form_method_of k p then Some p else None
+
+-- what a method of the form means
+abbrev pub form_method : Symbols → Member → Coded → Option Method
+form_method s m k = if_form k (coded_method s true m k)
 
 -- ---- programs
 
@@ -208,15 +287,32 @@ symbols_of c fields = record { class = c; fields = fields; methods = map (name_o
 abbrev pub original_fields : ClassFile → List Field
 original_fields c = fields_of (c ∷ []) 0 (c ∷ [])
 
+-- the methods of a class's program, whose instructions are these
+abbrev pub form_methods : ClassFile → List Coded → Option (List Method)
+form_methods c ks = each (λ (p : Member × Coded). form_method (symbols_of c (original_fields c)) p.0 p.1) (zip (program_methods c) ks)
+
+abbrev pub form_program : ClassFile → List Coded → Option Program
+form_program c ks = option_map (λ ms. record { fields = original_fields c; methods = ms }) (form_methods c ks)
+
+-- The program of an original class, none where it isn't of the form, or the first fault of the code of its methods.
+abbrev pub linking : ClassFile → Result (Option Program) Refusal
+linking c = if is_form_class c then (all_decoded c (program_methods c) >>= λ ks. Ok (form_program c ks)) else Ok None
+
+abbrev pub program_in : Result (Option Program) Refusal → Option Program
+program_in (Ok p) = p
+program_in (Err r) = None
+
 -- the program of an original class of the form; other classes have none
 abbrev pub linked : ClassFile → Option Program
-linked c = if is_form_class c
-    then option_map (λ ms. record { fields = original_fields c; methods = ms }) (each (linked_method (symbols_of c (original_fields c))) (program_methods c))
-    else None
+linked c = program_in (linking c)
 
--- a class of the form
-abbrev pub is_form : ClassFile → Bool
-is_form c = is_some (linked c)
+-- the place in its code of an instruction of a method of the program, by their numbers
+abbrev pub pc_in : ℕ → Result (List Coded) Refusal → ℕ → Option ℕ
+pc_in m (Err r) n = None
+pc_in m (Ok ks) n = option_map (λ (i : Instr). i.pc) (option_and_then (λ (k : Coded). slice_get k.instrs n) (slice_get ks m))
+
+abbrev pub pc_of : ClassFile → ℕ → ℕ → Option ℕ
+pc_of c m n = pc_in m (all_decoded c (program_methods c)) n
 
 abbrev pub joined : {A : Type 0} → Option (List A) → Option (List A) → Option (List A)
 joined (Some xs) (Some ys) = Some (xs ++ ys)

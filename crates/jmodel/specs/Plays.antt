@@ -1,10 +1,10 @@
 -- What each step over the shared words does to the book of its pass, and what an entry owes to the attempt that adds it.
-use Rattle.std.specs.Prelude.{◌≡◌, ◌⊎◌, ℕ, suc, ◌+◌, ◌-◌, ◌*◌, ◌/◌, ◌%◌, ◌≤◌, Bool, true, false, cond, ◌==◌, ◌&&◌, ◌||◌, not, leb, List, [], ◌∷◌, ◌++◌, map, max}
+use Rattle.std.specs.Prelude.{◌≡◌, ◌⊎◌, ℕ, ◌+◌, ◌-◌, ◌*◌, ◌/◌, ◌%◌, ◌≤◌, Bool, true, false, cond, ◌==◌, leb, List, [], ◌∷◌, ◌++◌, map, max}
 use mathlib.Core.Option.{Option, none, some}
 use Rattle.jmodel.specs.declared.value.Answer.{Answer}
 use Rattle.jmodel.specs.Attempt.{Log}
 use Rattle.jmodel.specs.History.{Call, Entry, leaves_words}
-use Rattle.jmodel.specs.Book.{Map, lookup, without, Has, only, In, pairs, Region, Lost, Stage, Unticked, Ticked, Decided, Look, Away, Saw, Had, Face, Book, IsOfLane}
+use Rattle.jmodel.specs.Book.{Map, lookup, without, only, pairs, Region, Stage, Unticked, Ticked, Decided, Look, Away, Saw, Had, Book, IsOfLane}
 use Rattle.jmodel.specs.Rule.{Story, Succeeds, nobody}
 
 abbrev pub no_call : Call

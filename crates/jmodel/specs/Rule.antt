@@ -1,11 +1,11 @@
 -- What holds of the shared words and of all books together, between any two steps.
 -- Word 0 is the clock. Words 1 to 4096 are the stripes, 2 * version where free and 2 * number + 1 where held. The heap follows.
 -- (TL2: Dice, Shalev, Shavit, DISC 2006; LSA: Riegel, Felber, Fetzer, DISC 2006, in this project's form.)
-use Rattle.std.specs.Prelude.{◌≡◌, ◌≢◌, ◌⊎◌, ℕ, zero, suc, ◌+◌, ◌-◌, ◌*◌, ◌%◌, ◌<◌, ◌≤◌, Bool, true, false, cond, ◌==◌, List, [], ◌∷◌, length, slice_index, All}
+use Rattle.std.specs.Prelude.{◌≡◌, ◌≢◌, ◌⊎◌, ℕ, zero, suc, ◌+◌, ◌-◌, ◌*◌, ◌%◌, ◌<◌, ◌≤◌, true, false, cond, ◌==◌, List, [], ◌∷◌, length, slice_index}
 use mathlib.Core.Option.{Option, none, some}
 use lib.ListN.{get_elem?}
 use Rattle.jmodel.specs.History.{Call, Entry, IsLegal, memory_after, used_after, leaves_words}
-use Rattle.jmodel.specs.Book.{Map, lookup, Has, In, pairs, Region, Stage, Unticked, Ticked, Decided, Look, Away, Saw, Had, Face, Book, rises, IsOfLane}
+use Rattle.jmodel.specs.Book.{Map, lookup, Has, In, pairs, Region, Unticked, Ticked, Decided, Look, Away, Saw, Had, Face, Book, rises, IsOfLane}
 
 -- What a table is opened for: the heap's words, the regions with the words used in each, and which entries are runs of their
 -- calls. No proof about a step looks into `runs`.

@@ -1,7 +1,8 @@
 //! Instructions as they lie in the code of a method (JVM Specification, Java SE 7, chapter 6). Places in code are counted in
 //! bytes, from 0.
-ghost use Rattle.std.specs.Prelude.{◌≡◌};
+ghost use Rattle.std.specs.Prelude.{◌≡◌, IfOk};
 
+use std::alloc::{AllocError, Global};
 use std::marker::Model;
 
 /// Which entries of the pool an instruction takes.
@@ -67,6 +68,15 @@ impl Model for Targets {
 }
 
 impl Targets {
+    /// A copy, on the given allocator.
+    pub fn copy(&self, alloc: Global) -> Result<Self, AllocError>
+        ensures { IfOk result (λ t. t ≡ self.now) }
+    {
+        Ok(Targets {
+            items: Vec::from_slice(alloc, self.as_slice())?,
+        })
+    }
+
     /// The targets of a vector, which is not copied.
     pub fn from_vec(items: Vec<u16>) -> Self
         ensures { result ≡ items.items }
@@ -97,6 +107,15 @@ impl Model for Pairs {
 }
 
 impl Pairs {
+    /// A copy, on the given allocator.
+    pub fn copy(&self, alloc: Global) -> Result<Self, AllocError>
+        ensures { IfOk result (λ p. p ≡ self.now) }
+    {
+        Ok(Pairs {
+            items: Vec::from_slice(alloc, self.as_slice())?,
+        })
+    }
+
     /// The pairs of a vector, which is not copied.
     pub fn from_vec(items: Vec<(i32, u16)>) -> Self
         ensures { result ≡ items.items }
@@ -153,10 +172,65 @@ pub enum Operands {
     },
 }
 
+impl Operands {
+    /// A copy, on the given allocator.
+    pub fn copy(&self, alloc: Global) -> Result<Self, AllocError>
+        ensures { IfOk result (λ o. o ≡ self.now) }
+    {
+        match self {
+            Operands::Nothing => Ok(Operands::Nothing),
+            Operands::Number(n) => Ok(Operands::Number(*n)),
+            Operands::Local(local) => Ok(Operands::Local(*local)),
+            Operands::LocalAdd(local, add) => Ok(Operands::LocalAdd(*local, *add)),
+            Operands::Pool(index) => Ok(Operands::Pool(*index)),
+            Operands::Interface { index, count } => Ok(Operands::Interface {
+                index: *index,
+                count: *count,
+            }),
+            Operands::Dimensions { index, count } => Ok(Operands::Dimensions {
+                index: *index,
+                count: *count,
+            }),
+            Operands::Target(target) => Ok(Operands::Target(*target)),
+            Operands::Table {
+                other,
+                low,
+                targets,
+            } => Ok(Operands::Table {
+                other: *other,
+                low: *low,
+                targets: targets.copy(alloc)?,
+            }),
+            Operands::Lookup { other, pairs } => Ok(Operands::Lookup {
+                other: *other,
+                pairs: pairs.copy(alloc)?,
+            }),
+            Operands::Wide { op, local, add } => Ok(Operands::Wide {
+                op: *op,
+                local: *local,
+                add: *add,
+            }),
+        }
+    }
+}
+
 /// An instruction, at a place in the code.
 #[derive(Debug, Drop)]
 pub struct Instr {
     pub pc: u16,
     pub op: u8,
     pub operands: Operands,
+}
+
+impl Instr {
+    /// A copy, on the given allocator.
+    pub fn copy(&self, alloc: Global) -> Result<Self, AllocError>
+        ensures { IfOk result (λ i. i ≡ self.now) }
+    {
+        Ok(Instr {
+            pc: self.pc,
+            op: self.op,
+            operands: self.operands.copy(alloc)?,
+        })
+    }
 }

@@ -16,7 +16,7 @@ pub fn opening_law()
 
 ghost use Rattle.jmodel.specs.LinkedLaw.{LinkedLaw};
 
-/// A class of the form that is built so far means a program of straight-line methods, each of them marked.
+/// The program of a class of the form is source code, each of its methods is marked, and it has the class's static fields.
 pub fn linked_law()
     ensures { LinkedLaw }
 {}

@@ -1,7 +1,7 @@
 -- A rewritten class means the rewritten program.
-use Rattle.std.proofs.Common.{◌≡◌, ℕ, ℤ, suc, ◌+◌, ◌-◌, ◌≤◌, true, false, List, [], ◌∷◌, ◌++◌, length, map, take, drop, Option, Some, Ok, refl, sym, ap, ◌∙◌, arith, append_assoc, length-append, add-one}
-use Rattle.std.specs.Prelude.{slice_get, nat_le, option_map, pos}
-use Rattle.std.specs.List.{flat_map}
+use Rattle.std.proofs.Common.{Bool, ◌≡◌, ℕ, ℤ, suc, ◌+◌, ◌-◌, ◌≤◌, true, false, List, [], ◌∷◌, ◌++◌, length, map, take, drop, Option, Some, Ok, refl, sym, ap, ◌∙◌, arith, append_assoc, length-append, add-one}
+use Rattle.std.specs.Prelude.{slice_get, nat_le, option_map, pos, zip, filter}
+use Rattle.std.specs.List.{flat_map, AllByRecursion}
 use Rattle.std.proofs.lemmas.List.Concat.{flat_map-cons}
 use Rattle.std.proofs.lemmas.Bool.Decides.{nat_tests}
 use Rattle.jmodel.specs.ClassFile.{Member, ClassFile}
@@ -9,18 +9,20 @@ use Rattle.jmodel.specs.ClassRules.{IsClassFile}
 use Rattle.jmodel.specs.Program.{Field, Method, Program}
 use Rattle.jmodel.specs.Rewriting.{accessors, getter_method, setter_method, old_method, old_methods, next_id, wrapper_method, duplicate_method, rewritten}
 use Rattle.jmodel.specs.Decoding.{Symbols, own_name, in_front, each}
-use Rattle.jmodel.specs.Linking.{symbols_of, method_of, program_methods, linked, relinked_methods, relinked}
+use Rattle.jmodel.specs.Linking.{symbols_of, method_of, is_program_method, program_methods, linked, relinked_methods, relinked}
 use Rattle.rewriter.specs.declared.accessors.Accessors.{Accessors}
-use Rattle.rewriter.specs.declared.duplicates.Calls.{Calls}
+use Rattle.rewriter.specs.Meaning.{HasBytes, AreFiled}
+use Rattle.rewriter.specs.Members.{Names}
 use Rattle.rewriter.specs.Rewritten.{both_of, rewritten_class}
 use Rattle.rewriter.proofs.Puts.{AreAccessors}
-use Rattle.rewriter.proofs.CopyCode.{each_append, each_length}
-use Rattle.rewriter.proofs.Whole.{Each, AreCalls, IsWrapped, IsCopyOf, rewrites}
-use Rattle.rewriter.proofs.Old.{AllOld, AreNamed, original}
-use Rattle.rewriter.proofs.Names.{AreOwn}
-use Rattle.rewriter.proofs.Tables.{Known, AreLawful, AreGood, good, owned, named, lawful, olds, wrappers, wrapped, parts}
-use Rattle.rewriter.proofs.Methods.{getter_is, setter_is, wrapper_is}
-use Rattle.rewriter.proofs.CopyMethods.{copy_is}
+use Rattle.rewriter.proofs.Pairs.{each_append, each_length}
+use Rattle.rewriter.proofs.Whole.{Each, AreNames, IsCopyOf, rewrites}
+use Rattle.rewriter.proofs.Old.{AllOld, AreBoth, original}
+use Rattle.rewriter.proofs.Numbers.{AreOwn}
+use Rattle.rewriter.proofs.Tables.{Known, AreLawful, AreGood, AreMarked, IsWrapper, good, owned, both, marks, lawful, olds, wrappers, wrapped, parts}
+use Rattle.rewriter.proofs.Methods.{getter_is, setter_is}
+use Rattle.rewriter.proofs.Wraps.{wrapper_is}
+use Rattle.rewriter.proofs.Duplicated.{copy_is}
 
 -- the rest of a list, from a place on
 module _ {A : Type 0} (all : List A) (n : ℕ) (x : A) (xs : List A) (rest : (j : ℕ) → slice_get all (n + j) ≡ slice_get (x ∷ xs) j) where
@@ -34,17 +36,19 @@ front : {B : Type 0} (o : Option B) (os : Option (List B)) (y : B) (ys : List B)
 front o os y ys p q = rw (p, q) refl
 
 module _ (c new : ClassFile) (P : Program) (K : Known c new P) where
-  wrappers_each : (n : ℕ) (ms W : List Member) (ks : List Method) → Each (λ Z n m x. IsWrapped c Z n m x) new.pool n ms W → AllOld c P.fields ms ks → AreNamed c.pool ms → AreLawful c.pool ms
+  wrappers_each : (n : ℕ) (ms W : List Member) (ks : List Method) → Each (IsWrapper c new P K) new.pool n ms W → AllOld c P.fields ms ks → AreBoth c.pool ms → AreLawful c.pool ms → AreMarked c.pool ms
       → ((j : ℕ) → slice_get P.methods (n + j) ≡ slice_get ks j) → each (method_of (symbols_of new P.fields) false) W ≡ Some (old_methods P n n ks)
-  wrappers_each n [] [] [] w h a l r = refl
-  wrappers_each n [] [] (k ∷ ks) w h a l r = absurd h
-  wrappers_each n [] (x ∷ W) ks w h a l r = absurd w
-  wrappers_each n (m ∷ ms) [] ks w h a l r = absurd w
-  wrappers_each n (m ∷ ms) (x ∷ W) [] w h a l r = absurd h
-  wrappers_each n (m ∷ ms) (x ∷ W) (k ∷ ks) w h a l r =
-      let one = wrapper_is c new P K n m x k a.0.0 a.0.1 (here P.methods n k ks r) h.0 l.0 w.0 in
-      let more = wrappers_each (n + 1) ms W ks w.1 h.1 a.1 l.1 (behind P.methods n k ks r) in
-      let marked : k.retries ≡ Some (pos 2147483647) = ap (λ (y : Method). y.retries) h.0.is in
+  wrappers_each n [] [] [] w h a l k r = refl
+  wrappers_each n [] [] (j ∷ ks) w h a l k r = absurd h
+  wrappers_each n [] (x ∷ W) ks w h a l k r = absurd w
+  wrappers_each n (m ∷ ms) [] ks w h a l k r = absurd w
+  wrappers_each n (m ∷ ms) (x ∷ W) [] w h a l k r = absurd h
+  wrappers_each n (m ∷ ms) (x ∷ W) (k ∷ ks) w h a l g r =
+      let at = here P.methods n k ks r in
+      let one = wrapper_is c new P K n m x k a.0.0 a.0.1 a.0.2 a.0.3 at h.0 l.0 g.0 (w.0 k at) in
+      let more = wrappers_each (n + 1) ms W ks w.1 h.1 a.1 l.1 g.1 (behind P.methods n k ks r) in
+      let mark = g.0 in
+      let marked : k.retries ≡ Some (pos 2147483647) = h.0.retries ∙ rw mark refl in
       let step = add-one n in
       let list : old_methods P n n (k ∷ ks) ≡ wrapper_method P n n (pos 2147483647) k ∷ old_methods P (suc n) (suc n) ks = ap (λ (o : Option ℤ). old_method P n n o k ∷ old_methods P (next_id o n) (suc n) ks) marked in
       let both = front (method_of (symbols_of new P.fields) false x) (each (method_of (symbols_of new P.fields) false) W) _ _ one more in
@@ -66,17 +70,17 @@ module _ (c new : ClassFile) (P : Program) (K : Known c new P) where
       ∙ front (method_of (symbols_of new P.fields) false a.getter) (each (method_of (symbols_of new P.fields) false) (a.setter ∷ flat_map both_of A)) _ _ one back
       ∙ ap (λ (i : ℕ). Some (getter_method n f ∷ setter_method n f ∷ accessors i fs)) (add-one n)
 
-  module _ (L : linked c ≡ Some P) (calls : List Calls) (called : Each (λ Z n f x. AreCalls P (own_name c) n f Z x) new.pool 0 P.fields calls) where
-    copies_each : (n : ℕ) (ms D : List Member) (ks : List Method) → Each (λ Z n m x. IsCopyOf P c calls Z n m x) new.pool n ms D → AllOld c P.fields ms ks → AreNamed c.pool ms → ((j : ℕ) → slice_get P.methods (n + j) ≡ slice_get ks j)
-        → each (method_of (symbols_of new P.fields) true) D ≡ Some (map (duplicate_method P) ks)
-    copies_each n [] [] [] w h a r = refl
-    copies_each n [] [] (k ∷ ks) w h a r = absurd h
-    copies_each n [] (x ∷ D) ks w h a r = absurd w
-    copies_each n (m ∷ ms) [] ks w h a r = absurd w
-    copies_each n (m ∷ ms) (x ∷ D) [] w h a r = absurd h
-    copies_each n (m ∷ ms) (x ∷ D) (k ∷ ks) w h a r =
-        let one = copy_is c new P K L calls called n m x k a.0.0 a.0.1 (here P.methods n k ks r) h.0 w.0 in
-        let more = copies_each (n + 1) ms D ks w.1 h.1 a.1 (behind P.methods n k ks r) in
+  module _ (L : linked c ≡ Some P) (names : Names) (N : AreNames P c new.pool names) where
+    copies_each : (n : ℕ) (ms D : List Member) (ks : List Method) → Each (λ Z n p x. IsCopyOf c names Z p x) new.pool n (zip ks ms) D → AllOld c P.fields ms ks → AreBoth c.pool ms → AllByRecursion HasBytes ms
+        → ((j : ℕ) → slice_get P.methods (n + j) ≡ slice_get ks j) → each (method_of (symbols_of new P.fields) true) D ≡ Some (map (duplicate_method P) ks)
+    copies_each n [] [] [] w h a b r = refl
+    copies_each n [] D (k ∷ ks) w h a b r = absurd h
+    copies_each n [] (x ∷ D) [] w h a b r = absurd w
+    copies_each n (m ∷ ms) D [] w h a b r = absurd h
+    copies_each n (m ∷ ms) [] (k ∷ ks) w h a b r = absurd w
+    copies_each n (m ∷ ms) (x ∷ D) (k ∷ ks) w h a b r =
+        let one = copy_is c new P K L names N n m x k a.0.0 a.0.2 (here P.methods n k ks r) h.0 b.0 w.0 a.0.1 a.0.3 in
+        let more = copies_each (n + 1) ms D ks w.1 h.1 a.1 b.1 (behind P.methods n k ks r) in
         front (method_of (symbols_of new P.fields) true x) (each (method_of (symbols_of new P.fields) true) D) _ _ one more
 
 map_length : {A B : Type 0} (f : A → B) (xs : List A) → length (map f xs) ≡ length xs
@@ -110,17 +114,26 @@ relinked_as s xs ds us vs n len x d =
 abbrev program : List Field → List Method → Program
 program fs ms = record { fields = fs; methods = ms }
 
-pub law : (c new : ClassFile) (P : Program) → IsClassFile c → linked c ≡ Some P → rewritten_class P c ≡ Ok new → relinked P new ≡ Some (rewritten P)
-law c new P rules L e =
+held_where : (p : Member → Bool) (ms : List Member) → AllByRecursion HasBytes ms → AllByRecursion HasBytes (filter p ms)
+held_where p [] h = tt
+held_where p (m ∷ ms) h = go (p m) refl (held_where p ms h.1)
+  where
+    go : (b : Bool) → p m ≡ b → AllByRecursion HasBytes (filter p ms) → AllByRecursion HasBytes (filter p (m ∷ ms))
+    go true e rest = rw e (h.0, rest)
+    go false e rest = rw e rest
+
+pub law : (c new : ClassFile) (P : Program) → IsClassFile c → AreFiled c → linked c ≡ Some P → rewritten_class P c ≡ Ok new → relinked P new ≡ Some (rewritten P)
+law c new P rules F L e =
     let K : Known c new P = record { rules = rules; original = original c P L; rewritten = rewrites P c new e } in
     let M = K.rewritten.methods in
     let N = M.new in
     let s = symbols_of new P.fields in
     let from_zero : (j : ℕ) → slice_get P.methods (0 + j) ≡ slice_get P.methods j = λ j. let z : 0 + j ≡ j = omega arith in ap (slice_get P.methods) z in
     let fields_zero : (j : ℕ) → slice_get P.fields (0 + j) ≡ slice_get P.fields j = λ j. let z : 0 + j ≡ j = omega arith in ap (slice_get P.fields) z in
-    let w = wrappers_each c new P K 0 (program_methods c) (wrappers c new P K) P.methods (wrapped c new P K) (olds c new P K) (named c new P K) (lawful c new P K) from_zero in
+    let held = held_where (is_program_method c.pool) c.methods F in
+    let w = wrappers_each c new P K 0 (program_methods c) (wrappers c new P K) P.methods (wrapped c new P K) (olds c new P K) (both c new P K) (lawful c new P K) (marks c new P K) from_zero in
     let a = accessors_each c new P K 0 P.fields N.accessors N.each (good c new P K) (owned c new P K) fields_zero in
-    let d = copies_each c new P K L N.copied.calls N.copied.called 0 (program_methods c) N.copies P.methods N.copied.each (olds c new P K) (named c new P K) from_zero in
+    let d = copies_each c new P K L N.copied.names N.copied.are_names 0 (program_methods c) N.copies P.methods N.copied.each (olds c new P K) (both c new P K) held from_zero in
     let fronts = each_append (method_of (symbols_of new P.fields) false) (wrappers c new P K) (flat_map both_of N.accessors) (old_methods P 0 0 P.methods) (accessors 0 P.fields) w a in
     let list : program_methods new ≡ (wrappers c new P K ++ flat_map both_of N.accessors) ++ N.copies = parts c new P K ∙ sym (append_assoc (wrappers c new P K) (flat_map both_of N.accessors) N.copies) in
     let len : length N.copies ≡ length P.methods = each_length (method_of (symbols_of new P.fields) true) N.copies (map (duplicate_method P) P.methods) d ∙ map_length (duplicate_method P) P.methods in

@@ -1,25 +1,24 @@
 -- A pool only grows: its entries stay where they are.
 use Rattle.std.proofs.Common.{◌≡◌, ℕ, ◌+◌, List, [], ◌∷◌, ◌++◌, length, Result, Ok, Err, Option, Some, None, Bool, true, false, IfOk, subst, refl, sym, ap, ◌∙◌, append_assoc, nat_lt, nat_eq}
 use Rattle.std.proofs.lemmas.List.{append-nil}
-use Rattle.std.specs.Prelude.{ℤ, pos, codes, position, if◌then◌else◌, slice_get}
+use Rattle.std.specs.Prelude.{ℤ, pos, codes, position, if◌then◌else◌, slice_get, zip}
 use Rattle.std.specs.Int.{w64, cast_signed}
 use Rattle.jmodel.specs.declared.class_file.Constant.{Constant}
 use Rattle.jmodel.specs.declared.class_file.Constant.TheVariants.{Utf8, Integer, Long, Class, NameAndType, Second}
 use Rattle.jmodel.specs.declared.class_file.Constant.TheVariants as constants
-use Rattle.jmodel.specs.declared.op.Op.{Op}
 use Rattle.jmodel.specs.declared.refusal.Refusal.{Refusal}
 use Rattle.jmodel.specs.declared.refusal.Halt.{Halt}
 use Rattle.jmodel.specs.ClassFile.{Pool, Member, ClassFile, Code}
-use Rattle.jmodel.specs.Program.{Field, Program}
+use Rattle.jmodel.specs.Program.{Field, Method, Program}
 use Rattle.jmodel.specs.Reading.{◌>>=◌, Gives}
-use Rattle.jmodel.specs.Linking.{code_in, is_program_method, program_methods}
-use Rattle.jmodel.specs.Layout.{text_or_none}
-use Rattle.jmodel.specs.Pool.{utf8}
-use Rattle.jmodel.specs.Decoding.{own_name, instructions}
-use Rattle.rewriter.specs.declared.duplicates.Calls.{Calls}
+use Rattle.jmodel.specs.Linking.{Coded, decoded, is_program_method, program_methods}
+use Rattle.jmodel.specs.Relocation.{Block}
+use Rattle.jmodel.specs.Rewriting.{with_context}
+use Rattle.jmodel.specs.Name.{printed}
+use Rattle.jmodel.specs.Decoding.{own_name}
 use Rattle.rewriter.specs.Adding.{index_of, put, put_wide, is_utf8, put_utf8, utf8_if, add_utf8, is_integer, integer_if, add_integer, is_long, long_if, add_long, is_class, put_class, class_if, add_class, is_pair, put_pair, pair_if, add_pair, is_field, put_field, field_if, add_field, is_method, put_method, method_if, add_method}
-use Rattle.rewriter.specs.Members.{context_class, getter_type, setter_type, getter_name, setter_name, address_name, typed_name, constant_value, address_member, base_member, place_refs, look_refs, read_refs, getter_body, setter_body, accessor, getter_of, setter_of, accessors_of, is_read, is_written, method_if_needed, getter_call, setter_call, calls_of, blocks_from, duplicate_body, coded_duplicate, duplicate_if, ops_in, duplicate_of, opening_of, ending_of, wrapper_of}
-use Rattle.rewriter.specs.Rewritten.{grow_from, replaced, number_behind, old_from, bases, added_fields, duplicates, added_methods, new_methods, rewritten_class, Keeps}
+use Rattle.rewriter.specs.Members.{context_class, getter_type, setter_type, getter_name, setter_name, address_name, typed_name, constant_value, address_member, base_member, place_refs, look_refs, read_refs, getter_body, setter_body, accessor, getter_of, setter_of, accessors_of, Names, getter_code, setter_code, straight_bytes, gets, puts, calls, some_op, method_if_needed, getter_call, setter_call, calls_of, duplicate_call, blocks_from, duplicate_body, laid_bytes, of_method, stub, coded_duplicate, duplicate_of, opening_of, ending_of, wrapper_bytes, wrapper_of, with_code}
+use Rattle.rewriter.specs.Rewritten.{grow_from, wrapper_if, replaced, number_behind, old_from, bases, added_fields, names_of, duplicates, added_methods, new_methods, rewritten_class, Keeps}
 
 -- one pool is a front of another
 abbrev pub Extends : Pool → Pool → Type 0
@@ -52,6 +51,14 @@ fails e pool = record { it = tt }
 after : {A B : Type 0} (pool : Pool) (r : Result (A × Pool) Refusal) (f : A × Pool → Result (B × Pool) Refusal) → Grown pool r → ((x : A × Pool) → Grown x.1 (f x)) → Grown pool (r >>= f)
 after pool (Ok x) f h k = widen pool x.1 (f x) h.it (k x)
 after pool (Err e) f h k = record { it = tt }
+
+kept : {A B : Type 0} (pool : Pool) (r : Result A Refusal) (f : A → B) → Grown pool (r >>= λ x. Ok (f x, pool))
+kept pool (Ok x) f = given (f x) pool
+kept pool (Err e) f = record { it = tt }
+
+instead : {A B : Type 0} (pool : Pool) (r : Result A Refusal) (f : A → Result (B × Pool) Refusal) → ((x : A) → Grown pool (f x)) → Grown pool (r >>= f)
+instead pool (Ok x) f h = h x
+instead pool (Err e) f h = record { it = tt }
 
 either : {A : Type 0} (pool : Pool) (b : Bool) (r q : Result (A × Pool) Refusal) → Grown pool r → Grown pool q → Grown pool (if b then r else q)
 either pool true r q h k = h
@@ -212,14 +219,14 @@ unfolding getter_body
 getter_body_grows own f pool =
     after pool (look_refs own f pool) _ (look_refs_grows own f pool) (λ a.
     after a.1 (read_refs own f a.1) _ (read_refs_grows own f a.1) (λ b.
-    given _ b.1))
+    kept b.1 (straight_bytes 5 1 (getter_code a.0.0 a.0.1 b.0.0 b.0.1)) (λ x. x)))
 
 setter_body_grows : (own : List ℕ) (f : Field) (pool : Pool) → Grown pool (setter_body own f pool)
 unfolding setter_body
 setter_body_grows own f pool =
     after pool (place_refs own f pool) _ (place_refs_grows own f pool) (λ a.
     after a.1 (add_method context_class (codes "onWriteAccess") (codes "(Ljava/lang/Object;IJ)V") a.1) _ (add_method_grows context_class (codes "onWriteAccess") (codes "(Ljava/lang/Object;IJ)V") a.1) (λ b.
-    given _ b.1))
+    kept b.1 (straight_bytes 5 2 (setter_code a.0 b.0)) (λ x. x)))
 
 accessor_grows : (name type bytes : List ℕ) (pool : Pool) → Grown pool (accessor name type bytes pool)
 unfolding accessor
@@ -253,11 +260,11 @@ method_if_needed_grows needed class name descriptor pool = either pool needed _ 
 
 getter_call_grows : (P : Program) (own : List ℕ) (n : ℕ) (f : Field) (pool : Pool) → Grown pool (getter_call P own n f pool)
 unfolding getter_call
-getter_call_grows P own n f pool = method_if_needed_grows (is_read P n) own (getter_name f) getter_type pool
+getter_call_grows P own n f pool = method_if_needed_grows (some_op (gets n) P) own (getter_name f) getter_type pool
 
 setter_call_grows : (P : Program) (own : List ℕ) (n : ℕ) (f : Field) (pool : Pool) → Grown pool (setter_call P own n f pool)
 unfolding setter_call
-setter_call_grows P own n f pool = method_if_needed_grows (is_written P n) own (setter_name f) setter_type pool
+setter_call_grows P own n f pool = method_if_needed_grows (some_op (puts n) P) own (setter_name f) setter_type pool
 
 calls_of_grows : (P : Program) (own : List ℕ) (n : ℕ) (f : Field) (pool : Pool) → Grown pool (calls_of P own n f pool)
 unfolding calls_of
@@ -266,24 +273,28 @@ calls_of_grows P own n f pool =
     after a.1 (setter_call P own n f a.1) _ (setter_call_grows P own n f a.1) (λ b.
     given _ b.1))
 
-duplicate_body_grows : (stack locals : ℕ) (blocks : List ℕ) (pool : Pool) → Grown pool (duplicate_body stack locals blocks pool)
-unfolding duplicate_body
-duplicate_body_grows stack locals blocks pool =
-    either pool (nat_eq locals 65535) _ _ (fails _ pool) (either pool (nat_eq stack 65535) _ _ (fails _ pool)
-    (after pool (add_class (codes "org/deuce/transaction/TransactionException") pool) _ (add_class_grows (codes "org/deuce/transaction/TransactionException") pool) (λ a.
-    either a.1 (nat_lt 65534 (length blocks)) _ _ (fails _ a.1) (given _ a.1))))
+duplicate_call_grows : (P : Program) (n : ℕ) (k : Method) (pool : Pool) → Grown pool (duplicate_call P n k pool)
+unfolding duplicate_call
+duplicate_call_grows P n k pool = method_if_needed_grows (some_op (calls n) P) k.name.class k.name.name (with_context k.name.descriptor) pool
 
-coded_duplicate_grows : (calls : List Calls) (ops : List Op) (m : Member) (k : Code) (pool : Pool) → Grown pool (coded_duplicate calls ops m k pool)
+duplicate_body_grows : (name : List ℕ) (k : Code) (blocks : List Block) (pool : Pool) → Grown pool (duplicate_body name k blocks pool)
+unfolding duplicate_body
+duplicate_body_grows name k blocks pool =
+    either pool (nat_eq k.max_locals 65535) _ _ (fails _ pool) (either pool (nat_eq k.max_stack 65535) _ _ (fails _ pool)
+    (after pool (add_class (codes "org/deuce/transaction/TransactionException") pool) _ (add_class_grows (codes "org/deuce/transaction/TransactionException") pool) (λ a.
+    kept a.1 (of_method name (laid_bytes (k.max_stack + 1) (k.max_locals + 1) blocks k.handlers (Some a.0) stub)) (λ x. x))))
+
+coded_duplicate_grows : (names : Names) (k : Method) (m : Member) (coded : Coded) (pool : Pool) → Grown pool (coded_duplicate names k m coded pool)
 unfolding coded_duplicate
-coded_duplicate_grows calls ops m k pool =
-    after pool (duplicate_body k.max_stack k.max_locals (blocks_from calls ops 0 (instructions k.code)) pool) _ (duplicate_body_grows k.max_stack k.max_locals (blocks_from calls ops 0 (instructions k.code)) pool) (λ a.
-    after a.1 (add_utf8 getter_type a.1) _ (add_utf8_grows getter_type a.1) (λ b.
+coded_duplicate_grows names k m coded pool =
+    after pool (duplicate_body (printed k.name) coded.code (blocks_from names k.params k.ops 0 coded.instrs) pool) _ (duplicate_body_grows (printed k.name) coded.code (blocks_from names k.params k.ops 0 coded.instrs) pool) (λ a.
+    after a.1 (add_utf8 (with_context k.name.descriptor) a.1) _ (add_utf8_grows (with_context k.name.descriptor) a.1) (λ b.
     after b.1 (add_utf8 (codes "Code") b.1) _ (add_utf8_grows (codes "Code") b.1) (λ d.
     given _ d.1)))
 
-duplicate_if_grows : (o : Option Code) (calls : List Calls) (ops : List Op) (m : Member) (pool : Pool) → Grown pool (duplicate_if o calls ops m pool)
-duplicate_if_grows None calls ops m pool = fails _ pool
-duplicate_if_grows (Some k) calls ops m pool = coded_duplicate_grows calls ops m k pool
+duplicate_of_grows : (c : ClassFile) (names : Names) (k : Method) (m : Member) (pool : Pool) → Grown pool (duplicate_of c names k m pool)
+unfolding duplicate_of
+duplicate_of_grows c names k m pool = instead pool (decoded c m) (λ coded. coded_duplicate names k m coded pool) (λ coded. coded_duplicate_grows names k m coded pool)
 
 opening_of_grows : (n : ℕ) (pool : Pool) → Grown pool (opening_of n pool)
 unfolding opening_of
@@ -294,20 +305,20 @@ opening_of_grows n pool =
     after d.1 (add_method context_class (codes "init") (codes "(II)V") d.1) _ (add_method_grows context_class (codes "init") (codes "(II)V") d.1) (λ e.
     given _ e.1))))
 
-ending_of_grows : (own name : List ℕ) (pool : Pool) → Grown pool (ending_of own name pool)
+ending_of_grows : (k : Method) (pool : Pool) → Grown pool (ending_of k pool)
 unfolding ending_of
-ending_of_grows own name pool =
-    after pool (add_method own name getter_type pool) _ (add_method_grows own name getter_type pool) (λ a.
+ending_of_grows k pool =
+    after pool (add_method k.name.class k.name.name (with_context k.name.descriptor) pool) _ (add_method_grows k.name.class k.name.name (with_context k.name.descriptor) pool) (λ a.
     after a.1 (add_method context_class (codes "commit") (codes "()Z") a.1) _ (add_method_grows context_class (codes "commit") (codes "()Z") a.1) (λ b.
     after b.1 (add_method context_class (codes "rollback") (codes "()V") b.1) _ (add_method_grows context_class (codes "rollback") (codes "()V") b.1) (λ d.
     after d.1 (add_class (codes "org/deuce/transaction/TransactionException") d.1) _ (add_class_grows (codes "org/deuce/transaction/TransactionException") d.1) (λ e.
     given _ e.1))))
 
-wrapper_of_grows : (c : ClassFile) (n : ℕ) (m : Member) (pool : Pool) → Grown pool (wrapper_of c n m pool)
+wrapper_of_grows : (c : ClassFile) (n : ℕ) (k : Method) (m : Member) (pool : Pool) → Grown pool (wrapper_of c n k m pool)
 unfolding wrapper_of
-wrapper_of_grows c n m pool =
+wrapper_of_grows c n k m pool =
     either pool (nat_lt 65535 n) _ _ (fails _ pool) (after pool (opening_of n pool) _ (opening_of_grows n pool) (λ a.
-    after a.1 (ending_of (own_name c) (text_or_none (utf8 c.pool m.name)) a.1) _ (ending_of_grows (own_name c) (text_or_none (utf8 c.pool m.name)) a.1) (λ b. given _ b.1)))
+    after a.1 (ending_of k a.1) _ (ending_of_grows k a.1) (λ b. kept b.1 (wrapper_bytes k a.0 b.0) (λ bytes. with_code c.pool bytes m))))
 
 -- ---- the class
 
@@ -326,11 +337,17 @@ added_fields_grow P pool =
     after pool (grow_from (λ n f. address_member f) 0 P.fields pool) _ (grow_from_grows (λ n f. address_member f) (λ n f q. address_member_grows f q) 0 P.fields pool) (λ a.
     after a.1 (bases P.fields a.1) _ (bases_grow P.fields a.1) (λ b. given _ b.1))
 
+names_of_grows : (P : Program) (c : ClassFile) (pool : Pool) → Grown pool (names_of P c pool)
+unfolding names_of
+names_of_grows P c pool =
+    after pool (grow_from (calls_of P (own_name c)) 0 P.fields pool) _ (grow_from_grows (calls_of P (own_name c)) (λ n f q. calls_of_grows P (own_name c) n f q) 0 P.fields pool) (λ a.
+    after a.1 (grow_from (duplicate_call P) 0 P.methods a.1) _ (grow_from_grows (duplicate_call P) (λ n k q. duplicate_call_grows P n k q) 0 P.methods a.1) (λ b. given _ b.1))
+
 duplicates_grow : (P : Program) (c : ClassFile) (pool : Pool) → Grown pool (duplicates P c pool)
 unfolding duplicates
 duplicates_grow P c pool =
-    after pool (grow_from (calls_of P (own_name c)) 0 P.fields pool) _ (grow_from_grows (calls_of P (own_name c)) (λ n f q. calls_of_grows P (own_name c) n f q) 0 P.fields pool) (λ a.
-    grow_from_grows (duplicate_of P c a.0) (λ n m q. duplicate_if_grows (code_in c.pool m) a.0 (ops_in (slice_get P.methods n)) m q) 0 (program_methods c) a.1)
+    after pool (names_of P c pool) _ (names_of_grows P c pool) (λ a.
+    grow_from_grows (λ n (p : Method × Member). duplicate_of c a.0 p.0 p.1) (λ n p q. duplicate_of_grows c a.0 p.0 p.1 q) 0 (zip P.methods (program_methods c)) a.1)
 
 added_methods_grow : (P : Program) (c : ClassFile) (pool : Pool) → Grown pool (added_methods P c pool)
 unfolding added_methods
@@ -338,19 +355,23 @@ added_methods_grow P c pool =
     after pool (grow_from (λ n f. accessors_of (own_name c) f) 0 P.fields pool) _ (grow_from_grows (λ n f. accessors_of (own_name c) f) (λ n f q. accessors_of_grows (own_name c) f q) 0 P.fields pool) (λ a.
     after a.1 (duplicates P c a.1) _ (duplicates_grow P c a.1) (λ b. given _ b.1))
 
-replaced_grows : (c : ClassFile) (n : ℕ) (m : Member) (pool : Pool) → Grown pool (replaced c n m pool)
-replaced_grows c n m pool = either pool (is_program_method c.pool m) _ _ (wrapper_of_grows c n m pool) (given m pool)
+wrapper_if_grows : (c : ClassFile) (n : ℕ) (o : Option Method) (m : Member) (pool : Pool) → Grown pool (wrapper_if c n o m pool)
+wrapper_if_grows c n None m pool = given m pool
+wrapper_if_grows c n (Some k) m pool = wrapper_of_grows c n k m pool
 
-old_from_grows : (c : ClassFile) (n : ℕ) (ms : List Member) (pool : Pool) → Grown pool (old_from c n ms pool)
-old_from_grows c n [] pool = given [] pool
-old_from_grows c n (m ∷ ms) pool =
-    after pool (replaced c n m pool) _ (replaced_grows c n m pool) (λ a. after a.1 (old_from c (number_behind c.pool n m) ms a.1) _ (old_from_grows c (number_behind c.pool n m) ms a.1) (λ b. given _ b.1))
+replaced_grows : (P : Program) (c : ClassFile) (n : ℕ) (m : Member) (pool : Pool) → Grown pool (replaced P c n m pool)
+replaced_grows P c n m pool = either pool (is_program_method c.pool m) _ _ (wrapper_if_grows c n (slice_get P.methods n) m pool) (given m pool)
+
+old_from_grows : (P : Program) (c : ClassFile) (n : ℕ) (ms : List Member) (pool : Pool) → Grown pool (old_from P c n ms pool)
+old_from_grows P c n [] pool = given [] pool
+old_from_grows P c n (m ∷ ms) pool =
+    after pool (replaced P c n m pool) _ (replaced_grows P c n m pool) (λ a. after a.1 (old_from P c (number_behind c.pool n m) ms a.1) _ (old_from_grows P c (number_behind c.pool n m) ms a.1) (λ b. given _ b.1))
 
 new_methods_grow : (P : Program) (c : ClassFile) (pool : Pool) → Grown pool (new_methods P c pool)
 unfolding new_methods
 new_methods_grow P c pool =
     after pool (added_methods P c pool) _ (added_methods_grow P c pool) (λ a.
-    after a.1 (old_from c 0 c.methods a.1) _ (old_from_grows c 0 c.methods a.1) (λ b. given _ b.1))
+    after a.1 (old_from P c 0 c.methods a.1) _ (old_from_grows P c 0 c.methods a.1) (λ b. given _ b.1))
 
 abbrev KeepsIn : ClassFile → Result ClassFile Refusal → Type 0
 KeepsIn c (Ok d) = Keeps c d

@@ -1,52 +1,60 @@
 -- What a linked class has: its fields, and of each method its code and its mark.
-use Rattle.std.proofs.Common.{◌≡◌, ℕ, zero, suc, ◌+◌, ◌-◌, ◌<◌, ◌≤◌, Bool, true, false, not, ◌&&◌, ◌||◌, List, [], ◌∷◌, length, map, Option, Some, None, refl, sym, ap, ◌∙◌, subst, arith}
-use Rattle.std.specs.Prelude.{if◌then◌else◌, option_map, option_and_then, nat_le, pos, slice_get, slice_index_or, codes, bytes_eq}
+use Rattle.std.proofs.Common.{◌≡◌, ℕ, zero, suc, ◌<◌, ◌≤◌, Bool, true, false, not, ◌&&◌, ◌||◌, List, [], ◌∷◌, length, map, Option, Some, None, Result, Ok, Err, refl, sym, ap, ◌∙◌, subst, arith, eqb-true}
+use Rattle.std.specs.Prelude.{if◌then◌else◌, option_map, option_and_then, nat_le, slice_get, slice_index_or, bytes_eq, zip}
 use Rattle.std.specs.List.{list_all, list_any}
 use Rattle.std.proofs.lemmas.Bool.Decides.{nat_tests}
+use Rattle.jmodel.specs.declared.refusal.Refusal.{Refusal}
 use Rattle.jmodel.specs.declared.op.Op.{Op}
-use Rattle.jmodel.specs.declared.op.Op.TheVariants as op
-use Rattle.jmodel.specs.declared.value.Value.TheVariants as value
+use Rattle.jmodel.specs.declared.op.Catch.{Catch}
 use Rattle.jmodel.specs.declared.class_file.Constant.{Constant}
 use Rattle.jmodel.specs.declared.class_file.Constant.TheVariants as constants
-use Rattle.jmodel.specs.ClassFile.{Member, Pool, ClassFile, Code}
+use Rattle.jmodel.specs.ClassFile.{Member, Pool, ClassFile}
 use Rattle.jmodel.specs.Pool.{utf8, text_in}
 use Rattle.jmodel.specs.Program.{Field, Method, Program}
-use Rattle.jmodel.specs.Source.{is_return, takes, leaves}
+use Rattle.jmodel.specs.Reading.{◌>>=◌}
 use Rattle.jmodel.specs.Layout.{text_or_none}
 use Rattle.jmodel.specs.ClassRules.{IsSameMember, AreDistinct}
-use Rattle.jmodel.specs.Decoding.{Symbols, name_of, in_front, each, ops_of, instructions}
-use Rattle.jmodel.specs.Linking.{is_form_op, is_straight_within, straight, is_form_code, make_method, form_method, linked_method, is_form_class, is_form_method, is_form_field, is_form_constant, is_reserved, is_marked, program_methods, symbols_of, original_fields, linked, code_in}
-use Rattle.jmodel.proofs.Linked.{is_form_program, form_methods, form_atomic}
-use Rattle.rewriter.proofs.Added.{two_true, same_text_is}
+use Rattle.jmodel.specs.Decoding.{name_of, in_front, each, ops_of}
+use Rattle.jmodel.specs.Linking.{Shape, shape_of, catch_of, descriptor_of, Coded, decoded, all_decoded, make_method, coded_method, is_form_class, is_form_field, is_form_constant, is_form_method, is_reserved, retries_of, program_methods, is_empty, is_form_instr, is_form_op, is_form_method_of, if_form, form_method, symbols_of, original_fields, form_methods, form_program, program_in, linked}
+use Rattle.std.proofs.lemmas.Slice.Eq.{bytes_eq-Decides}
+use Rattle.jmodel.specs.declared.name.MethodName.{MethodName}
+use Rattle.rewriter.proofs.Added.{two_true}
 use Rattle.rewriter.proofs.Positions.{differ}
-use Rattle.rewriter.proofs.CopyCode.{is_block_op}
+
+abbrev some : {A : Type 0} → A → Option A
+some x = Some x
+
+pub some_is : {A : Type 0} (x y : A) → some x ≡ some y → x ≡ y
+some_is x y e = cc
 
 chosen : {A : Type 0} (b : Bool) (x : Option A) (y : A) → (if b then x else None) ≡ Some y → (b ≡ true) × (x ≡ Some y)
 chosen true x y h = (refl, h)
 chosen false x y h = cc
 
-abbrev some : {A : Type 0} → A → Option A
-some x = Some x
-
-some_is : {A : Type 0} (x y : A) → some x ≡ some y → x ≡ y
-some_is x y e = cc
-
 pub record Original (c : ClassFile) (P : Program) : Type 0 where
   pub form : is_form_class c ≡ true
-  pub methods : each (linked_method (symbols_of c (original_fields c))) (program_methods c) ≡ Some P.methods
+  pub code : List Coded
+  pub decodes : all_decoded c (program_methods c) ≡ Ok code
+  pub methods : form_methods c code ≡ Some P.methods
   pub fields : P.fields ≡ original_fields c
 
 pub original : (c : ClassFile) (P : Program) → linked c ≡ Some P → Original c P
-original c P h =
-    let t = chosen (is_form_class c) _ P h in
-    go (each (linked_method (symbols_of c (original_fields c))) (program_methods c)) refl t.0 t.1
+original c P h = choose (is_form_class c) refl h
   where
-    go : (o : Option (List Method)) → each (linked_method (symbols_of c (original_fields c))) (program_methods c) ≡ o → is_form_class c ≡ true
+    made : (ks : List Coded) → is_form_class c ≡ true → all_decoded c (program_methods c) ≡ Ok ks → (o : Option (List Method)) → form_methods c ks ≡ o
         → option_map (λ ms. record { fields = original_fields c; methods = ms }) o ≡ Some P → Original c P
-    go None is f h = cc
-    go (Some ms) is f h =
+    made ks f d None e h = cc
+    made ks f d (Some ms) e h =
         let same : record { fields = original_fields c; methods = ms } ≡ P = some_is _ P h in
-        record { form = f; methods = is ∙ ap (λ (p : Program). Some p.methods) same; fields = sym (ap (λ (p : Program). p.fields) same) }
+        record { form = f; code = ks; decodes = d; methods = e ∙ ap (λ (p : Program). Some p.methods) same; fields = sym (ap (λ (p : Program). p.fields) same) }
+
+    decode : (r : Result (List Coded) Refusal) → is_form_class c ≡ true → all_decoded c (program_methods c) ≡ r → program_in (r >>= λ ks. Ok (form_program c ks)) ≡ Some P → Original c P
+    decode (Err e) f d h = cc
+    decode (Ok ks) f d h = made ks f d (form_methods c ks) refl h
+
+    choose : (b : Bool) → is_form_class c ≡ b → program_in (if b then (all_decoded c (program_methods c) >>= λ ks. Ok (form_program c ks)) else Ok None) ≡ Some P → Original c P
+    choose true f h = decode (all_decoded c (program_methods c)) f refl h
+    choose false f h = cc
 
 -- ---- the parts of the form
 
@@ -54,14 +62,13 @@ pub record Form (c : ClassFile) : Type 0 where
   pub pool : list_all is_form_constant c.pool ≡ true
   pub fields : list_all (is_form_field c.pool) c.fields ≡ true
   pub methods : list_all (is_form_method c.pool) c.methods ≡ true
-  pub program : list_all (is_form_program c.pool) (program_methods c) ≡ true
 
 pub form_of : (c : ClassFile) → is_form_class c ≡ true → Form c
 form_of c h =
     let e = two_true _ _ h in
     let d = two_true _ _ e.0 in
     let b = two_true _ _ d.0 in
-    record { pool = b.0; fields = (two_true _ _ d.1).1; methods = (two_true _ _ e.1).1; program = form_methods c e.1 }
+    record { pool = b.0; fields = (two_true _ _ d.1).1; methods = (two_true _ _ e.1).1 }
 
 -- ---- texts of the pool
 
@@ -84,101 +91,75 @@ free_text pool (suc i) text h e = free_at pool i text h e
 
 -- ---- methods
 
-form_block : (o : Op) → is_form_op o ≡ true → is_block_op o ≡ true
-form_block (op.Constant (value.Int n)) h = refl
-form_block (op.Rearrange r) h = refl
-form_block (op.Binary b) h = refl
-form_block (op.Unary u) h = refl
-form_block (op.GetStatic f) h = refl
-form_block (op.PutStatic f) h = refl
-form_block o h = cc
-
-return_block : (o : Op) → is_return o ≡ true → is_block_op o ≡ true
-return_block op.ReturnValue h = refl
-return_block o h = cc
-
-and_true : (a b : Bool) → a ≡ true → b ≡ true → (a && b) ≡ true
-and_true true b p q = q
-and_true false b p q = p
-
-straight_blocks : (limit h : ℕ) (os : List Op) → is_straight_within limit h os ≡ true → list_all is_block_op os ≡ true
-straight_blocks limit h [] e = refl
-straight_blocks limit h (o ∷ []) e = and_true _ _ (return_block o (two_true _ _ e).0) refl
-straight_blocks limit h (o ∷ p ∷ os) e =
-    let a = two_true _ _ e in
-    let d = two_true _ _ (two_true _ _ a.0).0 in
-    and_true _ _ (form_block o d.0) (straight_blocks limit (h - takes o + leaves o) (p ∷ os) a.1)
-
-some_ops : (limit h : ℕ) (os : List Op) → is_straight_within limit h os ≡ true → 0 < length os
-some_ops limit h [] e = cc
-some_ops limit h (o ∷ os) e = omega arith
-
-abbrev pub original_method : ClassFile → Member → Code → List Op → Method
-original_method c m code ops = record { name = name_of c m; params = 0; locals = code.max_locals; max_stack = code.max_stack; gives = true; counted = true; retries = Some (pos 2147483647); ops = ops; catches = [] }
-
 pub record IsOld (c : ClassFile) (fields : List Field) (m : Member) (k : Method) : Type 0 where
-  pub code : Code
-  pub ops : List Op
-  pub coded : code_in c.pool m ≡ Some code
-  pub ops_are : ops_of (symbols_of c fields) (instructions code.code) ≡ Some ops
-  pub is : k ≡ original_method c m code ops
-  pub blocks : list_all is_block_op ops ≡ true
-  pub some : 0 < length ops
-  pub stack : code.max_stack ≤ 1000
-  pub locals : code.max_locals ≤ 1000
-  pub typed : utf8 c.pool m.descriptor ≡ Some (codes "()I")
-  pub marked : is_marked c.pool m ≡ true
+  pub coded : Coded
+  pub decodes : decoded c m ≡ Ok coded
+  pub shape : Shape
+  pub shaped : shape_of (descriptor_of c.pool m) ≡ Some shape
+  pub ops : ops_of (symbols_of c fields) coded.instrs ≡ Some k.ops
+  pub name : k.name ≡ name_of c m
+  pub params : k.params ≡ shape.params
+  pub locals : k.locals ≡ coded.code.max_locals
+  pub max_stack : k.max_stack ≡ coded.code.max_stack
+  pub gives : k.gives ≡ shape.gives
+  pub retries : k.retries ≡ retries_of c.pool m
+  pub no_entries : coded.code.handlers ≡ []
+  pub no_catches : k.catches ≡ []
+  pub few : coded.code.max_locals ≤ 200
+  pub room : k.params ≤ k.locals
+  pub instrs : list_all is_form_instr coded.instrs ≡ true
+  pub fits : list_all (is_form_op k.locals k.gives) k.ops ≡ true
 
-old_of : (c : ClassFile) (fields : List Field) (m : Member) (k : Method) → is_form_program c.pool m ≡ true → linked_method (symbols_of c fields) m ≡ Some k → IsOld c fields m k
-old_of c fields m k form h = go (code_in c.pool m) refl h
+none_left : {A : Type 0} (xs : List A) → is_empty xs ≡ true → xs ≡ []
+none_left [] h = refl
+none_left (x ∷ xs) h = absurd (omega (arith, eqb-true (length (x ∷ xs)) 0 h))
+
+at_most : (n m : ℕ) → nat_le n m ≡ true → n ≤ m
+at_most n m t = grind (arith, nat_tests)
+
+old_of : (c : ClassFile) (fields : List Field) (m : Member) (k : Method) (coded : Coded) → decoded c m ≡ Ok coded → form_method (symbols_of c fields) m coded ≡ Some k → IsOld c fields m k
+old_of c fields m k coded d h = go (coded_method (symbols_of c fields) true m coded) refl h
   where
-    s : Symbols
-    s = symbols_of c fields
+    parts : (s : Option Shape) (os : Option (List Op)) (cs : Option (List Catch)) → shape_of (descriptor_of c.pool m) ≡ s → ops_of (symbols_of c fields) coded.instrs ≡ os
+        → each (catch_of c.pool coded.instrs (length coded.code.code)) coded.code.handlers ≡ cs → make_method (symbols_of c fields) true m coded.code s os cs ≡ Some k → is_form_method_of coded k ≡ true → IsOld c fields m k
+    parts None os cs es eo ec h f = cc
+    parts (Some s) None cs es eo ec h f = cc
+    parts (Some s) (Some os) None es eo ec h f = cc
+    parts (Some s) (Some os) (Some cs) es eo ec h f =
+        let is = some_is _ k h in
+        let x = two_true _ _ f in
+        let y = two_true _ _ x.0 in
+        let z = two_true _ _ y.0 in
+        let w = two_true (nat_le coded.code.max_locals 200) (is_empty coded.code.handlers) z.0 in
+        let none = none_left coded.code.handlers w.1 in
+        let no_cs : cs ≡ [] = some_is cs [] (sym ec ∙ ap (each (catch_of c.pool coded.instrs (length coded.code.code))) none) in
+        record {
+          coded = coded;
+          decodes = d;
+          shape = s;
+          shaped = es;
+          ops = eo ∙ ap (λ (y : Method). Some y.ops) is;
+          name = sym (ap (λ (y : Method). y.name) is);
+          params = sym (ap (λ (y : Method). y.params) is);
+          locals = sym (ap (λ (y : Method). y.locals) is);
+          max_stack = sym (ap (λ (y : Method). y.max_stack) is);
+          gives = sym (ap (λ (y : Method). y.gives) is);
+          retries = sym (ap (λ (y : Method). y.retries) is);
+          no_entries = none;
+          no_catches = sym (ap (λ (y : Method). y.catches) is) ∙ no_cs;
+          few = at_most coded.code.max_locals 200 w.0;
+          room = at_most k.params k.locals y.1;
+          instrs = z.1;
+          fits = x.1;
+        }
 
-    last : (code : Code) → code_in c.pool m ≡ Some code → is_form_code code ≡ true → (o : Option (List Op)) → ops_of (symbols_of c fields) (instructions code.code) ≡ o
-        → make_method (symbols_of c fields) true m code (Some (record { params = 0; gives = true })) (straight code.max_stack o) (Some []) ≡ Some k → IsOld c fields m k
-    last code in_pool fits None e h = cc
-    last code in_pool fits (Some os) e h = choose (is_straight_within code.max_stack 0 os) refl h
-      where
-        choose : (b : Bool) → is_straight_within code.max_stack 0 os ≡ b
-            → make_method (symbols_of c fields) true m code (Some (record { params = 0; gives = true })) (if b then Some os else None) (Some []) ≡ Some k → IsOld c fields m k
-        choose false q h = cc
-        choose true q h =
-            let f = form_atomic c.pool m form in
-            let g = two_true _ _ (two_true _ _ f.0).0 in
-            let mark = f.1 in
-            let a = two_true _ _ (two_true _ _ fits).0 in
-            let b = two_true (nat_le (length code.code) 10000) (nat_le code.max_stack 1000) a.0 in
-            let t1 : nat_le code.max_stack 1000 ≡ true = b.1 in
-            let t2 : nat_le code.max_locals 1000 ≡ true = a.1 in
-            let s1 : code.max_stack ≤ 1000 = small code.max_stack t1 in
-            let s2 : code.max_locals ≤ 1000 = small code.max_locals t2 in
-            record {
-              code = code;
-              ops = os;
-              coded = in_pool;
-              ops_are = e;
-              is = is_original mark h;
-              blocks = straight_blocks code.max_stack 0 os q;
-              some = some_ops code.max_stack 0 os q;
-              stack = s1;
-              locals = s2;
-              typed = same_text_is (utf8 c.pool m.descriptor) (codes "()I") g.1;
-              marked = mark;
-            }
-          where
-            small : (n : ℕ) → nat_le n 1000 ≡ true → n ≤ 1000
-            small n t = grind (arith, nat_tests)
-
-            is_original : is_marked c.pool m ≡ true → make_method (symbols_of c fields) true m code (Some (record { params = 0; gives = true })) (Some os) (Some []) ≡ Some k → k ≡ original_method c m code os
-            is_original mark h =
-                let made : make_method (symbols_of c fields) true m code (Some (record { params = 0; gives = true })) (Some os) (Some []) ≡ Some (original_method c m code os) = rw mark refl in
-                let both = sym h ∙ made in
-                cc
-
-    go : (o : Option Code) → code_in c.pool m ≡ o → option_and_then (form_method (symbols_of c fields) m) o ≡ Some k → IsOld c fields m k
-    go None p h = cc
-    go (Some code) p h = let x = chosen (is_form_code code) _ k h in last code p x.0 (ops_of (symbols_of c fields) (instructions code.code)) refl x.1
+    go : (o : Option Method) → coded_method (symbols_of c fields) true m coded ≡ o → if_form coded o ≡ Some k → IsOld c fields m k
+    go None e h = cc
+    go (Some p) e h =
+        let t = chosen (is_form_method_of coded p) (Some p) k h in
+        let same : p ≡ k = some_is p k t.1 in
+        parts (shape_of (descriptor_of c.pool m)) (ops_of (symbols_of c fields) coded.instrs) (each (catch_of c.pool coded.instrs (length coded.code.code)) coded.code.handlers) refl refl refl (e ∙ ap some same)
+        (subst (λ (y : Method). is_form_method_of coded y ≡ true) same t.0)
 
 abbrev pub AllOld : ClassFile → List Field → List Member → List Method → Type 0
 AllOld c fields [] [] = Unit {0}
@@ -186,18 +167,31 @@ AllOld c fields [] (k ∷ ks) = ⊥
 AllOld c fields (m ∷ ms) [] = ⊥
 AllOld c fields (m ∷ ms) (k ∷ ks) = IsOld c fields m k × AllOld c fields ms ks
 
-pub all_old : (c : ClassFile) (fields : List Field) (ms : List Member) (ks : List Method) → list_all (is_form_program c.pool) ms ≡ true → each (linked_method (symbols_of c fields)) ms ≡ Some ks → AllOld c fields ms ks
-all_old c fields [] [] f e = tt
-all_old c fields [] (k ∷ ks) f e = absurd cc
-all_old c fields (m ∷ ms) ks f e = go (linked_method (symbols_of c fields) m) refl (each (linked_method (symbols_of c fields)) ms) (λ zs t. all_old c fields ms zs (two_true _ _ f).1 t) refl e
+pub all_old : (c : ClassFile) (fields : List Field) (ms : List Member) (cs : List Coded) (ks : List Method) → all_decoded c ms ≡ Ok cs
+    → each (λ (p : Member × Coded). form_method (symbols_of c fields) p.0 p.1) (zip ms cs) ≡ Some ks → AllOld c fields ms ks
+all_old c fields [] cs [] d e = tt
+all_old c fields [] cs (k ∷ ks) d e = absurd cc
+all_old c fields (m ∷ ms) cs ks d e = decode (decoded c m) refl (all_decoded c ms) refl d e (λ us zs f t. all_old c fields ms us zs f t)
   where
-    go : (o : Option Method) → linked_method (symbols_of c fields) m ≡ o → (os : Option (List Method)) → ((zs : List Method) → each (linked_method (symbols_of c fields)) ms ≡ Some zs → AllOld c fields ms zs)
-        → each (linked_method (symbols_of c fields)) ms ≡ os → in_front o os ≡ Some ks → AllOld c fields (m ∷ ms) ks
-    go None p os r q h = absurd cc
-    go (Some y) p None r q h = absurd cc
-    go (Some y) p (Some zs) r q h =
+    go : (k : Coded) (us : List Coded) → decoded c m ≡ Ok k → all_decoded c ms ≡ Ok us → (o : Option Method) → form_method (symbols_of c fields) m k ≡ o → (os : Option (List Method))
+        → ((us : List Coded) (zs : List Method) → all_decoded c ms ≡ Ok us → each (λ (p : Member × Coded). form_method (symbols_of c fields) p.0 p.1) (zip ms us) ≡ Some zs → AllOld c fields ms zs)
+        → each (λ (p : Member × Coded). form_method (symbols_of c fields) p.0 p.1) (zip ms us) ≡ os → in_front o os ≡ Some ks → AllOld c fields (m ∷ ms) ks
+    go k us dk du None p os r q h = absurd cc
+    go k us dk du (Some y) p None r q h = absurd cc
+    go k us dk du (Some y) p (Some zs) r q h =
         let list : y ∷ zs ≡ ks = cc in
-        subst (λ (l : List Method). AllOld c fields (m ∷ ms) l) list (old_of c fields m y (two_true _ _ f).0 p, r zs q)
+        subst (λ (l : List Method). AllOld c fields (m ∷ ms) l) list (old_of c fields m y k dk p, r us zs du q)
+
+    decode : (a : Result Coded Refusal) → decoded c m ≡ a → (b : Result (List Coded) Refusal) → all_decoded c ms ≡ b → (a >>= λ k. b >>= λ ks. Ok (k ∷ ks)) ≡ Ok cs
+        → each (λ (p : Member × Coded). form_method (symbols_of c fields) p.0 p.1) (zip (m ∷ ms) cs) ≡ Some ks
+        → ((us : List Coded) (zs : List Method) → all_decoded c ms ≡ Ok us → each (λ (p : Member × Coded). form_method (symbols_of c fields) p.0 p.1) (zip ms us) ≡ Some zs → AllOld c fields ms zs)
+        → AllOld c fields (m ∷ ms) ks
+    decode (Err x) ea b eb d e r = absurd cc
+    decode (Ok k) ea (Err x) eb d e r = absurd cc
+    decode (Ok k) ea (Ok us) eb d e r =
+        let list : k ∷ us ≡ cs = cc in
+        let told = subst (λ (l : List Coded). each (λ (p : Member × Coded). form_method (symbols_of c fields) p.0 p.1) (zip (m ∷ ms) l) ≡ Some ks) (sym list) e in
+        go k us ea eb (form_method (symbols_of c fields) m k) refl (each (λ (p : Member × Coded). form_method (symbols_of c fields) p.0 p.1) (zip ms us)) r refl told
 
 -- ---- names that are apart
 
@@ -238,4 +232,50 @@ module _ (pool : Pool) (d : List ℕ) where
   own_apart (m ∷ ms) D T N = (
     none_named m N.0.0 N.0.1 T.0 ms (λ j e less. D 0 (suc j) e (omega arith) (omega (arith, less))) T.1 N.1,
     own_apart ms (λ i j e less last. D (suc i) (suc j) e (omega (arith, less)) (omega (arith, last))) T.1 N.1,
+  )
+
+-- ---- methods that are apart by their names and descriptors
+
+abbrev pub same_method : Method → Method → Bool
+same_method a b = bytes_eq a.name.name b.name.name && bytes_eq a.name.descriptor b.name.descriptor
+
+abbrev pub AreApartMethods : List Method → Type 0
+AreApartMethods [] = Unit {0}
+AreApartMethods (k ∷ ks) = (list_any (λ (j : Method). same_method j k) ks ≡ false) × AreApartMethods ks
+
+-- members with names and descriptors
+abbrev pub AreBoth : Pool → List Member → Type 0
+AreBoth pool [] = Unit {0}
+AreBoth pool (m ∷ ms) = ((t : List ℕ) × (d : List ℕ) × (utf8 pool m.name ≡ Some t) × (utf8 pool m.descriptor ≡ Some d)) × AreBoth pool ms
+
+module _ (c : ClassFile) (fields : List Field) where
+  same_texts : (m x : Member) (k j : Method) (n d n' d' : List ℕ) → utf8 c.pool m.name ≡ Some n → utf8 c.pool m.descriptor ≡ Some d → utf8 c.pool x.name ≡ Some n' → utf8 c.pool x.descriptor ≡ Some d'
+      → k.name ≡ name_of c m → j.name ≡ name_of c x → same_method j k ≡ true → IsSameMember c.pool m x
+  same_texts m x k j n d n' d' mn md xn xd kn jn h =
+      let t = two_true (bytes_eq j.name.name k.name.name) (bytes_eq j.name.descriptor k.name.descriptor) h in
+      let a = (bytes_eq-Decides j.name.name k.name.name).0 t.0 in
+      let b = (bytes_eq-Decides j.name.descriptor k.name.descriptor).0 t.1 in
+      let p1 : n' ≡ n = sym (ap text_or_none xn) ∙ sym (ap (λ (y : MethodName). y.name) jn) ∙ a ∙ ap (λ (y : MethodName). y.name) kn ∙ ap text_or_none mn in
+      let p2 : d' ≡ d = sym (ap text_or_none xd) ∙ sym (ap (λ (y : MethodName). y.descriptor) jn) ∙ b ∙ ap (λ (y : MethodName). y.descriptor) kn ∙ ap text_or_none md in
+      (mn ∙ ap Some (sym p1) ∙ sym xn, md ∙ ap Some (sym p2) ∙ sym xd)
+
+  none_same : (m : Member) (k : Method) (n d : List ℕ) → utf8 c.pool m.name ≡ Some n → utf8 c.pool m.descriptor ≡ Some d → k.name ≡ name_of c m → (ms : List Member) (ks : List Method)
+      → ((j : ℕ) (e : Member) → j < length ms → IsSameMember c.pool m (slice_index_or ms j e) → ⊥) → AreBoth c.pool ms → AllOld c fields ms ks → list_any (λ (j : Method). same_method j k) ks ≡ false
+  none_same m k n d mn md kn [] [] D B h = refl
+  none_same m k n d mn md kn [] (j ∷ ks) D B h = absurd h
+  none_same m k n d mn md kn (x ∷ ms) [] D B h = absurd h
+  none_same m k n d mn md kn (x ∷ ms) (j ∷ ks) D B h = or_none _ _ (differs (same_method j k) refl) (none_same m k n d mn md kn ms ks (λ i e less. D (suc i) e (omega (arith, less))) B.1 h.1)
+    where
+      differs : (b : Bool) → same_method j k ≡ b → b ≡ false
+      differs true e = absurd (D 0 x (omega arith) (same_texts m x k j n d B.0.0 B.0.1 mn md B.0.2 B.0.3 kn h.0.name e))
+      differs false e = refl
+
+  -- distinct members are methods that are apart
+  pub methods_apart : (ms : List Member) (ks : List Method) → AreDistinct c.pool ms → AreBoth c.pool ms → AllOld c fields ms ks → AreApartMethods ks
+  methods_apart [] [] D B h = tt
+  methods_apart [] (k ∷ ks) D B h = absurd h
+  methods_apart (m ∷ ms) [] D B h = absurd h
+  methods_apart (m ∷ ms) (k ∷ ks) D B h = (
+    none_same m k B.0.0 B.0.1 B.0.2 B.0.3 h.0.name ms ks (λ j e less. D 0 (suc j) e (omega arith) (omega (arith, less))) B.1 h.1,
+    methods_apart ms ks (λ i j e less last. D (suc i) (suc j) e (omega (arith, less)) (omega (arith, last))) B.1 h.1,
   )

@@ -3,20 +3,23 @@ use Rattle.std.proofs.Common.{◌≡◌, ℕ, ℤ, ◌<◌, ◌≤◌, List, [],
 use Rattle.std.specs.Prelude.{codes, pos, option_and_then}
 use Rattle.std.specs.Int.{w64, cast_signed}
 use Rattle.std.proofs.lemmas.Int.{ints}
-use Rattle.jmodel.specs.ClassFile.{Pool, Attribute, Member, code_spelling}
+use Rattle.jmodel.specs.ClassFile.{Pool, Attribute, Member}
 use Rattle.jmodel.specs.Pool.{utf8}
-use Rattle.jmodel.specs.Program.{Field}
-use Rattle.jmodel.specs.Constants.{as_int, integer, long_in, named_entry, long_value}
+use Rattle.jmodel.specs.Program.{Field, Method}
+use Rattle.jmodel.specs.Rewriting.{with_context}
+use Rattle.jmodel.specs.Constants.{pair_number, as_int, integer, long_in, named_entry, long_value}
 use Rattle.jmodel.proofs.Moved.{narrow}
 use Rattle.const_pool.proofs.Takes.{bind_ok, ok_is, fine}
 use Rattle.rewriter.specs.declared.accessors.Accessors.{Accessors}
 use Rattle.rewriter.specs.declared.wrappers.Opening.{Opening}
 use Rattle.rewriter.specs.declared.wrappers.Ending.{Ending}
 use Rattle.rewriter.specs.Adding.{add_utf8, add_integer, add_long, add_class, add_field, add_method}
-use Rattle.rewriter.specs.Members.{high, low, typed_name, constant_value, address_name, address_member, base_member, place_refs, look_refs, read_refs, getter_code, getter_body, setter_code, setter_body, accessor, added_method, getter_of, setter_of, accessors_of, getter_name, setter_name, getter_type, setter_type, context_class, opening_of, ending_of}
+use Rattle.rewriter.specs.Members.{high, low, typed_name, constant_value, address_name, address_member, base_member, place_refs, look_refs, read_refs, getter_code, getter_body, setter_code, setter_body, straight_bytes, accessor, added_method, getter_of, setter_of, accessors_of, getter_name, setter_name, getter_type, setter_type, context_class, opening_of, ending_of}
 use Rattle.rewriter.proofs.Grown.{Grown, grown_trans, utf8_grown, class_grown, field_grown, method_grown, integer_grown, long_grown}
 use Rattle.rewriter.proofs.Added.{Says, utf8_added, Counts, integer_added, Measures, long_added, NamesClass, class_added, IsFieldName, field_added, IsMethodName, method_added}
-use Rattle.rewriter.proofs.Ops.{rejoined}
+
+rejoined : (i : ℕ) → pair_number (high i) (low i) ≡ i
+rejoined i = omega arith
 
 pub record Puts {X : Type 0} (Facts : Pool → X → Type 0) (pool : Pool) (r : X × Pool) : Type 0 where
   pub grown : Grown pool r.1
@@ -44,8 +47,18 @@ typed_puts name type pool r e =
 long_puts : (n : ℤ) (pool : Pool) (r : ℕ × Pool) → add_long n pool ≡ Ok r → Puts (Measures n) pool r
 long_puts n pool r e = let a = long_added n pool r e in record { grown = a.grown; facts = λ Z g. long_grown r.1 Z g r.0 n a.means }
 
-integer_puts : (n : ℤ) (pool : Pool) (r : ℕ × Pool) → add_integer n pool ≡ Ok r → Puts (Counts n) pool r
-integer_puts n pool r e = let a = integer_added n pool r e in record { grown = a.grown; facts = λ Z g. integer_grown r.1 Z g r.0 (as_int n) a.means }
+-- an int, a field, a method, each at an index of two bytes
+abbrev pub IsCountAt : ℤ → Pool → ℕ → Type 0
+IsCountAt n Z i = Counts n Z i × (i < 65535)
+
+abbrev pub IsFieldAt : List ℕ → List ℕ → List ℕ → Pool → ℕ → Type 0
+IsFieldAt class name descriptor Z i = IsFieldName class name descriptor Z i × (i < 65535)
+
+abbrev pub IsMethodAt : List ℕ → List ℕ → List ℕ → Pool → ℕ → Type 0
+IsMethodAt class name descriptor Z i = IsMethodName class name descriptor Z i × (i < 65535)
+
+integer_puts : (n : ℤ) (pool : Pool) (r : ℕ × Pool) → add_integer n pool ≡ Ok r → Puts (IsCountAt n) pool r
+integer_puts n pool r e = let a = integer_added n pool r e in record { grown = a.grown; facts = λ Z g. (integer_grown r.1 Z g r.0 (as_int n) a.means, a.few) }
 
 -- a class, at an index that isn't 0
 abbrev pub IsClassAt : List ℕ → Pool → ℕ → Type 0
@@ -54,11 +67,11 @@ IsClassAt name Z i = NamesClass name Z i × (0 < i) × (i < 65535)
 pub class_puts : (name : List ℕ) (pool : Pool) (r : ℕ × Pool) → add_class name pool ≡ Ok r → Puts (IsClassAt name) pool r
 class_puts name pool r e = let a = class_added name pool r e in record { grown = a.grown; facts = λ Z g. (class_grown r.1 Z g r.0 name a.means, a.some, a.few) }
 
-field_puts : (class name descriptor : List ℕ) (pool : Pool) (r : ℕ × Pool) → add_field class name descriptor pool ≡ Ok r → Puts (IsFieldName class name descriptor) pool r
-field_puts class name descriptor pool r e = let a = field_added class name descriptor pool r e in record { grown = a.grown; facts = λ Z g. field_grown r.1 Z g r.0 _ a.means }
+field_puts : (class name descriptor : List ℕ) (pool : Pool) (r : ℕ × Pool) → add_field class name descriptor pool ≡ Ok r → Puts (IsFieldAt class name descriptor) pool r
+field_puts class name descriptor pool r e = let a = field_added class name descriptor pool r e in record { grown = a.grown; facts = λ Z g. (field_grown r.1 Z g r.0 (record { class = class; name = name; descriptor = descriptor }) a.means, a.few) }
 
-pub method_puts : (class name descriptor : List ℕ) (pool : Pool) (r : ℕ × Pool) → add_method class name descriptor pool ≡ Ok r → Puts (IsMethodName class name descriptor) pool r
-method_puts class name descriptor pool r e = let a = method_added class name descriptor pool r e in record { grown = a.grown; facts = λ Z g. method_grown r.1 Z g r.0 _ a.means }
+pub method_puts : (class name descriptor : List ℕ) (pool : Pool) (r : ℕ × Pool) → add_method class name descriptor pool ≡ Ok r → Puts (IsMethodAt class name descriptor) pool r
+method_puts class name descriptor pool r e = let a = method_added class name descriptor pool r e in record { grown = a.grown; facts = λ Z g. (method_grown r.1 Z g r.0 (record { class = class; name = name; descriptor = descriptor }) a.means, a.few) }
 
 -- ---- fields
 
@@ -99,7 +112,7 @@ base_grows pool r e =
 
 module _ (own : List ℕ) (f : Field) where
   abbrev pub ArePlaces : Pool → ℕ × ℕ → Type 0
-  ArePlaces Z p = IsFieldName own (codes "__CLASS_BASE__") (codes "Ljava/lang/Object;") Z p.0 × IsFieldName own (address_name f) (codes "J") Z p.1
+  ArePlaces Z p = IsFieldAt own (codes "__CLASS_BASE__") (codes "Ljava/lang/Object;") Z p.0 × IsFieldAt own (address_name f) (codes "J") Z p.1
 
   places_put : (pool : Pool) (r : (ℕ × ℕ) × Pool) → place_refs own f pool ≡ Ok r → Puts ArePlaces pool r
   unfolding place_refs
@@ -107,10 +120,10 @@ module _ (own : List ℕ) (f : Field) where
       let a = bind_ok _ _ r e in
       let b = bind_ok _ _ r a.2 in
       puts_end _ ArePlaces pool b.0 (a.0.0, b.0.0) r (λ Z h. h)
-      (puts_more (IsFieldName own (codes "__CLASS_BASE__") (codes "Ljava/lang/Object;")) (IsFieldName own (address_name f) (codes "J")) pool a.0 b.0 (field_puts _ _ _ pool a.0 a.1) (field_puts _ _ _ a.0.1 b.0 b.1)) b.2
+      (puts_more (IsFieldAt own (codes "__CLASS_BASE__") (codes "Ljava/lang/Object;")) (IsFieldAt own (address_name f) (codes "J")) pool a.0 b.0 (field_puts _ _ _ pool a.0 a.1) (field_puts _ _ _ a.0.1 b.0 b.1)) b.2
 
   abbrev pub IsLook : Pool → (ℕ × ℕ) × ℕ → Type 0
-  IsLook Z x = ArePlaces Z x.0 × IsMethodName context_class (codes "beforeReadAccess") (codes "(Ljava/lang/Object;J)V") Z x.1
+  IsLook Z x = ArePlaces Z x.0 × IsMethodAt context_class (codes "beforeReadAccess") (codes "(Ljava/lang/Object;J)V") Z x.1
 
   look_puts : (pool : Pool) (r : ((ℕ × ℕ) × ℕ) × Pool) → look_refs own f pool ≡ Ok r → Puts IsLook pool r
   unfolding look_refs
@@ -118,10 +131,10 @@ module _ (own : List ℕ) (f : Field) where
       let a = bind_ok _ _ r e in
       let b = bind_ok _ _ r a.2 in
       puts_end _ IsLook pool b.0 (a.0.0, b.0.0) r (λ Z h. h)
-      (puts_more ArePlaces (IsMethodName context_class (codes "beforeReadAccess") (codes "(Ljava/lang/Object;J)V")) pool a.0 b.0 (places_put pool a.0 a.1) (method_puts _ _ _ a.0.1 b.0 b.1)) b.2
+      (puts_more ArePlaces (IsMethodAt context_class (codes "beforeReadAccess") (codes "(Ljava/lang/Object;J)V")) pool a.0 b.0 (places_put pool a.0 a.1) (method_puts _ _ _ a.0.1 b.0 b.1)) b.2
 
   abbrev pub IsRead : Pool → ℕ × ℕ → Type 0
-  IsRead Z x = IsFieldName own f.name (codes "I") Z x.0 × IsMethodName context_class (codes "onReadAccess") (codes "(Ljava/lang/Object;IJ)I") Z x.1
+  IsRead Z x = IsFieldAt own f.name (codes "I") Z x.0 × IsMethodAt context_class (codes "onReadAccess") (codes "(Ljava/lang/Object;IJ)I") Z x.1
 
   read_puts : (pool : Pool) (r : (ℕ × ℕ) × Pool) → read_refs own f pool ≡ Ok r → Puts IsRead pool r
   unfolding read_refs
@@ -129,12 +142,12 @@ module _ (own : List ℕ) (f : Field) where
       let a = bind_ok _ _ r e in
       let b = bind_ok _ _ r a.2 in
       puts_end _ IsRead pool b.0 (a.0.0, b.0.0) r (λ Z h. h)
-      (puts_more (IsFieldName own f.name (codes "I")) (IsMethodName context_class (codes "onReadAccess") (codes "(Ljava/lang/Object;IJ)I")) pool a.0 b.0 (field_puts _ _ _ pool a.0 a.1) (method_puts _ _ _ a.0.1 b.0 b.1)) b.2
+      (puts_more (IsFieldAt own f.name (codes "I")) (IsMethodAt context_class (codes "onReadAccess") (codes "(Ljava/lang/Object;IJ)I")) pool a.0 b.0 (field_puts _ _ _ pool a.0 a.1) (method_puts _ _ _ a.0.1 b.0 b.1)) b.2
 
   pub record IsGetterBody (Z : Pool) (bytes : List ℕ) : Type 0 where
     pub look : (ℕ × ℕ) × ℕ
     pub read : ℕ × ℕ
-    pub is : bytes ≡ code_spelling (getter_code look.0 look.1 read.0 read.1)
+    pub is : straight_bytes 5 1 (getter_code look.0 look.1 read.0 read.1) ≡ Ok bytes
     pub looks : IsLook Z look
     pub reads : IsRead Z read
 
@@ -143,23 +156,25 @@ module _ (own : List ℕ) (f : Field) where
   getter_body_puts pool r e =
       let a = bind_ok _ _ r e in
       let b = bind_ok _ _ r a.2 in
-      puts_end _ IsGetterBody pool b.0 (code_spelling (getter_code a.0.0.0 a.0.0.1 b.0.0.0 b.0.0.1)) r (λ Z h. record { look = a.0.0; read = b.0.0; is = refl; looks = h.0; reads = h.1 })
-      (puts_more IsLook IsRead pool a.0 b.0 (look_puts pool a.0 a.1) (read_puts a.0.1 b.0 b.1)) b.2
+      let d = bind_ok (straight_bytes 5 1 (getter_code a.0.0.0 a.0.0.1 b.0.0.0 b.0.0.1)) (λ bytes. Ok (bytes, b.0.1)) r b.2 in
+      puts_end _ IsGetterBody pool b.0 d.0 r (λ Z h. record { look = a.0.0; read = b.0.0; is = d.1; looks = h.0; reads = h.1 })
+      (puts_more IsLook IsRead pool a.0 b.0 (look_puts pool a.0 a.1) (read_puts a.0.1 b.0 b.1)) d.2
 
   pub record IsSetterBody (Z : Pool) (bytes : List ℕ) : Type 0 where
     pub places : ℕ × ℕ
     pub write : ℕ
-    pub is : bytes ≡ code_spelling (setter_code places write)
+    pub is : straight_bytes 5 2 (setter_code places write) ≡ Ok bytes
     pub are : ArePlaces Z places
-    pub writes : IsMethodName context_class (codes "onWriteAccess") (codes "(Ljava/lang/Object;IJ)V") Z write
+    pub writes : IsMethodAt context_class (codes "onWriteAccess") (codes "(Ljava/lang/Object;IJ)V") Z write
 
   setter_body_puts : (pool : Pool) (r : List ℕ × Pool) → setter_body own f pool ≡ Ok r → Puts IsSetterBody pool r
   unfolding setter_body
   setter_body_puts pool r e =
       let a = bind_ok _ _ r e in
       let b = bind_ok _ _ r a.2 in
-      puts_end _ IsSetterBody pool b.0 (code_spelling (setter_code a.0.0 b.0.0)) r (λ Z h. record { places = a.0.0; write = b.0.0; is = refl; are = h.0; writes = h.1 })
-      (puts_more ArePlaces (IsMethodName context_class (codes "onWriteAccess") (codes "(Ljava/lang/Object;IJ)V")) pool a.0 b.0 (places_put pool a.0 a.1) (method_puts _ _ _ a.0.1 b.0 b.1)) b.2
+      let d = bind_ok (straight_bytes 5 2 (setter_code a.0.0 b.0.0)) (λ bytes. Ok (bytes, b.0.1)) r b.2 in
+      puts_end _ IsSetterBody pool b.0 d.0 r (λ Z h. record { places = a.0.0; write = b.0.0; is = d.1; are = h.0; writes = h.1 })
+      (puts_more ArePlaces (IsMethodAt context_class (codes "onWriteAccess") (codes "(Ljava/lang/Object;IJ)V")) pool a.0 b.0 (places_put pool a.0 a.1) (method_puts _ _ _ a.0.1 b.0 b.1)) d.2
 
 pub record IsAccessor (name type bytes : List ℕ) (Z : Pool) (m : Member) : Type 0 where
   pub n : ℕ
@@ -218,10 +233,12 @@ module _ (own : List ℕ) (f : Field) where
 -- ---- what wrappers name
 
 pub record IsOpening (n : ℕ) (Z : Pool) (a : Opening) : Type 0 where
-  pub get_is : IsMethodName (codes "org/deuce/transaction/ContextDelegator") (codes "getInstance") (codes "()Lorg/deuce/transaction/Context;") Z a.get
+  pub get_is : IsMethodAt (codes "org/deuce/transaction/ContextDelegator") (codes "getInstance") (codes "()Lorg/deuce/transaction/Context;") Z a.get
   pub number_is : integer Z a.number ≡ Some (pos n)
+  pub number_few : a.number < 65535
   pub retries_is : integer Z a.retries ≡ Some (pos 2147483647)
-  pub init_is : IsMethodName context_class (codes "init") (codes "(II)V") Z a.init
+  pub retries_few : a.retries < 65535
+  pub init_is : IsMethodAt context_class (codes "init") (codes "(II)V") Z a.init
 
 small_number : (n : ℕ) → n ≤ 2147483647 → as_int (pos n) ≡ pos n
 small_number n h = narrow (pos n) (omega (arith, ints, h))
@@ -233,25 +250,25 @@ opening_puts n pool r few e =
     let b = bind_ok _ _ r a.2 in
     let c = bind_ok _ _ r b.2 in
     let d = bind_ok _ _ r c.2 in
-    puts_end _ (IsOpening n) pool d.0 (record { get = a.0.0; number = b.0.0; retries = c.0.0; init = d.0.0 }) r (λ Z h. record { get_is = h.0; number_is = h.1.0 ∙ ap Some (small_number n (omega (arith, few))); retries_is = h.1.1.0 ∙ ap Some (small_number 2147483647 (omega arith)); init_is = h.1.1.1 })
-    (puts_more (IsMethodName (codes "org/deuce/transaction/ContextDelegator") (codes "getInstance") (codes "()Lorg/deuce/transaction/Context;")) _ pool a.0 d.0 (method_puts _ _ _ pool a.0 a.1)
-    (puts_more (Counts (pos n)) _ a.0.1 b.0 d.0 (integer_puts _ a.0.1 b.0 b.1)
-    (puts_more (Counts (pos 2147483647)) (IsMethodName context_class (codes "init") (codes "(II)V")) b.0.1 c.0 d.0 (integer_puts _ b.0.1 c.0 c.1) (method_puts _ _ _ c.0.1 d.0 d.1)))) d.2
+    puts_end _ (IsOpening n) pool d.0 (record { get = a.0.0; number = b.0.0; retries = c.0.0; init = d.0.0 }) r (λ Z h. record { get_is = h.0; number_is = h.1.0.0 ∙ ap Some (small_number n (omega (arith, few))); number_few = h.1.0.1; retries_is = h.1.1.0.0 ∙ ap Some (small_number 2147483647 (omega arith)); retries_few = h.1.1.0.1; init_is = h.1.1.1 })
+    (puts_more (IsMethodAt (codes "org/deuce/transaction/ContextDelegator") (codes "getInstance") (codes "()Lorg/deuce/transaction/Context;")) _ pool a.0 d.0 (method_puts _ _ _ pool a.0 a.1)
+    (puts_more (IsCountAt (pos n)) _ a.0.1 b.0 d.0 (integer_puts _ a.0.1 b.0 b.1)
+    (puts_more (IsCountAt (pos 2147483647)) (IsMethodAt context_class (codes "init") (codes "(II)V")) b.0.1 c.0 d.0 (integer_puts _ b.0.1 c.0 c.1) (method_puts _ _ _ c.0.1 d.0 d.1)))) d.2
 
-pub record IsEnding (own name : List ℕ) (Z : Pool) (a : Ending) : Type 0 where
-  pub duplicate_is : IsMethodName own name getter_type Z a.duplicate
-  pub commit_is : IsMethodName context_class (codes "commit") (codes "()Z") Z a.commit
-  pub rollback_is : IsMethodName context_class (codes "rollback") (codes "()V") Z a.rollback
+pub record IsEnding (k : Method) (Z : Pool) (a : Ending) : Type 0 where
+  pub duplicate_is : IsMethodAt k.name.class k.name.name (with_context k.name.descriptor) Z a.duplicate
+  pub commit_is : IsMethodAt context_class (codes "commit") (codes "()Z") Z a.commit
+  pub rollback_is : IsMethodAt context_class (codes "rollback") (codes "()V") Z a.rollback
   pub conflict_is : IsClassAt (codes "org/deuce/transaction/TransactionException") Z a.conflict
 
-pub ending_puts : (own name : List ℕ) (pool : Pool) (r : Ending × Pool) → ending_of own name pool ≡ Ok r → Puts (IsEnding own name) pool r
+pub ending_puts : (k : Method) (pool : Pool) (r : Ending × Pool) → ending_of k pool ≡ Ok r → Puts (IsEnding k) pool r
 unfolding ending_of
-ending_puts own name pool r e =
+ending_puts k pool r e =
     let a = bind_ok _ _ r e in
     let b = bind_ok _ _ r a.2 in
     let c = bind_ok _ _ r b.2 in
     let d = bind_ok _ _ r c.2 in
-    puts_end _ (IsEnding own name) pool d.0 (record { duplicate = a.0.0; commit = b.0.0; rollback = c.0.0; conflict = d.0.0 }) r (λ Z h. record { duplicate_is = h.0; commit_is = h.1.0; rollback_is = h.1.1.0; conflict_is = h.1.1.1 })
-    (puts_more (IsMethodName own name getter_type) _ pool a.0 d.0 (method_puts _ _ _ pool a.0 a.1)
-    (puts_more (IsMethodName context_class (codes "commit") (codes "()Z")) _ a.0.1 b.0 d.0 (method_puts _ _ _ a.0.1 b.0 b.1)
-    (puts_more (IsMethodName context_class (codes "rollback") (codes "()V")) (IsClassAt (codes "org/deuce/transaction/TransactionException")) b.0.1 c.0 d.0 (method_puts _ _ _ b.0.1 c.0 c.1) (class_puts _ c.0.1 d.0 d.1)))) d.2
+    puts_end _ (IsEnding k) pool d.0 (record { duplicate = a.0.0; commit = b.0.0; rollback = c.0.0; conflict = d.0.0 }) r (λ Z h. record { duplicate_is = h.0; commit_is = h.1.0; rollback_is = h.1.1.0; conflict_is = h.1.1.1 })
+    (puts_more (IsMethodAt k.name.class k.name.name (with_context k.name.descriptor)) _ pool a.0 d.0 (method_puts _ _ _ pool a.0 a.1)
+    (puts_more (IsMethodAt context_class (codes "commit") (codes "()Z")) _ a.0.1 b.0 d.0 (method_puts _ _ _ a.0.1 b.0 b.1)
+    (puts_more (IsMethodAt context_class (codes "rollback") (codes "()V")) (IsClassAt (codes "org/deuce/transaction/TransactionException")) b.0.1 c.0 d.0 (method_puts _ _ _ b.0.1 c.0 c.1) (class_puts _ c.0.1 d.0 d.1)))) d.2

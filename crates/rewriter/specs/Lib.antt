@@ -1,4 +1,5 @@
 pub mod Adding
+pub mod Made
 pub mod Meaning
 pub mod Members
 pub mod Rewritten

@@ -1,22 +1,26 @@
--- The members that rewriting adds to a class and replaces in it (Korland, Shavit, Felber, MULTIPROG 2010, in this project's
--- form), with the entries that they name. Methods are static, take nothing and give an int.
-use Rattle.std.specs.Prelude.{ℕ, ℤ, zero, suc, pos, ◌+◌, ◌/◌, ◌%◌, List, [], ◌∷◌, ◌++◌, length, map, Option, Some, None, Result, Ok, Err, Bool, false, nat_eq, nat_lt, if◌then◌else◌, codes, bit_and, bit_or, slice_get, unwrap_or}
+-- The members that rewriting adds to a class and replaces in it, with the entries that they name. Methods are static, take ints and
+-- give an int or nothing.
+use Rattle.std.specs.Prelude.{ℕ, ℤ, zero, suc, pos, negsuc, ◌+◌, ◌/◌, ◌%◌, max, List, [], ◌∷◌, ◌++◌, map, Option, Some, None, Result, Ok, Err, Bool, true, false, ◌&&◌, nat_eq, nat_lt, int_le, if◌then◌else◌, codes, bit_and, bit_or, slice_get, slice_index}
 use Rattle.std.specs.List.{list_any}
 use Rattle.std.specs.Int.{w64, cast_signed}
+use Rattle.jmodel.specs.declared.class_file.Handler.{Handler}
 use Rattle.jmodel.specs.declared.refusal.Refusal.{Refusal}
-use Rattle.jmodel.specs.declared.refusal.Refusal.TheVariants.{BadCode, CodeTooLarge, TooManyPlaces}
+use Rattle.jmodel.specs.declared.refusal.Refusal.TheVariants.{CodeTooLarge, BranchTooFar, TooManyPlaces}
+use Rattle.jmodel.specs.declared.instruction.Operands.{Operands}
+use Rattle.jmodel.specs.declared.instruction.Operands.TheVariants as operands
+use Rattle.jmodel.specs.declared.instruction.Instr.{Instr}
 use Rattle.jmodel.specs.declared.op.Op.{Op}
-use Rattle.jmodel.specs.declared.op.Op.TheVariants.{GetStatic, PutStatic}
+use Rattle.jmodel.specs.declared.op.Op.TheVariants.{Load, Store, Increment, GetStatic, PutStatic, InvokeStatic}
 use Rattle.jmodel.specs.ClassFile.{Attribute, Member, Pool, ClassFile, Code, code_spelling}
-use Rattle.jmodel.specs.Pool.{utf8}
-use Rattle.jmodel.specs.Layout.{text_or_none}
 use Rattle.jmodel.specs.ClassRules.{is_named}
+use Rattle.jmodel.specs.Name.{printed}
 use Rattle.jmodel.specs.Program.{Field, Method, Program}
-use Rattle.jmodel.specs.Decoding.{own_name, Instruction, operand_bytes, instructions}
-use Rattle.jmodel.specs.Linking.{code_in}
+use Rattle.jmodel.specs.Linking.{Coded, decoded}
 use Rattle.jmodel.specs.Reading.{◌>>=◌}
+use Rattle.jmodel.specs.Relocation.{Block, relocate}
+use Rattle.jmodel.specs.Rewriting.{moved, with_context}
 use Rattle.rewriter.specs.declared.accessors.Accessors.{Accessors}
-use Rattle.rewriter.specs.declared.duplicates.Calls.{Calls}
+use Rattle.rewriter.specs.declared.names.Calls.{Calls}
 use Rattle.rewriter.specs.declared.wrappers.Opening.{Opening}
 use Rattle.rewriter.specs.declared.wrappers.Ending.{Ending}
 use Rattle.rewriter.specs.Adding.{add_utf8, add_integer, add_long, add_class, add_field, add_method}
@@ -41,8 +45,6 @@ setter_name f = f.name ++ codes "__Setter$"
 
 abbrev pub address_name : Field → List ℕ
 address_name f = f.name ++ codes "__ADDRESS__"
-
--- ---- bytes
 
 -- the higher and the lower byte of an index
 abbrev pub high : ℕ → ℕ
@@ -84,6 +86,69 @@ base_member pool = do
   named ← typed_name (codes "__CLASS_BASE__") (codes "Ljava/lang/Object;") pool
   Ok (record { flags = 0x1019; name = named.0.0; descriptor = named.0.1; attributes = [] }, named.1)
 
+-- ---- code
+
+-- an instruction that is added: where it stands is found when the code is laid
+abbrev pub instr : ℕ → Operands → Instr
+instr c o = record { pc = 0; op = c; operands = o }
+
+abbrev pub plain : ℕ → Instr
+plain c = instr c operands.Nothing
+
+abbrev pub naming : ℕ → ℕ → Instr
+naming c i = instr c (operands.Pool i)
+
+abbrev pub jump : ℕ → ℕ → Instr
+jump c to = instr c (operands.Target to)
+
+-- A load or a store in its shortest form: of the opcodes that are given, the first has the local behind it, and the second is that of
+-- local 0 without operands. Behind wide, 196, a local has two bytes.
+abbrev pub local_instr : ℕ → ℕ → ℕ → Instr
+local_instr c short i = if nat_lt i 4 then plain (short + i) else if nat_lt i 256 then instr c (operands.Local i) else instr 196 (operands.Wide c i (pos 0))
+
+-- iload, istore, aload, astore
+abbrev pub load_int : ℕ → Instr
+load_int i = local_instr 21 26 i
+
+abbrev pub store_int : ℕ → Instr
+store_int i = local_instr 54 59 i
+
+abbrev pub load_reference : ℕ → Instr
+load_reference i = local_instr 25 42 i
+
+abbrev pub store_reference : ℕ → Instr
+store_reference i = local_instr 58 75 i
+
+-- iinc, 132, in its shortest form
+abbrev pub increment : ℕ → ℤ → Instr
+increment i n = if nat_lt i 256 && int_le (negsuc 127) n && int_le n (pos 127) then instr 132 (operands.LocalAdd i n) else instr 196 (operands.Wide 132 i n)
+
+-- invokestatic, invokevirtual, getstatic
+abbrev pub call_static : ℕ → Instr
+call_static i = naming 184 i
+
+abbrev pub call_virtual : ℕ → Instr
+call_virtual i = naming 182 i
+
+abbrev pub get_static : ℕ → Instr
+get_static i = naming 178 i
+
+-- Code of these blocks and the stub, laid one behind the other.
+abbrev pub laid_code : ℕ → ℕ → List Block → List Handler → Option ℕ → List Instr → Result Code Refusal
+laid_code max_stack max_locals blocks handlers first stub = relocate blocks handlers first stub >>= λ laid.
+    Ok (record { max_stack = max_stack; max_locals = max_locals; code = laid.0; handlers = laid.1; attributes = [] })
+
+-- its bytes
+abbrev pub laid_bytes : ℕ → ℕ → List Block → List Handler → Option ℕ → List Instr → Result (List ℕ) Refusal
+laid_bytes max_stack max_locals blocks handlers first stub = laid_code max_stack max_locals blocks handlers first stub >>= λ code. Ok (code_spelling code)
+
+abbrev pub block : ℕ → List Instr → Block
+block pc is = record { pc = pc; instrs = is }
+
+-- the bytes of Code that is one run of instructions
+abbrev pub straight_bytes : ℕ → ℕ → List Instr → Result (List ℕ) Refusal
+straight_bytes max_stack max_locals is = laid_bytes max_stack max_locals (block 0 is ∷ []) [] None []
+
 -- ---- accessors
 
 -- the static base of a class, and the place of a field of it
@@ -94,15 +159,10 @@ place_refs own f pool = do
   Ok ((base.0, address.0), address.1)
 
 -- before the read, the plain load, after the read
-abbrev pub getter_code : ℕ × ℕ → ℕ → ℕ → ℕ → Code
-getter_code p before field after = record {
-  max_stack = 5;
-  max_locals = 1;
-  code = 42 ∷ 178 ∷ high p.0 ∷ low p.0 ∷ 178 ∷ high p.1 ∷ low p.1 ∷ 182 ∷ high before ∷ low before
-      ∷ 42 ∷ 178 ∷ high p.0 ∷ low p.0 ∷ 178 ∷ high field ∷ low field ∷ 178 ∷ high p.1 ∷ low p.1 ∷ 182 ∷ high after ∷ low after ∷ 172 ∷ [];
-  handlers = [];
-  attributes = [];
-}
+abbrev pub getter_code : ℕ × ℕ → ℕ → ℕ → ℕ → List Instr
+getter_code p before field after =
+    load_reference 0 ∷ get_static p.0 ∷ get_static p.1 ∷ call_virtual before
+    ∷ load_reference 0 ∷ get_static p.0 ∷ get_static field ∷ get_static p.1 ∷ call_virtual after ∷ plain 172 ∷ []
 
 -- what a getter names up to the call before the read
 unfoldable pub look_refs : List ℕ → Field → Pool → Result (((ℕ × ℕ) × ℕ) × Pool) Refusal
@@ -122,23 +182,19 @@ unfoldable pub getter_body : List ℕ → Field → Pool → Result (List ℕ ×
 getter_body own f pool = do
   look ← look_refs own f pool
   read ← read_refs own f look.1
-  Ok (code_spelling (getter_code look.0.0 look.0.1 read.0.0 read.0.1), read.1)
+  bytes ← straight_bytes 5 1 (getter_code look.0.0 look.0.1 read.0.0 read.0.1)
+  Ok (bytes, read.1)
 
 -- in place of the store
-abbrev pub setter_code : ℕ × ℕ → ℕ → Code
-setter_code p write = record {
-  max_stack = 5;
-  max_locals = 2;
-  code = 43 ∷ 178 ∷ high p.0 ∷ low p.0 ∷ 26 ∷ 178 ∷ high p.1 ∷ low p.1 ∷ 182 ∷ high write ∷ low write ∷ 177 ∷ [];
-  handlers = [];
-  attributes = [];
-}
+abbrev pub setter_code : ℕ × ℕ → ℕ → List Instr
+setter_code p write = load_reference 1 ∷ get_static p.0 ∷ load_int 0 ∷ get_static p.1 ∷ call_virtual write ∷ plain 177 ∷ []
 
 unfoldable pub setter_body : List ℕ → Field → Pool → Result (List ℕ × Pool) Refusal
 setter_body own f pool = do
   places ← place_refs own f pool
   write ← add_method context_class (codes "onWriteAccess") (codes "(Ljava/lang/Object;IJ)V") places.1
-  Ok (code_spelling (setter_code places.0 write.0), write.1)
+  bytes ← straight_bytes 5 2 (setter_code places.0 write.0)
+  Ok (bytes, write.1)
 
 -- an accessor of this name, this descriptor and these bytes of its Code
 unfoldable pub accessor : List ℕ → List ℕ → List ℕ → Pool → Result (Member × Pool) Refusal
@@ -163,7 +219,7 @@ accessors_of own f pool = do
   setter ← setter_of own f getter.1
   Ok (record { getter = getter.0; setter = setter.0 }, setter.1)
 
--- ---- duplicates
+-- ---- what duplicates name
 
 abbrev pub gets : ℕ → Op → Bool
 gets n (GetStatic f) = nat_eq f n
@@ -173,28 +229,35 @@ abbrev pub puts : ℕ → Op → Bool
 puts n (PutStatic f) = nat_eq f n
 puts n o = false
 
--- whether some method reads or writes the field of a number
-abbrev pub is_read : Program → ℕ → Bool
-is_read P n = list_any (λ (k : Method). list_any (gets n) k.ops) P.methods
+abbrev pub calls : ℕ → Op → Bool
+calls n (InvokeStatic m) = nat_eq m n
+calls n o = false
 
-abbrev pub is_written : Program → ℕ → Bool
-is_written P n = list_any (λ (k : Method). list_any (puts n) k.ops) P.methods
+-- whether some method has an instruction of a kind
+abbrev pub some_op : (Op → Bool) → Program → Bool
+some_op p P = list_any (λ (k : Method). list_any p k.ops) P.methods
 
 -- an entry is added where it is needed, else 0 stands for it
 unfoldable pub method_if_needed : Bool → List ℕ → List ℕ → List ℕ → Pool → Result (ℕ × Pool) Refusal
 method_if_needed needed class name descriptor pool = if needed then add_method class name descriptor pool else Ok (0, pool)
 
 unfoldable pub getter_call : Program → List ℕ → ℕ → Field → Pool → Result (ℕ × Pool) Refusal
-getter_call P own n f pool = method_if_needed (is_read P n) own (getter_name f) getter_type pool
+getter_call P own n f pool = method_if_needed (some_op (gets n) P) own (getter_name f) getter_type pool
 
 unfoldable pub setter_call : Program → List ℕ → ℕ → Field → Pool → Result (ℕ × Pool) Refusal
-setter_call P own n f pool = method_if_needed (is_written P n) own (setter_name f) setter_type pool
+setter_call P own n f pool = method_if_needed (some_op (puts n) P) own (setter_name f) setter_type pool
 
 unfoldable pub calls_of : Program → List ℕ → ℕ → Field → Pool → Result (Calls × Pool) Refusal
 calls_of P own n f pool = do
   getter ← getter_call P own n f pool
   setter ← setter_call P own n f getter.1
   Ok (record { getter = getter.0; setter = setter.0 }, setter.1)
+
+-- the duplicate of a method, where some duplicate calls it
+unfoldable pub duplicate_call : Program → ℕ → Method → Pool → Result (ℕ × Pool) Refusal
+duplicate_call P n k pool = method_if_needed (some_op (calls n) P) k.name.class k.name.name (with_context k.name.descriptor) pool
+
+-- ---- duplicates
 
 abbrev pub getter_in : Option Calls → ℕ
 getter_in None = 0
@@ -204,69 +267,69 @@ abbrev pub setter_in : Option Calls → ℕ
 setter_in None = 0
 setter_in (Some c) = c.setter
 
--- the context, and the call of an accessor
-abbrev pub call_bytes : ℕ → List ℕ
-call_bytes i = 42 ∷ 184 ∷ high i ∷ low i ∷ []
+-- what the duplicates of a class name: accessors by fields, and duplicates by methods
+pub record Names : Type 0 where
+  pub accessors : List Calls
+  pub duplicates : List ℕ
 
-abbrev pub number_bytes : ℕ → ℕ → List ℕ
-number_bytes zero n = []
-number_bytes (suc zero) n = low n ∷ []
-number_bytes (suc (suc k)) n = high n ∷ low n ∷ []
+-- What stands in the duplicate for an instruction, which means this; the context stands in local p.
+abbrev pub block_instrs : Names → ℕ → Option Op → Instr → List Instr
+block_instrs names p (Some (GetStatic f)) i = load_reference p ∷ call_static (getter_in (slice_get names.accessors f)) ∷ []
+block_instrs names p (Some (PutStatic f)) i = load_reference p ∷ call_static (setter_in (slice_get names.accessors f)) ∷ []
+block_instrs names p (Some (InvokeStatic m)) i = load_reference p ∷ call_static (slice_index names.duplicates m) ∷ []
+block_instrs names p (Some (Load n)) i = load_int (moved p n) ∷ []
+block_instrs names p (Some (Store n)) i = store_int (moved p n) ∷ []
+block_instrs names p (Some (Increment n x)) i = increment (moved p n) x ∷ []
+block_instrs names p o i = i ∷ []
 
--- an instruction as it lay in the code
-abbrev pub same_bytes : Instruction → List ℕ
-same_bytes i = i.opcode ∷ number_bytes (operand_bytes i.opcode) (unwrap_or i.operand 0)
+-- the blocks of instructions, the first of which has number n
+abbrev pub blocks_from : Names → ℕ → List Op → ℕ → List Instr → List Block
+blocks_from names p ops n [] = []
+blocks_from names p ops n (i ∷ is) = block i.pc (block_instrs names p (slice_get ops n) i) ∷ blocks_from names p ops (n + 1) is
 
--- what stands in the duplicate for an instruction
-abbrev pub block_bytes : List Calls → Option Op → Instruction → List ℕ
-block_bytes calls (Some (GetStatic f)) i = call_bytes (getter_in (slice_get calls f))
-block_bytes calls (Some (PutStatic f)) i = call_bytes (setter_in (slice_get calls f))
-block_bytes calls o i = same_bytes i
+-- that a method has too many places of a kind
+abbrev pub too_many : List ℕ → List ℕ → Refusal
+too_many name kind = TooManyPlaces name kind
 
-abbrev pub blocks_from : List Calls → List Op → ℕ → List Instruction → List ℕ
-blocks_from calls ops n [] = []
-blocks_from calls ops n (i ∷ is) = block_bytes calls (slice_get ops n) i ++ blocks_from calls ops (n + 1) is
+-- a fault of a method's code, with the method's printed name
+abbrev pub fault_of : List ℕ → Refusal → Refusal
+fault_of name (CodeTooLarge n) = CodeTooLarge name
+fault_of name (BranchTooFar n pc) = BranchTooFar name pc
+fault_of name r = r
 
--- the blocks, and behind them the stub that throws a conflict on
-abbrev pub duplicate_code : ℕ → ℕ → ℕ → List ℕ → Code
-duplicate_code conflict max_stack max_locals blocks = record {
-  max_stack = max_stack;
-  max_locals = max_locals;
-  code = blocks ++ 191 ∷ [];
-  handlers = record { start = 0; end = length blocks; handler = length blocks; catch_type = conflict } ∷ [];
-  attributes = [];
-}
+abbrev pub of_method : {A : Type 0} → List ℕ → Result A Refusal → Result A Refusal
+of_method name (Ok x) = Ok x
+of_method name (Err r) = Err (fault_of name r)
 
--- one more place on the stack and among the locals
-unfoldable pub duplicate_body : ℕ → ℕ → List ℕ → Pool → Result (List ℕ × Pool) Refusal
-duplicate_body max_stack max_locals blocks pool =
-    if nat_eq max_locals 65535 then Err (TooManyPlaces [] (codes "Locals"))
-    else if nat_eq max_stack 65535 then Err (TooManyPlaces [] (codes "Stack"))
-    else add_class (codes "org/deuce/transaction/TransactionException") pool >>= λ conflict.
-    if nat_lt 65534 (length blocks) then Err (CodeTooLarge []) else Ok (code_spelling (duplicate_code conflict.0 (max_stack + 1) (max_locals + 1) blocks), conflict.1)
+-- athrow, 191, that throws on
+abbrev pub stub : List Instr
+stub = plain 191 ∷ []
+
+-- The duplicate's code: the blocks, and behind them the stub that throws a conflict on, past every entry of the method's
+-- own. One more place on the stack and among the locals.
+unfoldable pub duplicate_body : List ℕ → Code → List Block → Pool → Result (List ℕ × Pool) Refusal
+duplicate_body name k blocks pool =
+    if nat_eq k.max_locals 65535 then Err (too_many name (codes "Locals"))
+    else if nat_eq k.max_stack 65535 then Err (too_many name (codes "Stack"))
+    else do
+      conflict ← add_class (codes "org/deuce/transaction/TransactionException") pool
+      bytes ← of_method name (laid_bytes (k.max_stack + 1) (k.max_locals + 1) blocks k.handlers (Some conflict.0) stub)
+      Ok (bytes, conflict.1)
 
 -- the flags without VARARGS and with SYNTHETIC
 abbrev pub duplicate_flags : ℕ → ℕ
 duplicate_flags flags = bit_or (bit_and flags 0xff7f) 0x1000
 
-unfoldable pub coded_duplicate : List Calls → List Op → Member → Code → Pool → Result (Member × Pool) Refusal
-coded_duplicate calls ops m k pool = do
-  body ← duplicate_body k.max_stack k.max_locals (blocks_from calls ops 0 (instructions k.code)) pool
-  typed ← add_utf8 getter_type body.1
+unfoldable pub coded_duplicate : Names → Method → Member → Coded → Pool → Result (Member × Pool) Refusal
+coded_duplicate names k m coded pool = do
+  body ← duplicate_body (printed k.name) coded.code (blocks_from names k.params k.ops 0 coded.instrs) pool
+  typed ← add_utf8 (with_context k.name.descriptor) body.1
   code ← add_utf8 (codes "Code") typed.1
   Ok (added_method (duplicate_flags m.flags) m.name typed.0 code.0 body.0, code.1)
 
-abbrev pub duplicate_if : Option Code → List Calls → List Op → Member → Pool → Result (Member × Pool) Refusal
-duplicate_if None calls ops m pool = Err (BadCode [])
-duplicate_if (Some k) calls ops m pool = coded_duplicate calls ops m k pool
-
-abbrev pub ops_in : Option Method → List Op
-ops_in None = []
-ops_in (Some k) = k.ops
-
--- the duplicate of the method of a number
-abbrev pub duplicate_of : Program → ClassFile → List Calls → ℕ → Member → Pool → Result (Member × Pool) Refusal
-duplicate_of P c calls n m pool = duplicate_if (code_in c.pool m) calls (ops_in (slice_get P.methods n)) m pool
+-- the duplicate of a method, which the class's file has as this member
+unfoldable pub duplicate_of : ClassFile → Names → Method → Member → Pool → Result (Member × Pool) Refusal
+duplicate_of c names k m pool = decoded c m >>= λ coded. coded_duplicate names k m coded pool
 
 -- ---- wrappers
 
@@ -278,27 +341,58 @@ opening_of n pool = do
   init ← add_method context_class (codes "init") (codes "(II)V") retries.1
   Ok (record { get = get.0; number = number.0; retries = retries.0; init = init.0 }, init.1)
 
-unfoldable pub ending_of : List ℕ → List ℕ → Pool → Result (Ending × Pool) Refusal
-ending_of own name pool = do
-  duplicate ← add_method own name getter_type pool
+unfoldable pub ending_of : Method → Pool → Result (Ending × Pool) Refusal
+ending_of k pool = do
+  duplicate ← add_method k.name.class k.name.name (with_context k.name.descriptor) pool
   commit ← add_method context_class (codes "commit") (codes "()Z") duplicate.1
   rollback ← add_method context_class (codes "rollback") (codes "()V") commit.1
   conflict ← add_class (codes "org/deuce/transaction/TransactionException") rollback.1
   Ok (record { duplicate = duplicate.0; commit = commit.0; rollback = rollback.0; conflict = conflict.0 }, conflict.1)
 
--- The loop of attempts at 4, the body from 14 to 18, a conflict at 28, another exception at 36; jumps back go to 4.
-abbrev pub wrapper_code : Opening → Ending → Code
-wrapper_code a e = record {
-  max_stack = 3;
-  max_locals = 2;
-  code = 184 ∷ high a.get ∷ low a.get ∷ 75 ∷ 42 ∷ 19 ∷ high a.number ∷ low a.number ∷ 19 ∷ high a.retries ∷ low a.retries
-      ∷ 182 ∷ high a.init ∷ low a.init ∷ 42 ∷ 184 ∷ high e.duplicate ∷ low e.duplicate
-      ∷ 60 ∷ 42 ∷ 182 ∷ high e.commit ∷ low e.commit ∷ 153 ∷ 0xff ∷ 0xed ∷ 27 ∷ 172
-      ∷ 87 ∷ 42 ∷ 182 ∷ high e.rollback ∷ low e.rollback ∷ 167 ∷ 0xff ∷ 0xe3
-      ∷ 76 ∷ 42 ∷ 182 ∷ high e.commit ∷ low e.commit ∷ 153 ∷ 0xff ∷ 0xdb ∷ 43 ∷ 191 ∷ [];
-  handlers = record { start = 14; end = 18; handler = 28; catch_type = e.conflict } ∷ record { start = 14; end = 18; handler = 36; catch_type = 0 } ∷ [];
-  attributes = [];
-}
+-- the ints in the locals from i on, each on the stack
+abbrev pub int_loads : ℕ → ℕ → List Instr
+int_loads i zero = []
+int_loads i (suc n) = load_int i ∷ int_loads (suc i) n
+
+abbrev pub keeps : Bool → ℕ → List Instr
+keeps true p = store_int (p + 1) ∷ []
+keeps false p = []
+
+abbrev pub answers : Bool → ℕ → List Instr
+answers true p = load_int (p + 1) ∷ plain 172 ∷ []
+answers false p = plain 177 ∷ []
+
+-- The parts of a wrapper: the context into local p, an attempt's beginning, its body, its end, a conflict, another exception.
+abbrev pub entry_instrs : ℕ → Opening → List Instr
+entry_instrs p a = call_static a.get ∷ store_reference p ∷ []
+
+abbrev pub begin_instrs : ℕ → Opening → List Instr
+begin_instrs p a = load_reference p ∷ naming 19 a.number ∷ naming 19 a.retries ∷ call_virtual a.init ∷ []
+
+abbrev pub body_instrs : ℕ → Ending → List Instr
+body_instrs p e = int_loads 0 p ++ load_reference p ∷ call_static e.duplicate ∷ []
+
+abbrev pub end_instrs : ℕ → Bool → Ending → List Instr
+end_instrs p gives e = keeps gives p ++ load_reference p ∷ call_virtual e.commit ∷ jump 153 1 ∷ answers gives p
+
+abbrev pub conflict_instrs : ℕ → Ending → List Instr
+conflict_instrs p e = plain 87 ∷ load_reference p ∷ call_virtual e.rollback ∷ jump 167 1 ∷ []
+
+abbrev pub exception_instrs : ℕ → Ending → List Instr
+exception_instrs p e = store_reference (p + 1) ∷ load_reference p ∷ call_virtual e.commit ∷ jump 153 1 ∷ load_reference (p + 1) ∷ plain 191 ∷ []
+
+-- The wrapper's blocks. Where the commit fails, ifeq, 153, and after a rollback goto, 167, lead to block 1, the next attempt.
+abbrev pub wrapper_blocks : ℕ → Bool → Opening → Ending → List Block
+wrapper_blocks p gives a e =
+    block 0 (entry_instrs p a) ∷ block 1 (begin_instrs p a) ∷ block 2 (body_instrs p e) ∷ block 3 (end_instrs p gives e)
+    ∷ block 4 (conflict_instrs p e) ∷ block 5 (exception_instrs p e) ∷ []
+
+-- a conflict in the body goes to 4, any other exception to 5
+abbrev pub wrapper_handlers : ℕ → List Handler
+wrapper_handlers conflict = record { start = 2; end = 3; handler = 4; catch_type = conflict } ∷ record { start = 2; end = 3; handler = 5; catch_type = 0 } ∷ []
+
+unfoldable pub wrapper_bytes : Method → Opening → Ending → Result (List ℕ) Refusal
+wrapper_bytes k a e = of_method (printed k.name) (laid_bytes (max (k.params + 1) 3) (k.params + 2) (wrapper_blocks k.params k.gives a e) (wrapper_handlers e.conflict) None [])
 
 abbrev pub with_bytes : Pool → List ℕ → Attribute → Attribute
 with_bytes pool bytes a = if is_named pool (codes "Code") a then record { name = a.name; bytes = bytes } else a
@@ -307,9 +401,10 @@ with_bytes pool bytes a = if is_named pool (codes "Code") a then record { name =
 abbrev pub with_code : Pool → List ℕ → Member → Member
 with_code pool bytes m = record { flags = m.flags; name = m.name; descriptor = m.descriptor; attributes = map (with_bytes pool bytes) m.attributes }
 
--- the wrapper of the method of a number, which is its number among the wrappers
-unfoldable pub wrapper_of : ClassFile → ℕ → Member → Pool → Result (Member × Pool) Refusal
-wrapper_of c n m pool = if nat_lt 65535 n then Err (TooManyPlaces [] (codes "Methods")) else do
+-- the wrapper of a method, with its number among the wrappers
+unfoldable pub wrapper_of : ClassFile → ℕ → Method → Member → Pool → Result (Member × Pool) Refusal
+wrapper_of c n k m pool = if nat_lt 65535 n then Err (too_many (printed k.name) (codes "Methods")) else do
   opening ← opening_of n pool
-  ending ← ending_of (own_name c) (text_or_none (utf8 c.pool m.name)) opening.1
-  Ok (with_code c.pool (code_spelling (wrapper_code opening.0 ending.0)) m, ending.1)
+  ending ← ending_of k opening.1
+  bytes ← wrapper_bytes k opening.0 ending.0
+  Ok (with_code c.pool bytes m, ending.1)

@@ -1,13 +1,13 @@
 -- The rewriting of a class, part after part.
-use Rattle.std.specs.Prelude.{◌≡◌, ℕ, ◌+◌, List, [], ◌∷◌, ◌++◌, Result, Ok, if◌then◌else◌}
+use Rattle.std.specs.Prelude.{◌≡◌, ℕ, ◌+◌, List, [], ◌∷◌, ◌++◌, zip, Option, Some, None, Result, Ok, slice_get, if◌then◌else◌}
 use Rattle.std.specs.List.{flat_map}
 use Rattle.jmodel.specs.declared.refusal.Refusal.{Refusal}
 use Rattle.jmodel.specs.ClassFile.{Member, Pool, ClassFile}
-use Rattle.jmodel.specs.Program.{Field, Program}
+use Rattle.jmodel.specs.Program.{Field, Method, Program}
 use Rattle.jmodel.specs.Decoding.{own_name}
 use Rattle.jmodel.specs.Linking.{is_program_method, program_methods}
 use Rattle.jmodel.specs.Reading.{◌>>=◌}
-use Rattle.rewriter.specs.Members.{address_member, base_member, accessors_of, calls_of, duplicate_of, wrapper_of}
+use Rattle.rewriter.specs.Members.{Names, address_member, base_member, accessors_of, calls_of, duplicate_call, duplicate_of, wrapper_of}
 use Rattle.rewriter.specs.declared.accessors.Accessors.{Accessors}
 
 -- what each item gives, the first with number n, one after another
@@ -33,11 +33,18 @@ added_fields P pool = do
   base ← bases P.fields addresses.1
   Ok (addresses.0 ++ base.0, base.1)
 
--- the duplicates, with the accessors that they call
+-- what duplicates name
+unfoldable pub names_of : Program → ClassFile → Pool → Result (Names × Pool) Refusal
+names_of P c pool = do
+  calls ← grow_from (calls_of P (own_name c)) 0 P.fields pool
+  copies ← grow_from (duplicate_call P) 0 P.methods calls.1
+  Ok (record { accessors = calls.0; duplicates = copies.0 }, copies.1)
+
+-- the duplicates, with the methods that they call
 unfoldable pub duplicates : Program → ClassFile → Pool → Result (List Member × Pool) Refusal
 duplicates P c pool = do
-  calls ← grow_from (calls_of P (own_name c)) 0 P.fields pool
-  grow_from (duplicate_of P c calls.0) 0 (program_methods c) calls.1
+  names ← names_of P c pool
+  grow_from (λ n (p : Method × Member). duplicate_of c names.0 p.0 p.1) 0 (zip P.methods (program_methods c)) names.1
 
 -- the methods that are added: accessors, then duplicates
 unfoldable pub added_methods : Program → ClassFile → Pool → Result (List Member × Pool) Refusal
@@ -46,26 +53,31 @@ added_methods P c pool = do
   copies ← duplicates P c accessors.1
   Ok (flat_map both_of accessors.0 ++ copies.0, copies.1)
 
+-- a method of the program gets its wrapper, where there is such a method
+abbrev pub wrapper_if : ClassFile → ℕ → Option Method → Member → Pool → Result (Member × Pool) Refusal
+wrapper_if c n None m pool = Ok (m, pool)
+wrapper_if c n (Some k) m pool = wrapper_of c n k m pool
+
 -- an old method: the wrapper of one of the program, which has this number among the wrappers, any other as it is
-abbrev pub replaced : ClassFile → ℕ → Member → Pool → Result (Member × Pool) Refusal
-replaced c n m pool = if is_program_method c.pool m then wrapper_of c n m pool else Ok (m, pool)
+abbrev pub replaced : Program → ClassFile → ℕ → Member → Pool → Result (Member × Pool) Refusal
+replaced P c n m pool = if is_program_method c.pool m then wrapper_if c n (slice_get P.methods n) m pool else Ok (m, pool)
 
 -- the number of the next wrapper
 abbrev pub number_behind : Pool → ℕ → Member → ℕ
 number_behind pool n m = if is_program_method pool m then n + 1 else n
 
-abbrev pub old_from : ClassFile → ℕ → List Member → Pool → Result (List Member × Pool) Refusal
-old_from c n [] pool = Ok ([], pool)
-old_from c n (m ∷ ms) pool = do
-  first ← replaced c n m pool
-  others ← old_from c (number_behind c.pool n m) ms first.1
+abbrev pub old_from : Program → ClassFile → ℕ → List Member → Pool → Result (List Member × Pool) Refusal
+old_from P c n [] pool = Ok ([], pool)
+old_from P c n (m ∷ ms) pool = do
+  first ← replaced P c n m pool
+  others ← old_from P c (number_behind c.pool n m) ms first.1
   Ok (first.0 ∷ others.0, others.1)
 
 -- the old methods with wrappers among them, behind them those that are added, whose entries come first
 unfoldable pub new_methods : Program → ClassFile → Pool → Result (List Member × Pool) Refusal
 new_methods P c pool = do
   added ← added_methods P c pool
-  olds ← old_from c 0 c.methods added.1
+  olds ← old_from P c 0 c.methods added.1
   Ok (olds.0 ++ added.0, olds.1)
 
 -- the rewritten class

@@ -2,11 +2,17 @@
 ghost use Rattle.std.specs.Prelude.{◌≡◌, IfOk, codes};
 ghost use Rattle.rewriter.specs.Adding.{Grows, add_field as with_field, add_method as with_method};
 ghost use Rattle.rewriter.specs.Members.{place_refs as places, look_refs as looks, read_refs as reads, getter_body as getter_bytes, setter_body as setter_bytes, accessor as added_accessor, getter_of as getter, setter_of as setter, accessors_of as both, added_method as method_of, context_class, getter_code as code_of_getter, setter_code as code_of_setter};
-ghost use Rattle.jmodel.specs.ClassFile.{code_spelling};
+ghost use Rattle.std.specs.Prelude.{[]};
+ghost use Rattle.std.specs.List.{AllByRecursion};
+ghost use Rattle.jmodel.specs.declared.instruction.Instr.{Instr as Form};
+ghost use Rattle.jmodel.specs.Instruction.{targets_of};
+ghost use Rattle.jmodel.specs.Relocation.{IsShaped};
 
 use crate::adding::{add_field, add_method, add_utf8};
-use crate::bytes::{high, low, spelled};
 use crate::fields::{address_name, getter_name, setter_name, typed_name};
+use crate::instrs::{call_virtual, get_static, load_int, load_reference, plain};
+use crate::laying::straight_bytes;
+use bytecode::Instr;
 use const_pool::{Attribute, Member, Pool};
 use hierarchy::Field;
 use jmodel::{Bytes, Halt};
@@ -82,38 +88,23 @@ fn getter_code(
     before: u16,
     field: u16,
     after: u16,
-) -> Result<Bytes, AllocError>
-    ensures { IfOk result (λ b. b ≡ code_spelling (code_of_getter p before field after)) }
+) -> Result<Vec<Instr>, AllocError>
+    ensures code { IfOk result (λ v. v.items ≡ code_of_getter p before field after) }
+    ensures each { IfOk result (λ v. AllByRecursion IsShaped v.items) }
+    ensures nowhere { IfOk result (λ v. AllByRecursion (λ (i : Form). targets_of i.operands ≡ []) v.items) }
 {
-    let base = p.0;
-    let address = p.1;
-    let code = [
-        42,
-        178,
-        high(base),
-        low(base),
-        178,
-        high(address),
-        low(address),
-        182,
-        high(before),
-        low(before),
-        42,
-        178,
-        high(base),
-        low(base),
-        178,
-        high(field),
-        low(field),
-        178,
-        high(address),
-        low(address),
-        182,
-        high(after),
-        low(after),
-        172,
-    ];
-    spelled(alloc, 5, 1, &code, &[])
+    Ok(vec![in alloc;
+        load_reference(0),
+        get_static(p.0),
+        get_static(p.1),
+        call_virtual(before),
+        load_reference(0),
+        get_static(p.0),
+        get_static(field),
+        get_static(p.1),
+        call_virtual(after),
+        plain(172),
+    ]?)
 }
 
 // What a getter names up to the call before the read.
@@ -147,30 +138,24 @@ fn getter_body(alloc: Global, pool: &mut Pool, own: &[u8], field: &Field) -> Res
 {
     let (p, before) = look_refs(alloc, pool, own, field)?;
     let (loaded, after) = read_refs(alloc, pool, own, field)?;
-    Ok(getter_code(alloc, p, before, loaded, after)?)
+    let code = getter_code(alloc, p, before, loaded, after)?;
+    straight_bytes(alloc, 5, 1, code)
 }
 
 // In place of the store.
-fn setter_code(alloc: Global, p: (u16, u16), write: u16) -> Result<Bytes, AllocError>
-    ensures { IfOk result (λ b. b ≡ code_spelling (code_of_setter p write)) }
+fn setter_code(alloc: Global, p: (u16, u16), write: u16) -> Result<Vec<Instr>, AllocError>
+    ensures code { IfOk result (λ v. v.items ≡ code_of_setter p write) }
+    ensures each { IfOk result (λ v. AllByRecursion IsShaped v.items) }
+    ensures nowhere { IfOk result (λ v. AllByRecursion (λ (i : Form). targets_of i.operands ≡ []) v.items) }
 {
-    let base = p.0;
-    let address = p.1;
-    let code = [
-        43,
-        178,
-        high(base),
-        low(base),
-        26,
-        178,
-        high(address),
-        low(address),
-        182,
-        high(write),
-        low(write),
-        177,
-    ];
-    spelled(alloc, 5, 2, &code, &[])
+    Ok(vec![in alloc;
+        load_reference(1),
+        get_static(p.0),
+        load_int(0),
+        get_static(p.1),
+        call_virtual(write),
+        plain(177),
+    ]?)
 }
 
 #[tactic(auto, unfolding(crate::specs::Members::setter_body))]
@@ -179,7 +164,8 @@ fn setter_body(alloc: Global, pool: &mut Pool, own: &[u8], field: &Field) -> Res
 {
     let p = place_refs(alloc, pool, own, field)?;
     let write = add_context_call(alloc, pool, b"onWriteAccess", b"(Ljava/lang/Object;IJ)V")?;
-    Ok(setter_code(alloc, p, write)?)
+    let code = setter_code(alloc, p, write)?;
+    straight_bytes(alloc, 5, 2, code)
 }
 
 #[tactic(auto, unfolding(crate::specs::Members::accessor))]

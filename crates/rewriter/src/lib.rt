@@ -1,14 +1,18 @@
-//! The rewriting of classes: accessors, duplicates and wrappers (Korland, Shavit, Felber, MULTIPROG 2010, in this
-//! project's form).
+//! The rewriting of classes: accessors, duplicates and wrappers.
 #![tactic(auto)]
 
 mod accessors;
 mod adding;
 mod bytes;
 mod copies;
+mod descriptors;
 mod duplicates;
 mod fields;
+mod instrs;
+mod laying;
+mod loops;
 mod meaning;
+mod names;
 mod rewriting;
 mod wrappers;
 
@@ -17,3 +21,5 @@ pub use rewriting::rewrite;
 
 #[cfg(test)]
 mod tests;
+#[cfg(test)]
+mod wide_tests;

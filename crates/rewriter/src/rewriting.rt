@@ -1,21 +1,25 @@
 //! The rewriting of a class, part after part.
-ghost use Rattle.std.specs.Prelude.{◌≡◌, IfOk};
-ghost use Rattle.std.specs.List.{flat_map};
+ghost use Rattle.std.specs.Prelude.{◌≡◌, Some, map, zip, option_copied, IfOk, IfSome};
+ghost use Rattle.std.specs.List.{flat_map, AllByRecursion};
+ghost use Rattle.jmodel.specs.ClassFile.{Member as MemberForm};
+ghost use Rattle.jmodel.specs.Program.{Method as MethodForm};
 ghost use Rattle.jmodel.specs.Reading.{Gives};
 ghost use Rattle.jmodel.specs.Decoding.{own_name as own_name_of};
-ghost use Rattle.jmodel.specs.Linking.{program_methods as methods_of_program};
+ghost use Rattle.jmodel.specs.Linking.{linked, program_methods as methods_of_program};
 ghost use Rattle.rewriter.specs.Adding.{Grows};
-ghost use Rattle.rewriter.specs.Members.{address_member as address, accessors_of as accessors, calls_of as calls_for, duplicate_of as duplicate};
-ghost use Rattle.rewriter.specs.Rewritten.{grow_from, old_from, bases as base_of, both_of, added_fields as all_fields, duplicates as all_duplicates, added_methods as all_added, new_methods as all_methods, rewritten_class, Keeps};
+ghost use Rattle.rewriter.specs.Made.{IsSmallMethod, CanBeMade};
+ghost use Rattle.rewriter.specs.Members.{address_member as address, accessors_of as accessors, duplicate_of as duplicate};
+ghost use Rattle.rewriter.specs.Rewritten.{grow_from, wrapper_if as wrapper_of_some, old_from, bases as base_of, both_of, added_fields as all_fields, duplicates as all_duplicates, added_methods as all_added, new_methods as all_methods, rewritten_class, Keeps};
 
 use crate::accessors::{Accessors, accessors_of};
 use crate::copies::{copy_attributes, copy_member, copy_members, copy_pool};
-use crate::duplicates::{Calls, calls_of, duplicate_of};
+use crate::duplicates::duplicate_of;
 use crate::fields::{address_member, base_member};
+use crate::names::{Names, names_of};
 use crate::wrappers::wrapper_of;
 use const_pool::{ClassFile, Member, Pool};
 use hierarchy::symbols::own_name;
-use hierarchy::{Field, Program, is_program_method, program_methods};
+use hierarchy::{Field, Method, Program, is_program_method, program_methods};
 use jmodel::Halt;
 use std::alloc::{AllocError, Global};
 
@@ -65,54 +69,25 @@ fn all_accessors(
     Ok(members)
 }
 
-fn all_calls(
-    alloc: Global,
-    pool: &mut Pool,
-    original: &Program,
-    own: &[u8],
-    fields: &[Field],
-) -> Result<Vec<Calls>, Halt>
-    ensures { Grows (λ v. v.items) result pool.new (grow_from (calls_for original.now own.now) 0 fields.now pool.old) }
-{
-    let mut calls = Vec::new(alloc);
-    for (number, field) in fields.iter().enumerate() {
-        calls.push(calls_of(alloc, pool, original, own, number, field)?)?;
-    }
-    Ok(calls)
-}
-
 fn duplicate_each(
     alloc: Global,
     pool: &mut Pool,
-    original: &Program,
     class: &ClassFile,
-    calls: &[Calls],
-    methods: &[&Member],
+    names: &Names,
+    methods: &[Method],
+    members: &[&Member],
 ) -> Result<Vec<Member>, Halt>
-    ensures { Grows (λ v. v.items) result pool.new (grow_from (λ n m. duplicate original.now class.now calls.now n m.now) 0 methods.now pool.old) }
+    requires { AllByRecursion (CanBeMade class.now names.now) (zip methods.now (map (λ m. m.now) members.now)) }
+    ensures { Grows (λ v. v.items) result pool.new (grow_from (λ n (p : MethodForm × MemberForm). duplicate class.now names.now p.0 p.1) 0 (zip methods.now (map (λ m. m.now) members.now)) pool.old) }
 {
-    let mut members = Vec::new(alloc);
-    for (number, method) in methods.iter().enumerate() {
-        let member = duplicate_of(alloc, pool, original, class, calls, number, method)?;
-        members.push(member)?;
+    let mut copies = Vec::new(alloc);
+    for (method, member) in methods.iter().zip(members) {
+        copies.push(duplicate_of(alloc, pool, class, names, method, member)?)?;
     }
-    Ok(members)
+    Ok(copies)
 }
 
-fn duplicate_all(
-    alloc: Global,
-    pool: &mut Pool,
-    original: &Program,
-    class: &ClassFile,
-    calls: &[Calls],
-) -> Result<Vec<Member>, Halt>
-    ensures { Grows (λ v. v.items) result pool.new (grow_from (duplicate original.now class.now calls.now) 0 (methods_of_program class.now) pool.old) }
-{
-    let methods = program_methods(alloc, class)?;
-    duplicate_each(alloc, pool, original, class, calls, methods.as_slice())
-}
-
-// The duplicates, with the accessors that they call.
+// The duplicates, with the methods that they call.
 #[tactic(auto, unfolding(crate::specs::Rewritten::duplicates))]
 fn duplicates(
     alloc: Global,
@@ -120,24 +95,58 @@ fn duplicates(
     original: &Program,
     class: &ClassFile,
 ) -> Result<Vec<Member>, Halt>
+    requires { linked class.now ≡ Some original.now }
     ensures { Grows (λ v. v.items) result pool.new (all_duplicates original.now class.now pool.old) }
 {
-    let calls = all_calls(alloc, pool, original, own_name(class), original.fields())?;
-    duplicate_all(alloc, pool, original, class, calls.as_slice())
+    let names = names_of(alloc, pool, original, class)?;
+    let members = program_methods(alloc, class)?;
+    duplicate_each(
+        alloc,
+        pool,
+        class,
+        &names,
+        original.methods(),
+        members.as_slice(),
+    )
+}
+
+// A method of the program gets its wrapper, where there is such a method.
+fn wrapper_if(
+    alloc: Global,
+    pool: &mut Pool,
+    class: &ClassFile,
+    number: usize,
+    method: Option<&Method>,
+    member: &Member,
+) -> Result<Member, Halt>
+    requires { IfSome (option_copied method) IsSmallMethod }
+    ensures { Grows (λ m. m) result pool.new (wrapper_of_some class.now number (option_copied method.entry) member.now pool.old) }
+{
+    match method {
+        Some(k) => wrapper_of(alloc, pool, class, number, k, member),
+        None => Ok(copy_member(alloc, member)?),
+    }
 }
 
 // The old methods, with the wrapper of each one of the program in its place.
-fn old_methods(alloc: Global, pool: &mut Pool, class: &ClassFile) -> Result<Vec<Member>, Halt>
-    ensures { Grows (λ v. v.items) result pool.new (old_from class.now 0 class.now.methods pool.old) }
+fn old_methods(
+    alloc: Global,
+    pool: &mut Pool,
+    original: &Program,
+    class: &ClassFile,
+) -> Result<Vec<Member>, Halt>
+    requires { AllByRecursion IsSmallMethod original.now.methods }
+    ensures { Grows (λ v. v.items) result pool.new (old_from original.now class.now 0 class.now.methods pool.old) }
 {
     let mut members = Vec::new(alloc);
     let mut number = 0;
-    for method in &class.methods {
-        if is_program_method(&class.pool, method) {
-            members.push(wrapper_of(alloc, pool, class, number, method)?)?;
+    for member in &class.methods {
+        if is_program_method(alloc, &class.pool, member)? {
+            let method = original.methods().get(number);
+            members.push(wrapper_if(alloc, pool, class, number, method, member)?)?;
             number += 1;
         } else {
-            members.push(copy_member(alloc, method)?)?;
+            members.push(copy_member(alloc, member)?)?;
         }
     }
     Ok(members)
@@ -163,6 +172,7 @@ fn added_methods(
     original: &Program,
     class: &ClassFile,
 ) -> Result<Vec<Member>, Halt>
+    requires { linked class.now ≡ Some original.now }
     ensures { Grows (λ v. v.items) result pool.new (all_added original.now class.now pool.old) }
 {
     let accessors = all_accessors(alloc, pool, own_name(class), original.fields())?;
@@ -179,16 +189,18 @@ fn new_methods(
     original: &Program,
     class: &ClassFile,
 ) -> Result<Vec<Member>, Halt>
+    requires { linked class.now ≡ Some original.now }
     ensures { Grows (λ v. v.items) result pool.new (all_methods original.now class.now pool.old) }
 {
     let mut added = added_methods(alloc, pool, original, class)?;
-    let mut members = old_methods(alloc, pool, class)?;
+    let mut members = old_methods(alloc, pool, original, class)?;
     members.append(&mut added)?;
     Ok(members)
 }
 
 #[tactic(auto, unfolding(crate::specs::Rewritten::rewritten_class))]
 fn rewritten(alloc: Global, class: &ClassFile, original: &Program) -> Result<ClassFile, Halt>
+    requires { linked class.now ≡ Some original.now }
     ensures { Gives (λ c. c) result (rewritten_class original.now class.now) }
 {
     let mut pool = copy_pool(alloc, &class.pool)?;
@@ -212,9 +224,17 @@ fn rewritten(alloc: Global, class: &ClassFile, original: &Program) -> Result<Cla
 
 /// The rewriting of a class over the program that it means: a field for the place of each static field and one for the
 /// static base, accessors, a duplicate of each method of the program, and a wrapper in its place. Every other method stays
-/// as it is. The old pool is a front of the new one, to which only needed entries are added. Refused as PoolFull, CodeTooLarge or TooManyPlaces where a part passes its limit,
-/// and as BadCode where a method has no good Code; the caller names the class and the method.
+/// as it is. The old pool is a front of the new one, to which only needed entries are added. Refused, at the first member
+/// that can't be made, as
+///
+/// - `TooManyPlaces` with an old method's printed name and `Locals` or `Stack`, where its duplicate would have more than two
+///   bytes count;
+/// - else `PoolFull`, whose class the caller names, where the pool's count would pass 65535;
+/// - else `CodeTooLarge` or `BranchTooFar` with an old method's printed name, where the code of its duplicate or wrapper
+///   can't be laid; the pc is that of the jump in the old method.
 pub fn rewrite(alloc: Global, class: &ClassFile, original: &Program) -> Result<ClassFile, Halt>
+    // The program is the one that the class means.
+    requires { linked class.now ≡ Some original.now }
     ensures exact { Gives (λ c. c) result (rewritten_class original.now class.now) }
     ensures keeps { IfOk result (Keeps class.now) }
 {

@@ -21,7 +21,7 @@ fn entry(alloc: Global, tag: u8, a: u16, b: u16, text: &str) -> Result<Constant,
     }
 }
 
-fn pool_of(alloc: Global, rows: &[(u8, u16, u16, &str)]) -> Result<Pool, AllocError> {
+pub fn pool_of(alloc: Global, rows: &[(u8, u16, u16, &str)]) -> Result<Pool, AllocError> {
     let mut pool = Pool::new(alloc);
     for (tag, a, b, text) in rows {
         if pool.entries().len() < 65534 {
@@ -183,7 +183,7 @@ const MEANING: [&str; 4] = [
     "Load(0) InvokeStatic(1) Constant(Int(1)) Binary(Add) Rearrange(Duplicate) Load(0) InvokeStatic(2) ReturnValue Throw",
 ];
 
-fn shown(alloc: Global, method: &Method) -> Result<String, AllocError> {
+pub fn shown(alloc: Global, method: &Method) -> Result<String, AllocError> {
     let mut text = String::new(alloc);
     for op in method.ops() {
         if !text.is_empty() {

@@ -1,16 +1,21 @@
 //! Wrappers: the loop of attempts that takes the place of a marked method's code.
-ghost use Rattle.std.specs.Prelude.{◌≡◌, IfOk, map};
-ghost use Rattle.jmodel.specs.ClassFile.{code_spelling};
+ghost use Rattle.std.specs.Prelude.{◌≡◌, ◌<◌, IfOk, map};
+ghost use Rattle.jmodel.specs.Name.{printed};
 ghost use Rattle.rewriter.specs.Adding.{Grows};
-ghost use Rattle.rewriter.specs.Members.{opening_of as opening, ending_of as ending, wrapper_code as code_of_wrapper, with_bytes as with_these_bytes, with_code as with_this_code, wrapper_of as wrapper};
+ghost use Rattle.jmodel.specs.Reading.{Gives};
+ghost use Rattle.rewriter.specs.Made.{IsSmallMethod};
+ghost use Rattle.rewriter.specs.Members.{opening_of as opening, ending_of as ending, wrapper_blocks as blocks_of_wrapper, wrapper_handlers as entries_of_wrapper, wrapper_bytes as bytes_of_wrapper, with_bytes as with_these_bytes, with_code as with_this_code, wrapper_of as wrapper};
 
 use crate::accessors::add_context_call;
 use crate::adding::{add_class, add_integer, add_method};
-use crate::bytes::{high, low, spelled};
 use crate::copies::copy_attribute;
+use crate::descriptors::with_context;
 use crate::duplicates::too_many;
+use crate::laying::bytes_of_method;
+use crate::loops::wrapper_blocks;
 use const_pool::{Attribute, ClassFile, Handler, Member, Pool};
-use hierarchy::symbols::{is_named, own_name, text};
+use hierarchy::Method;
+use hierarchy::symbols::is_named;
 use jmodel::{Bytes, Halt};
 use std::alloc::{AllocError, Global};
 
@@ -51,11 +56,19 @@ fn opening_of(alloc: Global, pool: &mut Pool, number: u16) -> Result<Opening, Ha
 }
 
 #[tactic(auto, unfolding(crate::specs::Members::ending_of))]
-fn ending_of(alloc: Global, pool: &mut Pool, own: &[u8], name: &[u8]) -> Result<Ending, Halt>
-    ensures { Grows (λ e. e) result pool.new (ending own.now name.now pool.old) }
+fn ending_of(alloc: Global, pool: &mut Pool, method: &Method) -> Result<Ending, Halt>
+    ensures { Grows (λ e. e) result pool.new (ending method.now pool.old) }
 {
-    let descriptor = b"(Lorg/deuce/transaction/Context;)I";
-    let duplicate = add_method(alloc, pool, own, name, descriptor)?;
+    let name = method.name();
+    let descriptor = with_context(alloc, name.descriptor.as_slice())?;
+    let class = name.class.as_slice();
+    let duplicate = add_method(
+        alloc,
+        pool,
+        class,
+        name.name.as_slice(),
+        descriptor.as_slice(),
+    )?;
     let commit = add_context_call(alloc, pool, b"commit", b"()Z")?;
     let rollback = add_context_call(alloc, pool, b"rollback", b"()V")?;
     let conflict = add_class(alloc, pool, b"org/deuce/transaction/TransactionException")?;
@@ -67,71 +80,54 @@ fn ending_of(alloc: Global, pool: &mut Pool, own: &[u8], name: &[u8]) -> Result<
     })
 }
 
-// The loop of attempts at 4, the body from 14 to 18, a conflict at 28, another exception at 36.
-fn wrapper_code(alloc: Global, a: Opening, e: Ending) -> Result<Bytes, AllocError>
-    ensures { IfOk result (λ b. b ≡ code_spelling (code_of_wrapper a e)) }
+// A conflict in the body goes to block 4, any other exception to 5.
+fn wrapper_handlers(conflict: u16) -> [Handler; 2]
+    ensures { result ≡ entries_of_wrapper conflict }
 {
-    let code = [
-        184,
-        high(a.get),
-        low(a.get),
-        75,
-        42,
-        19,
-        high(a.number),
-        low(a.number),
-        19,
-        high(a.retries),
-        low(a.retries),
-        182,
-        high(a.init),
-        low(a.init),
-        42,
-        184,
-        high(e.duplicate),
-        low(e.duplicate),
-        60,
-        42,
-        182,
-        high(e.commit),
-        low(e.commit),
-        153,
-        0xff,
-        0xed,
-        27,
-        172,
-        87,
-        42,
-        182,
-        high(e.rollback),
-        low(e.rollback),
-        167,
-        0xff,
-        0xe3,
-        76,
-        42,
-        182,
-        high(e.commit),
-        low(e.commit),
-        153,
-        0xff,
-        0xdb,
-        43,
-        191,
-    ];
     let on_conflict = Handler {
-        start: 14,
-        end: 18,
-        handler: 28,
-        catch_type: e.conflict,
+        start: 2,
+        end: 3,
+        handler: 4,
+        catch_type: conflict,
     };
     let on_any = Handler {
-        start: 14,
-        end: 18,
-        handler: 36,
+        start: 2,
+        end: 3,
+        handler: 5,
         catch_type: 0,
     };
-    spelled(alloc, 3, 2, &code, &[on_conflict, on_any])
+    [on_conflict, on_any]
+}
+
+// The greater of the parameters' places with the context and three.
+fn height(p: u16) -> u16
+    requires { p < 60000 }
+    ensures { result ≡ max (p + 1) 3 }
+{
+    if p < 2 { 3 } else { p + 1 }
+}
+
+ghost use Rattle.std.specs.Prelude.{◌+◌, max};
+
+#[tactic(auto, unfolding(crate::specs::Members::wrapper_bytes))]
+fn wrapper_bytes(alloc: Global, method: &Method, a: Opening, e: Ending) -> Result<Bytes, Halt>
+    requires { IsSmallMethod method.now }
+    ensures { Gives (λ b. b) result (bytes_of_wrapper method.now a e) }
+{
+    let p = method.entry().params as u16;
+    let blocks = wrapper_blocks(alloc, p, method.gives(), a, e)?;
+    let handlers = wrapper_handlers(e.conflict);
+    let name = method.name();
+    bytes_of_method(
+        alloc,
+        name,
+        height(p),
+        p + 2,
+        blocks.as_slice(),
+        &handlers,
+        None,
+        &[],
+    )
 }
 
 fn with_bytes(
@@ -173,23 +169,25 @@ fn with_code(
     })
 }
 
-/// The wrapper of the method of a number, which is its number among the wrappers.
+/// The wrapper of a method, with its number among the wrappers. Refused as TooManyPlaces where the number has more than two
+/// bytes, else as PoolFull, CodeTooLarge or BranchTooFar.
 #[tactic(auto, unfolding(crate::specs::Members::wrapper_of))]
 pub fn wrapper_of(
     alloc: Global,
     pool: &mut Pool,
     class: &ClassFile,
     number: usize,
-    method: &Member,
+    method: &Method,
+    member: &Member,
 ) -> Result<Member, Halt>
-    ensures { Grows (λ m. m) result pool.new (wrapper class.now number method.now pool.old) }
+    requires { IsSmallMethod method.now }
+    ensures { Grows (λ m. m) result pool.new (wrapper class.now number method.now member.now pool.old) }
 {
     if number > 65535 {
-        return Err(too_many(alloc, b"Methods")?);
+        return Err(too_many(alloc, method.name(), b"Methods")?);
     }
     let opening = opening_of(alloc, pool, number as u16)?;
-    let name = text(&class.pool, method.name);
-    let ending = ending_of(alloc, pool, own_name(class), name)?;
-    let bytes = wrapper_code(alloc, opening, ending)?;
-    Ok(with_code(alloc, &class.pool, &bytes, method)?)
+    let ending = ending_of(alloc, pool, method)?;
+    let bytes = wrapper_bytes(alloc, method, opening, ending)?;
+    Ok(with_code(alloc, &class.pool, &bytes, member)?)
 }

@@ -1,4 +1,4 @@
-use Rattle.std.proofs.Common.{◌≡◌, List, ℕ, Option, Some, ap, ◌∙◌}
+use Rattle.std.proofs.Common.{List, ℕ, Option, Some, ap, ◌∙◌}
 use Rattle.std.specs.Prelude.{option_and_then}
 use Rattle.jmodel.specs.Pool.{both, utf8}
 use Rattle.jmodel.specs.PoolAdding.{means_pair}

@@ -1,6 +1,5 @@
-use Rattle.std.proofs.Common.{◌≡◌, ℕ, List, take}
-use Rattle.jmodel.specs.PoolAdding.{means_text}
-use Rattle.const_pool.specs.Firsts.{first, text_known, key_known, has_key, name_key, member_key}
+use Rattle.std.proofs.Common.{◌≡◌, take}
+use Rattle.const_pool.specs.Firsts.{first, key_known, has_key, name_key}
 use Rattle.const_pool.specs.declared.keys.Key.{Key}
 use Rattle.const_pool.proofs.index.note_names.Given as goal
 

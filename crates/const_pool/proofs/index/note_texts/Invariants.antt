@@ -1,7 +1,6 @@
 use Rattle.std.proofs.Common.{◌≡◌, ℕ, List, take}
 use Rattle.jmodel.specs.PoolAdding.{means_text}
-use Rattle.const_pool.specs.Firsts.{first, text_known, key_known, has_key, name_key, member_key}
-use Rattle.const_pool.specs.declared.keys.Key.{Key}
+use Rattle.const_pool.specs.Firsts.{first, text_known}
 use Rattle.const_pool.proofs.index.note_texts.Given as goal
 
 abbrev pub invariant-loop-i : goal.invariant-loop-i

@@ -1,5 +1,4 @@
-use Rattle.std.proofs.Common.{◌≡◌, None, sym, ◌∙◌}
-use Rattle.const_pool.specs.Firsts.{key_known, has_key, or_at}
+use Rattle.std.proofs.Common.{sym}
 use Rattle.const_pool.proofs.KeyTests.{key_noted, none_from_test}
 use Rattle.const_pool.proofs.keys.note_key.Goals as goal
 

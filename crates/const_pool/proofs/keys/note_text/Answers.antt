@@ -1,5 +1,5 @@
-use Rattle.std.proofs.Common.{◌≡◌, None, sym, ap, ◌∙◌}
-use Rattle.const_pool.specs.Firsts.{text_known, or_at}
+use Rattle.std.proofs.Common.{sym, ap, ◌∙◌}
+use Rattle.const_pool.specs.Firsts.{text_known}
 use Rattle.const_pool.proofs.KeyTests.{none_from_test}
 use Rattle.const_pool.proofs.TextTests.{text_noted}
 use Rattle.const_pool.proofs.keys.note_text.Goals as goal

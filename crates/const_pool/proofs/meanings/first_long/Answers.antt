@@ -1,5 +1,4 @@
-use Rattle.std.proofs.Common.{◌≡◌, w32, w64}
-use Rattle.std.specs.Prelude.{FitsSigned}
+use Rattle.std.proofs.Common.{w64}
 use Rattle.std.proofs.Math.Facts.{to_z-of_z}
 use Rattle.jmodel.specs.PoolAdding.{means_long}
 use Rattle.const_pool.proofs.FirstLemmas.{position_inside}

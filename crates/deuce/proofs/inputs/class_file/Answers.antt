@@ -1,5 +1,4 @@
 use Rattle.std.proofs.Common.{◌≡◌, ◌<◌, ◌+◌, ◌∙◌, ℕ, Bool, List, length, get_or, ap, refl, sym, subst, arith}
-use Rattle.std.specs.Prelude.{string_bytes}
 use Rattle.std.proofs.lemmas.List.{length-map}
 use Rattle.deuce_io.specs.Files.{seen_item, seen_items}
 use Rattle.deuce_io.proofs.Items.{seen_at}

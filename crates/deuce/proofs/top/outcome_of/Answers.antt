@@ -1,5 +1,6 @@
 use Rattle.std.proofs.Common.{inl, inr}
-use Rattle.deuce.proofs.Reading.{journal_of, bad_class, not_run, one_command}
+use Rattle.deuce.proofs.Reading.{journal_of, bad_class, has_class, not_run, one_command}
+use Rattle.deuce.specs.Ending.{IsBadProgram, IsUntypable}
 use Rattle.deuce.proofs.top.outcome_of.Goals as goal
 
 pub returns-in-Ok-run : goal.returns-in-Ok-run
@@ -40,4 +41,24 @@ returns-in-Err-NotBuilt-run g c =
       rw cmd.2 at c.in-Some-Run.ensures,
       inr (not_run (g.F.Folder.files c.args.folder.now) cmd.0.now cmd.1.now c.in-Ok.inputs (rw cmd.2 at c.in-Ok.ensures.inputs)
           (rw (c.as_slice.ensures, c.as_slice-2.ensures, c.in-Err-NotBuilt-run.field-0-is) at c.in-Err-NotBuilt-run.ensures.cause)),
+    )
+
+pub returns-in-Err-BadProgram : goal.returns-in-Err-BadProgram
+returns-in-Err-BadProgram g c =
+    let cmd = one_command c.in-Some-Run.field-0 in (
+      cmd.0.now,
+      cmd.1.now,
+      rw cmd.2 at c.in-Some-Run.ensures,
+      has_class (g.F.Folder.files c.args.folder.now) cmd.0.now cmd.1.now c.in-Ok.inputs (IsBadProgram c.in-Err-BadProgram.refusal) (rw cmd.2 at c.in-Ok.ensures.inputs)
+          (rw (c.as_slice.ensures, c.as_slice-2.ensures, c.in-Err-BadProgram.field-0-is) at c.in-Err-BadProgram.ensures.cause),
+    )
+
+pub returns-in-Err-Untyped : goal.returns-in-Err-Untyped
+returns-in-Err-Untyped g c =
+    let cmd = one_command c.in-Some-Run.field-0 in (
+      cmd.0.now,
+      cmd.1.now,
+      rw cmd.2 at c.in-Some-Run.ensures,
+      has_class (g.F.Folder.files c.args.folder.now) cmd.0.now cmd.1.now c.in-Ok.inputs (IsUntypable c.in-Err-Untyped.refusal) (rw cmd.2 at c.in-Ok.ensures.inputs)
+          (rw (c.as_slice.ensures, c.as_slice-2.ensures, c.in-Err-Untyped.field-0-is) at c.in-Err-Untyped.ensures.cause),
     )

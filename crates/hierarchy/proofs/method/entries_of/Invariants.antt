@@ -6,4 +6,4 @@ use Rattle.hierarchy.proofs.method.entries_of.Given as goal
 
 -- what was collected, and what is still collected
 abbrev pub invariant-loop-entry : goal.invariant-loop-entry
-invariant-loop-entry l = with_front l.catches.items (each (catch_of l.pool l.list l.len) (drop l.entry-index l.entries)) ≡ each (catch_of l.pool l.list l.len) l.entries
+invariant-loop-entry l = with_front l.catches.items (each (catch_of l.pool l.code l.len) (drop l.entry-index l.entries)) ≡ each (catch_of l.pool l.code l.len) l.entries

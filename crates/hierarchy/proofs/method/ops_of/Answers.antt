@@ -5,6 +5,6 @@ use Rattle.hierarchy.proofs.method.ops_of.Goals as goal
 
 pub loop-i-preserved : goal.loop-i-preserved
 loop-i-preserved c =
-    let f = op_of c.args.symbols.now c.args.list.now in
-    rw c.in_ok-push-in-Some.ensures.items (goes_on f c.loop-i.ops.items c.args.list.now c.loop-i.i-index c.i-item.result c.in-Some.op (each f c.args.list.now)
-    (item_is c.args.list.now c.loop-i.i-index c.i-item.result c.loop-i-test.true c.i-item.is) (sym c.in-Some.ensures) c.loop-i.invariant)
+    let f = op_of c.args.symbols.now c.args.code.now in
+    rw c.in_ok-push-in-Some.ensures.items (goes_on f c.loop-i.ops.items c.instrs-list.result.now c.loop-i.i-index c.i-item.result c.in-Some.op (each f c.instrs-list.result.now)
+    (item_is c.instrs-list.result.now c.loop-i.i-index c.i-item.result c.loop-i-test.true c.i-item.is) (sym c.in-Some.ensures) c.loop-i.invariant)

@@ -6,4 +6,4 @@ use Rattle.hierarchy.proofs.method.ops_of.Given as goal
 
 -- what was collected, and what is still collected
 abbrev pub invariant-loop-i : goal.invariant-loop-i
-invariant-loop-i l = with_front l.ops.items (each (op_of l.symbols l.list) (drop l.i-index l.list)) ≡ each (op_of l.symbols l.list) l.list
+invariant-loop-i l = with_front l.ops.items (each (op_of l.symbols l.code) (drop l.i-index l.list)) ≡ each (op_of l.symbols l.code) l.list

@@ -1,0 +1,57 @@
+//! Types of the methods of a program.
+ghost use Rattle.std.specs.Prelude.{◌≡◌, ◌<◌, Some, IfOk, IfErr, length, slice_get, take};
+ghost use Rattle.std.specs.List.{AllByRecursion};
+ghost use Rattle.jmodel.specs.Program.{Method};
+ghost use Rattle.jmodel.specs.Linking.{linked};
+ghost use Rattle.jmodel.specs.Typing.{IsTypable, IsUntypableAt};
+ghost use Rattle.deuce.specs.Ending.{EndsTyping};
+
+use crate::run::RunEnd;
+use const_pool::ClassFile;
+use hierarchy::{Program, pc_of};
+use jmodel::Refusal;
+use std::alloc::Global;
+use verifier::{TypeEnd, infer};
+
+/// Finds a typing of each method of a class's program. Refused as Untypable at the first that has none, with its printed name
+/// and the least pc such that no table meets the rules of the instructions up to it.
+pub fn type_all(alloc: Global, class: &ClassFile, program: &Program) -> Result<(), RunEnd>
+    requires { linked class.now ≡ Some program.now }
+    ensures typed { IfOk result (λ _. AllByRecursion (IsTypable program.now) program.now.methods) }
+    ensures cause { IfErr result (EndsTyping class.now) }
+{
+    for method in 0..program.methods().len() {
+        match infer(alloc, program, method) {
+            Ok(_) => {}
+            Err(TypeEnd::Untypable(place)) => return Err(untyped(
+                alloc, class, program, method, place,
+            )),
+            Err(TypeEnd::NoMemory) => return Err(RunEnd::NoMemory),
+        }
+    }
+    Ok(())
+}
+
+/// The refusal of a method that has no typing, for the instruction at a place.
+fn untyped(
+    alloc: Global,
+    class: &ClassFile,
+    program: &Program,
+    number: usize,
+    place: usize,
+) -> RunEnd
+    requires links { linked class.now ≡ Some program.now }
+    requires number { number < length program.now.methods }
+    requires before { AllByRecursion (IsTypable program.now) (take number program.now.methods) }
+    requires none { (k : Method) → slice_get program.now.methods number ≡ Some k → IsUntypableAt program.now k place }
+    ensures { EndsTyping class.now result }
+{
+    let Ok(name) = program.methods()[number].name().printed(alloc) else {
+        return RunEnd::NoMemory;
+    };
+    match pc_of(alloc, class, number, place) {
+        Ok(Some(pc)) => RunEnd::Untyped(Refusal::Untypable(name, pc as i64)),
+        Ok(None) => unreachable!(),
+        Err(_) => RunEnd::NoMemory,
+    }
+}

@@ -1,0 +1,105 @@
+//! What a method takes and gives, by its descriptor.
+ghost use Rattle.std.specs.Prelude.{◌≡◌, IfOk, option_map};
+ghost use Rattle.std.specs.List.{list_all, list_any};
+ghost use Rattle.jmodel.specs.DescriptorReading.{signature_of};
+ghost use Rattle.jmodel.specs.Linking.{is_context as context, is_parameter as parameter, is_result as result_type, shape_in as shape_of_signature, shape_of as shape, has_context as with_context};
+
+use crate::symbols::same;
+use const_pool::Descriptor;
+use jmodel::{FieldType, Halt, NoMemory};
+use std::alloc::Global;
+use std::marker::Model;
+
+/// Places of parameters, and whether a value is given.
+#[derive(Debug, Drop)]
+pub struct Shape {
+    pub params: usize,
+    pub gives: bool,
+}
+
+impl Model for Shape {
+    ghost use Rattle.jmodel.specs.Linking.{Shape as Form};
+
+    ghost Value = { Form };
+
+    ghost view = { λ s. record { params = s.params; gives = s.gives } };
+}
+
+fn is_context(t: &FieldType) -> bool
+    ensures { result ≡ context t.now }
+{
+    match t {
+        FieldType::Reference(name) => same(name, b"org/deuce/transaction/Context"),
+        _ => false,
+    }
+}
+
+// An int, or a transaction's context: each takes one place.
+fn is_parameter(t: &FieldType) -> bool
+    ensures { result ≡ parameter t.now }
+{
+    matches!(t, FieldType::Int) || is_context(t)
+}
+
+// An int or nothing.
+fn is_result(t: &Option<FieldType>) -> bool
+    ensures { result ≡ result_type t.now }
+{
+    matches!(t, None | Some(FieldType::Int))
+}
+
+// The signature of a descriptor, if it is one.
+fn signature(alloc: Global, descriptor: &[u8]) -> Result<Option<Descriptor>, NoMemory>
+    ensures { IfOk result (λ s. s ≡ signature_of descriptor.now) }
+{
+    match Descriptor::read(alloc, descriptor) {
+        Ok(found) => Ok(Some(found)),
+        Err(Halt::Refused(_)) => Ok(None),
+        Err(Halt::NoMemory) => Err(NoMemory),
+    }
+}
+
+fn are_parameters(types: &[FieldType]) -> bool
+    ensures { result ≡ list_all parameter types.now }
+{
+    types.iter().all(|t| is_parameter(t))
+}
+
+fn have_context(types: &[FieldType]) -> bool
+    ensures { result ≡ list_any context types.now }
+{
+    types.iter().any(|t| is_context(t))
+}
+
+fn shape_in(found: &Descriptor) -> Option<Shape>
+    ensures { result ≡ shape_of_signature found.now }
+{
+    if are_parameters(found.parameters.as_slice()) && is_result(&found.result) {
+        Some(Shape {
+            params: found.parameters.len(),
+            gives: found.result.is_some(),
+        })
+    } else {
+        None
+    }
+}
+
+/// What a method of this descriptor takes and gives, None where the descriptor has no meaning so far.
+pub fn shape_of(alloc: Global, descriptor: &[u8]) -> Result<Option<Shape>, NoMemory>
+    ensures { IfOk result (λ s. s ≡ shape descriptor.now) }
+{
+    match signature(alloc, descriptor)? {
+        Some(found) => Ok(shape_in(&found)),
+        None => Ok(None),
+    }
+}
+
+/// Whether a method of this descriptor takes a transaction's context.
+pub fn has_context(alloc: Global, descriptor: &[u8]) -> Result<bool, NoMemory>
+    ensures { IfOk result (λ b. b ≡ with_context (signature_of descriptor.now)) }
+{
+    match signature(alloc, descriptor)? {
+        Some(found) => Ok(have_context(found.parameters.as_slice())),
+        None => Ok(false),
+    }
+}

@@ -1,0 +1,310 @@
+-- What the duplicates of a rewritten class mean.
+use Rattle.std.proofs.Common.{◌≡◌, ℕ, zero, suc, ◌+◌, ◌<◌, ◌≤◌, Bool, true, false, ◌||◌, List, [], ◌∷◌, ◌++◌, length, map, Some, None, Ok, refl, sym, ap, ◌∙◌, subst, arith, length-append, eq-eqb}
+use Rattle.std.specs.Prelude.{slice_get, slice_index, sum_by}
+use Rattle.std.specs.List.{list_any, flat_map, AllByRecursion}
+use Rattle.std.proofs.lemmas.Option.{get_or_from_slice_get}
+use Rattle.std.proofs.lemmas.List.{take_all}
+use Rattle.std.proofs.lemmas.List.Sums.{sum_by-cons}
+use Rattle.jmodel.specs.declared.class_file.Handler.{Handler}
+use Rattle.jmodel.specs.declared.instruction.Instr.{Instr}
+use Rattle.jmodel.specs.declared.name.MethodName.{MethodName}
+use Rattle.jmodel.specs.declared.op.Op.{Op}
+use Rattle.jmodel.specs.declared.op.Op.TheVariants as op
+use Rattle.jmodel.specs.declared.op.Catch.{Catch}
+use Rattle.jmodel.specs.declared.op.Catches.TheVariants.{Conflict}
+use Rattle.jmodel.specs.ClassFile.{Member, Pool, ClassFile, code_spelling}
+use Rattle.std.proofs.lemmas.List.Concat.{flat_map-cons}
+use Rattle.jmodel.specs.Pool.{utf8, method_name}
+use Rattle.jmodel.specs.Program.{Method, Program}
+use Rattle.jmodel.specs.Layout.{text_or_none}
+use Rattle.jmodel.specs.Source.{IsSourceOp, IsSourceMethod}
+use Rattle.jmodel.specs.Rewriting.{getter, setter, duplicate, block as ops_of_block, block_len, block_at, blocks, moved_catch, duplicate_method, with_context, catch}
+use Rattle.jmodel.specs.Decoding.{Symbols, own_name, each, op_of, ops_of}
+use Rattle.jmodel.specs.InstructionReading.{instrs_of}
+use Rattle.jmodel.specs.ClassRules.{IsCode}
+use Rattle.jmodel.specs.Linking.{catch_of, shape_of, Coded, descriptor_of, symbols_of, method_of, linked}
+use Rattle.jmodel.specs.Relocation.{Block, all_instrs, behind, place_of, laid_to, relocated}
+use Rattle.jmodel.proofs.Linked.{links}
+use Rattle.const_pool.proofs.Takes.{ok_is}
+use Rattle.rewriter.specs.Members.{Names, added_method, plain, laid_code, getter_name, setter_name, getter_type, setter_type, gets, puts, calls, some_op, getter_in, setter_in, block, block_instrs, blocks_from, duplicate_flags}
+use Rattle.rewriter.specs.Meaning.{HasBytes}
+use Rattle.rewriter.proofs.Grown.{Grown, utf8_grown}
+use Rattle.rewriter.proofs.Lay.{IsSolid, laid_to_append, laid_length, all_cons}
+use Rattle.rewriter.proofs.Puts.{IsMethodAt}
+use Rattle.rewriter.proofs.Read.{IsLaid, shaped_all, LeadsIn}
+use Rattle.rewriter.proofs.Single.{plain_laid}
+use Rattle.rewriter.proofs.Pairs.{each_append, each_length, all_append, IsCalled, Calls, AreParts, sound, zip_blocks, blocks_are, all_solid, all_laid, all_lead, all_mean}
+use Rattle.rewriter.proofs.Coded.{method_as, CodedFacts, coded_means, added_code, added_retries, same_methods}
+use Rattle.rewriter.proofs.Filed.{IsRead, decoded_is, IsFiled, filed, spelled, some_instr, parts_of}
+use Rattle.rewriter.proofs.Laid.{IsLaidCode, laid_is, stub_read, stub_rules, stub_catches}
+use Rattle.rewriter.proofs.Contexts.{wider_shape}
+use Rattle.rewriter.proofs.Whole.{Each, AreCalls, AreNames, IsCopy, IsCopyOf}
+use Rattle.rewriter.proofs.Old.{IsOld}
+use Rattle.rewriter.proofs.Numbers.{wanted}
+use Rattle.rewriter.proofs.Tables.{Known, own_same, calls_getter, calls_setter, calls_copy, method_class, few_params}
+
+-- ---- lists
+
+each_at : {A B : Type 0} (Facts : Pool → ℕ → A → B → Type 0) (Z : Pool) (n : ℕ) (xs : List A) (ys : List B) (i : ℕ) (x : A) → Each Facts Z n xs ys → slice_get xs i ≡ Some x → (y : B) × (slice_get ys i ≡ Some y) × Facts Z (n + i) x y
+each_at Facts Z n [] ys i x h e = absurd cc
+each_at Facts Z n (a ∷ xs) [] i x h e = absurd h
+each_at {A} {B} Facts Z n (a ∷ xs) (b ∷ ys) zero x h e =
+    let s : a ≡ x = cc in
+    let z : n ≡ n + 0 = omega arith in
+    (b, refl, subst (λ (k : ℕ). Facts Z k x b) z (subst (λ (y : A). Facts Z n y b) s h.0))
+each_at {A} {B} Facts Z n (a ∷ xs) (b ∷ ys) (suc i) x h e =
+    let r = each_at Facts Z (n + 1) xs ys i x h.1 e in
+    let z : n + 1 + i ≡ n + suc i = omega arith in
+    (r.0, r.1, subst (λ (k : ℕ). Facts Z k x r.0) z r.2)
+
+any_at : {A : Type 0} (p : A → Bool) (xs : List A) (i : ℕ) (x : A) → slice_get xs i ≡ Some x → p x ≡ true → list_any p xs ≡ true
+any_at p [] i x e h = cc
+any_at {A} p (a ∷ xs) zero x e h = let s : x ≡ a = cc in let t : p a ≡ true = ap p (sym s) ∙ h in rw t refl
+any_at p (a ∷ xs) (suc i) x e h = later (p a) (list_any p xs) (any_at p xs i x e h)
+  where
+    later : (u v : Bool) → v ≡ true → (u || v) ≡ true
+    later true v t = refl
+    later false v t = t
+
+all_at : {A : Type 0} (Q : A → Type 0) (xs : List A) (i : ℕ) (x : A) → AllByRecursion Q xs → slice_get xs i ≡ Some x → Q x
+all_at Q [] i x h e = absurd cc
+all_at {A} Q (a ∷ xs) zero x h e = let s : a ≡ x = cc in subst Q s h.0
+all_at Q (a ∷ xs) (suc i) x h e = all_at Q xs i x h.1 e
+
+-- what holds of each by its number holds of all
+all_from : {A : Type 0} (Q : A → Type 0) (xs : List A) → ((i : ℕ) (x : A) → slice_get xs i ≡ Some x → Q x) → AllByRecursion Q xs
+all_from Q [] h = tt
+all_from Q (x ∷ xs) h = (h 0 x refl, all_from Q xs (λ i y e. h (suc i) y e))
+
+some_at : {A : Type 0} (xs : List A) (i : ℕ) → i < length xs → (x : A) × (slice_get xs i ≡ Some x)
+some_at [] i h = absurd (omega arith)
+some_at (x ∷ xs) zero h = (x, refl)
+some_at (x ∷ xs) (suc i) h = some_at xs i (omega arith)
+
+block_length : (P : Program) (p : ℕ) (at : ℕ → ℕ) (o : Op) → length (ops_of_block P p at o) ≡ block_len o
+block_length P p at (op.GetStatic f) = refl
+block_length P p at (op.PutStatic f) = refl
+block_length P p at (op.InvokeStatic m) = refl
+block_length P p at (op.Load i) = refl
+block_length P p at (op.Store i) = refl
+block_length P p at (op.Increment i n) = refl
+block_length P p at (op.Branch t to) = refl
+block_length P p at (op.BranchInts t to) = refl
+block_length P p at (op.Goto to) = refl
+block_length P p at o = refl
+
+blocks_length : (P : Program) (p : ℕ) (at : ℕ → ℕ) (os : List Op) → length (flat_map (ops_of_block P p at) os) ≡ sum_by block_len os
+blocks_length P p at [] = refl
+blocks_length P p at (o ∷ os) = rw (flat_map-cons, sum_by-cons) (omega (arith, length-append (ops_of_block P p at o) (flat_map (ops_of_block P p at) os), block_length P p at o, blocks_length P p at os))
+
+blocks_end : (P : Program) (p : ℕ) (at : ℕ → ℕ) (os : List Op) → length (flat_map (ops_of_block P p at) os) ≡ block_at os (length os)
+blocks_end P p at os = blocks_length P p at os ∙ ap (sum_by block_len) (sym (take_all (length os) os (omega arith)))
+
+abbrev name_of_parts : List ℕ → List ℕ → List ℕ → MethodName
+name_of_parts class name descriptor = record { class = class; name = name; descriptor = descriptor }
+
+-- ---- what duplicates call
+
+module _ (c new : ClassFile) (P : Program) (K : Known c new P) (L : linked c ≡ Some P) (names : Names) (N : AreNames P c new.pool names) where
+  source_op : (n : ℕ) (k : Method) → slice_get P.methods n ≡ Some k → (j : ℕ) (o : Op) → slice_get k.ops j ≡ Some o → IsSourceOp P k o
+  source_op n k e j o t = all_at (IsSourceOp P k) k.ops j o (all_at (IsSourceMethod P) P.methods n k (links c P L).source.methods e).each t
+
+  used : (p : Op → Bool) (n j : ℕ) (k : Method) (o : Op) → slice_get P.methods n ≡ Some k → slice_get k.ops j ≡ Some o → p o ≡ true → some_op p P ≡ true
+  used p n j k o e t h = any_at (λ (y : Method). list_any p y.ops) P.methods n k e (any_at p k.ops j o t h)
+
+  -- the class of a method of the program
+  in_class : (n : ℕ) (k : Method) → slice_get P.methods n ≡ Some k → k.name.class ≡ own_name c
+  in_class n k e = method_class c new P K n k e
+
+  calls_one : (n : ℕ) (k : Method) → slice_get P.methods n ≡ Some k → (j : ℕ) (o : Op) → slice_get k.ops j ≡ Some o → Calls (symbols_of new P.fields) P names o
+  calls_one n k e j (op.GetStatic f) t =
+      let F = some_at P.fields f (source_op n k e j (op.GetStatic f) t) in
+      let x = each_at (λ Z n f x. AreCalls P (own_name c) n f Z x) new.pool 0 P.fields names.accessors f F.0 N.accessors F.1 in
+      let zero_is : f ≡ 0 + f = omega arith in
+      let yes : some_op (gets (0 + f)) P ≡ true = subst (λ (i : ℕ). some_op (gets i) P ≡ true) zero_is (used (gets f) n j k (op.GetStatic f) e t (eq-eqb f f refl)) in
+      let index : x.0.getter ≡ getter_in (slice_get names.accessors f) = ap getter_in (sym x.1) in
+      subst (λ (i : ℕ). IsCalled (symbols_of new P.fields) i (getter P f)) index
+      (record { name = wanted (own_name c) (getter_name F.0) getter_type; few = (x.2.getter yes).1; is = (x.2.getter yes).0; means = calls_getter c new P K f F.0 F.1 })
+  calls_one n k e j (op.PutStatic f) t =
+      let F = some_at P.fields f (source_op n k e j (op.PutStatic f) t) in
+      let x = each_at (λ Z n f x. AreCalls P (own_name c) n f Z x) new.pool 0 P.fields names.accessors f F.0 N.accessors F.1 in
+      let zero_is : f ≡ 0 + f = omega arith in
+      let yes : some_op (puts (0 + f)) P ≡ true = subst (λ (i : ℕ). some_op (puts i) P ≡ true) zero_is (used (puts f) n j k (op.PutStatic f) e t (eq-eqb f f refl)) in
+      let index : x.0.setter ≡ setter_in (slice_get names.accessors f) = ap setter_in (sym x.1) in
+      subst (λ (i : ℕ). IsCalled (symbols_of new P.fields) i (setter P f)) index
+      (record { name = wanted (own_name c) (setter_name F.0) setter_type; few = (x.2.setter yes).1; is = (x.2.setter yes).0; means = calls_setter c new P K f F.0 F.1 })
+  calls_one n k e j (op.InvokeStatic m) t =
+      let M = some_at P.methods m (source_op n k e j (op.InvokeStatic m) t) in
+      let x = each_at (λ Z n k i. some_op (calls n) P ≡ true → IsMethodAt k.name.class k.name.name (with_context k.name.descriptor) Z i) new.pool 0 P.methods names.duplicates m M.0 N.duplicates M.1 in
+      let zero_is : m ≡ 0 + m = omega arith in
+      let yes : some_op (calls (0 + m)) P ≡ true = subst (λ (i : ℕ). some_op (calls i) P ≡ true) zero_is (used (calls m) n j k (op.InvokeStatic m) e t (eq-eqb m m refl)) in
+      let index : x.0 ≡ slice_index names.duplicates m = sym (get_or_from_slice_get names.duplicates m x.0 0 x.1) in
+      let there = x.2 yes in
+      let owner = in_class m M.0 M.1 in
+      let is : method_name new.pool x.0 ≡ Some (wanted (own_name c) M.0.name.name (with_context M.0.name.descriptor)) = there.0 ∙ ap (λ (t : List ℕ). Some (wanted t M.0.name.name (with_context M.0.name.descriptor))) owner in
+      subst (λ (i : ℕ). IsCalled (symbols_of new P.fields) i (duplicate P m)) index
+      (record { name = wanted (own_name c) M.0.name.name (with_context M.0.name.descriptor); few = there.1; is = is; means = calls_copy c new P K m M.0 M.1 })
+  calls_one n k e j (op.Constant v) t = tt
+  calls_one n k e j (op.Load i) t = tt
+  calls_one n k e j (op.Store i) t = tt
+  calls_one n k e j (op.Rearrange r) t = tt
+  calls_one n k e j (op.Binary b) t = tt
+  calls_one n k e j (op.Unary u) t = tt
+  calls_one n k e j (op.Increment i x) t = tt
+  calls_one n k e j (op.Branch q to) t = tt
+  calls_one n k e j (op.BranchInts q to) t = tt
+  calls_one n k e j (op.Goto to) t = tt
+  calls_one n k e j o t = tt
+
+  pub all_called : (n : ℕ) (k : Method) → slice_get P.methods n ≡ Some k → AllByRecursion (Calls (symbols_of new P.fields) P names) k.ops
+  all_called n k e = all_from (Calls (symbols_of new P.fields) P names) k.ops (λ j o t. calls_one n k e j o t)
+
+  -- the same, where the class's methods hold bytes
+  module _ (n : ℕ) (m x : Member) (k : Method) (t : List ℕ) (named : utf8 c.pool m.name ≡ Some t) (at : slice_get P.methods n ≡ Some k) (h : IsOld c P.fields m k) (held : HasBytes m)
+      (w : IsCopyOf c names new.pool (k, m) x) (d : List ℕ) (described : utf8 c.pool m.descriptor ≡ Some d) where
+    abbrev s0 : Symbols
+    s0 = symbols_of c P.fields
+
+    abbrev s : Symbols
+    s = symbols_of new P.fields
+
+    abbrev G : Grown c.pool new.pool
+    G = K.rewritten.grown
+
+    abbrev is0 : List Instr
+    is0 = h.coded.instrs
+
+    few : k.params ≤ 60000
+    few = let r = h.room in let l = h.locals in let f = h.few in omega (arith, r, l, f)
+
+    room : k.locals ≤ 60000
+    room = let l = h.locals in let f = h.few in omega (arith, l, f)
+
+    read : IsRead c m h.coded
+    read = decoded_is c m h.coded h.decodes
+
+    code_filed : IsFiled c.pool h.coded.code
+    code_filed = filed c.pool m h.coded.code held read.code
+
+    parts : AreParts (symbols_of c P.fields) h.coded.instrs k.locals k.gives k.ops h.coded.instrs
+    parts = parts_of (symbols_of c P.fields) h.coded.instrs k.locals k.gives k.ops h.coded.instrs h.ops (spelled c.pool m h.coded c refl held read).instrs.each h.fits
+
+    called : AllByRecursion (Calls (symbols_of new P.fields) P names) k.ops
+    called = all_called n k at
+
+    abbrev zipped : List Block
+    zipped = zip_blocks (symbols_of c P.fields) (symbols_of new P.fields) K.rewritten.grown P names k.params few h.coded.instrs k.locals room k.gives k.ops h.coded.instrs
+
+    zipped_are : blocks_from names k.params k.ops 0 h.coded.instrs ≡ zipped
+    zipped_are = blocks_are (symbols_of c P.fields) (symbols_of new P.fields) K.rewritten.grown P names k.params few h.coded.instrs k.locals room k.gives k.ops 0 k.ops h.coded.instrs parts (λ j. let z : 0 + j ≡ j = omega arith in ap (slice_get k.ops) z)
+
+    copy : IsCopy names k m h.coded new.pool x
+    copy = let same : w.coded ≡ h.coded = ok_is w.coded h.coded (sym w.decodes ∙ h.decodes) in subst (λ (y : Coded). IsCopy names k m y new.pool x) same w.copy
+
+    laid : IsLaidCode (h.coded.code.max_stack + 1) (h.coded.code.max_locals + 1) zipped [] (Some copy.body.conflict) (plain 191 ∷ []) copy.body.code
+    laid =
+        let told : laid_code (h.coded.code.max_stack + 1) (h.coded.code.max_locals + 1) zipped [] (Some copy.body.conflict) (plain 191 ∷ []) ≡ Ok copy.body.code =
+        ap (λ (bs : List Block). laid_code (h.coded.code.max_stack + 1) (h.coded.code.max_locals + 1) bs [] (Some copy.body.conflict) (plain 191 ∷ [])) (sym zipped_are)
+        ∙ ap (λ (hs : List Handler). laid_code (h.coded.code.max_stack + 1) (h.coded.code.max_locals + 1) (blocks_from names k.params k.ops 0 h.coded.instrs) hs (Some copy.body.conflict) (plain 191 ∷ [])) (sym h.no_entries)
+        ∙ copy.body.laid in
+        laid_is (h.coded.code.max_stack + 1) (h.coded.code.max_locals + 1) zipped [] (Some copy.body.conflict) (plain 191 ∷ []) copy.body.code told
+
+    solid_all : AllByRecursion IsSolid zipped
+    solid_all = all_solid (symbols_of c P.fields) (symbols_of new P.fields) K.rewritten.grown P names k.params few h.coded.instrs k.locals room k.gives k.ops h.coded.instrs parts called
+
+    laid_blocks : AllByRecursion (IsLaid new.pool) (all_instrs zipped)
+    laid_blocks = all_laid (symbols_of c P.fields) (symbols_of new P.fields) K.rewritten.grown P names k.params few h.coded.instrs k.locals room k.gives k.ops h.coded.instrs parts called
+
+    stub_laid : IsLaid new.pool (plain 191)
+    stub_laid = plain_laid new.pool 191 (omega arith) tt tt
+
+    each_laid : AllByRecursion (IsLaid new.pool) (all_instrs zipped ++ plain 191 ∷ [])
+    each_laid = all_append (IsLaid new.pool) (all_instrs zipped) (plain 191 ∷ []) laid_blocks (stub_laid, tt)
+
+    leads : AllByRecursion (λ (i : Instr). LeadsIn zipped i.operands) (all_instrs zipped ++ plain 191 ∷ [])
+    leads = all_append (λ (i : Instr). LeadsIn zipped i.operands) (all_instrs zipped) (plain 191 ∷ [])
+        (all_lead (symbols_of c P.fields) (symbols_of new P.fields) K.rewritten.grown P names k.params few h.coded.instrs k.locals room k.gives k.ops parts called (plain 191 ∷ []) k.ops h.coded.instrs parts called) (tt, tt)
+
+    -- what the blocks mean
+    mean : each (op_of (symbols_of new P.fields) (relocated zipped (plain 191 ∷ []))) (laid_to (place_of zipped) 0 (all_instrs zipped)) ≡ Some (blocks P k.params k.ops)
+    mean = all_mean (symbols_of c P.fields) (symbols_of new P.fields) K.rewritten.grown P names k.params few h.coded.instrs k.locals room k.gives k.ops parts called (plain 191 ∷ []) 0 k.ops h.coded.instrs parts called
+
+    means : ops_of (symbols_of new P.fields) (relocated zipped (plain 191 ∷ [])) ≡ Some (blocks P k.params k.ops ++ op.Throw ∷ [])
+    means =
+        ap (each (op_of (symbols_of new P.fields) (relocated zipped (plain 191 ∷ [])))) (laid_to_append (place_of zipped) 0 (all_instrs zipped) (plain 191 ∷ []))
+        ∙ each_append (op_of (symbols_of new P.fields) (relocated zipped (plain 191 ∷ []))) (laid_to (place_of zipped) 0 (all_instrs zipped)) (laid_to (place_of zipped) (behind 0 (all_instrs zipped)) (plain 191 ∷ [])) (blocks P k.params k.ops) (op.Throw ∷ []) mean refl
+
+    many : length (all_instrs zipped) ≡ block_at k.ops (length k.ops)
+    many = sym (laid_length (place_of zipped) 0 (all_instrs zipped))
+        ∙ each_length (op_of (symbols_of new P.fields) (relocated zipped (plain 191 ∷ []))) (laid_to (place_of zipped) 0 (all_instrs zipped)) (blocks P k.params k.ops) mean
+        ∙ blocks_end P k.params (block_at k.ops) k.ops
+
+    some_ops : 0 < length (all_instrs zipped)
+    some_ops =
+        let first = some_instr c.pool h.coded.code h.coded.instrs code_filed.rules (spelled c.pool m h.coded c refl held read).holds in
+        some_of k.ops h.coded.instrs parts called first
+      where
+        some_of : (os : List Op) (is : List Instr) → AreParts (symbols_of c P.fields) h.coded.instrs k.locals k.gives os is → AllByRecursion (Calls (symbols_of new P.fields) P names) os → 0 < length is
+            → 0 < length (all_instrs (zip_blocks (symbols_of c P.fields) (symbols_of new P.fields) K.rewritten.grown P names k.params few h.coded.instrs k.locals room k.gives os is))
+        some_of [] [] a b l = absurd (omega arith)
+        some_of [] (i ∷ is) a b l = absurd a
+        some_of (o ∷ os) [] a b l = absurd a
+        some_of (o ∷ os) (i ∷ is) a b l =
+            let g = sound (symbols_of c P.fields) (symbols_of new P.fields) K.rewritten.grown P names k.params few h.coded.instrs k.locals room k.gives o i a.0 b.0 in
+            let some = g.some in
+            let rest = zip_blocks (symbols_of c P.fields) (symbols_of new P.fields) K.rewritten.grown P names k.params few h.coded.instrs k.locals room k.gives os is in
+            let list = ap length (all_cons (block i.pc (block_instrs names k.params (Some o) i)) rest) in
+            let both = length-append (block_instrs names k.params (Some o) i) (all_instrs rest) in
+            omega (arith, some, list, both)
+
+    code_read : instrs_of new.pool copy.body.code.handlers copy.body.code.code ≡ Ok (relocated zipped (plain 191 ∷ []))
+    code_read = stub_read new.pool (h.coded.code.max_stack + 1) (h.coded.code.max_locals + 1) copy.body.conflict zipped (plain 191) copy.body.code laid (λ at. refl) solid_all (shaped_all new.pool (all_instrs zipped) laid_blocks) each_laid refl leads some_ops
+        copy.body.conflict_is.0 copy.body.conflict_is.1 copy.body.conflict_is.2
+
+    code_rules : IsCode new.pool copy.body.code
+    code_rules =
+        let a = code_filed.rules.stack in
+        let b = code_filed.rules.locals in
+        let x = copy.body.stack in
+        let y = copy.body.locals in
+        stub_rules new.pool (h.coded.code.max_stack + 1) (h.coded.code.max_locals + 1) copy.body.conflict zipped (plain 191) copy.body.code laid (λ at. refl) solid_all (shaped_all new.pool (all_instrs zipped) laid_blocks) each_laid refl leads some_ops
+        copy.body.conflict_is.0 copy.body.conflict_is.1 copy.body.conflict_is.2 (omega (arith, a, x)) (omega (arith, b, y))
+
+    code_catches : each (catch_of new.pool (relocated zipped (plain 191 ∷ [])) (length copy.body.code.code)) copy.body.code.handlers ≡ Some (catch 0 (length (all_instrs zipped)) (length (all_instrs zipped)) Conflict ∷ [])
+    code_catches = stub_catches new.pool (h.coded.code.max_stack + 1) (h.coded.code.max_locals + 1) copy.body.conflict zipped (plain 191) copy.body.code laid (λ at. refl) solid_all (shaped_all new.pool (all_instrs zipped) laid_blocks) each_laid refl leads some_ops
+        copy.body.conflict_is.0 copy.body.conflict_is.1 copy.body.conflict_is.2
+
+    k_type : k.name.descriptor ≡ d
+    k_type = ap (λ (y : MethodName). y.descriptor) h.name ∙ ap text_or_none described
+
+    shape : shape_of (with_context k.name.descriptor) ≡ Some (record { params = h.shape.params + 1; gives = h.shape.gives })
+    shape = ap (λ (y : List ℕ). shape_of (with_context y)) (ap (λ (y : MethodName). y.descriptor) h.name) ∙ wider_shape (descriptor_of c.pool m) h.shape h.shaped (few_params c new P K m k h)
+
+    pub copy_is : method_of (symbols_of new P.fields) true x ≡ Some (duplicate_method P k)
+    copy_is =
+        let facts : CodedFacts (symbols_of new P.fields) (added_method (duplicate_flags m.flags) m.name copy.t copy.c (code_spelling copy.body.code)) copy.body.code (relocated zipped (plain 191 ∷ [])) t (with_context k.name.descriptor) (record { params = h.shape.params + 1; gives = h.shape.gives })
+        (blocks P k.params k.ops ++ op.Throw ∷ []) (catch 0 (length (all_instrs zipped)) (length (all_instrs zipped)) Conflict ∷ []) None = record {
+          code = added_code new.pool (duplicate_flags m.flags) m.name copy.t copy.c copy.body.code copy.coded_is code_rules;
+          read = code_read;
+          named = utf8_grown c.pool new.pool K.rewritten.grown m.name t named;
+          typed = copy.typed;
+          shaped = shape;
+          ops_are = means;
+          catches_are = code_catches;
+          retries_are = added_retries new.pool (duplicate_flags m.flags) m.name copy.t copy.c (code_spelling copy.body.code) copy.coded_is;
+        } in
+        let it = coded_means (symbols_of new P.fields) true (added_method (duplicate_flags m.flags) m.name copy.t copy.c (code_spelling copy.body.code)) copy.body.code (relocated zipped (plain 191 ∷ [])) t (with_context k.name.descriptor) (record { params = h.shape.params + 1; gives = h.shape.gives })
+        (blocks P k.params k.ops ++ op.Throw ∷ []) (catch 0 (length (all_instrs zipped)) (length (all_instrs zipped)) Conflict ∷ []) None facts in
+        let owner : own_name new ≡ k.name.class = own_same c new P K ∙ sym (in_class n k at) in
+        let own_text : t ≡ k.name.name = sym (ap (λ (y : MethodName). y.name) h.name ∙ ap text_or_none named) in
+        let name_is : record { class = own_name new; name = t; descriptor = with_context k.name.descriptor } ≡ record { class = k.name.class; name = k.name.name; descriptor = with_context k.name.descriptor } =
+        ap (λ (y : List ℕ). name_of_parts y t (with_context k.name.descriptor)) owner ∙ ap (λ (y : List ℕ). name_of_parts k.name.class y (with_context k.name.descriptor)) own_text in
+        let catches_are : catch 0 (length (all_instrs zipped)) (length (all_instrs zipped)) Conflict ∷ [] ≡ catch 0 (block_at k.ops (length k.ops)) (block_at k.ops (length k.ops)) Conflict ∷ map (moved_catch (block_at k.ops)) k.catches =
+        ap (λ (y : ℕ). catch 0 y y Conflict ∷ []) many ∙ ap (λ (y : List Catch). catch 0 (block_at k.ops (length k.ops)) (block_at k.ops (length k.ops)) Conflict ∷ map (moved_catch (block_at k.ops)) y) (sym h.no_catches) in
+        let same : method_as true (record { class = own_name new; name = t; descriptor = with_context k.name.descriptor }) (h.shape.params + 1) copy.body.code.max_locals copy.body.code.max_stack h.shape.gives None (blocks P k.params k.ops ++ op.Throw ∷ [])
+        (catch 0 (length (all_instrs zipped)) (length (all_instrs zipped)) Conflict ∷ []) ≡ duplicate_method P k =
+        same_methods true (record { class = own_name new; name = t; descriptor = with_context k.name.descriptor }) (record { class = k.name.class; name = k.name.name; descriptor = with_context k.name.descriptor })
+        (h.shape.params + 1) (k.params + 1) copy.body.code.max_locals (k.locals + 1) copy.body.code.max_stack (k.max_stack + 1) h.shape.gives k.gives None (blocks P k.params k.ops ++ op.Throw ∷ []) (blocks P k.params k.ops ++ op.Throw ∷ [])
+        (catch 0 (length (all_instrs zipped)) (length (all_instrs zipped)) Conflict ∷ []) (catch 0 (block_at k.ops (length k.ops)) (block_at k.ops (length k.ops)) Conflict ∷ map (moved_catch (block_at k.ops)) k.catches)
+        name_is (ap (λ (y : ℕ). y + 1) (sym h.params)) (laid.locals ∙ ap (λ (y : ℕ). y + 1) (sym h.locals)) (laid.stack ∙ ap (λ (y : ℕ). y + 1) (sym h.max_stack)) (sym h.gives) refl catches_are in
+        ap (method_of (symbols_of new P.fields) true) (copy.is ∙ ap (added_method (duplicate_flags m.flags) m.name copy.t copy.c) copy.body.is) ∙ it ∙ ap (λ (y : Method). Some y) same

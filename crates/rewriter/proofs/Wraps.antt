@@ -1,0 +1,122 @@
+-- What the wrappers of a rewritten class mean.
+use Rattle.std.proofs.Common.{◌≡◌, ℕ, ◌+◌, ◌<◌, ◌≤◌, max, true, false, ℤ, Option, List, [], ◌∷◌, Some, None, Ok, refl, sym, ap, ◌∙◌, arith}
+use Rattle.std.specs.Prelude.{pos, slice_get}
+use Rattle.std.specs.List.{AllByRecursion}
+use Rattle.std.proofs.lemmas.Bool.Decides.{nat_tests}
+use Rattle.jmodel.specs.declared.name.MethodName.{MethodName}
+use Rattle.jmodel.specs.declared.op.Op.{Op}
+use Rattle.jmodel.specs.declared.op.Catch.{Catch}
+use Rattle.jmodel.specs.declared.op.Catches.TheVariants.{Conflict, Any}
+use Rattle.jmodel.specs.ClassFile.{Member, ClassFile, Code, code_spelling}
+use Rattle.jmodel.specs.Pool.{utf8}
+use Rattle.jmodel.specs.Name.{printed}
+use Rattle.jmodel.specs.Program.{Method, Program}
+use Rattle.jmodel.specs.Layout.{text_or_none}
+use Rattle.jmodel.specs.ClassRules.{IsAttribute}
+use Rattle.jmodel.specs.ClassReading.{code_of}
+use Rattle.jmodel.specs.Rewriting.{duplicate, with_context, wrapper_method, body_end, conflict_at, catch}
+use Rattle.jmodel.specs.Decoding.{own_name}
+use Rattle.jmodel.specs.Linking.{shape_of, is_marked, symbols_of, method_of}
+use Rattle.jmodel.specs.Relocation.{relocated}
+use Rattle.const_pool.proofs.Takes.{bind_ok, ok_is}
+use Rattle.rewriter.specs.declared.wrappers.Opening.{Opening}
+use Rattle.rewriter.specs.declared.wrappers.Ending.{Ending}
+use Rattle.rewriter.specs.Members.{laid_code, laid_bytes, wrapper_blocks, wrapper_handlers, wrapper_bytes, with_code}
+use Rattle.rewriter.proofs.Grown.{utf8_grown}
+use Rattle.rewriter.proofs.Marks.{code_swapped, mark_swapped}
+use Rattle.rewriter.proofs.Coded.{code_back, method_as, CodedFacts, coded_means, same_methods}
+use Rattle.rewriter.proofs.Filed.{decoded_is}
+use Rattle.rewriter.proofs.Laid.{IsLaidCode, laid_is}
+use Rattle.rewriter.proofs.Attempts.{Named, wrapper_ops, wrapper_means, wrapper_read, wrapper_rules, wrapper_catches}
+use Rattle.rewriter.proofs.Whole.{of_method_ok, IsWrapped}
+use Rattle.rewriter.proofs.Old.{IsOld}
+use Rattle.rewriter.proofs.Numbers.{wanted}
+use Rattle.rewriter.proofs.Tables.{Known, own_same, calls_copy, method_class}
+
+-- the code of a wrapper
+pub record IsLoop (k : Method) (a : Opening) (e : Ending) (bytes : List ℕ) : Type 0 where
+  pub code : Code
+  pub laid : IsLaidCode (max (k.params + 1) 3) (k.params + 2) (wrapper_blocks k.params k.gives a e) (wrapper_handlers e.conflict) None [] code
+  pub bytes_are : bytes ≡ code_spelling code
+
+pub loop_is : (k : Method) (a : Opening) (e : Ending) (bytes : List ℕ) → wrapper_bytes k a e ≡ Ok bytes → IsLoop k a e bytes
+unfolding wrapper_bytes
+loop_is k a e bytes h =
+    let told = of_method_ok (printed k.name) (laid_bytes (max (k.params + 1) 3) (k.params + 2) (wrapper_blocks k.params k.gives a e) (wrapper_handlers e.conflict) None []) bytes h in
+    let b = bind_ok (laid_code (max (k.params + 1) 3) (k.params + 2) (wrapper_blocks k.params k.gives a e) (wrapper_handlers e.conflict) None []) (λ code. Ok (code_spelling code)) bytes told in
+    record { code = b.0; laid = laid_is (max (k.params + 1) 3) (k.params + 2) (wrapper_blocks k.params k.gives a e) (wrapper_handlers e.conflict) None [] b.0 b.1; bytes_are = sym (ok_is (code_spelling b.0) bytes b.2) }
+
+abbrev name_of_parts : List ℕ → List ℕ → List ℕ → MethodName
+name_of_parts class name descriptor = record { class = class; name = name; descriptor = descriptor }
+
+greater : (n : ℕ) → n ≤ 1000 → max (n + 1) 3 < 65536
+greater n h = grind (arith, nat_tests)
+
+module _ (c new : ClassFile) (P : Program) (K : Known c new P) (n : ℕ) (m x : Member) (k : Method) (t d : List ℕ) (named : utf8 c.pool m.name ≡ Some t) (described : utf8 c.pool m.descriptor ≡ Some d)
+    (at : slice_get P.methods n ≡ Some k) (h : IsOld c P.fields m k) (lawful : AllByRecursion (IsAttribute c.pool) m.attributes) (marked : is_marked c.pool m ≡ true) (w : IsWrapped c new.pool n k m x) where
+  few : k.params ≤ 1000
+  few = let r = h.room in let l = h.locals in let f = h.few in omega (arith, r, l, f)
+
+  loop : IsLoop k w.opening w.ending w.bytes
+  loop = loop_is k w.opening w.ending w.bytes w.laid
+
+  owner : k.name.class ≡ own_name c
+  owner = method_class c new P K n k at
+
+  names : Named (symbols_of new P.fields) n (duplicate P n) w.opening w.ending
+  names = record {
+    opens = w.opens;
+    duplicate = record {
+      name = wanted (own_name c) k.name.name (with_context k.name.descriptor);
+      few = w.ends.duplicate_is.1;
+      is = w.ends.duplicate_is.0 ∙ ap (λ (y : List ℕ). Some (wanted y k.name.name (with_context k.name.descriptor))) owner;
+      means = calls_copy c new P K n k at;
+    };
+    commit_is = w.ends.commit_is.0;
+    commit_few = w.ends.commit_is.1;
+    rollback_is = w.ends.rollback_is.0;
+    rollback_few = w.ends.rollback_is.1;
+    conflict_is = w.ends.conflict_is.0;
+    conflict_some = w.ends.conflict_is.1;
+    conflict_few = w.ends.conflict_is.2;
+  }
+
+  small : k.params ≤ 50000
+  small = omega (arith, few)
+
+  descriptor_is : k.name.descriptor ≡ d
+  descriptor_is = ap (λ (y : MethodName). y.descriptor) h.name ∙ ap text_or_none described
+
+  shaped : shape_of d ≡ Some h.shape
+  shaped = ap shape_of (sym (ap text_or_none described)) ∙ h.shaped
+
+  pub wrapper_is : method_of (symbols_of new P.fields) false x ≡ Some (wrapper_method P n n (pos 2147483647) k)
+  wrapper_is =
+      let s = symbols_of new P.fields in
+      let L = relocated (wrapper_blocks k.params k.gives w.opening w.ending) [] in
+      let rules = wrapper_rules k.params k.gives w.opening w.ending s small n (duplicate P n) names (max (k.params + 1) 3) (k.params + 2) loop.code loop.laid (greater k.params few) (omega (arith, few)) in
+      let swapped = code_swapped c.pool new.pool K.rewritten.grown w.bytes m.attributes h.coded.code lawful (decoded_is c m h.coded h.decodes).code in
+      let mark = mark_swapped c.pool new.pool K.rewritten.grown w.bytes m.attributes marked in
+      let ops : List Op = wrapper_ops k.params k.gives w.opening w.ending s small n (duplicate P n) names in
+      let facts : CodedFacts s (with_code c.pool w.bytes m) loop.code L t d h.shape (wrapper_ops k.params k.gives w.opening w.ending s small n (duplicate P n) names)
+      (catch 6 (body_end k.params) (conflict_at k.gives k.params) Conflict ∷ catch 6 (body_end k.params) (conflict_at k.gives k.params + 4) Any ∷ []) (Some (pos 2147483647)) = record {
+        code = swapped ∙ ap (code_of new.pool) loop.bytes_are ∙ code_back new.pool loop.code rules;
+        read = wrapper_read k.params k.gives w.opening w.ending s small n (duplicate P n) names (max (k.params + 1) 3) (k.params + 2) loop.code loop.laid;
+        named = utf8_grown c.pool new.pool K.rewritten.grown m.name t named;
+        typed = utf8_grown c.pool new.pool K.rewritten.grown m.descriptor d described;
+        shaped = shaped;
+        ops_are = wrapper_means k.params k.gives w.opening w.ending s small n (duplicate P n) names;
+        catches_are = wrapper_catches k.params k.gives w.opening w.ending s small n (duplicate P n) names (max (k.params + 1) 3) (k.params + 2) loop.code loop.laid;
+        retries_are = rw mark refl;
+      } in
+      let it = coded_means s false (with_code c.pool w.bytes m) loop.code L t d h.shape (wrapper_ops k.params k.gives w.opening w.ending s small n (duplicate P n) names)
+      (catch 6 (body_end k.params) (conflict_at k.gives k.params) Conflict ∷ catch 6 (body_end k.params) (conflict_at k.gives k.params + 4) Any ∷ []) (Some (pos 2147483647)) facts in
+      let own_text : t ≡ k.name.name = sym (ap (λ (y : MethodName). y.name) h.name ∙ ap text_or_none named) in
+      let own_class : own_name new ≡ k.name.class = own_same c new P K ∙ sym owner in
+      let name_is : record { class = own_name new; name = t; descriptor = d } ≡ record { class = k.name.class; name = k.name.name; descriptor = k.name.descriptor } =
+      ap (λ (y : List ℕ). name_of_parts y t d) own_class ∙ ap (λ (y : List ℕ). name_of_parts k.name.class y d) own_text ∙ ap (λ (y : List ℕ). name_of_parts k.name.class k.name.name y) (sym descriptor_is) in
+      let retries : k.retries ≡ Some (pos 2147483647) = h.retries ∙ rw marked refl in
+      let cs : List Catch = catch 6 (body_end k.params) (conflict_at k.gives k.params) Conflict ∷ catch 6 (body_end k.params) (conflict_at k.gives k.params + 4) Any ∷ [] in
+      let same = same_methods false (record { class = own_name new; name = t; descriptor = d }) (record { class = k.name.class; name = k.name.name; descriptor = k.name.descriptor }) h.shape.params k.params loop.code.max_locals (k.params + 2) loop.code.max_stack (max (k.params + 1) 3)
+      h.shape.gives k.gives (Some (pos 2147483647)) ops ops cs cs name_is (sym h.params) loop.laid.locals loop.laid.stack (sym h.gives) refl refl in
+      ap (method_of s false) w.is ∙ it ∙ ap (λ (y : Method). Some y) same ∙ ap (λ (y : Option ℤ). Some (method_as false k.name k.params (k.params + 2) (max (k.params + 1) 3) k.gives y ops cs)) (sym retries)
