@@ -1,5 +1,5 @@
--- The members that rewriting adds to a class and replaces in it, with the entries that they name. Methods are static, take ints and
--- give an int or nothing.
+-- The members that rewriting adds to a class and replaces in it (Korland, Shavit, Felber, MULTIPROG 2010, in this project's
+-- form), with the entries that they name. Methods are static, take ints and give an int or nothing.
 use Rattle.std.specs.Prelude.{ℕ, ℤ, zero, suc, pos, negsuc, ◌+◌, ◌/◌, ◌%◌, max, List, [], ◌∷◌, ◌++◌, map, Option, Some, None, Result, Ok, Err, Bool, true, false, ◌&&◌, nat_eq, nat_lt, int_le, if◌then◌else◌, codes, bit_and, bit_or, slice_get, slice_index}
 use Rattle.std.specs.List.{list_any}
 use Rattle.std.specs.Int.{w64, cast_signed}

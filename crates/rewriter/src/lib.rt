@@ -1,4 +1,5 @@
-//! The rewriting of classes: accessors, duplicates and wrappers.
+//! The rewriting of classes: accessors, duplicates and wrappers (Korland, Shavit, Felber, MULTIPROG 2010, in this
+//! project's form).
 #![tactic(auto)]
 
 mod accessors;
