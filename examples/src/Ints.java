@@ -41,12 +41,20 @@ public class Ints {
     /** 1 where k, which isn't negative, is even, else 0. */
     @Atomic
     public static int even(int k) {
-        return k == 0 ? 1 : odd(k - 1);
+        return isEven(k);
     }
 
     @Atomic
     public static int odd(int k) {
-        return k == 0 ? 0 : even(k - 1);
+        return isOdd(k);
+    }
+
+    static int isEven(int k) {
+        return k == 0 ? 1 : isOdd(k - 1);
+    }
+
+    private static int isOdd(int k) {
+        return k == 0 ? 0 : isEven(k - 1);
     }
 
     /** Counts down by steps that one byte holds and that it doesn't hold. */

@@ -1,6 +1,6 @@
 -- What a call of a rewritten method adds to the history, over an engine that meets no conflict.
-use Rattle.std.proofs.Common.{◌≡◌, ℕ, zero, suc, ◌<◌, List, [], ◌∷◌, ◌++◌, length, Option, Some, None, true, Ok, refl, subst, arith, lit<}
-use Rattle.std.specs.Prelude.{slice_get, pos}
+use Rattle.std.proofs.Common.{◌≡◌, ℕ, zero, suc, ◌<◌, List, [], ◌∷◌, ◌++◌, length, Option, Some, None, Bool, true, false, ◌&&◌, nat_eq, Ok, refl, ap, subst, arith, lit<, inl, inr}
+use Rattle.std.specs.Prelude.{slice_get, pos, is_some}
 use Rattle.std.specs.List.{AllByRecursion}
 use Rattle.jmodel.specs.declared.value.Answer.{Answer}
 use Rattle.jmodel.specs.declared.value.Answer.TheVariants.{Returned, Threw, Budget, Depth, Heap, Spent, NoMemory}
@@ -9,7 +9,7 @@ use Rattle.jmodel.specs.Program.{Method, Program}
 use Rattle.jmodel.specs.Attempt.{Log, Bounds, Ended, Stuck, run_start, Comes}
 use Rattle.jmodel.specs.History.{Call, Entry}
 use Rattle.jmodel.specs.Engine.{made}
-use Rattle.jmodel.specs.LinkedLaw.{IsMarked}
+use Rattle.jmodel.specs.LinkedLaw.{IsPlainlyMarked}
 use Rattle.jmodel.proofs.Simulates.{simulation}
 use Rattle.jmodel.proofs.Typed.{soundness}
 use Rattle.jmodel.specs.declared.value.Value.{Value}
@@ -32,16 +32,26 @@ bounds budget = record { budget = budget; attempts = 1000000 }
 abbrev pub made_call : ℕ → Known → Call
 made_call i c = record { phase = 0; lane = 0; index = i; method = c.method; args = c.args; region = 1 }
 
-found_in : (o : Option Method) (n : ℕ) → takes o n ≡ true → (k : Method) × (o ≡ Some k) × (n ≡ k.params)
+two_true : (a b : Bool) → (a && b) ≡ true → (a ≡ true) × (b ≡ true)
+two_true true b h = (refl, h)
+two_true false b h = cc
+
+-- a marked method, which takes so many
+found_in : (o : Option Method) (n : ℕ) → takes o n ≡ true → (k : Method) × (o ≡ Some k) × (n ≡ k.params) × (is_some k.retries ≡ true)
 found_in None n h = cc
-found_in (Some k) n h = (k, refl, grind (arith, nat_tests))
+found_in (Some k) n h = let parts = two_true (is_some k.retries) (nat_eq n k.params) h in let same = parts.1 in (k, refl, grind (arith, nat_tests), parts.0)
+
+-- a plain mark that is there
+mark_of : (k : Method) → is_some k.retries ≡ true → IsPlainlyMarked k → k.retries ≡ Some (pos 2147483647)
+mark_of k some (inl none) = absurd (let lost : is_some k.retries ≡ false = ap is_some none in cc)
+mark_of k some (inr is) = is
 
 module _ (P Q : Program) (ready : IsReady P Q) (budget : ℕ) (c : Known) (is : IsCallOf P c) where
-  found : (k : Method) × (slice_get P.methods c.method ≡ Some k) × (length c.args ≡ k.params)
+  found : (k : Method) × (slice_get P.methods c.method ≡ Some k) × (length c.args ≡ k.params) × (is_some k.retries ≡ true)
   found = found_in (slice_get P.methods c.method) (length c.args) is.takes_them
 
-  marked : IsMarked found.0
-  marked = holds_at IsMarked P.methods c.method found.0 ready.marked found.1
+  marked : found.0.retries ≡ Some (pos 2147483647)
+  marked = mark_of found.0 found.3 (holds_at IsPlainlyMarked P.methods c.method found.0 ready.marked found.1)
 
   -- each entry that the call may leave keeps to the rule
   pub may_run : (allows : Entry → Type 0) → ((e : Entry) → IsRuled P budget e → allows e) → (i : ℕ) → MayRun allows Q (bounds budget) (made_call i c) 0

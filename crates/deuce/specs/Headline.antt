@@ -1,5 +1,5 @@
 -- What a run promises: its answers are those of the original methods, called one after another.
-use Rattle.std.specs.Prelude.{◌≡◌, ◌≤◌, Ok, ℕ, suc, List, [], ◌∷◌, length, map, filter, position, Option, Some, None, Bool, true, false, not, bytes_eq, nat_eq, option_and_then, if◌then◌else◌}
+use Rattle.std.specs.Prelude.{◌≡◌, ◌≤◌, Ok, ℕ, suc, List, [], ◌∷◌, length, map, filter, position, Option, Some, None, Bool, true, false, not, bytes_eq, nat_eq, option_and_then, is_some, ◌&&◌, if◌then◌else◌}
 use Rattle.std.specs.List.{AllByRecursion}
 use Rattle.jmodel.specs.declared.name.MethodName.{MethodName}
 use Rattle.jmodel.specs.declared.value.Value.{Value}
@@ -35,9 +35,10 @@ pub record Known : Type 0 where
   pub method : ℕ
   pub args : List Value
 
+-- whether a script may call a method with so many arguments: it is marked, and takes as many
 abbrev pub takes : Option Method → ℕ → Bool
 takes None count = false
-takes (Some k) count = nat_eq count k.params
+takes (Some k) count = is_some k.retries && nat_eq count k.params
 
 abbrev pub with_args : Wanted → ℕ → Known
 with_args c m = record { method = m; args = map Int c.args }
@@ -45,7 +46,7 @@ with_args c m = record { method = m; args = map Int c.args }
 abbrev pub known_as : Program → Wanted → ℕ → Option Known
 known_as P c m = if takes (method_at P m) (length c.args) then Some (with_args c m) else None
 
--- the call that is asked for, where its name is that of a method that takes as many ints as there are
+-- the call that is asked for, where its name is that of a marked method that takes as many ints as there are
 abbrev pub known : Program → Wanted → Option Known
 known P c = option_and_then (known_as P c) (method_number P c.name)
 

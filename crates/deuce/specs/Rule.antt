@@ -9,7 +9,7 @@ use Rattle.jmodel.specs.History.{Entry}
 use Rattle.jmodel.specs.Meaning.{Explains}
 use Rattle.jmodel.specs.Rewriting.{rewritten}
 use Rattle.jmodel.specs.TypingLaw.{IsTypedProgram}
-use Rattle.jmodel.specs.LinkedLaw.{IsMarked}
+use Rattle.jmodel.specs.LinkedLaw.{IsPlainlyMarked}
 use Rattle.jmodel.specs.declared.op.WordType.TheVariants as word
 use Rattle.jmodel.specs.Value.{IsOfType}
 use Rattle.jmodel.specs.Program.{method_at}
@@ -26,13 +26,13 @@ pub record IsRuled (P : Program) (budget : ℕ) (e : Entry) : Type 0 where
   pub before : e.used_before ≡ 0
   pub after : e.used_after ≡ 0
 
--- the program that runs is the rewriting of one of typed marked methods
+-- the program that runs is the rewriting of one of typed methods, plainly marked or not
 pub record IsReady (P Q : Program) : Type 0 where
   pub code : Q ≡ rewritten P
   pub typed : IsTypedProgram P
-  pub marked : AllByRecursion IsMarked P.methods
+  pub marked : AllByRecursion IsPlainlyMarked P.methods
 
--- a call of a method of the program, with as many ints as that takes
+-- a call of a marked method of the program, with as many ints as that takes
 pub record IsCallOf (P : Program) (c : Known) : Type 0 where
   pub takes_them : takes (method_at P c.method) (length c.args) ≡ true
   pub ints : AllByRecursion (IsOfType word.Int) c.args

@@ -26,8 +26,8 @@ impl Model for Known {
     ghost view = { λ c. record { method = c.method; args = c.args.items } };
 }
 
-/// The calls that are asked for. Where a name isn't that of a method, or that takes another number of arguments, the script
-/// isn't one for the program.
+/// The calls that are asked for. Where a name isn't that of a marked method, or that takes another number of arguments, the
+/// script isn't one for the program.
 pub fn known_calls(
     alloc: Global,
     program: &Program,
@@ -53,7 +53,7 @@ fn known_as(alloc: Global, call: &Wanted, method: usize) -> Result<Known, AllocE
     Ok(Known { method, args })
 }
 
-/// The number of the method that a call names, where that takes as many arguments as there are.
+/// The number of the method that a call names, where that is marked and takes as many arguments as there are.
 fn method_of(program: &Program, names: &[Bytes], call: &Wanted) -> Option<usize>
     requires { names.now ≡ names_in program.now }
     ensures { option_map (with_args call.now) result ≡ known_in program.now call.now }
@@ -66,12 +66,12 @@ fn method_of(program: &Program, names: &[Bytes], call: &Wanted) -> Option<usize>
     }
 }
 
-/// Whether the method of a number takes so many arguments.
+/// Whether a script may call the method of a number with so many arguments: it is marked, and takes as many.
 fn takes(program: &Program, number: usize, count: usize) -> bool
     ensures { result ≡ takes_them (method_at program.now number) count }
 {
     match program.method(number) {
-        Some(method) => count == method.entry().params,
+        Some(method) => method.retries().is_some() && count == method.entry().params,
         None => false,
     }
 }

@@ -5,3 +5,5 @@ pub mod Numbering
 pub mod Decoded
 pub mod Source
 pub mod Zipped
+pub mod Keys
+pub mod SearchLaws

@@ -6,7 +6,7 @@ use Rattle.jmodel.specs.declared.refusal.Refusal.{Refusal}
 use Rattle.jmodel.specs.ClassFile.{Member}
 use Rattle.jmodel.specs.Program.{Method}
 use Rattle.jmodel.specs.Decoding.{Symbols, each}
-use Rattle.jmodel.specs.Linking.{method_of, joined}
+use Rattle.jmodel.specs.Linking.{method_of, is_untouched, joined}
 use Rattle.hierarchy.specs.declared.outcome.BuildEnd.{BuildEnd}
 use Rattle.hierarchy.specs.declared.outcome.BuildEnd.TheVariants.{Refused, NotBuilt, NoMemory}
 
@@ -32,10 +32,11 @@ abbrev pub Links : {X Y : Type 0} → (X → Y) → Result X BuildEnd → Result
 Links view (Ok x) meaning = meaning ≡ Ok (Some (view x))
 Links view (Err e) meaning = EndsLinking e meaning
 
--- the methods of a rewritten class, seen behind references: the last n, which are duplicates, count
+-- the methods of a rewritten class, seen behind references: the last n, which are duplicates, count, and so do those that
+-- stayed as they were
 abbrev pub relinked_seen : Symbols → ℕ → List (Bor Member) → Option (List Method)
 relinked_seen s n ms = if nat_le n (length ms)
-    then joined (each (λ m. method_of s false m.now) (take (length ms - n) ms)) (each (λ m. method_of s true m.now) (drop (length ms - n) ms))
+    then joined (each (λ m. method_of s (is_untouched s.class.pool m.now) m.now) (take (length ms - n) ms)) (each (λ m. method_of s true m.now) (drop (length ms - n) ms))
     else None
 
 -- both of two, where both are there

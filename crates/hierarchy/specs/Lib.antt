@@ -1,3 +1,6 @@
 pub mod Ends
 pub mod Built
 pub mod Numbers
+pub mod Names
+pub mod Search
+pub mod Forms

@@ -1,23 +1,27 @@
 //! Programs of class files.
-ghost use Rattle.std.specs.Prelude.{◌≡◌, [], ◌∷◌, length, map, zip, IfOk};
+ghost use Rattle.std.specs.Prelude.{◌≡◌, [], ◌∷◌, ◌||◌, true, length, map, filter, zip, IfOk, OnOk};
+ghost use Rattle.std.specs.List.{list_any};
+ghost use Rattle.hierarchy.specs.Search.{is_called};
 ghost use Rattle.hierarchy.specs.Built.{Builds, Links, relinked_seen};
 ghost use Rattle.jmodel.specs.Source.{IsSource};
 ghost use Rattle.jmodel.specs.Layout.{fields_from, statics, opening_word as first_word, opening_words as all_opening_words};
-ghost use Rattle.jmodel.specs.Decoding.{each};
+ghost use Rattle.jmodel.specs.Decoding.{each, name_of as name_of_member};
+ghost use Rattle.jmodel.specs.Program.{Method as MethodForm};
 ghost use Rattle.jmodel.specs.ClassFile.{Member};
-ghost use Rattle.jmodel.specs.Linking.{Coded as CodedForm, original_fields, symbols_of, method_of as meaning, form_method, form_methods as all_form_methods, form_program as program_of_form, linking, program_methods as methods_of_program, relinked_methods, relinked};
+ghost use Rattle.jmodel.specs.Linking.{Coded as CodedForm, original_fields, symbols_of, method_of as meaning, form_method, form_methods as all_form_methods, form_program as program_of_form, linking, program_methods as methods_of_program, relinked_methods, relinked, is_name, takes_context as takes_a_context, is_untouched as untouched, rewritten_methods as methods_of_rewritten};
 
 use crate::code::{Coded, all_decoded};
 use crate::constants::int_value;
-use crate::form::{is_form_class, program_methods};
+use crate::form::{is_marked, methods_in_form, takes_context};
 use crate::meaning::Symbols;
 use crate::method::{form_method, method_of};
+use crate::names::Names;
 use crate::outcome::BuildEnd;
 use crate::program::{Field, Method, Program};
-use crate::symbols::{is_static, names_of, own_name, text};
+use crate::symbols::{is_static, names_of, own_name, same, text};
 use const_pool::{ClassFile, Member, Pool};
-use jmodel::Bytes;
 use jmodel::op::{Place, WordType};
+use jmodel::{Bytes, MethodName, NoMemory};
 use std::alloc::{AllocError, Global};
 
 // A static int field of a lone class, whose static base lies at 2.
@@ -154,17 +158,124 @@ fn form_program(
     Ok(Program::new(fields, built))
 }
 
-fn methods_of(
+// Puts a name among those of a class, where it is one.
+fn insert_own<'a>(
+    names: &mut Names<'a>,
+    class: &ClassFile,
+    name: &'a MethodName,
+) -> Result<(), NoMemory>
+    ensures { OnOk result ((m : Member) → is_called class.now names.new m ≡ (is_called class.now names.old m || is_name (name_of_member class.now m) name.now)) }
+{
+    if !same(&name.class, own_name(class)) {
+        return Ok(());
+    }
+    names.insert(name.name.as_slice(), name.descriptor.as_slice())?;
+    Ok(())
+}
+
+// The names of a program's methods that are of a class.
+fn own_names<'a>(
+    alloc: Global,
+    class: &ClassFile,
+    program: &'a Program,
+) -> Result<Names<'a>, NoMemory>
+    ensures { IfOk result (λ names. (m : Member) → is_called class.now names m ≡ list_any (λ (k : MethodForm). is_name (name_of_member class.now m) k.name) program.now.methods) }
+{
+    let mut names = Names::new(alloc);
+    for method in program.methods() {
+        insert_own(&mut names, class, method.name())?;
+    }
+    Ok(names)
+}
+
+// Whether a method of a rewritten class is one of its program, where the original's program has methods of these names.
+fn is_rewritten_method<'a>(
+    alloc: Global,
+    class: &'a ClassFile,
+    names: &Names<'a>,
+    method: &Member,
+) -> Result<bool, NoMemory>
+    ensures { IfOk result (λ b. b ≡ (takes_a_context class.now.pool method.now || is_called class.now names.now method.now)) }
+{
+    let pool = &class.pool;
+    if names.contains(text(pool, method.name), text(pool, method.descriptor)) {
+        return Ok(true);
+    }
+    takes_context(alloc, pool, method)
+}
+
+fn methods_over<'a>(
+    alloc: Global,
+    class: &'a ClassFile,
+    names: &Names<'a>,
+) -> Result<Vec<&'a Member>, NoMemory>
+    ensures { IfOk result (λ v. map (λ m. m.now) v.items ≡ filter (λ m. takes_a_context class.now.pool m || is_called class.now names.now m) class.now.methods) }
+{
+    let mut methods = Vec::new(alloc);
+    for method in &class.methods {
+        if is_rewritten_method(alloc, class, names, method)? {
+            methods.push(method)?;
+        }
+    }
+    Ok(methods)
+}
+
+// The methods of a rewritten class that its program has, in the order of the file.
+fn rewritten_members<'a>(
+    alloc: Global,
+    class: &'a ClassFile,
+    original: &'a Program,
+) -> Result<Vec<&'a Member>, NoMemory>
+    ensures { IfOk result (λ v. map (λ m. m.now) v.items ≡ methods_of_rewritten original.now class.now) }
+{
+    let names = own_names(alloc, class, original)?;
+    methods_over(alloc, class, &names)
+}
+
+// A method that is neither a wrapper nor takes a context stays as it was.
+fn is_untouched(alloc: Global, pool: &Pool, method: &Member) -> Result<bool, NoMemory>
+    ensures { IfOk result (λ b. b ≡ untouched pool.now method.now) }
+{
+    if is_marked(pool, method) {
+        return Ok(false);
+    }
+    Ok(!takes_context(alloc, pool, method)?)
+}
+
+// What a method of a rewritten class means that is no duplicate: where it stayed as it was, its frames count.
+fn old_method(alloc: Global, symbols: &Symbols, method: &Member) -> Result<Method, BuildEnd>
+    ensures { Builds (λ m. m) result (meaning symbols.now (untouched symbols.now.class.pool method.now) method.now) }
+{
+    let class = symbols.class;
+    let counted = is_untouched(alloc, &class.pool, method)?;
+    method_of(alloc, symbols, counted, method)
+}
+
+fn old_methods(
     alloc: Global,
     symbols: &Symbols,
-    counted: bool,
     methods: &[&Member],
 ) -> Result<Vec<Method>, BuildEnd>
-    ensures { Builds (λ v. v.items) result (each (λ m. meaning symbols.now counted m.now) methods.now) }
+    ensures { Builds (λ v. v.items) result (each (λ m. meaning symbols.now (untouched symbols.now.class.pool m.now) m.now) methods.now) }
 {
     let mut built = Vec::new(alloc);
     for method in methods {
-        built.push(method_of(alloc, symbols, counted, method)?)?;
+        built.push(old_method(alloc, symbols, method)?)?;
+    }
+    Ok(built)
+}
+
+// Duplicates, whose frames count.
+fn duplicates(
+    alloc: Global,
+    symbols: &Symbols,
+    methods: &[&Member],
+) -> Result<Vec<Method>, BuildEnd>
+    ensures { Builds (λ v. v.items) result (each (λ m. meaning symbols.now true m.now) methods.now) }
+{
+    let mut built = Vec::new(alloc);
+    for method in methods {
+        built.push(method_of(alloc, symbols, true, method)?)?;
     }
     Ok(built)
 }
@@ -182,9 +293,9 @@ fn rewritten_methods(
         return Err(BuildEnd::NotBuilt);
     }
     let first = methods.len() - count;
-    let mut built = methods_of(alloc, symbols, false, &methods[..first])?;
-    let mut duplicates = methods_of(alloc, symbols, true, &methods[first..])?;
-    built.append(&mut duplicates)?;
+    let mut built = old_methods(alloc, symbols, &methods[..first])?;
+    let mut last = duplicates(alloc, symbols, &methods[first..])?;
+    built.append(&mut last)?;
     Ok(built)
 }
 
@@ -194,9 +305,9 @@ fn relinked_of(
     class: &ClassFile,
     original: &Program,
 ) -> Result<Vec<Method>, BuildEnd>
-    ensures { Builds (λ v. v.items) result (relinked_methods (symbols_of class.now original.now.fields) (length original.now.methods) (methods_of_program class.now)) }
+    ensures { Builds (λ v. v.items) result (relinked_methods (symbols_of class.now original.now.fields (methods_of_rewritten original.now class.now)) (length original.now.methods) (methods_of_rewritten original.now class.now)) }
 {
-    let methods = program_methods(alloc, class)?;
+    let methods = rewritten_members(alloc, class, original)?;
     let symbols = Symbols {
         class,
         fields: original.fields(),
@@ -210,20 +321,20 @@ fn relinked_of(
 fn linked(alloc: Global, class: &ClassFile) -> Result<Program, BuildEnd>
     ensures { Links (λ p. p) result (linking class.now) }
 {
-    if !is_form_class(alloc, class)? {
+    let Some(methods) = methods_in_form(alloc, class)? else {
         return Err(BuildEnd::NotBuilt);
-    }
-    let methods = program_methods(alloc, class)?;
+    };
     let coded = all_decoded(alloc, class, methods.as_slice())?;
     form_program(alloc, class, methods.as_slice(), coded.as_slice())
 }
 
 impl Program {
-    /// The program of an original class: its static fields, and the methods that are marked as atomic.
+    /// The program of an original class: its static fields, and the methods that are taken, which are those that are marked as
+    /// atomic and those that taken ones call.
     ///
     /// NotBuilt exactly where the class isn't of the form that is known so far, which is temporary: one class right under
-    /// Object, whose static fields are ints, whose methods that are marked are static, marked without elements, take ints and
-    /// give an int or nothing, by code on ints without exception entries, and which has no static initialiser. Refused, with
+    /// Object, whose static fields are ints, whose marks have no elements, whose taken methods are static, take ints and give an
+    /// int or nothing, by code on ints without exception entries, and which has no static initialiser. Refused, with
     /// the method's printed name, exactly where that code has a fault:
     ///
     /// - `BadInstr` with the least pc at which no instruction stands;

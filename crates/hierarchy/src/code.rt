@@ -7,8 +7,8 @@ ghost use Rattle.jmodel.specs.Name.{printed as printed_name};
 ghost use Rattle.jmodel.specs.Decoding.{name_of as method_name};
 ghost use Rattle.jmodel.specs.Linking.{code_in as code_of_member, in_method as named, decoded_code as decoded_of_code, decoded as decoded_of, all_decoded as all_of, program_methods as methods_of_program, Coded as CodedForm, pc_of as place_of};
 
-use crate::form::program_methods;
 use crate::symbols::{find_attribute, name_of};
+use crate::taken::program_methods;
 use bytecode::decode;
 use const_pool::{ClassFile, Code, Member, Pool};
 use jmodel::{Bytes, Halt, Instr, NoMemory, Refusal};

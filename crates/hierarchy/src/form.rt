@@ -1,17 +1,18 @@
 //! The form of the classes of which programs are built so far: int code of static methods that take ints and give an int or
 //! nothing. Temporary: the form grows until it has every program that is accepted.
-ghost use Rattle.std.specs.Prelude.{◌≡◌, ◌≤◌, length, filter, map, bytes_eq, codes, not, if◌then◌else◌, IfOk};
-ghost use Rattle.jmodel.specs.Pool.{utf8};
-ghost use Rattle.jmodel.specs.ClassRules.{same_text};
+ghost use Rattle.std.specs.Prelude.{◌≡◌, ◌≤◌, length, filter, map, bytes_eq, not, ◌&&◌, if◌then◌else◌, option_map, IfOk};
 ghost use Rattle.std.specs.List.{list_all, list_any};
+ghost use Rattle.jmodel.specs.Taken.{is_taken};
+ghost use Rattle.hierarchy.specs.Forms.{is_form_kind as form_kind};
 ghost use Rattle.jmodel.specs.Layout.{library as library_names, is_static as static_member};
-ghost use Rattle.jmodel.specs.Linking.{has_part as part_of, is_reserved as reserved, is_form_constant as form_constant, is_form_field as form_field, is_plain_mark as plain_mark, is_mark as mark, is_marked as marked, takes_context as with_context, is_program_method as program_method, program_methods as methods_of_program, is_form_attribute as form_attribute, is_special as special, is_form_atomic as form_atomic, is_form_method as form_method, is_free_name as free_name, are_form_fields as form_fields, are_form_methods as form_methods, is_form_head as form_head, is_form_class as form_class, is_form_code as form_code, is_of_reference as of_reference, widened as widened_op, is_form_instr as form_instr, is_form_op as form_op, is_form_method_of as form_method_of};
+ghost use Rattle.jmodel.specs.Linking.{has_part as part_of, is_reserved as reserved, is_form_constant as form_constant, is_form_field as form_field, is_plain_mark as plain_mark, is_mark as mark, is_marked as marked, takes_context as with_context, program_methods as methods_of_program, is_form_attribute as form_attribute, is_special as special, is_form_atomic as form_atomic, is_form_method as form_method, is_free_name as free_name, are_form_fields as form_fields, are_form_methods as form_methods, is_form_head as form_head, is_form_class as form_class, is_form_code as form_code, is_of_reference as of_reference, widened as widened_op, is_form_instr as form_instr, is_form_op as form_op, is_form_method_of as form_method_of};
 
 use crate::code::Coded;
 use crate::constants::pair_number;
 use crate::program::Method;
 use crate::shape::{has_context, shape_of};
 use crate::symbols::{equal, is_named, is_static, is_text, own_name, text};
+use crate::taken::{are_taken, taken_methods};
 use const_pool::{Attribute, ClassFile, Code, Constant, Member, Pool};
 use jmodel::op::Op;
 use jmodel::value::Value;
@@ -83,34 +84,11 @@ pub fn is_marked(pool: &Pool, method: &Member) -> bool
     method.attributes.iter().any(|a| is_mark(pool, a))
 }
 
-// Whether a method takes a transaction's context, as accessors and duplicates do.
-fn takes_context(alloc: Global, pool: &Pool, method: &Member) -> Result<bool, NoMemory>
+/// Whether a method takes a transaction's context, as accessors and duplicates do.
+pub fn takes_context(alloc: Global, pool: &Pool, method: &Member) -> Result<bool, NoMemory>
     ensures { IfOk result (λ b. b ≡ with_context pool.now method.now) }
 {
     has_context(alloc, text(pool, method.descriptor))
-}
-
-/// Whether a method is one of the program that its class means: it is marked, or takes a transaction's context.
-pub fn is_program_method(alloc: Global, pool: &Pool, method: &Member) -> Result<bool, NoMemory>
-    ensures { IfOk result (λ b. b ≡ program_method pool.now method.now) }
-{
-    if is_marked(pool, method) {
-        return Ok(true);
-    }
-    takes_context(alloc, pool, method)
-}
-
-/// The methods of a class that its program has, in the order of the file.
-pub fn program_methods<'a>(alloc: Global, class: &'a ClassFile) -> Result<Vec<&'a Member>, NoMemory>
-    ensures { IfOk result (λ v. map (λ b. b.now) v.items ≡ methods_of_program class.now) }
-{
-    let mut methods = Vec::new(alloc);
-    for method in &class.methods {
-        if is_program_method(alloc, &class.pool, method)? {
-            methods.push(method)?;
-        }
-    }
-    Ok(methods)
 }
 
 // Of annotations that a running program sees, the mark alone.
@@ -147,24 +125,29 @@ fn is_form_atomic(alloc: Global, pool: &Pool, method: &Member) -> Result<bool, N
     )
 }
 
-// A method that isn't one of the program may be anything but a static initialiser.
-fn is_form_kind(alloc: Global, pool: &Pool, method: &Member) -> Result<bool, NoMemory>
-    ensures { IfOk result (λ b. b ≡ (if program_method pool.now method.now then form_atomic pool.now method.now else not (same_text (utf8 pool.now method.now.name) (codes "<clinit>")))) }
+// A method that isn't taken may be anything but a static initialiser.
+fn is_form_kind(alloc: Global, pool: &Pool, method: &Member, taken: bool) -> Result<bool, NoMemory>
+    ensures { IfOk result (λ b. b ≡ form_kind pool.now taken method.now) }
 {
-    if is_program_method(alloc, pool, method)? {
+    if taken {
         is_form_atomic(alloc, pool, method)
     } else {
         Ok(!is_text(pool.utf8(method.name), b"<clinit>"))
     }
 }
 
-fn is_form_method(alloc: Global, pool: &Pool, method: &Member) -> Result<bool, NoMemory>
-    ensures { IfOk result (λ b. b ≡ form_method pool.now method.now) }
+fn is_form_method(
+    alloc: Global,
+    pool: &Pool,
+    method: &Member,
+    taken: bool,
+) -> Result<bool, NoMemory>
+    ensures { IfOk result (λ b. b ≡ (list_all (form_attribute pool.now) method.now.attributes && form_kind pool.now taken method.now)) }
 {
     if !each_is_attribute(pool, method.attributes.as_slice()) {
         return Ok(false);
     }
-    is_form_kind(alloc, pool, method)
+    is_form_kind(alloc, pool, method, taken)
 }
 
 fn library() -> [&'static [u8]; 20]
@@ -226,24 +209,32 @@ fn are_form_fields(class: &ClassFile) -> bool
     count_statics(fields) <= 100 && each_is_field(&class.pool, fields)
 }
 
-fn each_is_method(alloc: Global, pool: &Pool, methods: &[Member]) -> Result<bool, NoMemory>
-    ensures { IfOk result (λ b. b ≡ list_all (form_method pool.now) methods.now) }
+fn each_is_method(alloc: Global, class: &ClassFile, taken: &[bool]) -> Result<bool, NoMemory>
+    requires { taken.now ≡ map (is_taken class.now) class.now.methods }
+    ensures { IfOk result (λ b. b ≡ list_all (form_method class.now) class.now.methods) }
 {
-    for method in methods {
-        if !is_form_method(alloc, pool, method)? {
+    for (i, method) in class.methods.iter().enumerate() {
+        if !is_form_method(alloc, &class.pool, method, taken[i])? {
             return Ok(false);
         }
     }
     Ok(true)
 }
 
-fn are_form_methods(alloc: Global, class: &ClassFile) -> Result<bool, NoMemory>
+fn count_taken(taken: &[bool]) -> usize
+    ensures { result ≡ length (filter (λ b. b) taken.now) }
+{
+    taken.iter().filter(|b| **b).count()
+}
+
+fn are_form_methods(alloc: Global, class: &ClassFile, taken: &[bool]) -> Result<bool, NoMemory>
+    requires { taken.now ≡ map (is_taken class.now) class.now.methods }
     ensures { IfOk result (λ b. b ≡ form_methods class.now) }
 {
-    if program_methods(alloc, class)?.len() > 100 {
+    if count_taken(taken) > 100 {
         return Ok(false);
     }
-    each_is_method(alloc, &class.pool, class.methods.as_slice())
+    each_is_method(alloc, class, taken)
 }
 
 fn each_is_constant(entries: &[Constant]) -> bool
@@ -265,14 +256,29 @@ fn is_form_head(class: &ClassFile) -> bool
         && class.interfaces.is_empty()
 }
 
-/// Whether a class is of the form, but for its code.
-pub fn is_form_class(alloc: Global, class: &ClassFile) -> Result<bool, NoMemory>
-    ensures { IfOk result (λ b. b ≡ form_class class.now) }
+// What is of the form without a look at methods.
+fn is_form_outside(class: &ClassFile) -> bool
+    ensures { result ≡ (list_all form_constant class.now.pool && form_head class.now && form_fields class.now) }
 {
-    if !each_is_constant(class.pool.entries()) || !is_form_head(class) || !are_form_fields(class) {
-        return Ok(false);
+    each_is_constant(class.pool.entries()) && is_form_head(class) && are_form_fields(class)
+}
+
+/// The methods of the program of a class of the form, None where the class isn't of the form. The code of the methods isn't
+/// looked at.
+pub fn methods_in_form<'a>(
+    alloc: Global,
+    class: &'a ClassFile,
+) -> Result<Option<Vec<&'a Member>>, NoMemory>
+    ensures { IfOk result (λ o. option_map (λ v. map (λ m. m.now) v.items) o ≡ (if form_class class.now then Some (methods_of_program class.now) else None)) }
+{
+    if !is_form_outside(class) {
+        return Ok(None);
     }
-    are_form_methods(alloc, class)
+    let taken = are_taken(alloc, class)?;
+    if !are_form_methods(alloc, class, taken.as_slice())? {
+        return Ok(None);
+    }
+    Ok(Some(taken_methods(alloc, class, taken.as_slice())?))
 }
 
 // A Code without exception entries, of at most 200 locals.

@@ -7,18 +7,21 @@ mod constants;
 mod form;
 mod meaning;
 mod method;
+mod names;
 mod numbered;
 mod outcome;
 pub mod program;
 pub mod reference;
 mod shape;
 pub mod symbols;
+mod taken;
 
 pub use build::opening_words;
 pub use code::pc_of;
-pub use form::{is_program_method, program_methods};
+pub use form::is_marked;
 pub use outcome::BuildEnd;
 pub use program::{Field, Method, Program};
+pub use taken::{are_taken, program_methods};
 
 #[cfg(test)]
 mod tests;

@@ -1,6 +1,6 @@
 //! References to fields and methods (JVM Specification, Java SE 7, section 4.4.2).
 ghost use Rattle.std.specs.Prelude.{◌≡◌, option_map};
-ghost use Rattle.jmodel.specs.Pool.{class_name, pair as pair_of, named, field_name, method_name};
+ghost use Rattle.jmodel.specs.Pool.{class_name, pair as pair_of, named, field_name, method_name, member_name};
 
 use const_pool::{Constant, Pool};
 use std::marker::Model;
@@ -77,6 +77,20 @@ pub fn method_reference(pool: &Pool, i: u16) -> Option<Reference<'_>>
 {
     match pool.entry(i) {
         Some(Constant::Method { class, pair }) => named_reference(pool, *class, *pair),
+        _ => None,
+    }
+}
+
+/// What a Fieldref, a Methodref or an InterfaceMethodref says, None where the index isn't one's.
+pub fn member_reference(pool: &Pool, i: u16) -> Option<Reference<'_>>
+    ensures { result ≡ member_name pool.now i }
+{
+    match pool.entry(i) {
+        Some(
+            Constant::Field { class, pair }
+            | Constant::Method { class, pair }
+            | Constant::InterfaceMethod { class, pair },
+        ) => named_reference(pool, *class, *pair),
         _ => None,
     }
 }

@@ -1,4 +1,4 @@
-use crate::{BuildEnd, Program, opening_words, pc_of};
+use crate::{BuildEnd, Program, are_taken, opening_words, pc_of, program_methods};
 use const_pool::{Attribute, ClassFile, Constant, Member, Pool};
 use jmodel::op::{Binary, Op, Rearrange};
 use jmodel::value::Value;
@@ -521,4 +521,208 @@ fn leaves_what_is_not_of_the_form(rt: HostRuntime) {
     assert!(&rt; is_not_built(alloc, 1, &[4, 0xac]).expect(&rt, "memory"));
     assert!(&rt; is_not_built(alloc, 201, &[4, 0xac]).expect(&rt, "memory"));
     assert!(&rt; !is_not_built(alloc, 200, &[4, 0xac]).expect(&rt, "memory"));
+}
+
+// The entries of a pool with four names of methods that take an int and give one, and references to three of them.
+const CHAIN: [(u8, u16, u16, &str); 18] = [
+    (7, 2, 0, ""),
+    (1, 0, 0, "Chain"),
+    (7, 4, 0, ""),
+    (1, 0, 0, "java/lang/Object"),
+    (1, 0, 0, "Code"),
+    (1, 0, 0, "RuntimeVisibleAnnotations"),
+    (1, 0, 0, "Lorg/deuce/Atomic;"),
+    (1, 0, 0, "(I)I"),
+    (1, 0, 0, "first"),
+    (1, 0, 0, "second"),
+    (1, 0, 0, "third"),
+    (1, 0, 0, "alone"),
+    (10, 1, 14, ""),
+    (12, 9, 8, ""),
+    (10, 1, 16, ""),
+    (12, 10, 8, ""),
+    (10, 1, 18, ""),
+    (12, 11, 8, ""),
+];
+
+const FIRST: u16 = 9;
+
+const SECOND: u16 = 10;
+
+const THIRD: u16 = 11;
+
+const ALONE: u16 = 12;
+
+const CALL_FIRST: [u8; 5] = [0x1a, 0xb8, 0, 13, 0xac];
+
+const CALL_SECOND: [u8; 5] = [0x1a, 0xb8, 0, 15, 0xac];
+
+const CALL_THIRD: [u8; 5] = [0x1a, 0xb8, 0, 17, 0xac];
+
+const GIVE: [u8; 5] = [0x1a, 0, 0, 0, 0xac];
+
+// A static method of this name that isn't marked.
+fn plain(alloc: Global, name: u16, code: &[u8; 5]) -> Result<Member, AllocError> {
+    let mut bytes = Bytes::from_slice(alloc, &[0, 2, 0, 1, 0, 0, 0, 5])?;
+    bytes.extend_from_slice(code)?;
+    bytes.extend_from_slice(&[0, 0, 0, 0])?;
+    Ok(Member {
+        flags: 9,
+        name,
+        descriptor: 8,
+        attributes: vec![in alloc; Attribute { name: 5, bytes }]?,
+    })
+}
+
+fn marked(alloc: Global, name: u16, code: &[u8; 5]) -> Result<Member, AllocError> {
+    let mut method = plain(alloc, name, code)?;
+    method
+        .attributes
+        .push(attribute(alloc, 6, &[0, 1, 0, 7, 0, 0])?)?;
+    Ok(method)
+}
+
+fn chain(alloc: Global, methods: Vec<Member>) -> Result<ClassFile, AllocError> {
+    Ok(ClassFile {
+        minor: 0,
+        major: 49,
+        pool: pool_of(alloc, &CHAIN)?,
+        flags: 0x21,
+        this_class: 1,
+        super_class: 3,
+        interfaces: Vec::new(alloc),
+        fields: Vec::new(alloc),
+        methods,
+        attributes: Vec::new(alloc),
+    })
+}
+
+// Two methods that call each other, called by a marked one; the last calls them too, and nobody calls it.
+fn mutual(alloc: Global) -> Result<ClassFile, AllocError> {
+    let methods = vec![in alloc;
+        plain(alloc, SECOND, &CALL_THIRD)?,
+        plain(alloc, THIRD, &CALL_SECOND)?,
+        marked(alloc, FIRST, &CALL_SECOND)?,
+        plain(alloc, ALONE, &CALL_THIRD)?,
+    ]?;
+    chain(alloc, methods)
+}
+
+#[test]
+fn takes_methods_that_call_each_other(rt: HostRuntime) {
+    let alloc = rt.alloc();
+    let class = mutual(alloc).expect(&rt, "memory");
+    let taken = are_taken(alloc, &class).expect(&rt, "memory");
+    assert!(&rt; taken.as_slice() == [true, true, true, false].as_slice());
+    let methods = program_methods(alloc, &class).expect(&rt, "memory");
+    assert_eq!(&rt; methods.len(), 3);
+    let program = Program::build(alloc, &class).expect(&rt, "a program");
+    assert_eq!(&rt; program.methods().len(), 3);
+    assert!(&rt; matches!(program.op(0, 1), Some(Op::InvokeStatic(1))));
+    assert!(&rt; matches!(program.op(1, 1), Some(Op::InvokeStatic(0))));
+    assert!(&rt; matches!(program.op(2, 1), Some(Op::InvokeStatic(0))));
+    let helper = program.method(0).expect(&rt, "a method");
+    assert!(&rt; helper.retries().is_none());
+    let first = program.method(2).expect(&rt, "a method");
+    assert!(&rt; first.retries().is_some());
+    let pc = pc_of(alloc, &class, 1, 2).expect(&rt, "memory");
+    assert_eq!(&rt; pc, Some(4));
+}
+
+// The marked one calls the second, which calls the third.
+#[test]
+fn takes_a_chain(rt: HostRuntime) {
+    let alloc = rt.alloc();
+    let methods = vec![in alloc;
+        plain(alloc, ALONE, &CALL_FIRST).expect(&rt, "memory"),
+        plain(alloc, THIRD, &GIVE).expect(&rt, "memory"),
+        plain(alloc, SECOND, &CALL_THIRD).expect(&rt, "memory"),
+        marked(alloc, FIRST, &CALL_SECOND).expect(&rt, "memory"),
+    ]
+    .expect(&rt, "memory");
+    let class = chain(alloc, methods).expect(&rt, "memory");
+    let taken = are_taken(alloc, &class).expect(&rt, "memory");
+    assert!(&rt; taken.as_slice() == [false, true, true, true].as_slice());
+    let program = Program::build(alloc, &class).expect(&rt, "a program");
+    assert_eq!(&rt; program.methods().len(), 3);
+}
+
+#[test]
+fn takes_nothing_without_a_mark(rt: HostRuntime) {
+    let alloc = rt.alloc();
+    let methods = vec![in alloc;
+        plain(alloc, SECOND, &CALL_THIRD).expect(&rt, "memory"),
+        plain(alloc, THIRD, &CALL_SECOND).expect(&rt, "memory"),
+    ]
+    .expect(&rt, "memory");
+    let class = chain(alloc, methods).expect(&rt, "memory");
+    let taken = are_taken(alloc, &class).expect(&rt, "memory");
+    assert!(&rt; taken.as_slice() == [false, false].as_slice());
+}
+
+// A fault in the code of a method that isn't taken is none of the program's.
+#[test]
+fn refuses_the_code_of_a_taken_method(rt: HostRuntime) {
+    let alloc = rt.alloc();
+    let methods = vec![in alloc;
+        plain(alloc, ALONE, &[0x1a, 0xba, 0, 0, 0xac]).expect(&rt, "memory"),
+        plain(alloc, SECOND, &[0x1a, 0, 0xba, 0, 0xac]).expect(&rt, "memory"),
+        marked(alloc, FIRST, &CALL_SECOND).expect(&rt, "memory"),
+    ]
+    .expect(&rt, "memory");
+    let class = chain(alloc, methods).expect(&rt, "memory");
+    match Program::build(alloc, &class) {
+        Err(BuildEnd::Refused(Refusal::BadInstr(name, pc))) => {
+            assert!(&rt; name.as_slice() == b"Chain.second(I)I".as_slice());
+            assert_eq!(&rt; pc, 2);
+        }
+        _ => assert!(&rt; false),
+    }
+}
+
+// So many methods of the second name, all of which the marked one calls.
+fn many(alloc: Global, count: usize) -> Result<ClassFile, AllocError> {
+    let mut methods = vec![in alloc; marked(alloc, FIRST, &CALL_SECOND)?]?;
+    for _ in 0..count {
+        methods.push(plain(alloc, SECOND, &GIVE)?)?;
+    }
+    chain(alloc, methods)
+}
+
+#[test]
+fn leaves_more_than_a_hundred_methods(rt: HostRuntime) {
+    let alloc = rt.alloc();
+    let class = many(alloc, 99).expect(&rt, "memory");
+    let program = Program::build(alloc, &class).expect(&rt, "a program");
+    assert_eq!(&rt; program.methods().len(), 100);
+    let class = many(alloc, 100).expect(&rt, "memory");
+    assert!(&rt; matches!(Program::build(alloc, &class), Err(BuildEnd::NotBuilt)));
+}
+
+// Over the program of a marked method that calls the second: wrappers don't count, methods that stayed and duplicates do.
+#[test]
+fn methods_that_stay_count(rt: HostRuntime) {
+    let alloc = rt.alloc();
+    let methods = vec![in alloc;
+        plain(alloc, SECOND, &GIVE).expect(&rt, "memory"),
+        marked(alloc, FIRST, &CALL_SECOND).expect(&rt, "memory"),
+    ]
+    .expect(&rt, "memory");
+    let class = chain(alloc, methods).expect(&rt, "memory");
+    let program = Program::build(alloc, &class).expect(&rt, "a program");
+    let methods = vec![in alloc;
+        plain(alloc, SECOND, &GIVE).expect(&rt, "memory"),
+        marked(alloc, FIRST, &CALL_SECOND).expect(&rt, "memory"),
+        plain(alloc, ALONE, &GIVE).expect(&rt, "memory"),
+        plain(alloc, SECOND, &GIVE).expect(&rt, "memory"),
+        marked(alloc, FIRST, &CALL_SECOND).expect(&rt, "memory"),
+    ]
+    .expect(&rt, "memory");
+    let rewritten = chain(alloc, methods).expect(&rt, "memory");
+    let again = Program::rebuilt(alloc, &rewritten, &program).expect(&rt, "a program");
+    assert_eq!(&rt; again.methods().len(), 4);
+    assert!(&rt; again.is_counted(0));
+    assert!(&rt; !again.is_counted(1));
+    assert!(&rt; again.is_counted(2));
+    assert!(&rt; again.is_counted(3));
 }

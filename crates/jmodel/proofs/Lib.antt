@@ -29,3 +29,4 @@ pub mod Linked
 pub mod Counter
 pub mod Untypable
 pub mod Told
+pub mod Taken

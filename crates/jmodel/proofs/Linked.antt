@@ -1,5 +1,5 @@
--- What is linked is a program of source code, each of whose methods is marked.
-use Rattle.std.proofs.Common.{◌≡◌, ℕ, ℤ, suc, ◌+◌, ◌-◌, ◌<◌, ◌≤◌, List, [], ◌∷◌, ◌++◌, length, Bool, true, false, not, ◌&&◌, ◌||◌, nat_le, nat_eq, nat_lt, Option, Some, None, Result, Ok, Err, refl, sym, ◌∙◌, ap, subst, arith}
+-- What is linked is a program of source code.
+use Rattle.std.proofs.Common.{◌≡◌, ℕ, ℤ, suc, ◌+◌, ◌-◌, ◌<◌, ◌≤◌, List, [], ◌∷◌, ◌++◌, length, Bool, true, false, not, ◌&&◌, nat_le, nat_eq, nat_lt, Option, Some, None, Result, Ok, Err, refl, sym, ◌∙◌, ap, subst, arith, ◌⊎◌, inl, inr}
 use Rattle.std.specs.Prelude.{if◌then◌else◌, codes, filter, pos, option_map, option_and_then, zip, ◌==◌, ◌-ℤ◌, FitsSigned}
 use Rattle.std.specs.List.{AllByRecursion, list_all}
 use Rattle.std.specs.Int.{w32}
@@ -32,9 +32,10 @@ use Rattle.jmodel.specs.Program.{Field, Method, Program}
 use Rattle.jmodel.specs.Source.{IsSourceOp, IsSourceMethod, IsSourceField}
 use Rattle.jmodel.specs.Decoding.{Symbols, number_at, name_of, simple_op, short_local_op, arithmetic_op, rearranging_op, leaving_op, number_op, local_op, wide_op, test_of, jump_to, jump_op, get_op, put_op, static_call_op, context_op, virtual_call_op, pool_op, meaning, op_of, ops_of, in_front, each, field_number, method_number, is_field_of, is_method_of, long_field}
 use Rattle.jmodel.specs.InstructionReading.{instrs_of}
-use Rattle.jmodel.specs.Linking.{catch_of, Shape, code_in, retries_of, Coded, make_method, descriptor_of, shape_of, named_fault, decoded_code, decoded, all_decoded, is_marked, takes_context, is_program_method, program_methods, is_form_attribute, is_form_atomic, is_form_method, is_form_field, are_form_fields, are_form_methods, is_form_class, is_form_code, is_form_instr, is_form_op, is_form_method_of, if_form, form_method, symbols_of, original_fields, form_methods, form_program, program_in, linked}
+use Rattle.jmodel.specs.Linking.{catch_of, Shape, code_in, retries_of, Coded, make_method, descriptor_of, shape_of, named_fault, decoded_code, decoded, all_decoded, is_marked, program_methods, is_form_attribute, is_form_atomic, is_form_method, is_form_field, are_form_fields, are_form_methods, is_form_class, is_form_code, is_form_instr, is_form_op, is_form_method_of, if_form, form_method, symbols_of, original_fields, form_methods, form_program, program_in, linked}
 use Rattle.jmodel.specs.Layout.{fields_from, statics, base_of}
-use Rattle.jmodel.specs.LinkedLaw.{IsMarked, IsLinked}
+use Rattle.jmodel.specs.LinkedLaw.{IsPlainlyMarked, IsLinked}
+use Rattle.jmodel.specs.Taken.{is_taken}
 use Rattle.jmodel.proofs.Constants.{IsSmall, integer_small}
 use Rattle.jmodel.proofs.Numbers.{Has, IsSmallNumber, IsSmallInstr, read_small}
 
@@ -328,17 +329,9 @@ means_of s m k p h = go (shape_of (descriptor_of s.class.pool m)) (ops_of s k.in
 
 -- ---- which methods are of the form
 
-marked_alone : (a b : Bool) → b ≡ false → (a || b) ≡ true → a ≡ true
-marked_alone true b h k = refl
-marked_alone false b h k = absurd cc
-
--- of the program's methods an original class has the marked ones
-pub program_marked : (pool : Pool) (m : Member) → is_program_method pool m ≡ true → is_form_atomic pool m ≡ true → is_marked pool m ≡ true
-program_marked pool m h form = marked_alone (is_marked pool m) (takes_context pool m) (is_not (takes_context pool m) (both _ _ (both _ _ form).0).1) h
-
 -- a method of the program is of the form
-abbrev pub IsFormProgram : Pool → Member → Type 0
-IsFormProgram pool m = (is_program_method pool m ≡ true) × (is_form_method pool m ≡ true)
+abbrev pub IsFormProgram : ClassFile → Member → Type 0
+IsFormProgram c m = (is_taken c m ≡ true) × (is_form_method c m ≡ true)
 
 pub filter_keeps : {A : Type 0} (p : A → Bool) (x : A) (xs : List A) → p x ≡ true → filter p (x ∷ xs) ≡ x ∷ filter p xs
 filter_keeps p x xs e = rw e refl
@@ -346,36 +339,42 @@ filter_keeps p x xs e = rw e refl
 pub filter_drops : {A : Type 0} (p : A → Bool) (x : A) (xs : List A) → p x ≡ false → filter p (x ∷ xs) ≡ filter p xs
 filter_drops p x xs e = rw e refl
 
-form_where : (pool : Pool) (ms : List Member) → list_all (is_form_method pool) ms ≡ true → AllByRecursion (IsFormProgram pool) (filter (is_program_method pool) ms)
-form_where pool [] h = tt
-form_where pool (m ∷ ms) h = let a = both (is_form_method pool m) (list_all (is_form_method pool) ms) h in go (is_program_method pool m) refl a.0 (form_where pool ms a.1)
+form_where : (c : ClassFile) (ms : List Member) → list_all (is_form_method c) ms ≡ true → AllByRecursion (IsFormProgram c) (filter (is_taken c) ms)
+form_where c [] h = tt
+form_where c (m ∷ ms) h = let a = both (is_form_method c m) (list_all (is_form_method c) ms) h in go (is_taken c m) refl a.0 (form_where c ms a.1)
   where
-    go : (b : Bool) → is_program_method pool m ≡ b → is_form_method pool m ≡ true → AllByRecursion (IsFormProgram pool) (filter (is_program_method pool) ms)
-        → AllByRecursion (IsFormProgram pool) (filter (is_program_method pool) (m ∷ ms))
+    go : (b : Bool) → is_taken c m ≡ b → is_form_method c m ≡ true → AllByRecursion (IsFormProgram c) (filter (is_taken c) ms)
+        → AllByRecursion (IsFormProgram c) (filter (is_taken c) (m ∷ ms))
     go true e t r =
-        let Fine : List Member → Type 0 = λ l. AllByRecursion (IsFormProgram pool) l in
-        subst Fine (sym (filter_keeps (is_program_method pool) m ms e)) ((e, t), r)
+        let Fine : List Member → Type 0 = λ l. AllByRecursion (IsFormProgram c) l in
+        subst Fine (sym (filter_keeps (is_taken c) m ms e)) ((e, t), r)
     go false e t r =
-        let Fine : List Member → Type 0 = λ l. AllByRecursion (IsFormProgram pool) l in
-        subst Fine (sym (filter_drops (is_program_method pool) m ms e)) r
+        let Fine : List Member → Type 0 = λ l. AllByRecursion (IsFormProgram c) l in
+        subst Fine (sym (filter_drops (is_taken c) m ms e)) r
 
-pub form_each : (c : ClassFile) → are_form_methods c ≡ true → AllByRecursion (IsFormProgram c.pool) (program_methods c)
-form_each c h = form_where c.pool c.methods (both (nat_le (length (program_methods c)) 100) (list_all (is_form_method c.pool) c.methods) h).1
+pub form_each : (c : ClassFile) → are_form_methods c ≡ true → AllByRecursion (IsFormProgram c) (program_methods c)
+form_each c h = form_where c c.methods (both (nat_le (length (program_methods c)) 100) (list_all (is_form_method c) c.methods) h).1
 
 -- what the form says of a method of the program
-pub form_atomic : (pool : Pool) (m : Member) → IsFormProgram pool m → (is_form_atomic pool m ≡ true) × (is_marked pool m ≡ true)
-form_atomic pool m h =
-    let t = (both (list_all (is_form_attribute pool) m.attributes) (if is_program_method pool m then is_form_atomic pool m else not (same_text (utf8 pool m.name) (codes "<clinit>"))) h.1).1 in
+pub form_atomic : (c : ClassFile) (m : Member) → IsFormProgram c m → is_form_atomic c.pool m ≡ true
+form_atomic c m h =
+    let t = (both (list_all (is_form_attribute c.pool) m.attributes) (if is_taken c m then is_form_atomic c.pool m else not (same_text (utf8 c.pool m.name) (codes "<clinit>"))) h.1).1 in
     let is = h.0 in
-    let atomic : is_form_atomic pool m ≡ true = rw is at t in
-    (atomic, program_marked pool m h.0 atomic)
+    rw is at t
 
 -- ---- a method of the program
 
 -- what a linked method keeps
 record IsMethodOf (P : Program) (k : Method) : Type 0 where
   source : IsSourceMethod P k
-  marked : IsMarked k
+  marked : IsPlainlyMarked k
+
+plainly : (pool : Pool) (m : Member) → (retries_of pool m ≡ None) ⊎ (retries_of pool m ≡ Some (pos 2147483647))
+plainly pool m = go (is_marked pool m)
+  where
+    go : (b : Bool) → ((if b then Some (pos 2147483647) else None) ≡ None) ⊎ ((if b then Some (pos 2147483647) else None) ≡ Some (pos 2147483647))
+    go true = inr refl
+    go false = inl refl
 
 no_handlers : (hs : List Handler) → (length hs == 0) ≡ true → hs ≡ []
 no_handlers [] h = refl
@@ -386,8 +385,8 @@ each_none f [] ys e h = cc
 each_none f (x ∷ xs) ys e h = cc
 
 method_of : (P : Program) (s : Symbols) (m : Member) (k : Coded) (p : Method) → length P.fields ≡ length s.fields → length P.methods ≡ length s.methods
-    → IsFormProgram s.class.pool m → AllByRecursion IsSmallInstr k.instrs → form_method s m k ≡ Some p → IsMethodOf P p
-method_of P s m k p same many form smalls h =
+    → AllByRecursion IsSmallInstr k.instrs → form_method s m k ≡ Some p → IsMethodOf P p
+method_of P s m k p same many smalls h =
     let means = means_of s m k p h in
     let q = meant s m k means.shape means.ops means.catches in
     let ends = both _ _ (let f = means.form in let same_method = means.is in rw same_method at f) in
@@ -395,7 +394,6 @@ method_of P s m k p same many form smalls h =
     let codes_are : (nat_le k.code.max_locals 200 ≡ true) × ((length k.code.handlers == 0) ≡ true) = both _ _ (both (is_form_code k.code) (list_all is_form_instr k.instrs) rooms.0).0 in
     let all = each_all (op_of s k.instrs) IsSmallInstr (IsBound (bounds s k.instrs)) (op_fine s k.instrs) k.instrs means.ops smalls means.told in
     let fits : bounds s k.instrs ≡ bounds_of P q = cc in
-    let mark = (form_atomic s.class.pool m form).1 in
     let empty : means.catches ≡ [] =
     each_none (catch_of s.class.pool k.instrs (length k.code.code)) k.code.handlers means.catches (no_handlers k.code.handlers codes_are.1) means.caught in
     let room : means.shape.params ≤ k.code.max_locals = let t = rooms.1 in grind (arith, nat_tests) in
@@ -406,7 +404,7 @@ method_of P s m k p same many form smalls h =
         no_entries = empty;
         each = all_source P q means.ops ends.1 (rw (← fits) all.0);
       };
-      marked = rw mark refl;
+      marked = plainly s.class.pool m;
     })
 
 -- ---- programs
@@ -416,7 +414,7 @@ fields_source c j [] h = tt
 fields_source c j (m ∷ ms) h =
     (record { object = omega arith; index = omega arith; address = omega (arith, h) }, fields_source c (suc j) ms (omega (arith, h)))
 
-split_methods : (P : Program) (ks : List Method) → AllByRecursion (IsMethodOf P) ks → AllByRecursion (IsSourceMethod P) ks × AllByRecursion IsMarked ks
+split_methods : (P : Program) (ks : List Method) → AllByRecursion (IsMethodOf P) ks → AllByRecursion (IsSourceMethod P) ks × AllByRecursion IsPlainlyMarked ks
 split_methods P [] h = (tt, tt)
 split_methods P (k ∷ ks) h =
     let r = split_methods P ks h.1 in
@@ -458,18 +456,18 @@ all_small c (m ∷ ms) ks h = go (decoded c m) refl (all_decoded c ms) (λ js e.
     go (Err f) e rs rest es h2 = cc
 
 -- a method of the form with its small code
-abbrev IsGoodPair : Pool → Member × Coded → Type 0
-IsGoodPair pool p = IsFormProgram pool p.0 × IsSmallCode p.1
+abbrev IsGoodPair : ClassFile → Member × Coded → Type 0
+IsGoodPair c p = IsFormProgram c p.0 × IsSmallCode p.1
 
-good_pairs : (pool : Pool) (ms : List Member) (ks : List Coded) → AllByRecursion (IsFormProgram pool) ms → AllByRecursion IsSmallCode ks → AllByRecursion (IsGoodPair pool) (zip ms ks)
-good_pairs pool [] ks a b = tt
-good_pairs pool (m ∷ ms) [] a b = tt
-good_pairs pool (m ∷ ms) (k ∷ ks) a b = ((a.0, b.0), good_pairs pool ms ks a.1 b.1)
+good_pairs : (c : ClassFile) (ms : List Member) (ks : List Coded) → AllByRecursion (IsFormProgram c) ms → AllByRecursion IsSmallCode ks → AllByRecursion (IsGoodPair c) (zip ms ks)
+good_pairs c [] ks a b = tt
+good_pairs c (m ∷ ms) [] a b = tt
+good_pairs c (m ∷ ms) (k ∷ ks) a b = ((a.0, b.0), good_pairs c ms ks a.1 b.1)
 
 -- the program of a class of the form with its code
 module _ (c : ClassFile) (P : Program) (fields_are : are_form_fields c ≡ true) (methods_are : are_form_methods c ≡ true) where
   abbrev own : Symbols
-  own = symbols_of c (original_fields c)
+  own = symbols_of c (original_fields c) (program_methods c)
 
   program_of : (ks : List Coded) → AllByRecursion IsSmallCode ks → length ks ≡ length (program_methods c) → form_program c ks ≡ Some P → IsLinked c P
   program_of ks smalls long h = go (form_methods c ks) refl h
@@ -480,17 +478,17 @@ module _ (c : ClassFile) (P : Program) (fields_are : are_form_fields c ≡ true)
           let same : P ≡ record { fields = original_fields c; methods = ms } = cc in
           let statics_are : P.fields ≡ original_fields c = ap (λ (p : Program). p.fields) same in
           let members : P.methods ≡ ms = ap (λ (p : Program). p.methods) same in
-          let pairs = good_pairs c.pool (program_methods c) ks (form_each c methods_are) smalls in
-          let lengths = (each_all (λ (p : Member × Coded). form_method own p.0 p.1) (IsGoodPair c.pool) (λ k. Unit {0}) (λ p k g e. tt) (zip (program_methods c) ks) ms pairs e).1 in
+          let pairs = good_pairs c (program_methods c) ks (form_each c methods_are) smalls in
+          let lengths = (each_all (λ (p : Member × Coded). form_method own p.0 p.1) (IsGoodPair c) (λ k. Unit {0}) (λ p k g e. tt) (zip (program_methods c) ks) ms pairs e).1 in
           let names : length own.methods ≡ length (program_methods c) = length-map _ _ in
           let zipped : length (zip (program_methods c) ks) ≡ length (program_methods c) = length-zip (program_methods c) ks ∙ omega (arith, long) in
           let many : length P.methods ≡ length own.methods = ap length members ∙ lengths ∙ zipped ∙ sym names in
-          let all = (each_all (λ (p : Member × Coded). form_method own p.0 p.1) (IsGoodPair c.pool) (IsMethodOf P)
-          (λ p k g e. method_of P own p.0 p.1 k (ap length statics_are) many g.0 g.1 e) (zip (program_methods c) ks) ms pairs e).0 in
+          let all = (each_all (λ (p : Member × Coded). form_method own p.0 p.1) (IsGoodPair c) (IsMethodOf P)
+          (λ p k g e. method_of P own p.0 p.1 k (ap length statics_are) many g.1 e) (zip (program_methods c) ks) ms pairs e).0 in
           let parts = split_methods P ms all in
           let few : 0 + length (statics c) ≤ 1000 = omega (arith, few_statics c fields_are) in
           let Sources : List Method → Type 0 = λ l. AllByRecursion (IsSourceMethod P) l in
-          let Marks : List Method → Type 0 = λ l. AllByRecursion IsMarked l in
+          let Marks : List Method → Type 0 = λ l. AllByRecursion IsPlainlyMarked l in
           record {
             source = record { fields = rw statics_are (fields_source c 0 (statics c) few); methods = subst Sources (sym members) parts.0 };
             marked = subst Marks (sym members) parts.1;

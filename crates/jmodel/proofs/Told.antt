@@ -169,7 +169,7 @@ all_units (i ∷ is) = (tt, all_units is)
 
 module _ (c : ClassFile) (P : Program) (m : ℕ) (k : Method) (there : slice_get P.methods m ≡ Some k) where
   abbrev own : Symbols
-  own = symbols_of c (original_fields c)
+  own = symbols_of c (original_fields c) (program_methods c)
 
   abbrev means : Member × Coded → Option Method
   means p = form_method own p.0 p.1

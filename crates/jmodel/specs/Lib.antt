@@ -35,6 +35,8 @@ pub mod InstructionReading
 pub mod Relocation
 pub mod Engine
 pub mod Decoding
+pub mod Coded
+pub mod Taken
 pub mod Linking
 pub mod PoolAdding
 pub mod Book

@@ -1,6 +1,6 @@
 -- What a class means as a program: original classes of a temporary form, and rewritten ones. The form has the int code of static
 -- methods that take ints and give an int or nothing.
-use Rattle.std.specs.Prelude.{ℕ, ℤ, pos, ◌-◌, List, [], ◌∷◌, ◌++◌, length, map, filter, take, drop, zip, Option, Some, None, Result, Ok, Err, Bool, true, false, not, ◌==◌, ◌&&◌, ◌||◌, nat_lt, nat_le, nat_eq, if◌then◌else◌, codes, bytes_eq, bit_and, find, option_map, option_and_then, is_some, slice_get}
+use Rattle.std.specs.Prelude.{ℕ, ℤ, pos, ◌-◌, List, [], ◌∷◌, ◌++◌, length, map, filter, take, drop, zip, Option, Some, None, Result, Ok, Err, Bool, true, false, not, ◌==◌, ◌&&◌, ◌||◌, nat_lt, nat_le, nat_eq, if◌then◌else◌, codes, bytes_eq, bit_and, option_map, option_and_then, is_some, slice_get}
 use Rattle.std.specs.List.{list_any, list_all, starts_with}
 use Rattle.jmodel.specs.declared.class_file.Constant.{Constant}
 use Rattle.jmodel.specs.declared.class_file.Constant.TheVariants as constants
@@ -12,25 +12,22 @@ use Rattle.jmodel.specs.declared.instruction.Operands.TheVariants as operands
 use Rattle.jmodel.specs.declared.instruction.Instr.{Instr}
 use Rattle.jmodel.specs.declared.name.MethodName.{MethodName}
 use Rattle.jmodel.specs.declared.refusal.Refusal.{Refusal}
-use Rattle.jmodel.specs.declared.refusal.Refusal.TheVariants.{BadCode, BadInstr, BadTarget}
 use Rattle.jmodel.specs.declared.value.Value.TheVariants as value
 use Rattle.jmodel.specs.declared.op.Op.{Op}
 use Rattle.jmodel.specs.declared.op.Op.TheVariants as op
 use Rattle.jmodel.specs.declared.op.Catch.{Catch}
 use Rattle.jmodel.specs.declared.op.Catches.{Catches}
 use Rattle.jmodel.specs.declared.op.Catches.TheVariants.{Conflict, Any}
-use Rattle.jmodel.specs.Name.{printed}
 use Rattle.jmodel.specs.ClassFile.{Attribute, Member, Pool, ClassFile, Code}
 use Rattle.jmodel.specs.Pool.{utf8, class_name}
 use Rattle.jmodel.specs.ClassRules.{same_text, is_named}
-use Rattle.jmodel.specs.ClassReading.{code_of}
 use Rattle.jmodel.specs.Descriptor.{Signature}
 use Rattle.jmodel.specs.DescriptorReading.{signature_of}
-use Rattle.jmodel.specs.InstructionReading.{instrs_of}
 use Rattle.jmodel.specs.Reading.{◌>>=◌}
 use Rattle.jmodel.specs.Program.{Field, Method, Program}
 use Rattle.jmodel.specs.Layout.{library, is_static, statics, text_or_none, fields_of}
-use Rattle.jmodel.specs.Constants.{pair_number}
+pub use Rattle.jmodel.specs.Coded.{code_in, is_plain_mark, is_mark, is_marked, Coded, in_method, named_fault, decoded_code, decoded}
+use Rattle.jmodel.specs.Taken.{is_taken}
 use Rattle.jmodel.specs.Decoding.{number_at, context_class, Symbols, own_name, name_of, each, ops_of}
 
 -- ---- exception entries, by numbers of instructions
@@ -80,28 +77,9 @@ shape_in s = if list_all is_parameter s.parameters && is_result s.result then So
 abbrev pub shape_of : List ℕ → Option Shape
 shape_of d = option_and_then shape_in (signature_of d)
 
-abbrev pub code_in : Pool → Member → Option Code
-code_in pool m = option_and_then (λ (a : Attribute). code_of pool a.bytes) (find (is_named pool (codes "Code")) m.attributes)
-
--- the mark without elements, alone: the count of annotations, the type's index, the count of elements
-abbrev pub is_plain_mark : Pool → List ℕ → Bool
-is_plain_mark pool (n ∷ m ∷ a ∷ b ∷ p ∷ q ∷ []) = nat_eq n 0 && nat_eq m 1 && nat_eq p 0 && nat_eq q 0 && same_text (utf8 pool (pair_number a b)) (codes "Lorg/deuce/Atomic;")
-is_plain_mark pool bs = false
-
-abbrev pub is_mark : Pool → Attribute → Bool
-is_mark pool a = is_named pool (codes "RuntimeVisibleAnnotations") a && is_plain_mark pool a.bytes
-
-abbrev pub is_marked : Pool → Member → Bool
-is_marked pool m = list_any (is_mark pool) m.attributes
-
 -- a mark that names no number of attempts allows 2147483647
 abbrev pub retries_of : Pool → Member → Option ℤ
 retries_of pool m = if is_marked pool m then Some (pos 2147483647) else None
-
--- the Code of a method with its instructions
-pub record Coded : Type 0 where
-  pub code : Code
-  pub instrs : List Instr
 
 abbrev pub make_method : Symbols → Bool → Member → Code → Option Shape → Option (List Op) → Option (List Catch) → Option Method
 make_method s counted m k (Some shape) (Some ops) (Some catches) = Some (record {
@@ -127,24 +105,6 @@ coded_method s counted m k =
 
 -- ---- code
 
--- the fault of code, in the method of this name
-abbrev pub in_method : MethodName → Refusal → Refusal
-in_method m (BadInstr name at) = BadInstr (printed m) at
-in_method m (BadTarget name at) = BadTarget (printed m) at
-in_method m r = r
-
-abbrev pub named_fault : {A : Type 0} → MethodName → Result A Refusal → Result A Refusal
-named_fault m (Ok x) = Ok x
-named_fault m (Err r) = Err (in_method m r)
-
-abbrev pub decoded_code : Pool → Option Code → Result Coded Refusal
-decoded_code pool None = Err (BadCode [])
-decoded_code pool (Some k) = instrs_of pool k.handlers k.code >>= λ is. Ok (record { code = k; instrs = is })
-
--- the Code of a method with its instructions, or the first fault of its instructions
-abbrev pub decoded : ClassFile → Member → Result Coded Refusal
-decoded c m = named_fault (name_of c m) (decoded_code c.pool (code_in c.pool m))
-
 -- what each gives, or the first fault
 abbrev pub all_decoded : ClassFile → List Member → Result (List Coded) Refusal
 all_decoded c [] = Ok []
@@ -158,7 +118,7 @@ decoded_or_none (Err r) = None
 abbrev pub method_of : Symbols → Bool → Member → Option Method
 method_of s counted m = option_and_then (coded_method s counted m) (decoded_or_none (decoded s.class m))
 
--- ---- the methods of a program
+-- ---- the methods of programs
 
 abbrev pub has_context : Option Signature → Bool
 has_context None = false
@@ -168,12 +128,9 @@ has_context (Some s) = list_any is_context s.parameters
 abbrev pub takes_context : Pool → Member → Bool
 takes_context pool m = has_context (signature_of (descriptor_of pool m))
 
--- Whether a method is one of the program that a class means: it is marked, or takes a context.
-abbrev pub is_program_method : Pool → Member → Bool
-is_program_method pool m = is_marked pool m || takes_context pool m
-
+-- the methods of an original class's program, in the order of the file
 abbrev pub program_methods : ClassFile → List Member
-program_methods c = filter (is_program_method c.pool) c.methods
+program_methods c = filter (is_taken c) c.methods
 
 -- ---- the form
 
@@ -212,8 +169,8 @@ is_form_atomic pool m = nat_eq (bit_and m.flags 0x528) 8 && is_some (shape_of (d
     && not (is_special (text_or_none (utf8 pool m.name)))
 
 -- a method that isn't one of the program may be anything but a static initialiser
-abbrev pub is_form_method : Pool → Member → Bool
-is_form_method pool m = list_all (is_form_attribute pool) m.attributes && (if is_program_method pool m then is_form_atomic pool m else not (same_text (utf8 pool m.name) (codes "<clinit>")))
+abbrev pub is_form_method : ClassFile → Member → Bool
+is_form_method c m = list_all (is_form_attribute c.pool) m.attributes && (if is_taken c m then is_form_atomic c.pool m else not (same_text (utf8 c.pool m.name) (codes "<clinit>")))
 
 -- a class's name that no class of the library has
 abbrev pub is_free_name : List ℕ → Bool
@@ -223,7 +180,7 @@ abbrev pub are_form_fields : ClassFile → Bool
 are_form_fields c = nat_le (length (statics c)) 100 && list_all (is_form_field c.pool) c.fields
 
 abbrev pub are_form_methods : ClassFile → Bool
-are_form_methods c = nat_le (length (program_methods c)) 100 && list_all (is_form_method c.pool) c.methods
+are_form_methods c = nat_le (length (program_methods c)) 100 && list_all (is_form_method c) c.methods
 
 -- a class, no interface, 0200, that stands right under Object
 abbrev pub is_form_head : ClassFile → Bool
@@ -281,15 +238,16 @@ form_method s m k = if_form k (coded_method s true m k)
 
 -- ---- programs
 
-abbrev pub symbols_of : ClassFile → List Field → Symbols
-symbols_of c fields = record { class = c; fields = fields; methods = map (name_of c) (program_methods c) }
+-- a class, with the fields and the methods of its program
+abbrev pub symbols_of : ClassFile → List Field → List Member → Symbols
+symbols_of c fields ms = record { class = c; fields = fields; methods = map (name_of c) ms }
 
 abbrev pub original_fields : ClassFile → List Field
 original_fields c = fields_of (c ∷ []) 0 (c ∷ [])
 
 -- the methods of a class's program, whose instructions are these
 abbrev pub form_methods : ClassFile → List Coded → Option (List Method)
-form_methods c ks = each (λ (p : Member × Coded). form_method (symbols_of c (original_fields c)) p.0 p.1) (zip (program_methods c) ks)
+form_methods c ks = each (λ (p : Member × Coded). form_method (symbols_of c (original_fields c) (program_methods c)) p.0 p.1) (zip (program_methods c) ks)
 
 abbrev pub form_program : ClassFile → List Coded → Option Program
 form_program c ks = option_map (λ ms. record { fields = original_fields c; methods = ms }) (form_methods c ks)
@@ -318,12 +276,28 @@ abbrev pub joined : {A : Type 0} → Option (List A) → Option (List A) → Opt
 joined (Some xs) (Some ys) = Some (xs ++ ys)
 joined xs ys = None
 
+-- ---- rewritten classes
+
+abbrev pub is_name : MethodName → MethodName → Bool
+is_name n k = bytes_eq n.name k.name && bytes_eq n.descriptor k.descriptor && bytes_eq n.class k.class
+
+-- A method of a rewritten class's program: one of the original's, or one that takes a context.
+abbrev pub is_rewritten_method : Program → ClassFile → Member → Bool
+is_rewritten_method P c m = takes_context c.pool m || list_any (λ (k : Method). is_name (name_of c m) k.name) P.methods
+
+abbrev pub rewritten_methods : Program → ClassFile → List Member
+rewritten_methods P c = filter (is_rewritten_method P c) c.methods
+
+-- a method that is neither a wrapper nor takes a context stays as it was, and counts
+abbrev pub is_untouched : Pool → Member → Bool
+is_untouched pool m = not (is_marked pool m || takes_context pool m)
+
 -- The methods of a rewritten class: the last n, which are duplicates, count.
 abbrev pub relinked_methods : Symbols → ℕ → List Member → Option (List Method)
 relinked_methods s n ms = if nat_le n (length ms)
-    then joined (each (method_of s false) (take (length ms - n) ms)) (each (method_of s true) (drop (length ms - n) ms))
+    then joined (each (λ m. method_of s (is_untouched s.class.pool m) m) (take (length ms - n) ms)) (each (method_of s true) (drop (length ms - n) ms))
     else None
 
 -- the program of a rewritten class, over its original's
 abbrev pub relinked : Program → ClassFile → Option Program
-relinked P c = option_map (λ ms. record { fields = P.fields; methods = ms }) (relinked_methods (symbols_of c P.fields) (length P.methods) (program_methods c))
+relinked P c = option_map (λ ms. record { fields = P.fields; methods = ms }) (relinked_methods (symbols_of c P.fields (rewritten_methods P c)) (length P.methods) (rewritten_methods P c))

@@ -16,7 +16,15 @@ pub fn opening_law()
 
 ghost use Rattle.jmodel.specs.LinkedLaw.{LinkedLaw};
 
-/// The program of a class of the form is source code, each of its methods is marked, and it has the class's static fields.
+/// The program of a class of the form is source code, each of its methods has the plain mark or none, and it has the class's static
+/// fields.
 pub fn linked_law()
     ensures { LinkedLaw }
+{}
+
+ghost use Rattle.jmodel.specs.Taken.{TakenLaw};
+
+/// The taken methods of a class are the least set that has the marked ones and each method that one of the set calls.
+pub fn taken_law()
+    ensures { TakenLaw }
 {}

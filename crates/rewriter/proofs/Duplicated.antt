@@ -22,7 +22,7 @@ use Rattle.jmodel.specs.Rewriting.{getter, setter, duplicate, block as ops_of_bl
 use Rattle.jmodel.specs.Decoding.{Symbols, own_name, each, op_of, ops_of}
 use Rattle.jmodel.specs.InstructionReading.{instrs_of}
 use Rattle.jmodel.specs.ClassRules.{IsCode}
-use Rattle.jmodel.specs.Linking.{catch_of, shape_of, Coded, descriptor_of, symbols_of, method_of, linked}
+use Rattle.jmodel.specs.Linking.{catch_of, shape_of, Coded, descriptor_of, program_methods, rewritten_methods, symbols_of, method_of, linked}
 use Rattle.jmodel.specs.Relocation.{Block, all_instrs, behind, place_of, laid_to, relocated}
 use Rattle.jmodel.proofs.Linked.{links}
 use Rattle.const_pool.proofs.Takes.{ok_is}
@@ -116,14 +116,14 @@ module _ (c new : ClassFile) (P : Program) (K : Known c new P) (L : linked c ≡
   in_class : (n : ℕ) (k : Method) → slice_get P.methods n ≡ Some k → k.name.class ≡ own_name c
   in_class n k e = method_class c new P K n k e
 
-  calls_one : (n : ℕ) (k : Method) → slice_get P.methods n ≡ Some k → (j : ℕ) (o : Op) → slice_get k.ops j ≡ Some o → Calls (symbols_of new P.fields) P names o
+  calls_one : (n : ℕ) (k : Method) → slice_get P.methods n ≡ Some k → (j : ℕ) (o : Op) → slice_get k.ops j ≡ Some o → Calls (symbols_of new P.fields (rewritten_methods P new)) P names o
   calls_one n k e j (op.GetStatic f) t =
       let F = some_at P.fields f (source_op n k e j (op.GetStatic f) t) in
       let x = each_at (λ Z n f x. AreCalls P (own_name c) n f Z x) new.pool 0 P.fields names.accessors f F.0 N.accessors F.1 in
       let zero_is : f ≡ 0 + f = omega arith in
       let yes : some_op (gets (0 + f)) P ≡ true = subst (λ (i : ℕ). some_op (gets i) P ≡ true) zero_is (used (gets f) n j k (op.GetStatic f) e t (eq-eqb f f refl)) in
       let index : x.0.getter ≡ getter_in (slice_get names.accessors f) = ap getter_in (sym x.1) in
-      subst (λ (i : ℕ). IsCalled (symbols_of new P.fields) i (getter P f)) index
+      subst (λ (i : ℕ). IsCalled (symbols_of new P.fields (rewritten_methods P new)) i (getter P f)) index
       (record { name = wanted (own_name c) (getter_name F.0) getter_type; few = (x.2.getter yes).1; is = (x.2.getter yes).0; means = calls_getter c new P K f F.0 F.1 })
   calls_one n k e j (op.PutStatic f) t =
       let F = some_at P.fields f (source_op n k e j (op.PutStatic f) t) in
@@ -131,7 +131,7 @@ module _ (c new : ClassFile) (P : Program) (K : Known c new P) (L : linked c ≡
       let zero_is : f ≡ 0 + f = omega arith in
       let yes : some_op (puts (0 + f)) P ≡ true = subst (λ (i : ℕ). some_op (puts i) P ≡ true) zero_is (used (puts f) n j k (op.PutStatic f) e t (eq-eqb f f refl)) in
       let index : x.0.setter ≡ setter_in (slice_get names.accessors f) = ap setter_in (sym x.1) in
-      subst (λ (i : ℕ). IsCalled (symbols_of new P.fields) i (setter P f)) index
+      subst (λ (i : ℕ). IsCalled (symbols_of new P.fields (rewritten_methods P new)) i (setter P f)) index
       (record { name = wanted (own_name c) (setter_name F.0) setter_type; few = (x.2.setter yes).1; is = (x.2.setter yes).0; means = calls_setter c new P K f F.0 F.1 })
   calls_one n k e j (op.InvokeStatic m) t =
       let M = some_at P.methods m (source_op n k e j (op.InvokeStatic m) t) in
@@ -142,7 +142,7 @@ module _ (c new : ClassFile) (P : Program) (K : Known c new P) (L : linked c ≡
       let there = x.2 yes in
       let owner = in_class m M.0 M.1 in
       let is : method_name new.pool x.0 ≡ Some (wanted (own_name c) M.0.name.name (with_context M.0.name.descriptor)) = there.0 ∙ ap (λ (t : List ℕ). Some (wanted t M.0.name.name (with_context M.0.name.descriptor))) owner in
-      subst (λ (i : ℕ). IsCalled (symbols_of new P.fields) i (duplicate P m)) index
+      subst (λ (i : ℕ). IsCalled (symbols_of new P.fields (rewritten_methods P new)) i (duplicate P m)) index
       (record { name = wanted (own_name c) M.0.name.name (with_context M.0.name.descriptor); few = there.1; is = is; means = calls_copy c new P K m M.0 M.1 })
   calls_one n k e j (op.Constant v) t = tt
   calls_one n k e j (op.Load i) t = tt
@@ -156,17 +156,17 @@ module _ (c new : ClassFile) (P : Program) (K : Known c new P) (L : linked c ≡
   calls_one n k e j (op.Goto to) t = tt
   calls_one n k e j o t = tt
 
-  pub all_called : (n : ℕ) (k : Method) → slice_get P.methods n ≡ Some k → AllByRecursion (Calls (symbols_of new P.fields) P names) k.ops
-  all_called n k e = all_from (Calls (symbols_of new P.fields) P names) k.ops (λ j o t. calls_one n k e j o t)
+  pub all_called : (n : ℕ) (k : Method) → slice_get P.methods n ≡ Some k → AllByRecursion (Calls (symbols_of new P.fields (rewritten_methods P new)) P names) k.ops
+  all_called n k e = all_from (Calls (symbols_of new P.fields (rewritten_methods P new)) P names) k.ops (λ j o t. calls_one n k e j o t)
 
   -- the same, where the class's methods hold bytes
   module _ (n : ℕ) (m x : Member) (k : Method) (t : List ℕ) (named : utf8 c.pool m.name ≡ Some t) (at : slice_get P.methods n ≡ Some k) (h : IsOld c P.fields m k) (held : HasBytes m)
       (w : IsCopyOf c names new.pool (k, m) x) (d : List ℕ) (described : utf8 c.pool m.descriptor ≡ Some d) where
     abbrev s0 : Symbols
-    s0 = symbols_of c P.fields
+    s0 = symbols_of c P.fields (program_methods c)
 
     abbrev s : Symbols
-    s = symbols_of new P.fields
+    s = symbols_of new P.fields (rewritten_methods P new)
 
     abbrev G : Grown c.pool new.pool
     G = K.rewritten.grown
@@ -186,17 +186,17 @@ module _ (c new : ClassFile) (P : Program) (K : Known c new P) (L : linked c ≡
     code_filed : IsFiled c.pool h.coded.code
     code_filed = filed c.pool m h.coded.code held read.code
 
-    parts : AreParts (symbols_of c P.fields) h.coded.instrs k.locals k.gives k.ops h.coded.instrs
-    parts = parts_of (symbols_of c P.fields) h.coded.instrs k.locals k.gives k.ops h.coded.instrs h.ops (spelled c.pool m h.coded c refl held read).instrs.each h.fits
+    parts : AreParts (symbols_of c P.fields (program_methods c)) h.coded.instrs k.locals k.gives k.ops h.coded.instrs
+    parts = parts_of (symbols_of c P.fields (program_methods c)) h.coded.instrs k.locals k.gives k.ops h.coded.instrs h.ops (spelled c.pool m h.coded c refl held read).instrs.each h.fits
 
-    called : AllByRecursion (Calls (symbols_of new P.fields) P names) k.ops
+    called : AllByRecursion (Calls (symbols_of new P.fields (rewritten_methods P new)) P names) k.ops
     called = all_called n k at
 
     abbrev zipped : List Block
-    zipped = zip_blocks (symbols_of c P.fields) (symbols_of new P.fields) K.rewritten.grown P names k.params few h.coded.instrs k.locals room k.gives k.ops h.coded.instrs
+    zipped = zip_blocks (symbols_of c P.fields (program_methods c)) (symbols_of new P.fields (rewritten_methods P new)) K.rewritten.grown P names k.params few h.coded.instrs k.locals room k.gives k.ops h.coded.instrs
 
     zipped_are : blocks_from names k.params k.ops 0 h.coded.instrs ≡ zipped
-    zipped_are = blocks_are (symbols_of c P.fields) (symbols_of new P.fields) K.rewritten.grown P names k.params few h.coded.instrs k.locals room k.gives k.ops 0 k.ops h.coded.instrs parts (λ j. let z : 0 + j ≡ j = omega arith in ap (slice_get k.ops) z)
+    zipped_are = blocks_are (symbols_of c P.fields (program_methods c)) (symbols_of new P.fields (rewritten_methods P new)) K.rewritten.grown P names k.params few h.coded.instrs k.locals room k.gives k.ops 0 k.ops h.coded.instrs parts (λ j. let z : 0 + j ≡ j = omega arith in ap (slice_get k.ops) z)
 
     copy : IsCopy names k m h.coded new.pool x
     copy = let same : w.coded ≡ h.coded = ok_is w.coded h.coded (sym w.decodes ∙ h.decodes) in subst (λ (y : Coded). IsCopy names k m y new.pool x) same w.copy
@@ -210,10 +210,10 @@ module _ (c new : ClassFile) (P : Program) (K : Known c new P) (L : linked c ≡
         laid_is (h.coded.code.max_stack + 1) (h.coded.code.max_locals + 1) zipped [] (Some copy.body.conflict) (plain 191 ∷ []) copy.body.code told
 
     solid_all : AllByRecursion IsSolid zipped
-    solid_all = all_solid (symbols_of c P.fields) (symbols_of new P.fields) K.rewritten.grown P names k.params few h.coded.instrs k.locals room k.gives k.ops h.coded.instrs parts called
+    solid_all = all_solid (symbols_of c P.fields (program_methods c)) (symbols_of new P.fields (rewritten_methods P new)) K.rewritten.grown P names k.params few h.coded.instrs k.locals room k.gives k.ops h.coded.instrs parts called
 
     laid_blocks : AllByRecursion (IsLaid new.pool) (all_instrs zipped)
-    laid_blocks = all_laid (symbols_of c P.fields) (symbols_of new P.fields) K.rewritten.grown P names k.params few h.coded.instrs k.locals room k.gives k.ops h.coded.instrs parts called
+    laid_blocks = all_laid (symbols_of c P.fields (program_methods c)) (symbols_of new P.fields (rewritten_methods P new)) K.rewritten.grown P names k.params few h.coded.instrs k.locals room k.gives k.ops h.coded.instrs parts called
 
     stub_laid : IsLaid new.pool (plain 191)
     stub_laid = plain_laid new.pool 191 (omega arith) tt tt
@@ -223,20 +223,20 @@ module _ (c new : ClassFile) (P : Program) (K : Known c new P) (L : linked c ≡
 
     leads : AllByRecursion (λ (i : Instr). LeadsIn zipped i.operands) (all_instrs zipped ++ plain 191 ∷ [])
     leads = all_append (λ (i : Instr). LeadsIn zipped i.operands) (all_instrs zipped) (plain 191 ∷ [])
-        (all_lead (symbols_of c P.fields) (symbols_of new P.fields) K.rewritten.grown P names k.params few h.coded.instrs k.locals room k.gives k.ops parts called (plain 191 ∷ []) k.ops h.coded.instrs parts called) (tt, tt)
+        (all_lead (symbols_of c P.fields (program_methods c)) (symbols_of new P.fields (rewritten_methods P new)) K.rewritten.grown P names k.params few h.coded.instrs k.locals room k.gives k.ops parts called (plain 191 ∷ []) k.ops h.coded.instrs parts called) (tt, tt)
 
     -- what the blocks mean
-    mean : each (op_of (symbols_of new P.fields) (relocated zipped (plain 191 ∷ []))) (laid_to (place_of zipped) 0 (all_instrs zipped)) ≡ Some (blocks P k.params k.ops)
-    mean = all_mean (symbols_of c P.fields) (symbols_of new P.fields) K.rewritten.grown P names k.params few h.coded.instrs k.locals room k.gives k.ops parts called (plain 191 ∷ []) 0 k.ops h.coded.instrs parts called
+    mean : each (op_of (symbols_of new P.fields (rewritten_methods P new)) (relocated zipped (plain 191 ∷ []))) (laid_to (place_of zipped) 0 (all_instrs zipped)) ≡ Some (blocks P k.params k.ops)
+    mean = all_mean (symbols_of c P.fields (program_methods c)) (symbols_of new P.fields (rewritten_methods P new)) K.rewritten.grown P names k.params few h.coded.instrs k.locals room k.gives k.ops parts called (plain 191 ∷ []) 0 k.ops h.coded.instrs parts called
 
-    means : ops_of (symbols_of new P.fields) (relocated zipped (plain 191 ∷ [])) ≡ Some (blocks P k.params k.ops ++ op.Throw ∷ [])
+    means : ops_of (symbols_of new P.fields (rewritten_methods P new)) (relocated zipped (plain 191 ∷ [])) ≡ Some (blocks P k.params k.ops ++ op.Throw ∷ [])
     means =
-        ap (each (op_of (symbols_of new P.fields) (relocated zipped (plain 191 ∷ [])))) (laid_to_append (place_of zipped) 0 (all_instrs zipped) (plain 191 ∷ []))
-        ∙ each_append (op_of (symbols_of new P.fields) (relocated zipped (plain 191 ∷ []))) (laid_to (place_of zipped) 0 (all_instrs zipped)) (laid_to (place_of zipped) (behind 0 (all_instrs zipped)) (plain 191 ∷ [])) (blocks P k.params k.ops) (op.Throw ∷ []) mean refl
+        ap (each (op_of (symbols_of new P.fields (rewritten_methods P new)) (relocated zipped (plain 191 ∷ [])))) (laid_to_append (place_of zipped) 0 (all_instrs zipped) (plain 191 ∷ []))
+        ∙ each_append (op_of (symbols_of new P.fields (rewritten_methods P new)) (relocated zipped (plain 191 ∷ []))) (laid_to (place_of zipped) 0 (all_instrs zipped)) (laid_to (place_of zipped) (behind 0 (all_instrs zipped)) (plain 191 ∷ [])) (blocks P k.params k.ops) (op.Throw ∷ []) mean refl
 
     many : length (all_instrs zipped) ≡ block_at k.ops (length k.ops)
     many = sym (laid_length (place_of zipped) 0 (all_instrs zipped))
-        ∙ each_length (op_of (symbols_of new P.fields) (relocated zipped (plain 191 ∷ []))) (laid_to (place_of zipped) 0 (all_instrs zipped)) (blocks P k.params k.ops) mean
+        ∙ each_length (op_of (symbols_of new P.fields (rewritten_methods P new)) (relocated zipped (plain 191 ∷ []))) (laid_to (place_of zipped) 0 (all_instrs zipped)) (blocks P k.params k.ops) mean
         ∙ blocks_end P k.params (block_at k.ops) k.ops
 
     some_ops : 0 < length (all_instrs zipped)
@@ -244,15 +244,15 @@ module _ (c new : ClassFile) (P : Program) (K : Known c new P) (L : linked c ≡
         let first = some_instr c.pool h.coded.code h.coded.instrs code_filed.rules (spelled c.pool m h.coded c refl held read).holds in
         some_of k.ops h.coded.instrs parts called first
       where
-        some_of : (os : List Op) (is : List Instr) → AreParts (symbols_of c P.fields) h.coded.instrs k.locals k.gives os is → AllByRecursion (Calls (symbols_of new P.fields) P names) os → 0 < length is
-            → 0 < length (all_instrs (zip_blocks (symbols_of c P.fields) (symbols_of new P.fields) K.rewritten.grown P names k.params few h.coded.instrs k.locals room k.gives os is))
+        some_of : (os : List Op) (is : List Instr) → AreParts (symbols_of c P.fields (program_methods c)) h.coded.instrs k.locals k.gives os is → AllByRecursion (Calls (symbols_of new P.fields (rewritten_methods P new)) P names) os → 0 < length is
+            → 0 < length (all_instrs (zip_blocks (symbols_of c P.fields (program_methods c)) (symbols_of new P.fields (rewritten_methods P new)) K.rewritten.grown P names k.params few h.coded.instrs k.locals room k.gives os is))
         some_of [] [] a b l = absurd (omega arith)
         some_of [] (i ∷ is) a b l = absurd a
         some_of (o ∷ os) [] a b l = absurd a
         some_of (o ∷ os) (i ∷ is) a b l =
-            let g = sound (symbols_of c P.fields) (symbols_of new P.fields) K.rewritten.grown P names k.params few h.coded.instrs k.locals room k.gives o i a.0 b.0 in
+            let g = sound (symbols_of c P.fields (program_methods c)) (symbols_of new P.fields (rewritten_methods P new)) K.rewritten.grown P names k.params few h.coded.instrs k.locals room k.gives o i a.0 b.0 in
             let some = g.some in
-            let rest = zip_blocks (symbols_of c P.fields) (symbols_of new P.fields) K.rewritten.grown P names k.params few h.coded.instrs k.locals room k.gives os is in
+            let rest = zip_blocks (symbols_of c P.fields (program_methods c)) (symbols_of new P.fields (rewritten_methods P new)) K.rewritten.grown P names k.params few h.coded.instrs k.locals room k.gives os is in
             let list = ap length (all_cons (block i.pc (block_instrs names k.params (Some o) i)) rest) in
             let both = length-append (block_instrs names k.params (Some o) i) (all_instrs rest) in
             omega (arith, some, list, both)
@@ -280,9 +280,9 @@ module _ (c new : ClassFile) (P : Program) (K : Known c new P) (L : linked c ≡
     shape : shape_of (with_context k.name.descriptor) ≡ Some (record { params = h.shape.params + 1; gives = h.shape.gives })
     shape = ap (λ (y : List ℕ). shape_of (with_context y)) (ap (λ (y : MethodName). y.descriptor) h.name) ∙ wider_shape (descriptor_of c.pool m) h.shape h.shaped (few_params c new P K m k h)
 
-    pub copy_is : method_of (symbols_of new P.fields) true x ≡ Some (duplicate_method P k)
+    pub copy_is : method_of (symbols_of new P.fields (rewritten_methods P new)) true x ≡ Some (duplicate_method P k)
     copy_is =
-        let facts : CodedFacts (symbols_of new P.fields) (added_method (duplicate_flags m.flags) m.name copy.t copy.c (code_spelling copy.body.code)) copy.body.code (relocated zipped (plain 191 ∷ [])) t (with_context k.name.descriptor) (record { params = h.shape.params + 1; gives = h.shape.gives })
+        let facts : CodedFacts (symbols_of new P.fields (rewritten_methods P new)) (added_method (duplicate_flags m.flags) m.name copy.t copy.c (code_spelling copy.body.code)) copy.body.code (relocated zipped (plain 191 ∷ [])) t (with_context k.name.descriptor) (record { params = h.shape.params + 1; gives = h.shape.gives })
         (blocks P k.params k.ops ++ op.Throw ∷ []) (catch 0 (length (all_instrs zipped)) (length (all_instrs zipped)) Conflict ∷ []) None = record {
           code = added_code new.pool (duplicate_flags m.flags) m.name copy.t copy.c copy.body.code copy.coded_is code_rules;
           read = code_read;
@@ -293,7 +293,7 @@ module _ (c new : ClassFile) (P : Program) (K : Known c new P) (L : linked c ≡
           catches_are = code_catches;
           retries_are = added_retries new.pool (duplicate_flags m.flags) m.name copy.t copy.c (code_spelling copy.body.code) copy.coded_is;
         } in
-        let it = coded_means (symbols_of new P.fields) true (added_method (duplicate_flags m.flags) m.name copy.t copy.c (code_spelling copy.body.code)) copy.body.code (relocated zipped (plain 191 ∷ [])) t (with_context k.name.descriptor) (record { params = h.shape.params + 1; gives = h.shape.gives })
+        let it = coded_means (symbols_of new P.fields (rewritten_methods P new)) true (added_method (duplicate_flags m.flags) m.name copy.t copy.c (code_spelling copy.body.code)) copy.body.code (relocated zipped (plain 191 ∷ [])) t (with_context k.name.descriptor) (record { params = h.shape.params + 1; gives = h.shape.gives })
         (blocks P k.params k.ops ++ op.Throw ∷ []) (catch 0 (length (all_instrs zipped)) (length (all_instrs zipped)) Conflict ∷ []) None facts in
         let owner : own_name new ≡ k.name.class = own_same c new P K ∙ sym (in_class n k at) in
         let own_text : t ≡ k.name.name = sym (ap (λ (y : MethodName). y.name) h.name ∙ ap text_or_none named) in
@@ -307,4 +307,4 @@ module _ (c new : ClassFile) (P : Program) (K : Known c new P) (L : linked c ≡
         (h.shape.params + 1) (k.params + 1) copy.body.code.max_locals (k.locals + 1) copy.body.code.max_stack (k.max_stack + 1) h.shape.gives k.gives None (blocks P k.params k.ops ++ op.Throw ∷ []) (blocks P k.params k.ops ++ op.Throw ∷ [])
         (catch 0 (length (all_instrs zipped)) (length (all_instrs zipped)) Conflict ∷ []) (catch 0 (block_at k.ops (length k.ops)) (block_at k.ops (length k.ops)) Conflict ∷ map (moved_catch (block_at k.ops)) k.catches)
         name_is (ap (λ (y : ℕ). y + 1) (sym h.params)) (laid.locals ∙ ap (λ (y : ℕ). y + 1) (sym h.locals)) (laid.stack ∙ ap (λ (y : ℕ). y + 1) (sym h.max_stack)) (sym h.gives) refl catches_are in
-        ap (method_of (symbols_of new P.fields) true) (copy.is ∙ ap (added_method (duplicate_flags m.flags) m.name copy.t copy.c) copy.body.is) ∙ it ∙ ap (λ (y : Method). Some y) same
+        ap (method_of (symbols_of new P.fields (rewritten_methods P new)) true) (copy.is ∙ ap (added_method (duplicate_flags m.flags) m.name copy.t copy.c) copy.body.is) ∙ it ∙ ap (λ (y : Method). Some y) same

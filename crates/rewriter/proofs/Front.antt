@@ -11,14 +11,14 @@ use Rattle.jmodel.specs.declared.refusal.Halt.{Halt}
 use Rattle.jmodel.specs.ClassFile.{Pool, Member, ClassFile, Code}
 use Rattle.jmodel.specs.Program.{Field, Method, Program}
 use Rattle.jmodel.specs.Reading.{◌>>=◌, Gives}
-use Rattle.jmodel.specs.Linking.{Coded, decoded, is_program_method, program_methods}
+use Rattle.jmodel.specs.Linking.{Coded, decoded, is_marked, program_methods}
 use Rattle.jmodel.specs.Relocation.{Block}
 use Rattle.jmodel.specs.Rewriting.{with_context}
 use Rattle.jmodel.specs.Name.{printed}
 use Rattle.jmodel.specs.Decoding.{own_name}
 use Rattle.rewriter.specs.Adding.{index_of, put, put_wide, is_utf8, put_utf8, utf8_if, add_utf8, is_integer, integer_if, add_integer, is_long, long_if, add_long, is_class, put_class, class_if, add_class, is_pair, put_pair, pair_if, add_pair, is_field, put_field, field_if, add_field, is_method, put_method, method_if, add_method}
 use Rattle.rewriter.specs.Members.{context_class, getter_type, setter_type, getter_name, setter_name, address_name, typed_name, constant_value, address_member, base_member, place_refs, look_refs, read_refs, getter_body, setter_body, accessor, getter_of, setter_of, accessors_of, Names, getter_code, setter_code, straight_bytes, gets, puts, calls, some_op, method_if_needed, getter_call, setter_call, calls_of, duplicate_call, blocks_from, duplicate_body, laid_bytes, of_method, stub, coded_duplicate, duplicate_of, opening_of, ending_of, wrapper_bytes, wrapper_of, with_code}
-use Rattle.rewriter.specs.Rewritten.{grow_from, wrapper_if, replaced, number_behind, old_from, bases, added_fields, names_of, duplicates, added_methods, new_methods, rewritten_class, Keeps}
+use Rattle.rewriter.specs.Rewritten.{grow_from, wrapper_if, replaced, number_behind, id_behind, old_from, bases, added_fields, names_of, duplicates, added_methods, new_methods, rewritten_class, Keeps}
 
 -- one pool is a front of another
 abbrev pub Extends : Pool → Pool → Type 0
@@ -359,19 +359,20 @@ wrapper_if_grows : (c : ClassFile) (n : ℕ) (o : Option Method) (m : Member) (p
 wrapper_if_grows c n None m pool = given m pool
 wrapper_if_grows c n (Some k) m pool = wrapper_of_grows c n k m pool
 
-replaced_grows : (P : Program) (c : ClassFile) (n : ℕ) (m : Member) (pool : Pool) → Grown pool (replaced P c n m pool)
-replaced_grows P c n m pool = either pool (is_program_method c.pool m) _ _ (wrapper_if_grows c n (slice_get P.methods n) m pool) (given m pool)
+replaced_grows : (P : Program) (c : ClassFile) (n id : ℕ) (m : Member) (pool : Pool) → Grown pool (replaced P c n id m pool)
+replaced_grows P c n id m pool = either pool (is_marked c.pool m) _ _ (wrapper_if_grows c id (slice_get P.methods n) m pool) (given m pool)
 
-old_from_grows : (P : Program) (c : ClassFile) (n : ℕ) (ms : List Member) (pool : Pool) → Grown pool (old_from P c n ms pool)
-old_from_grows P c n [] pool = given [] pool
-old_from_grows P c n (m ∷ ms) pool =
-    after pool (replaced P c n m pool) _ (replaced_grows P c n m pool) (λ a. after a.1 (old_from P c (number_behind c.pool n m) ms a.1) _ (old_from_grows P c (number_behind c.pool n m) ms a.1) (λ b. given _ b.1))
+old_from_grows : (P : Program) (c : ClassFile) (n id : ℕ) (ms : List Member) (pool : Pool) → Grown pool (old_from P c n id ms pool)
+old_from_grows P c n id [] pool = given [] pool
+old_from_grows P c n id (m ∷ ms) pool =
+    after pool (replaced P c n id m pool) _ (replaced_grows P c n id m pool) (λ a.
+    after a.1 (old_from P c (number_behind c n m) (id_behind c.pool id m) ms a.1) _ (old_from_grows P c (number_behind c n m) (id_behind c.pool id m) ms a.1) (λ b. given _ b.1))
 
 new_methods_grow : (P : Program) (c : ClassFile) (pool : Pool) → Grown pool (new_methods P c pool)
 unfolding new_methods
 new_methods_grow P c pool =
     after pool (added_methods P c pool) _ (added_methods_grow P c pool) (λ a.
-    after a.1 (old_from P c 0 c.methods a.1) _ (old_from_grows P c 0 c.methods a.1) (λ b. given _ b.1))
+    after a.1 (old_from P c 0 0 c.methods a.1) _ (old_from_grows P c 0 0 c.methods a.1) (λ b. given _ b.1))
 
 abbrev KeepsIn : ClassFile → Result ClassFile Refusal → Type 0
 KeepsIn c (Ok d) = Keeps c d

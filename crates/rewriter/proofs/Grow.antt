@@ -5,9 +5,8 @@ use Rattle.jmodel.specs.declared.refusal.Refusal.{Refusal}
 use Rattle.jmodel.specs.declared.refusal.Halt.{Halt}
 use Rattle.jmodel.specs.declared.refusal.Halt.TheVariants as halts
 use Rattle.jmodel.specs.Reading.{◌>>=◌, Fails}
-use Rattle.jmodel.specs.ClassFile.{Member, Pool, ClassFile}
-use Rattle.jmodel.specs.Program.{Program}
-use Rattle.rewriter.specs.Rewritten.{grow_from, replaced, number_behind, old_from}
+use Rattle.jmodel.specs.ClassFile.{Pool}
+use Rattle.rewriter.specs.Rewritten.{grow_from}
 
 -- what was put before, and what is still put
 abbrev pub with_front : {A : Type 0} → List A → Result (List A × Pool) Refusal → Result (List A × Pool) Refusal
@@ -56,25 +55,3 @@ grow_seen {A} {B} f n (x ∷ xs) pool = go (f n x.now pool) (λ p. grow_seen f (
         ≡ (r >>= λ first. grow_from f (n + 1) (map (λ x. x.now) xs) first.1 >>= with_item first.0)
     go (Ok a) rest = ap (λ (t : Result (List B × Pool) Refusal). t >>= with_item a.0) (rest a.1)
     go (Err e) rest = refl
-
-module _ (P : Program) (c : ClassFile) where
-  pub old_goes_on : (front ms : List Member) (n i : ℕ) (m y : Member) (pool next : Pool) (total : Result (List Member × Pool) Refusal) → drop i ms ≡ m ∷ drop (i + 1) ms → replaced P c n m pool ≡ Ok (y, next)
-      → with_front front (old_from P c n (drop i ms) pool) ≡ total → with_front (front ++ y ∷ []) (old_from P c (number_behind c.pool n m) (drop (i + 1) ms) next) ≡ total
-  old_goes_on front ms n i m y pool next total item gives so_far =
-      let rest = old_from P c (number_behind c.pool n m) (drop (i + 1) ms) next in
-      let one : old_from P c n (m ∷ drop (i + 1) ms) pool ≡ (rest >>= λ zs. Ok (y ∷ zs.0, zs.1)) =
-      ap (λ (r : Result (Member × Pool) Refusal). r >>= λ first. old_from P c (number_behind c.pool n m) (drop (i + 1) ms) first.1 >>= λ others. Ok (first.0 ∷ others.0, others.1)) gives in
-      sym (regroup front y rest) ∙ sym (ap (with_front front) (ap (λ (l : List Member). old_from P c n l pool) item ∙ one)) ∙ so_far
-
-  pub old_ends : (e : Halt) (front ms : List Member) (n i : ℕ) (m : Member) (pool : Pool) (total : Result (List Member × Pool) Refusal) → drop i ms ≡ m ∷ drop (i + 1) ms → Fails e (replaced P c n m pool)
-      → with_front front (old_from P c n (drop i ms) pool) ≡ total → Fails e total
-  old_ends halts.NoMemory front ms n i m pool total item gives so_far = tt
-  old_ends (halts.Refused d) front ms n i m pool total item gives so_far =
-      let one : old_from P c n (m ∷ drop (i + 1) ms) pool ≡ Err d =
-      ap (λ (r : Result (Member × Pool) Refusal). r >>= λ first. old_from P c (number_behind c.pool n m) (drop (i + 1) ms) first.1 >>= λ others. Ok (first.0 ∷ others.0, others.1)) gives in
-      sym so_far ∙ ap (with_front front) (ap (λ (l : List Member). old_from P c n l pool) item ∙ one)
-
-  pub old_is_done : (front ms : List Member) (n i : ℕ) (pool : Pool) (total : Result (List Member × Pool) Refusal) → length ms ≤ i → with_front front (old_from P c n (drop i ms) pool) ≡ total → total ≡ Ok (front, pool)
-  old_is_done front ms n i pool total le so_far =
-      let one : with_front front (old_from P c n (drop i ms) pool) ≡ Ok (front ++ [], pool) = rw (drop_all i ms le) refl in
-      sym so_far ∙ one ∙ ap (λ (ys : List Member). Ok (ys, pool)) (append-nil front)

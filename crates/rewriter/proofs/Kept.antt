@@ -418,6 +418,10 @@ kept_laid s0 is0 Z G i o h e =
     let m = simple_meant s0 is0 i.op i.operands o e in
     record { shaped = record { op = h.instr.op; operands = shaped_of i.pc (form_of i.op) i.operands h.instr.operands }; simple = m.0; fits = fit_any s0.class.pool Z G (form_of i.op) i.operands m.1 h.entry }
 
+-- an instruction that means something is one over a pool that has grown
+pub over_grown : (s0 : Symbols) (is0 : List Instr) (Z : Pool) → Grown s0.class.pool Z → (i : Instr) (o : Op) → IsInstrOver s0.class.pool i → op_of s0 is0 i ≡ Some o → IsInstrOver Z i
+over_grown s0 is0 Z G i o h e = record { instr = h.instr; entry = fit_any s0.class.pool Z G (form_of i.op) i.operands (simple_meant s0 is0 i.op i.operands o e).1 h.entry }
+
 -- what leads nowhere has no target
 leads_other : (is : List Instr) (c : ℕ) (x : Operands) → (o : Op) → is_same o ≡ true → (s : Symbols) → meaning s is c x ≡ Some o → (t : ℕ) → x ≡ operands.Target t → ⊥
 leads_other is c x o h s e t same = (jump_other is c t).other o (sym (ap (meaning s is c) same) ∙ e) h

@@ -15,6 +15,7 @@ pub mod Tables
 pub mod Single
 pub mod Kept
 pub mod Pairs
+pub mod Stays
 pub mod Coded
 pub mod Filed
 pub mod Laid
@@ -23,6 +24,7 @@ pub mod Meant
 pub mod Methods
 pub mod Attempts
 pub mod Wraps
+pub mod Untouched
 pub mod Assembled
 pub mod Making
 pub mod Steps

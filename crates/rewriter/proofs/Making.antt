@@ -1,5 +1,5 @@
 -- What a duplicate and a wrapper are made of can be laid.
-use Rattle.std.proofs.Common.{◌≡◌, ℕ, zero, suc, ◌+◌, ◌<◌, ◌≤◌, ℤ, Bool, true, false, List, [], ◌∷◌, Option, Some, None, Result, Ok, refl, sym, ap, ◌∙◌, subst, arith, inl}
+use Rattle.std.proofs.Common.{◌≡◌, ℕ, zero, suc, ◌+◌, ◌<◌, ◌≤◌, ℤ, Bool, true, false, List, [], ◌∷◌, Option, Some, None, Result, Ok, refl, sym, ap, ◌∙◌, subst, arith, inl, length}
 use Rattle.std.specs.Prelude.{if◌then◌else◌, slice_get, slice_index, zip, nat_lt, FitsSigned}
 use Rattle.std.specs.Int.{w16}
 use Rattle.std.specs.List.{AllByRecursion}
@@ -32,7 +32,7 @@ use Rattle.rewriter.proofs.Single.{local_cases, increment_cases, load_laid, stor
 use Rattle.rewriter.proofs.Kept.{adds_little}
 use Rattle.rewriter.proofs.Pairs.{all_append, IsPart, AreParts}
 use Rattle.rewriter.proofs.Filed.{parts_of}
-use Rattle.rewriter.proofs.Old.{original, IsOld, AllOld, all_old}
+use Rattle.rewriter.proofs.Old.{original, form_of as form_parts, IsOld, AllOld, all_old}
 
 -- ---- one instruction
 
@@ -209,9 +209,9 @@ can_be_made c fields names small m k h = (
       let few : k.locals < 60000 = (let l = h.locals in let f = h.few in omega (arith, l, f)) in
       let ops_are = h.ops ∙ refl in
       let there = ap (λ (y : Coded). y.instrs) same in
-      let meant : ops_of (symbols_of c fields) coded.instrs ≡ Some k.ops = subst (λ (is : List Instr). ops_of (symbols_of c fields) is ≡ Some k.ops) there h.ops in
-      let parts = parts_of (symbols_of c fields) coded.instrs k.locals k.gives k.ops coded.instrs meant spelled.instrs.each h.fits in
-      let each = small_ops (symbols_of c fields) coded.instrs k.locals k.gives k.ops coded.instrs few parts in
+      let meant : ops_of (symbols_of c fields (program_methods c)) coded.instrs ≡ Some k.ops = subst (λ (is : List Instr). ops_of (symbols_of c fields (program_methods c)) is ≡ Some k.ops) there h.ops in
+      let parts = parts_of (symbols_of c fields (program_methods c)) coded.instrs k.locals k.gives k.ops coded.instrs meant spelled.instrs.each h.fits in
+      let each = small_ops (symbols_of c fields (program_methods c)) coded.instrs k.locals k.gives k.ops coded.instrs few parts in
       let none : coded.code.handlers ≡ [] = ap (λ (y : Coded). y.code.handlers) (sym same) ∙ h.no_entries in
       let spelled2 = subst (λ (hs : List Handler). SpellsInstrs c.pool hs coded.code.code coded.instrs) none spelled in
       record {

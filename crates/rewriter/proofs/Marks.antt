@@ -1,13 +1,13 @@
 -- The marks of methods in a pool that has grown, also beside another Code.
 use Rattle.std.proofs.Common.{◌≡◌, ℕ, Bool, true, false, not, ◌&&◌, ◌||◌, List, [], ◌∷◌, map, Option, Some, None, refl, ◌∙◌}
-use Rattle.std.specs.Prelude.{codes, find, option_and_then, nat_eq, IsSome, if◌then◌else◌}
+use Rattle.std.specs.Prelude.{codes, find, option_and_then, nat_eq, IsSome}
 use Rattle.std.specs.List.{list_any, list_all, AllByRecursion}
 use Rattle.jmodel.specs.ClassFile.{Attribute, Member, Pool, Code}
 use Rattle.jmodel.specs.Pool.{utf8}
 use Rattle.jmodel.specs.ClassRules.{IsAttribute, is_named, same_text}
 use Rattle.jmodel.specs.ClassReading.{code_of}
 use Rattle.jmodel.specs.Constants.{pair_number}
-use Rattle.jmodel.specs.Linking.{is_mark, is_plain_mark, is_marked, is_form_attribute, is_form_method, takes_context, is_program_method, is_form_atomic}
+use Rattle.jmodel.specs.Linking.{is_mark, is_plain_mark, is_marked, is_form_attribute, takes_context}
 use Rattle.rewriter.specs.Members.{with_bytes}
 use Rattle.rewriter.proofs.Grown.{Grown, utf8_grown}
 use Rattle.rewriter.proofs.Added.{two_true, same_text_is}
@@ -38,20 +38,20 @@ or_false : (u v : Bool) → (u || v) ≡ false → (u ≡ false) × (v ≡ false
 or_false true v t = absurd cc
 or_false false v t = (refl, t)
 
-neither : (u v : Bool) → u ≡ false → v ≡ false → (u || v) ≡ false
+pub neither : (u v : Bool) → u ≡ false → v ≡ false → (u || v) ≡ false
 neither true v s t = s
 neither false v s t = t
 
 module _ (pool Z : Pool) (G : Grown pool Z) where
   -- a text names the same in both
-  named_same : (name : List ℕ) (a : Attribute) → IsAttribute pool a → is_named Z name a ≡ is_named pool name a
+  pub named_same : (name : List ℕ) (a : Attribute) → IsAttribute pool a → is_named Z name a ≡ is_named pool name a
   named_same name a h =
       let t = the_some (utf8 pool a.name) h.named in
       let here = t.1 in
       let there = utf8_grown pool Z G a.name t.0 t.1 in
       rw (here, there) refl
 
-  -- ---- a method that isn't one of the program stays none
+  -- ---- a method without a mark has none
 
   unmarked : (a : Attribute) → IsAttribute pool a → is_form_attribute pool a ≡ true → is_mark pool a ≡ false → is_mark Z a ≡ false
   unmarked a L form none = go (is_named pool (codes "RuntimeVisibleAnnotations") a) (is_plain_mark pool a.bytes) refl refl form none
@@ -68,13 +68,12 @@ module _ (pool Z : Pool) (G : Grown pool Z) where
       let n = or_false (is_mark pool a) (list_any (is_mark pool) xs) none in
       neither _ _ (unmarked a L.0 f.0 n.0) (none_marked xs L.1 f.1 n.1)
 
-  pub stays_out : (m : Member) (d : List ℕ) → AllByRecursion (IsAttribute pool) m.attributes → utf8 pool m.descriptor ≡ Some d → is_form_method pool m ≡ true → is_program_method pool m ≡ false → is_program_method Z m ≡ false
-  stays_out m d L typed form none =
-      let n = or_false (is_marked pool m) (takes_context pool m) none in
-      let f = two_true (list_all (is_form_attribute pool) m.attributes) (if is_program_method pool m then is_form_atomic pool m else not (same_text (utf8 pool m.name) (codes "<clinit>"))) form in
-      let later = utf8_grown pool Z G m.descriptor d typed in
-      let same : takes_context Z m ≡ takes_context pool m = rw (typed, later) refl in
-      neither (is_marked Z m) (takes_context Z m) (none_marked m.attributes L f.0 n.0) (same ∙ n.1)
+  pub stays_unmarked : (m : Member) → AllByRecursion (IsAttribute pool) m.attributes → list_all (is_form_attribute pool) m.attributes ≡ true → is_marked pool m ≡ false → is_marked Z m ≡ false
+  stays_unmarked m L form none = none_marked m.attributes L form none
+
+  -- a method takes a context in both or in none
+  pub context_same : (m : Member) (d : List ℕ) → utf8 pool m.descriptor ≡ Some d → takes_context Z m ≡ takes_context pool m
+  context_same m d typed = let later = utf8_grown pool Z G m.descriptor d typed in rw (typed, later) refl
 
 module _ (pool Z : Pool) (G : Grown pool Z) (bytes : List ℕ) where
   pub code_swapped : (xs : List Attribute) (k : Code) → AllByRecursion (IsAttribute pool) xs → option_and_then (λ (a : Attribute). code_of pool a.bytes) (find (is_named pool (codes "Code")) xs) ≡ Some k

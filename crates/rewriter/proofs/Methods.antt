@@ -11,7 +11,7 @@ use Rattle.jmodel.specs.ClassFile.{Member, ClassFile, code_spelling}
 use Rattle.jmodel.specs.Program.{Field, Program}
 use Rattle.jmodel.specs.Rewriting.{base, offset, getter_method, setter_method}
 use Rattle.jmodel.specs.Decoding.{own_name, each}
-use Rattle.jmodel.specs.Linking.{catch_of, shape_of, symbols_of, method_of}
+use Rattle.jmodel.specs.Linking.{catch_of, shape_of, rewritten_methods, symbols_of, method_of}
 use Rattle.jmodel.specs.Relocation.{place_of, relocated}
 use Rattle.rewriter.specs.Members.{added_method, getter_code, setter_code, getter_name, setter_name, getter_type, setter_type, address_name, context_class}
 use Rattle.rewriter.proofs.Read.{IsLaid, LeadsIn}
@@ -31,7 +31,7 @@ setter_shape = let s = setter_signature in rw s refl
 
 module _ (c new : ClassFile) (P : Program) (K : Known c new P) where
   pub getter_is : (i : ℕ) (f : Field) (m : Member) → slice_get P.fields i ≡ Some f → f.class ≡ own_name c → f.type ≡ word.Int → f.place.object ≡ 2 → IsGetter (own_name c) f new.pool m
-      → method_of (symbols_of new P.fields) false m ≡ Some (getter_method i f)
+      → method_of (symbols_of new P.fields (rewritten_methods P new)) false m ≡ Some (getter_method i f)
   getter_is i f m e class type object g =
       let B = g.body in
       let A = g.method in
@@ -42,7 +42,7 @@ module _ (c new : ClassFile) (P : Program) (K : Known c new P) where
       let field = wanted (own_name c) f.name (codes "I") in
       let before = wanted context_class (codes "beforeReadAccess") (codes "(Ljava/lang/Object;J)V") in
       let after = wanted context_class (codes "onReadAccess") (codes "(Ljava/lang/Object;IJ)I") in
-      let s = symbols_of new P.fields in
+      let s = symbols_of new P.fields (rewritten_methods P new) in
       let place = place_of (run (getter_code B.look.0 B.look.1 B.read.0 B.read.1)) in
       let L = relocated (run (getter_code B.look.0 B.look.1 B.read.0 B.read.1)) [] in
       let base_laid = get_static_laid new.pool B.look.0.0 base_name B.looks.0.0.1 B.looks.0.0.0 in
@@ -125,7 +125,7 @@ module _ (c new : ClassFile) (P : Program) (K : Known c new P) where
       ap (method_of s false) (A.is ∙ ap (added_method 0x1009 A.n A.t A.c) R.bytes_are) ∙ it ∙ rw (o, lo, st, type) refl
 
   pub setter_is : (i : ℕ) (f : Field) (m : Member) → slice_get P.fields i ≡ Some f → f.class ≡ own_name c → f.type ≡ word.Int → f.place.object ≡ 2 → IsSetter (own_name c) f new.pool m
-      → method_of (symbols_of new P.fields) false m ≡ Some (setter_method i f)
+      → method_of (symbols_of new P.fields (rewritten_methods P new)) false m ≡ Some (setter_method i f)
   setter_is i f m e class type object g =
       let B = g.body in
       let A = g.method in
@@ -133,7 +133,7 @@ module _ (c new : ClassFile) (P : Program) (K : Known c new P) where
       let base_name = wanted (own_name c) (codes "__CLASS_BASE__") (codes "Ljava/lang/Object;") in
       let address = wanted (own_name c) (address_name f) (codes "J") in
       let write = wanted context_class (codes "onWriteAccess") (codes "(Ljava/lang/Object;IJ)V") in
-      let s = symbols_of new P.fields in
+      let s = symbols_of new P.fields (rewritten_methods P new) in
       let place = place_of (run (setter_code B.places B.write)) in
       let L = relocated (run (setter_code B.places B.write)) [] in
       let laid : AllByRecursion (IsLaid new.pool) (setter_code B.places B.write) = (

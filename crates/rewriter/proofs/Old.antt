@@ -1,7 +1,7 @@
 -- What a linked class has: its fields, and of each method its code and its mark.
 use Rattle.std.proofs.Common.{◌≡◌, ℕ, zero, suc, ◌<◌, ◌≤◌, Bool, true, false, not, ◌&&◌, ◌||◌, List, [], ◌∷◌, length, map, Option, Some, None, Result, Ok, Err, refl, sym, ap, ◌∙◌, subst, arith, eqb-true}
 use Rattle.std.specs.Prelude.{if◌then◌else◌, option_map, option_and_then, nat_le, slice_get, slice_index_or, bytes_eq, zip}
-use Rattle.std.specs.List.{list_all, list_any}
+use Rattle.std.specs.List.{AllByRecursion, list_all, list_any}
 use Rattle.std.proofs.lemmas.Bool.Decides.{nat_tests}
 use Rattle.jmodel.specs.declared.refusal.Refusal.{Refusal}
 use Rattle.jmodel.specs.declared.op.Op.{Op}
@@ -15,7 +15,7 @@ use Rattle.jmodel.specs.Reading.{◌>>=◌}
 use Rattle.jmodel.specs.Layout.{text_or_none}
 use Rattle.jmodel.specs.ClassRules.{IsSameMember, AreDistinct}
 use Rattle.jmodel.specs.Decoding.{name_of, in_front, each, ops_of}
-use Rattle.jmodel.specs.Linking.{Shape, shape_of, catch_of, descriptor_of, Coded, decoded, all_decoded, make_method, coded_method, is_form_class, is_form_field, is_form_constant, is_form_method, is_reserved, retries_of, program_methods, is_empty, is_form_instr, is_form_op, is_form_method_of, if_form, form_method, symbols_of, original_fields, form_methods, form_program, program_in, linked}
+use Rattle.jmodel.specs.Linking.{Shape, shape_of, catch_of, descriptor_of, Coded, decoded, all_decoded, make_method, coded_method, is_form_class, is_form_field, is_form_constant, is_form_method, is_reserved, retries_of, program_methods, is_empty, is_form_instr, is_form_op, is_form_method_of, if_form, form_method, symbols_of, original_fields, form_methods, form_program, program_in, linked, is_name}
 use Rattle.std.proofs.lemmas.Slice.Eq.{bytes_eq-Decides}
 use Rattle.jmodel.specs.declared.name.MethodName.{MethodName}
 use Rattle.rewriter.proofs.Added.{two_true}
@@ -58,17 +58,22 @@ original c P h = choose (is_form_class c) refl h
 
 -- ---- the parts of the form
 
+at_most : (n m : ℕ) → nat_le n m ≡ true → n ≤ m
+at_most n m t = grind (arith, nat_tests)
+
 pub record Form (c : ClassFile) : Type 0 where
   pub pool : list_all is_form_constant c.pool ≡ true
   pub fields : list_all (is_form_field c.pool) c.fields ≡ true
-  pub methods : list_all (is_form_method c.pool) c.methods ≡ true
+  pub few : length (program_methods c) ≤ 100
+  pub methods : list_all (is_form_method c) c.methods ≡ true
 
 pub form_of : (c : ClassFile) → is_form_class c ≡ true → Form c
 form_of c h =
     let e = two_true _ _ h in
     let d = two_true _ _ e.0 in
     let b = two_true _ _ d.0 in
-    record { pool = b.0; fields = (two_true _ _ d.1).1; methods = (two_true _ _ e.1).1 }
+    let m = two_true (nat_le (length (program_methods c)) 100) (list_all (is_form_method c) c.methods) e.1 in
+    record { pool = b.0; fields = (two_true _ _ d.1).1; few = at_most (length (program_methods c)) 100 m.0; methods = m.1 }
 
 -- ---- texts of the pool
 
@@ -96,12 +101,13 @@ pub record IsOld (c : ClassFile) (fields : List Field) (m : Member) (k : Method)
   pub decodes : decoded c m ≡ Ok coded
   pub shape : Shape
   pub shaped : shape_of (descriptor_of c.pool m) ≡ Some shape
-  pub ops : ops_of (symbols_of c fields) coded.instrs ≡ Some k.ops
+  pub ops : ops_of (symbols_of c fields (program_methods c)) coded.instrs ≡ Some k.ops
   pub name : k.name ≡ name_of c m
   pub params : k.params ≡ shape.params
   pub locals : k.locals ≡ coded.code.max_locals
   pub max_stack : k.max_stack ≡ coded.code.max_stack
   pub gives : k.gives ≡ shape.gives
+  pub counted : k.counted ≡ true
   pub retries : k.retries ≡ retries_of c.pool m
   pub no_entries : coded.code.handlers ≡ []
   pub no_catches : k.catches ≡ []
@@ -114,14 +120,11 @@ none_left : {A : Type 0} (xs : List A) → is_empty xs ≡ true → xs ≡ []
 none_left [] h = refl
 none_left (x ∷ xs) h = absurd (omega (arith, eqb-true (length (x ∷ xs)) 0 h))
 
-at_most : (n m : ℕ) → nat_le n m ≡ true → n ≤ m
-at_most n m t = grind (arith, nat_tests)
-
-old_of : (c : ClassFile) (fields : List Field) (m : Member) (k : Method) (coded : Coded) → decoded c m ≡ Ok coded → form_method (symbols_of c fields) m coded ≡ Some k → IsOld c fields m k
-old_of c fields m k coded d h = go (coded_method (symbols_of c fields) true m coded) refl h
+old_of : (c : ClassFile) (fields : List Field) (m : Member) (k : Method) (coded : Coded) → decoded c m ≡ Ok coded → form_method (symbols_of c fields (program_methods c)) m coded ≡ Some k → IsOld c fields m k
+old_of c fields m k coded d h = go (coded_method (symbols_of c fields (program_methods c)) true m coded) refl h
   where
-    parts : (s : Option Shape) (os : Option (List Op)) (cs : Option (List Catch)) → shape_of (descriptor_of c.pool m) ≡ s → ops_of (symbols_of c fields) coded.instrs ≡ os
-        → each (catch_of c.pool coded.instrs (length coded.code.code)) coded.code.handlers ≡ cs → make_method (symbols_of c fields) true m coded.code s os cs ≡ Some k → is_form_method_of coded k ≡ true → IsOld c fields m k
+    parts : (s : Option Shape) (os : Option (List Op)) (cs : Option (List Catch)) → shape_of (descriptor_of c.pool m) ≡ s → ops_of (symbols_of c fields (program_methods c)) coded.instrs ≡ os
+        → each (catch_of c.pool coded.instrs (length coded.code.code)) coded.code.handlers ≡ cs → make_method (symbols_of c fields (program_methods c)) true m coded.code s os cs ≡ Some k → is_form_method_of coded k ≡ true → IsOld c fields m k
     parts None os cs es eo ec h f = cc
     parts (Some s) None cs es eo ec h f = cc
     parts (Some s) (Some os) None es eo ec h f = cc
@@ -144,6 +147,7 @@ old_of c fields m k coded d h = go (coded_method (symbols_of c fields) true m co
           locals = sym (ap (λ (y : Method). y.locals) is);
           max_stack = sym (ap (λ (y : Method). y.max_stack) is);
           gives = sym (ap (λ (y : Method). y.gives) is);
+          counted = sym (ap (λ (y : Method). y.counted) is);
           retries = sym (ap (λ (y : Method). y.retries) is);
           no_entries = none;
           no_catches = sym (ap (λ (y : Method). y.catches) is) ∙ no_cs;
@@ -153,12 +157,12 @@ old_of c fields m k coded d h = go (coded_method (symbols_of c fields) true m co
           fits = x.1;
         }
 
-    go : (o : Option Method) → coded_method (symbols_of c fields) true m coded ≡ o → if_form coded o ≡ Some k → IsOld c fields m k
+    go : (o : Option Method) → coded_method (symbols_of c fields (program_methods c)) true m coded ≡ o → if_form coded o ≡ Some k → IsOld c fields m k
     go None e h = cc
     go (Some p) e h =
         let t = chosen (is_form_method_of coded p) (Some p) k h in
         let same : p ≡ k = some_is p k t.1 in
-        parts (shape_of (descriptor_of c.pool m)) (ops_of (symbols_of c fields) coded.instrs) (each (catch_of c.pool coded.instrs (length coded.code.code)) coded.code.handlers) refl refl refl (e ∙ ap some same)
+        parts (shape_of (descriptor_of c.pool m)) (ops_of (symbols_of c fields (program_methods c)) coded.instrs) (each (catch_of c.pool coded.instrs (length coded.code.code)) coded.code.handlers) refl refl refl (e ∙ ap some same)
         (subst (λ (y : Method). is_form_method_of coded y ≡ true) same t.0)
 
 abbrev pub AllOld : ClassFile → List Field → List Member → List Method → Type 0
@@ -168,14 +172,14 @@ AllOld c fields (m ∷ ms) [] = ⊥
 AllOld c fields (m ∷ ms) (k ∷ ks) = IsOld c fields m k × AllOld c fields ms ks
 
 pub all_old : (c : ClassFile) (fields : List Field) (ms : List Member) (cs : List Coded) (ks : List Method) → all_decoded c ms ≡ Ok cs
-    → each (λ (p : Member × Coded). form_method (symbols_of c fields) p.0 p.1) (zip ms cs) ≡ Some ks → AllOld c fields ms ks
+    → each (λ (p : Member × Coded). form_method (symbols_of c fields (program_methods c)) p.0 p.1) (zip ms cs) ≡ Some ks → AllOld c fields ms ks
 all_old c fields [] cs [] d e = tt
 all_old c fields [] cs (k ∷ ks) d e = absurd cc
 all_old c fields (m ∷ ms) cs ks d e = decode (decoded c m) refl (all_decoded c ms) refl d e (λ us zs f t. all_old c fields ms us zs f t)
   where
-    go : (k : Coded) (us : List Coded) → decoded c m ≡ Ok k → all_decoded c ms ≡ Ok us → (o : Option Method) → form_method (symbols_of c fields) m k ≡ o → (os : Option (List Method))
-        → ((us : List Coded) (zs : List Method) → all_decoded c ms ≡ Ok us → each (λ (p : Member × Coded). form_method (symbols_of c fields) p.0 p.1) (zip ms us) ≡ Some zs → AllOld c fields ms zs)
-        → each (λ (p : Member × Coded). form_method (symbols_of c fields) p.0 p.1) (zip ms us) ≡ os → in_front o os ≡ Some ks → AllOld c fields (m ∷ ms) ks
+    go : (k : Coded) (us : List Coded) → decoded c m ≡ Ok k → all_decoded c ms ≡ Ok us → (o : Option Method) → form_method (symbols_of c fields (program_methods c)) m k ≡ o → (os : Option (List Method))
+        → ((us : List Coded) (zs : List Method) → all_decoded c ms ≡ Ok us → each (λ (p : Member × Coded). form_method (symbols_of c fields (program_methods c)) p.0 p.1) (zip ms us) ≡ Some zs → AllOld c fields ms zs)
+        → each (λ (p : Member × Coded). form_method (symbols_of c fields (program_methods c)) p.0 p.1) (zip ms us) ≡ os → in_front o os ≡ Some ks → AllOld c fields (m ∷ ms) ks
     go k us dk du None p os r q h = absurd cc
     go k us dk du (Some y) p None r q h = absurd cc
     go k us dk du (Some y) p (Some zs) r q h =
@@ -183,15 +187,15 @@ all_old c fields (m ∷ ms) cs ks d e = decode (decoded c m) refl (all_decoded c
         subst (λ (l : List Method). AllOld c fields (m ∷ ms) l) list (old_of c fields m y k dk p, r us zs du q)
 
     decode : (a : Result Coded Refusal) → decoded c m ≡ a → (b : Result (List Coded) Refusal) → all_decoded c ms ≡ b → (a >>= λ k. b >>= λ ks. Ok (k ∷ ks)) ≡ Ok cs
-        → each (λ (p : Member × Coded). form_method (symbols_of c fields) p.0 p.1) (zip (m ∷ ms) cs) ≡ Some ks
-        → ((us : List Coded) (zs : List Method) → all_decoded c ms ≡ Ok us → each (λ (p : Member × Coded). form_method (symbols_of c fields) p.0 p.1) (zip ms us) ≡ Some zs → AllOld c fields ms zs)
+        → each (λ (p : Member × Coded). form_method (symbols_of c fields (program_methods c)) p.0 p.1) (zip (m ∷ ms) cs) ≡ Some ks
+        → ((us : List Coded) (zs : List Method) → all_decoded c ms ≡ Ok us → each (λ (p : Member × Coded). form_method (symbols_of c fields (program_methods c)) p.0 p.1) (zip ms us) ≡ Some zs → AllOld c fields ms zs)
         → AllOld c fields (m ∷ ms) ks
     decode (Err x) ea b eb d e r = absurd cc
     decode (Ok k) ea (Err x) eb d e r = absurd cc
     decode (Ok k) ea (Ok us) eb d e r =
         let list : k ∷ us ≡ cs = cc in
-        let told = subst (λ (l : List Coded). each (λ (p : Member × Coded). form_method (symbols_of c fields) p.0 p.1) (zip (m ∷ ms) l) ≡ Some ks) (sym list) e in
-        go k us ea eb (form_method (symbols_of c fields) m k) refl (each (λ (p : Member × Coded). form_method (symbols_of c fields) p.0 p.1) (zip ms us)) r refl told
+        let told = subst (λ (l : List Coded). each (λ (p : Member × Coded). form_method (symbols_of c fields (program_methods c)) p.0 p.1) (zip (m ∷ ms) l) ≡ Some ks) (sym list) e in
+        go k us ea eb (form_method (symbols_of c fields (program_methods c)) m k) refl (each (λ (p : Member × Coded). form_method (symbols_of c fields (program_methods c)) p.0 p.1) (zip ms us)) r refl told
 
 -- ---- names that are apart
 
@@ -279,3 +283,32 @@ module _ (c : ClassFile) (fields : List Field) where
     none_same m k B.0.0 B.0.1 B.0.2 B.0.3 h.0.name ms ks (λ j e less. D 0 (suc j) e (omega arith) (omega (arith, less))) B.1 h.1,
     methods_apart ms ks (λ i j e less last. D (suc i) (suc j) e (omega (arith, less)) (omega (arith, last))) B.1 h.1,
   )
+
+  -- ---- a member that is none of the program's methods
+
+  three_true : (a b d : Bool) → (a && b && d) ≡ true → (a ≡ true) × (b ≡ true)
+  three_true true true d h = (refl, refl)
+  three_true true false d h = cc
+  three_true false b d h = cc
+
+  named_same : (m x : Member) (j : Method) (n d n' d' : List ℕ) → utf8 c.pool m.name ≡ Some n → utf8 c.pool m.descriptor ≡ Some d → utf8 c.pool x.name ≡ Some n' → utf8 c.pool x.descriptor ≡ Some d'
+      → j.name ≡ name_of c x → is_name (name_of c m) j.name ≡ true → IsSameMember c.pool m x
+  named_same m x j n d n' d' mn md xn xd jn h =
+      let t = three_true (bytes_eq (name_of c m).name j.name.name) (bytes_eq (name_of c m).descriptor j.name.descriptor) _ h in
+      let a = (bytes_eq-Decides (name_of c m).name j.name.name).0 t.0 in
+      let b = (bytes_eq-Decides (name_of c m).descriptor j.name.descriptor).0 t.1 in
+      let p1 : n ≡ n' = sym (ap text_or_none mn) ∙ a ∙ ap (λ (y : MethodName). y.name) jn ∙ ap text_or_none xn in
+      let p2 : d ≡ d' = sym (ap text_or_none md) ∙ b ∙ ap (λ (y : MethodName). y.descriptor) jn ∙ ap text_or_none xd in
+      (mn ∙ ap some p1 ∙ sym xn, md ∙ ap some p2 ∙ sym xd)
+
+  -- no method has the name and the descriptor of a member that is none of theirs
+  pub none_called : (m : Member) (n d : List ℕ) → utf8 c.pool m.name ≡ Some n → utf8 c.pool m.descriptor ≡ Some d → (ms : List Member) (ks : List Method)
+      → AllByRecursion (λ (x : Member). IsSameMember c.pool m x → ⊥) ms → AreBoth c.pool ms → AllOld c fields ms ks → list_any (λ (j : Method). is_name (name_of c m) j.name) ks ≡ false
+  none_called m n d mn md [] [] D B h = refl
+  none_called m n d mn md [] (j ∷ ks) D B h = absurd h
+  none_called m n d mn md (x ∷ ms) [] D B h = absurd h
+  none_called m n d mn md (x ∷ ms) (j ∷ ks) D B h = or_none _ _ (differs (is_name (name_of c m) j.name) refl) (none_called m n d mn md ms ks D.1 B.1 h.1)
+    where
+      differs : (b : Bool) → is_name (name_of c m) j.name ≡ b → b ≡ false
+      differs true e = absurd (D.0 (named_same m x j n d B.0.0 B.0.1 mn md B.0.2 B.0.3 h.0.name e))
+      differs false e = refl

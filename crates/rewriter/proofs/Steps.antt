@@ -1,8 +1,6 @@
 -- Loops over instructions, methods and parameters: one step more.
-use Rattle.std.proofs.Common.{◌≡◌, ℕ, zero, suc, ◌+◌, ◌<◌, ◌≤◌, Bool, true, false, List, [], ◌∷◌, ◌++◌, length, map, drop, get_or, Option, Some, None, Result, Ok, Bor, sym, ap, subst, ◌∙◌, append_assoc, arith, refl}
-use Rattle.std.specs.Prelude.{slice_get, zip, min, IfSome, option_copied, if◌then◌else◌}
-use Rattle.std.specs.Slice.{IsItemAt}
-use Rattle.std.proofs.lemmas.Option.{slice_get_past, slice_get_read}
+use Rattle.std.proofs.Common.{◌≡◌, ℕ, zero, suc, ◌+◌, ◌<◌, ◌≤◌, List, [], ◌∷◌, ◌++◌, length, map, drop, get_or, None, Bor, sym, ap, subst, ◌∙◌, append_assoc, arith}
+use Rattle.std.specs.Prelude.{slice_get, zip, min}
 use Rattle.std.specs.List.{AllByRecursion}
 use Rattle.std.proofs.Math.ListN.{get_or-map}
 use Rattle.std.proofs.lemmas.List.{length-map, length-append}
@@ -10,18 +8,13 @@ use Rattle.std.proofs.lemmas.Slice.Zip.{length-zip, get_or-zip}
 use Rattle.jmodel.specs.declared.class_file.Handler.{Handler}
 use Rattle.jmodel.specs.declared.instruction.Instr.{Instr}
 use Rattle.jmodel.specs.declared.name.MethodName.{MethodName}
-use Rattle.jmodel.specs.declared.refusal.Halt.{Halt}
-use Rattle.jmodel.specs.declared.refusal.Refusal.{Refusal}
 use Rattle.jmodel.specs.declared.op.Op.{Op}
-use Rattle.jmodel.specs.ClassFile.{Member, Pool, ClassFile}
+use Rattle.jmodel.specs.ClassFile.{Member}
 use Rattle.jmodel.specs.Name.{printed}
-use Rattle.jmodel.specs.Program.{Method, Program}
-use Rattle.jmodel.specs.Linking.{is_program_method}
-use Rattle.jmodel.specs.Reading.{Fails}
+use Rattle.jmodel.specs.Program.{Method}
 use Rattle.jmodel.specs.Relocation.{Block}
 use Rattle.rewriter.specs.Members.{Names, load_int, int_loads, block, block_instrs, blocks_from, of_method, laid_bytes}
-use Rattle.rewriter.specs.Rewritten.{wrapper_if, replaced, number_behind, old_from}
-use Rattle.rewriter.proofs.Grow.{item_is, with_front, old_goes_on, old_ends}
+use Rattle.rewriter.proofs.Grow.{item_is}
 
 -- one more block
 pub block_step : (front : List Block) (instrs : List Instr) (total : List Block) (names : Names) (p : ℕ) (ops : List Op) (n : ℕ) (list : List Instr) (i : Instr) → n < length list → i ≡ get_or list n i
@@ -79,55 +72,6 @@ of_rest Q zero [] rest x h e = absurd cc
 of_rest Q (suc i) [] rest x h e = absurd cc
 of_rest {A} Q zero (y ∷ ys) rest x h e = let s : y ≡ x = cc in subst Q s h.0
 of_rest Q (suc i) (y ∷ ys) rest x h e = of_rest Q i ys rest x h.1 e
-
--- what holds of each item holds of the one of a place
-pub of_place : {A : Type 0} (Q : A → Type 0) (xs : List A) (i : ℕ) → AllByRecursion Q xs → IfSome (slice_get xs i) Q
-of_place Q [] i h = tt
-of_place Q (x ∷ xs) zero h = h.0
-of_place Q (x ∷ xs) (suc i) h = of_place Q xs i h.1
-
--- ---- old methods
-
--- what get gives
-pub got : {X : Type 0} (xs : List X) (i : ℕ) (o : Option (Bor X)) → IsItemAt xs i o → option_copied o ≡ slice_get xs i
-got xs i None h = sym (slice_get_past xs i h.3)
-got xs i (Some x) h = sym (slice_get_read xs (length xs) i x.now refl h.3.0 h.1)
-
-module _ (P : Program) (c : ClassFile) (n : ℕ) (m : Member) (pool : Pool) where
-  wrapped : (b : Bool) (o : Option Method) → b ≡ is_program_method c.pool m → b ≡ true → o ≡ slice_get P.methods n → wrapper_if c n o m pool ≡ replaced P c n m pool
-  wrapped b o is t same =
-      let test : is_program_method c.pool m ≡ true = sym is ∙ t in
-      ap (λ (x : Option Method). wrapper_if c n x m pool) same ∙ sym (ap (λ (x : Bool). if x then wrapper_if c n (slice_get P.methods n) m pool else Ok (m, pool)) test)
-
-  kept : (b : Bool) → b ≡ is_program_method c.pool m → b ≡ false → replaced P c n m pool ≡ Ok (m, pool)
-  kept b is t = ap (λ (x : Bool). if x then wrapper_if c n (slice_get P.methods n) m pool else Ok (m, pool)) (sym is ∙ t)
-
-  counted : (b : Bool) → b ≡ is_program_method c.pool m → b ≡ true → number_behind c.pool n m ≡ n + 1
-  counted b is t = ap (λ (x : Bool). if x then n + 1 else n) (sym is ∙ t)
-
-  not_counted : (b : Bool) → b ≡ is_program_method c.pool m → b ≡ false → number_behind c.pool n m ≡ n
-  not_counted b is t = ap (λ (x : Bool). if x then n + 1 else n) (sym is ∙ t)
-
-module _ (P : Program) (c : ClassFile) (front ms : List Member) (n i : ℕ) (m : Member) (pool : Pool) (total : Result (List Member × Pool) Refusal) (within : i < length ms) (is : m ≡ get_or ms i m) (b : Bool) (test : b ≡ is_program_method c.pool m)
-    (so_far : with_front front (old_from P c n (drop i ms) pool) ≡ total) where
-  item : drop i ms ≡ m ∷ drop (i + 1) ms
-  item = item_is ms i m within is
-
-  -- a wrapper can't be made
-  pub wrapper_fails : (e : Halt) (o : Option Method) → b ≡ true → o ≡ slice_get P.methods n → Fails e (wrapper_if c n o m pool) → Fails e total
-  wrapper_fails e o t same fails = old_ends P c e front ms n i m pool total item (subst (Fails e) (wrapped P c n m pool b o test t same) fails) so_far
-
-  -- a wrapper more
-  pub wrapper_put : (o : Option Method) (y : Member) (next : Pool) → b ≡ true → o ≡ slice_get P.methods n → wrapper_if c n o m pool ≡ Ok (y, next) → with_front (front ++ y ∷ []) (old_from P c (n + 1) (drop (i + 1) ms) next) ≡ total
-  wrapper_put o y next t same gives =
-      subst (λ (k : ℕ). with_front (front ++ y ∷ []) (old_from P c k (drop (i + 1) ms) next) ≡ total) (counted P c n m pool b test t)
-      (old_goes_on P c front ms n i m y pool next total item (sym (wrapped P c n m pool b o test t same) ∙ gives) so_far)
-
-  -- another method more
-  pub copy_put : (y : Member) → b ≡ false → y ≡ m → with_front (front ++ y ∷ []) (old_from P c n (drop (i + 1) ms) pool) ≡ total
-  copy_put y t same =
-      subst (λ (k : ℕ). with_front (front ++ y ∷ []) (old_from P c k (drop (i + 1) ms) pool) ≡ total) (not_counted P c n m pool b test t)
-      (old_goes_on P c front ms n i m y pool pool total item (kept P c n m pool b test t ∙ ap (λ (x : Member). Ok (x, pool)) (sym same)) so_far)
 
 -- the bytes of the same parts
 pub same_bytes : (name name2 : MethodName) (stack stack2 locals locals2 : ℕ) (bs bs2 : List Block) (hs hs2 : List Handler) → name ≡ name2 → stack ≡ stack2 → locals ≡ locals2 → bs ≡ bs2 → hs ≡ hs2

@@ -1,5 +1,5 @@
 -- What names stand for in a rewritten class.
-use Rattle.std.proofs.Common.{◌≡◌, ℕ, zero, suc, ◌+◌, Bool, true, false, not, ◌&&◌, ◌||◌, List, [], ◌∷◌, ◌++◌, length, map, Option, Some, None, refl, sym, ap, ◌∙◌, subst, ◌<◌, ◌≤◌, arith}
+use Rattle.std.proofs.Common.{◌≡◌, ◌⊎◌, inl, inr, get_or, ℕ, zero, suc, ◌+◌, Bool, true, false, not, ◌&&◌, ◌||◌, List, [], ◌∷◌, ◌++◌, length, map, Option, Some, None, refl, sym, ap, ◌∙◌, subst, ◌<◌, ◌≤◌, arith}
 use Rattle.std.specs.Prelude.{codes, bytes_eq, slice_get, find, filter, zip, nat_le, option_and_then, IsSome, IsSomeAnd}
 use Rattle.std.specs.Int.{w64, cast_signed}
 use Rattle.std.specs.List.{list_any, list_all, flat_map, AllByRecursion}
@@ -7,30 +7,33 @@ use Rattle.std.proofs.lemmas.List.Concat.{flat_map-cons}
 use Rattle.std.proofs.lemmas.List.Kept.{AllPairs-filter}
 use Rattle.std.proofs.lemmas.List.Folds.{list_all-append}
 use Rattle.std.proofs.lemmas.List.Elements.{filter-append}
+use Rattle.std.proofs.lemmas.Option.{get_or_from_slice_get}
 use Rattle.jmodel.specs.declared.name.MethodName.{MethodName}
 use Rattle.jmodel.specs.declared.op.Op.TheVariants as op
 use Rattle.jmodel.specs.declared.op.WordType.TheVariants as word
 use Rattle.jmodel.specs.ClassFile.{Member, Pool, ClassFile}
-use Rattle.jmodel.specs.Pool.{utf8, class_name}
+use Rattle.jmodel.specs.Pool.{utf8, class_name, MemberName}
 use Rattle.jmodel.specs.ClassRules.{IsAttribute, IsClassFile, IsField, IsMethod, IsSameMember, same_text}
 use Rattle.jmodel.specs.Program.{Field, Method, Program}
 use Rattle.jmodel.specs.Layout.{text_or_none, fields_from, is_static, statics}
 use Rattle.jmodel.specs.DescriptorReading.{signature_of}
 use Rattle.jmodel.specs.Rewriting.{with_context, base, offset, getter, setter, duplicate}
 use Rattle.jmodel.specs.Constants.{long_value}
-use Rattle.jmodel.specs.Decoding.{Symbols, own_name, name_of, get_op, static_call_op, is_member}
-use Rattle.jmodel.specs.Linking.{descriptor_of, has_context, is_form_constant, has_part, symbols_of, original_fields, is_marked, takes_context, is_program_method, program_methods, is_form_field, is_form_method, is_reserved}
+use Rattle.jmodel.specs.Decoding.{Symbols, own_name, name_of, is_method_of, method_number, get_op, static_call_op, is_member}
+use Rattle.jmodel.specs.Linking.{descriptor_of, has_context, has_part, symbols_of, original_fields, is_marked, takes_context, program_methods, is_name, is_rewritten_method, rewritten_methods, is_form_field, is_form_method, is_form_attribute, is_reserved}
+use Rattle.jmodel.specs.Taken.{calls, is_found, is_taken}
 use Rattle.rewriter.specs.declared.accessors.Accessors.{Accessors}
-use Rattle.rewriter.specs.Members.{Names, getter_name, setter_name, getter_type, setter_type, address_name, with_code}
+use Rattle.rewriter.specs.Members.{Names, getter_name, setter_name, getter_type, setter_type, address_name}
 use Rattle.rewriter.proofs.Contexts.{marker, context_taken, no_context, not_plain, getter_signature, setter_signature}
-use Rattle.rewriter.specs.Rewritten.{number_behind, both_of}
+use Rattle.rewriter.specs.Rewritten.{number_behind, id_behind, both_of}
 use Rattle.rewriter.proofs.Grown.{utf8_grown, class_grown}
 use Rattle.rewriter.proofs.Added.{two_true, same_text_is}
-use Rattle.rewriter.proofs.Positions.{same, find_behind, no_such_end}
-use Rattle.rewriter.proofs.Old.{Original, Form, form_of, IsOld, AllOld, all_old, AreNamed, AreTyped, AreBoth, AreApart, AreApartMethods, own_apart, methods_apart, text_name, free_text}
+use Rattle.rewriter.proofs.Positions.{at_position, at_front, all_pass, same, find_behind, no_such_end}
+use Rattle.rewriter.proofs.Pairs.{position_at}
+use Rattle.rewriter.proofs.Old.{Original, Form, form_of, IsOld, AllOld, all_old, AreNamed, AreTyped, AreBoth, AreApart, AreApartMethods, own_apart, methods_apart, text_name, free_text, none_called}
 use Rattle.rewriter.proofs.Puts.{AreAccessors}
-use Rattle.rewriter.proofs.Marks.{or_first, or_later, mark_swapped, stays_out}
-use Rattle.rewriter.proofs.Whole.{Each, IsWrapped, EachReplaced, IsCopyOf, Rewrites}
+use Rattle.rewriter.proofs.Marks.{or_first, or_later, neither, context_same}
+use Rattle.rewriter.proofs.Whole.{Each, IsReplaced, EachReplaced, IsCopyOf, Rewrites}
 use Rattle.rewriter.proofs.Numbers.{wanted, name_as, old_names, accessor_names, copy_names, all_names, field_names, AreFree, getter_number, setter_number, copy_number, number_of_field, AreOwn, address_found}
 
 filter_keeps : {A : Type 0} (p : A → Bool) (x : A) (xs : List A) → p x ≡ true → filter p (x ∷ xs) ≡ x ∷ filter p xs
@@ -103,32 +106,40 @@ both_where pool p (m ∷ ms) h = go (p m) refl (both_where pool p ms h.1)
     go true e rest = rw e (h.0, rest)
     go false e rest = rw e rest
 
--- each passes where it is kept
-abbrev pub AllPass : (Member → Bool) → List Member → Type 0
-AllPass p ms = AllByRecursion (λ (m : Member). p m ≡ true) ms
+-- the attributes of each are of the form
+abbrev pub AreFormal : Pool → List Member → Type 0
+AreFormal pool ms = AllByRecursion (λ (m : Member). list_all (is_form_attribute pool) m.attributes ≡ true) ms
 
--- each is marked
-abbrev pub AreMarked : Pool → List Member → Type 0
-AreMarked pool ms = AllByRecursion (λ (m : Member). is_marked pool m ≡ true) ms
+formal_methods : (c : ClassFile) (ms : List Member) → list_all (is_form_method c) ms ≡ true → AreFormal c.pool ms
+formal_methods c [] h = tt
+formal_methods c (m ∷ ms) h = let t = two_true _ _ h in ((two_true (list_all (is_form_attribute c.pool) m.attributes) _ t.0).0, formal_methods c ms t.1)
 
-passing : (p : Member → Bool) (ms : List Member) → AllPass p (filter p ms)
-passing p [] = tt
-passing p (m ∷ ms) = go (p m) refl (passing p ms)
+formal_where : (pool : Pool) (p : Member → Bool) (ms : List Member) → AreFormal pool ms → AreFormal pool (filter p ms)
+formal_where pool p [] h = tt
+formal_where pool p (m ∷ ms) h = go (p m) refl (formal_where pool p ms h.1)
   where
-    go : (b : Bool) → p m ≡ b → AllPass p (filter p ms) → AllPass p (filter p (m ∷ ms))
-    go true e rest = rw e (e, rest)
+    go : (b : Bool) → p m ≡ b → AreFormal pool (filter p ms) → AreFormal pool (filter p (m ∷ ms))
+    go true e rest = rw e (h.0, rest)
     go false e rest = rw e rest
 
-old_length : (c : ClassFile) (fields : List Field) (ms : List Member) (ks : List Method) → AllOld c fields ms ks → length ms ≡ length ks
-old_length c fields [] [] h = refl
-old_length c fields [] (k ∷ ks) h = absurd h
-old_length c fields (m ∷ ms) [] h = absurd h
-old_length c fields (m ∷ ms) (k ∷ ks) h = omega (arith, old_length c fields ms ks h.1)
+below_at : {A : Type 0} (xs : List A) (i : ℕ) (x : A) → slice_get xs i ≡ Some x → i < length xs
+below_at [] i x h = absurd cc
+below_at (y ∷ xs) zero x h = omega arith
+below_at (y ∷ xs) (suc i) x h = let b = below_at xs i x h in omega (arith, b)
 
-some_at : {A : Type 0} (xs : List A) (i : ℕ) → i < length xs → (x : A) × (slice_get xs i ≡ Some x)
-some_at [] i h = absurd (omega arith)
-some_at (x ∷ xs) zero h = (x, refl)
-some_at (x ∷ xs) (suc i) h = some_at xs i (omega arith)
+any_at : {A : Type 0} (p : A → Bool) (xs : List A) (i : ℕ) (x : A) → slice_get xs i ≡ Some x → p x ≡ true → list_any p xs ≡ true
+any_at p [] i x e h = cc
+any_at {A} p (a ∷ xs) zero x e h = let s : x ≡ a = cc in or_first (p a) (list_any p xs) (ap p (sym s) ∙ h)
+any_at p (a ∷ xs) (suc i) x e h = or_later (p a) (list_any p xs) (any_at p xs i x e h)
+
+-- what holds of each that passes, by its place, holds of those that are kept
+kept_all : (Q : Member → Type 0) (p : Member → Bool) (ms : List Member) → ((j : ℕ) (x : Member) → slice_get ms j ≡ Some x → p x ≡ true → Q x) → AllByRecursion Q (filter p ms)
+kept_all Q p [] h = tt
+kept_all Q p (m ∷ ms) h = go (p m) refl (kept_all Q p ms (λ j x e t. h (suc j) x e t))
+  where
+    go : (b : Bool) → p m ≡ b → AllByRecursion Q (filter p ms) → AllByRecursion Q (filter p (m ∷ ms))
+    go true e rest = rw e (h 0 m refl e, rest)
+    go false e rest = rw e rest
 
 abbrev pub AreGood : List Field → Type 0
 AreGood [] = Unit {0}
@@ -177,16 +188,6 @@ no_getter text h = (or_parts _ _ (or_parts _ _ (or_parts _ _ (or_parts _ _ h).0)
 no_setter : (text : List ℕ) → is_reserved text ≡ false → has_part (codes "__Setter$") text ≡ false
 no_setter text h = (or_parts _ _ (or_parts _ _ (or_parts _ _ h).0).0).1
 
--- a method of the program of an original class is marked
-marked_where : (pool : Pool) (m : Member) (d : List ℕ) → list_all is_form_constant pool ≡ true → utf8 pool m.descriptor ≡ Some d → is_program_method pool m ≡ true → is_marked pool m ≡ true
-marked_where pool m d form typed h =
-    let none : takes_context pool m ≡ false = rw typed (no_context d (no_marker d (free_text pool m.descriptor d form typed))) in
-    go (is_marked pool m) (takes_context pool m) none h
-  where
-    go : (a b : Bool) → b ≡ false → (a || b) ≡ true → a ≡ true
-    go true b f t = refl
-    go false b f t = cc
-
 -- what is known of the class, its program and the rewritten class
 pub record Known (c new : ClassFile) (P : Program) : Type 0 where
   pub rules : IsClassFile c
@@ -198,7 +199,7 @@ module _ (c new : ClassFile) (P : Program) (K : Known c new P) where
   own = own_name c
 
   abbrev pub table : Symbols
-  table = symbols_of new P.fields
+  table = symbols_of new P.fields (rewritten_methods P new)
 
   pub form : Form c
   form = form_of c K.original.form
@@ -230,10 +231,10 @@ module _ (c new : ClassFile) (P : Program) (K : Known c new P) where
       (own_apart c.pool (codes "I") (statics c) pairs (typed_statics c.pool c.fields form.fields) (named_where c.pool is_static c.fields all_fields_named))
 
   pub named : AreNamed c.pool (program_methods c)
-  named = named_where c.pool (is_program_method c.pool) c.methods (named_methods c.pool c.methods K.rules.methods)
+  named = named_where c.pool (is_taken c) c.methods (named_methods c.pool c.methods K.rules.methods)
 
   pub lawful : AreLawful c.pool (program_methods c)
-  lawful = lawful_where c.pool (is_program_method c.pool) c.methods (lawful_methods c.pool c.methods K.rules.methods)
+  lawful = lawful_where c.pool (is_taken c) c.methods (lawful_methods c.pool c.methods K.rules.methods)
 
   pub olds : AllOld c P.fields (program_methods c) P.methods
   olds =
@@ -241,19 +242,15 @@ module _ (c new : ClassFile) (P : Program) (K : Known c new P) where
       subst (λ (fs : List Field). AllOld c fs (program_methods c) P.methods) (sym e) (all_old c (original_fields c) (program_methods c) K.original.code P.methods K.original.decodes K.original.methods)
 
   pub both : AreBoth c.pool (program_methods c)
-  both = both_where c.pool (is_program_method c.pool) c.methods (both_methods c.pool c.methods K.rules.methods)
+  both = both_where c.pool (is_taken c) c.methods (both_methods c.pool c.methods K.rules.methods)
 
   pub apart : AreApartMethods P.methods
   apart =
-      let pairs = AllPairs-filter (λ a b. ¬ IsSameMember c.pool a b) (is_program_method c.pool) c.methods K.rules.distinct_methods in
+      let pairs = AllPairs-filter (λ a b. ¬ IsSameMember c.pool a b) (is_taken c) c.methods K.rules.distinct_methods in
       methods_apart c P.fields (program_methods c) P.methods pairs both olds
 
-  all_marked : (ms : List Member) → AreBoth c.pool ms → AllPass (is_program_method c.pool) ms → AreMarked c.pool ms
-  all_marked [] b p = tt
-  all_marked (m ∷ ms) b p = (marked_where c.pool m b.0.1 form.pool b.0.3 p.0, all_marked ms b.1 p.1)
-
-  pub marks : AreMarked c.pool (program_methods c)
-  marks = all_marked (program_methods c) both (passing (is_program_method c.pool) c.methods)
+  pub formal : AreFormal c.pool (program_methods c)
+  formal = formal_where c.pool (is_taken c) c.methods (formal_methods c c.methods form.methods)
 
   all_free : (ms : List Member) (ks : List Method) → AllOld c P.fields ms ks → AreBoth c.pool ms → AreFree ks
   all_free [] [] h b = tt
@@ -294,75 +291,169 @@ module _ (c new : ClassFile) (P : Program) (K : Known c new P) where
 
   -- ---- which methods of the rewritten class are its program's
 
-  -- a wrapper is marked
-  wrapper_in : (n : ℕ) (k : Method) (m x : Member) → AllByRecursion (IsAttribute c.pool) m.attributes → is_marked c.pool m ≡ true → IsWrapped c new.pool n k m x → is_program_method new.pool x ≡ true
-  wrapper_in n k m x L marked w =
-      let mark : is_marked new.pool (with_code c.pool w.bytes m) ≡ true = mark_swapped c.pool new.pool K.rewritten.grown w.bytes m.attributes marked in
-      ap (is_program_method new.pool) w.is ∙ or_first (is_marked new.pool (with_code c.pool w.bytes m)) (takes_context new.pool (with_code c.pool w.bytes m)) mark
+  as_names : (name name' descriptor descriptor' : List ℕ) → name ≡ name' → descriptor ≡ descriptor' → name_as (own_name new) name descriptor ≡ name_as (own_name c) name' descriptor'
+  as_names name name' descriptor descriptor' p q =
+      ap (λ (t : List ℕ). name_as t name descriptor) own_same ∙ ap (λ (t : List ℕ). name_as (own_name c) t descriptor) p ∙ ap (name_as (own_name c) name') q
+
+  -- a member of the same texts has the same name
+  pub name_kept : (m x : Member) (t d : List ℕ) → x.name ≡ m.name → x.descriptor ≡ m.descriptor → utf8 c.pool m.name ≡ Some t → utf8 c.pool m.descriptor ≡ Some d → name_of new x ≡ name_of c m
+  name_kept m x t d name descriptor named typed =
+      let first : text_or_none (utf8 new.pool x.name) ≡ text_or_none (utf8 c.pool m.name) =
+      ap (λ (i : ℕ). text_or_none (utf8 new.pool i)) name ∙ ap text_or_none (utf8_grown c.pool new.pool K.rewritten.grown m.name t named) ∙ sym (ap text_or_none named) in
+      let second : text_or_none (utf8 new.pool x.descriptor) ≡ text_or_none (utf8 c.pool m.descriptor) =
+      ap (λ (i : ℕ). text_or_none (utf8 new.pool i)) descriptor ∙ ap text_or_none (utf8_grown c.pool new.pool K.rewritten.grown m.descriptor d typed) ∙ sym (ap text_or_none typed) in
+      as_names _ _ _ _ first second
+
+  same_named : (n : MethodName) → is_name n n ≡ true
+  same_named n = all_pass _ _ _ (same n.name) (same n.descriptor) (same n.class)
+
+  -- a method of the program's names is in
+  named_in : (n : ℕ) (k : Method) (x : Member) → slice_get P.methods n ≡ Some k → name_of new x ≡ k.name → is_rewritten_method P new x ≡ true
+  named_in n k x at is =
+      or_later (takes_context new.pool x) (list_any (λ (j : Method). is_name (name_of new x) j.name) P.methods)
+      (any_at (λ (j : Method). is_name (name_of new x) j.name) P.methods n k at (ap (λ (y : MethodName). is_name y k.name) is ∙ same_named k.name))
 
   -- what takes a context is in
-  taker_in : (x : Member) → takes_context new.pool x ≡ true → is_program_method new.pool x ≡ true
-  taker_in x h = or_later (is_marked new.pool x) (takes_context new.pool x) h
+  taker_in : (x : Member) → takes_context new.pool x ≡ true → is_rewritten_method P new x ≡ true
+  taker_in x h = or_first (takes_context new.pool x) (list_any (λ (j : Method). is_name (name_of new x) j.name) P.methods) h
 
-  getter_in_program : (x : Member) → utf8 new.pool x.descriptor ≡ Some getter_type → is_program_method new.pool x ≡ true
-  getter_in_program x h = let s = getter_signature in taker_in x (rw h (rw s refl))
+  pub getter_takes : (x : Member) → utf8 new.pool x.descriptor ≡ Some getter_type → takes_context new.pool x ≡ true
+  getter_takes x h = let s = getter_signature in rw h (rw s refl)
 
-  setter_in_program : (x : Member) → utf8 new.pool x.descriptor ≡ Some setter_type → is_program_method new.pool x ≡ true
-  setter_in_program x h = let s = setter_signature in taker_in x (rw h (rw s refl))
+  pub setter_takes : (x : Member) → utf8 new.pool x.descriptor ≡ Some setter_type → takes_context new.pool x ≡ true
+  setter_takes x h = let s = setter_signature in rw h (rw s refl)
 
-  -- the wrapper of a method of a number
-  abbrev pub IsWrapper : Pool → ℕ → Member → Member → Type 0
-  IsWrapper Z n m x = (k : Method) → slice_get P.methods n ≡ Some k → IsWrapped c Z n k m x
+  -- an old method takes no context
+  pub takes_none : (m : Member) (d : List ℕ) → utf8 c.pool m.descriptor ≡ Some d → takes_context new.pool m ≡ false
+  takes_none m d typed =
+      context_same c.pool new.pool K.rewritten.grown m d typed ∙ (rw typed (no_context d (no_marker d (free_text c.pool m.descriptor d form.pool typed))))
 
-  old_program : (n : ℕ) (ms xs : List Member) → AllByRecursion (IsMethod c.pool) ms → list_all (is_form_method c.pool) ms ≡ true → n + length (filter (is_program_method c.pool) ms) ≤ length P.methods → EachReplaced P c new.pool n ms xs
-      → Each IsWrapper new.pool n (filter (is_program_method c.pool) ms) (filter (is_program_method new.pool) xs)
-  old_program n [] [] rules form few h = tt
-  old_program n [] (x ∷ xs) rules form few h = absurd h
-  old_program n (m ∷ ms) [] rules form few h = absurd h
-  old_program n (m ∷ ms) (x ∷ xs) rules form few h = let f = two_true _ _ form in go (is_program_method c.pool m) refl f.0 few (λ k l t. old_program k ms xs rules.1 f.1 l t) h.1
+  -- a marked method is taken
+  marked_taken : (i : ℕ) (m : Member) → slice_get c.methods i ≡ Some m → is_marked c.pool m ≡ true → is_taken c m ≡ true
+  marked_taken i m at marked = go (length c.methods) (below_at c.methods i m at)
     where
-      go : (b : Bool) → is_program_method c.pool m ≡ b → is_form_method c.pool m ≡ true → n + length (filter (is_program_method c.pool) (m ∷ ms)) ≤ length P.methods
-          → ((k : ℕ) → k + length (filter (is_program_method c.pool) ms) ≤ length P.methods → EachReplaced P c new.pool k ms xs → Each IsWrapper new.pool k (filter (is_program_method c.pool) ms) (filter (is_program_method new.pool) xs))
-          → EachReplaced P c new.pool (number_behind c.pool n m) ms xs
-          → Each IsWrapper new.pool n (filter (is_program_method c.pool) (m ∷ ms)) (filter (is_program_method new.pool) (x ∷ xs))
-      go true e form few rest t =
-          let kept = ap length (filter_keeps (is_program_method c.pool) m ms e) in
-          let at = some_at P.methods n (omega (arith, few, kept)) in
-          let w = h.0.wrapped e in
-          let typed = the_and (utf8 c.pool m.descriptor) _ rules.0.member.typed in
-          let marked = marked_where c.pool m typed.0 (form_of c K.original.form).pool typed.1 e in
-          let inside = wrapper_in n at.0 m x rules.0.member.attributes.each marked (w at.0 at.1) in
-          let next : number_behind c.pool n m ≡ n + 1 = rw e refl in
-          let from_next = subst (λ (k : ℕ). EachReplaced P c new.pool k ms xs) next t in
-          let A : List Member → Type 0 = λ us. Each IsWrapper new.pool n us (filter (is_program_method new.pool) (x ∷ xs)) in
-          let B : List Member → Type 0 = λ vs. Each IsWrapper new.pool n (m ∷ filter (is_program_method c.pool) ms) vs in
-          subst A (sym (filter_keeps (is_program_method c.pool) m ms e)) (subst B (sym (filter_keeps (is_program_method new.pool) x xs inside)) (w, rest (n + 1) (omega (arith, few, kept)) from_next))
-      go false e form few rest t =
-          let dropped = ap length (filter_drops (is_program_method c.pool) m ms e) in
-          let same = h.0.kept e in
-          let typed = the_and (utf8 c.pool m.descriptor) _ rules.0.member.typed in
-          let out = stays_out c.pool new.pool K.rewritten.grown m typed.0 rules.0.member.attributes.each typed.1 form e in
-          let outside : is_program_method new.pool x ≡ false = ap (is_program_method new.pool) same ∙ out in
-          let next : number_behind c.pool n m ≡ n = rw e refl in
-          let from_next = subst (λ (k : ℕ). EachReplaced P c new.pool k ms xs) next t in
-          let A : List Member → Type 0 = λ us. Each IsWrapper new.pool n us (filter (is_program_method new.pool) (x ∷ xs)) in
-          let B : List Member → Type 0 = λ vs. Each IsWrapper new.pool n (filter (is_program_method c.pool) ms) vs in
-          subst A (sym (filter_drops (is_program_method c.pool) m ms e)) (subst B (sym (filter_drops (is_program_method new.pool) x xs outside)) (rest n (omega (arith, few, dropped)) from_next))
+      go : (n : ℕ) → i < n → is_found c n m ≡ true
+      go zero h = absurd (omega (arith, h))
+      go (suc n) h = or_first (is_marked c.pool m) (list_any (λ k. calls c k m) (filter (is_found c n) c.methods)) marked
 
-  all_in : (xs : List Member) → list_all (is_program_method new.pool) xs ≡ true → filter (is_program_method new.pool) xs ≡ xs
+  -- members of which the one is taken and the other isn't have other names or descriptors
+  apart_members : (i j : ℕ) (m x : Member) → slice_get c.methods i ≡ Some m → slice_get c.methods j ≡ Some x → is_taken c m ≡ false → is_taken c x ≡ true → IsSameMember c.pool m x → ⊥
+  apart_members i j m x at there out inside h = elim (three i j) [ inl less ↦ below less | inr other ↦ elim other [ inl equal ↦ one equal | inr more ↦ above more ] ]
+    where
+      three : (a b : ℕ) → (a < b) ⊎ ((a ≡ b) ⊎ (b < a))
+      three a b = grind arith
+
+      first : get_or c.methods i m ≡ m
+      first = get_or_from_slice_get c.methods i m m at
+
+      second : get_or c.methods j m ≡ x
+      second = get_or_from_slice_get c.methods j x m there
+
+      below : i < j → ⊥
+      below less = K.rules.distinct_methods i j m less (below_at c.methods j x there)
+          (subst (λ (y : Member). IsSameMember c.pool y (get_or c.methods j m)) (sym first) (subst (IsSameMember c.pool m) (sym second) h))
+
+      above : j < i → ⊥
+      above more = K.rules.distinct_methods j i m more (below_at c.methods i m at)
+          (subst (λ (y : Member). IsSameMember c.pool y (get_or c.methods i m)) (sym second) (subst (IsSameMember c.pool x) (sym first) (sym h.0, sym h.1)))
+
+      one : i ≡ j → ⊥
+      one equal =
+          let both : Some m ≡ Some x = sym at ∙ ap (slice_get c.methods) equal ∙ there in
+          let is : m ≡ x = cc in
+          let t : is_taken c m ≡ is_taken c x = ap (is_taken c) is in
+          absurd (cc (t, out, inside))
+
+  -- a method that isn't taken is out
+  others_out : (i : ℕ) (m : Member) (t d : List ℕ) → slice_get c.methods i ≡ Some m → utf8 c.pool m.name ≡ Some t → utf8 c.pool m.descriptor ≡ Some d → is_taken c m ≡ false → is_rewritten_method P new m ≡ false
+  others_out i m t d at named typed out =
+      let away = kept_all (λ (x : Member). IsSameMember c.pool m x → ⊥) (is_taken c) c.methods (λ j x there inside. apart_members i j m x at there out inside) in
+      let none = none_called c P.fields m t d named typed (program_methods c) P.methods away both olds in
+      let name : list_any (λ (j : Method). is_name (name_of new m) j.name) P.methods ≡ false = ap (λ (y : MethodName). list_any (λ (j : Method). is_name y j.name) P.methods) (name_kept m m t d refl refl named typed) ∙ none in
+      neither (takes_context new.pool m) (list_any (λ (j : Method). is_name (name_of new m) j.name) P.methods) (takes_none m d typed) name
+
+  -- what stands in the place of a method has its name
+  replaced_names : (n id : ℕ) (k : Method) (m x : Member) → slice_get P.methods n ≡ Some k → IsReplaced P c new.pool n id m x → (x.name ≡ m.name) × (x.descriptor ≡ m.descriptor)
+  replaced_names n id k m x at h = go (is_marked c.pool m) refl
+    where
+      go : (b : Bool) → is_marked c.pool m ≡ b → (x.name ≡ m.name) × (x.descriptor ≡ m.descriptor)
+      go true e = let w = h.wrapped e k at in (ap (λ (y : Member). y.name) w.is, ap (λ (y : Member). y.descriptor) w.is)
+      go false e = let s = h.kept e in (ap (λ (y : Member). y.name) s, ap (λ (y : Member). y.descriptor) s)
+
+  -- what the taken methods became, before which so many are taken and so many are marked
+  abbrev pub EachTaken : ℕ → ℕ → List Member → List Member → Type 0
+  EachTaken n id [] [] = Unit {0}
+  EachTaken n id [] (x ∷ xs) = ⊥
+  EachTaken n id (m ∷ ms) [] = ⊥
+  EachTaken n id (m ∷ ms) (x ∷ xs) = IsReplaced P c new.pool n id m x × EachTaken (n + 1) (id_behind c.pool id m) ms xs
+
+  old_program : (i n id : ℕ) (ms xs : List Member) (ks : List Method) → AllByRecursion (IsMethod c.pool) ms → AllOld c P.fields (filter (is_taken c) ms) ks → ((j : ℕ) → slice_get c.methods (i + j) ≡ slice_get ms j)
+      → ((j : ℕ) → slice_get P.methods (n + j) ≡ slice_get ks j) → EachReplaced P c new.pool n id ms xs → EachTaken n id (filter (is_taken c) ms) (filter (is_rewritten_method P new) xs)
+  old_program i n id [] [] ks rules old at numbers h = tt
+  old_program i n id [] (x ∷ xs) ks rules old at numbers h = absurd h
+  old_program i n id (m ∷ ms) [] ks rules old at numbers h = absurd h
+  old_program i n id (m ∷ ms) (x ∷ xs) ks rules old at numbers h =
+      go (is_taken c m) refl ks old numbers (λ (a : ℕ) (b : ℕ) (ls : List Method) q r s. old_program (i + 1) a b ms xs ls rules.1 q next r s) h.1
+    where
+      next : (j : ℕ) → slice_get c.methods (i + 1 + j) ≡ slice_get ms j
+      next j = let z : i + 1 + j ≡ i + suc j = omega arith in ap (slice_get c.methods) z ∙ at (suc j)
+
+      here : slice_get c.methods i ≡ Some m
+      here = let z : i ≡ i + 0 = omega arith in ap (slice_get c.methods) z ∙ at 0
+
+      taken : (ks : List Method) → AllOld c P.fields (m ∷ filter (is_taken c) ms) ks → ((j : ℕ) → slice_get P.methods (n + j) ≡ slice_get ks j)
+          → ((ls : List Method) → AllOld c P.fields (filter (is_taken c) ms) ls → ((j : ℕ) → slice_get P.methods (n + 1 + j) ≡ slice_get ls j) → EachTaken (n + 1) (id_behind c.pool id m) (filter (is_taken c) ms) (filter (is_rewritten_method P new) xs))
+          → EachTaken n id (m ∷ filter (is_taken c) ms) (filter (is_rewritten_method P new) (x ∷ xs))
+      taken [] old numbers rest = absurd old
+      taken (k ∷ ls) old numbers rest =
+          let number : slice_get P.methods n ≡ Some k = (let z : n ≡ n + 0 = omega arith in ap (slice_get P.methods) z ∙ numbers 0) in
+          let later : (j : ℕ) → slice_get P.methods (n + 1 + j) ≡ slice_get ls j = λ j. let z : n + 1 + j ≡ n + suc j = omega arith in ap (slice_get P.methods) z ∙ numbers (suc j) in
+          let t = the_some (utf8 c.pool m.name) rules.0.member.named in
+          let d = the_and (utf8 c.pool m.descriptor) _ rules.0.member.typed in
+          let names = replaced_names n id k m x number h.0 in
+          let inside = named_in n k x number (name_kept m x t.0 d.0 names.0 names.1 t.1 d.1 ∙ sym old.0.name) in
+          subst (EachTaken n id (m ∷ filter (is_taken c) ms)) (sym (filter_keeps (is_rewritten_method P new) x xs inside)) (h.0, rest ls old.1 later)
+
+      go : (b : Bool) → is_taken c m ≡ b → (ks : List Method) → AllOld c P.fields (filter (is_taken c) (m ∷ ms)) ks → ((j : ℕ) → slice_get P.methods (n + j) ≡ slice_get ks j)
+          → ((a b : ℕ) (ls : List Method) → AllOld c P.fields (filter (is_taken c) ms) ls → ((j : ℕ) → slice_get P.methods (a + j) ≡ slice_get ls j) → EachReplaced P c new.pool a b ms xs
+          → EachTaken a b (filter (is_taken c) ms) (filter (is_rewritten_method P new) xs))
+          → EachReplaced P c new.pool (number_behind c n m) (id_behind c.pool id m) ms xs → EachTaken n id (filter (is_taken c) (m ∷ ms)) (filter (is_rewritten_method P new) (x ∷ xs))
+      go true e ks old numbers rest s =
+          let kept = filter_keeps (is_taken c) m ms e in
+          let count : number_behind c n m ≡ n + 1 = rw e refl in
+          let from_next = subst (λ (a : ℕ). EachReplaced P c new.pool a (id_behind c.pool id m) ms xs) count s in
+          subst (λ (us : List Member). EachTaken n id us (filter (is_rewritten_method P new) (x ∷ xs))) (sym kept)
+          (taken ks (subst (λ (us : List Member). AllOld c P.fields us ks) kept old) numbers (λ ls q r. rest (n + 1) (id_behind c.pool id m) ls q r from_next))
+      go false e ks old numbers rest s =
+          let dropped = filter_drops (is_taken c) m ms e in
+          let count : number_behind c n m ≡ n = rw e refl in
+          let unmarked : is_marked c.pool m ≡ false = unmarked_of (is_marked c.pool m) refl in
+          let same_id : id_behind c.pool id m ≡ id = rw unmarked refl in
+          let from_next = subst (λ (b : ℕ). EachReplaced P c new.pool n b ms xs) same_id (subst (λ (a : ℕ). EachReplaced P c new.pool a (id_behind c.pool id m) ms xs) count s) in
+          let t = the_some (utf8 c.pool m.name) rules.0.member.named in
+          let d = the_and (utf8 c.pool m.descriptor) _ rules.0.member.typed in
+          let outside : is_rewritten_method P new x ≡ false = ap (is_rewritten_method P new) (h.0.kept unmarked) ∙ others_out i m t.0 d.0 here t.1 d.1 e in
+          subst (λ (us : List Member). EachTaken n id us (filter (is_rewritten_method P new) (x ∷ xs))) (sym dropped)
+          (subst (EachTaken n id (filter (is_taken c) ms)) (sym (filter_drops (is_rewritten_method P new) x xs outside)) (rest n id ks (subst (λ (us : List Member). AllOld c P.fields us ks) dropped old) numbers from_next))
+        where
+          unmarked_of : (v : Bool) → is_marked c.pool m ≡ v → is_marked c.pool m ≡ false
+          unmarked_of true q = let t = marked_taken i m here q in absurd (cc (t, e))
+          unmarked_of false q = q
+
+  all_in : (xs : List Member) → list_all (is_rewritten_method P new) xs ≡ true → filter (is_rewritten_method P new) xs ≡ xs
   all_in [] h = refl
-  all_in (x ∷ xs) h = let f = two_true _ _ h in filter_keeps (is_program_method new.pool) x xs f.0 ∙ ap (λ (l : List Member). x ∷ l) (all_in xs f.1)
+  all_in (x ∷ xs) h = let f = two_true _ _ h in filter_keeps (is_rewritten_method P new) x xs f.0 ∙ ap (λ (l : List Member). x ∷ l) (all_in xs f.1)
 
-  accessors_in : (n : ℕ) (fs : List Field) (A : List Accessors) → Each (λ Z n f a. AreAccessors (own_name c) f Z a) new.pool n fs A → list_all (is_program_method new.pool) (flat_map both_of A) ≡ true
+  accessors_in : (n : ℕ) (fs : List Field) (A : List Accessors) → Each (λ Z n f a. AreAccessors (own_name c) f Z a) new.pool n fs A → list_all (is_rewritten_method P new) (flat_map both_of A) ≡ true
   accessors_in n [] [] h = refl
   accessors_in n [] (a ∷ A) h = absurd h
   accessors_in n (f ∷ fs) [] h = absurd h
   accessors_in n (f ∷ fs) (a ∷ A) h =
       let g = h.0.getter.method in
       let s = h.0.setter.method in
-      let one = getter_in_program a.getter (ap (λ (y : Member). utf8 new.pool y.descriptor) g.is ∙ g.typed) in
-      let two = setter_in_program a.setter (ap (λ (y : Member). utf8 new.pool y.descriptor) s.is ∙ s.typed) in
-      ap (list_all (is_program_method new.pool)) (flat_map-cons both_of a A) ∙ and_true _ _ one (and_true _ _ two (accessors_in (n + 1) fs A h.1))
+      let one = taker_in a.getter (getter_takes a.getter (ap (λ (y : Member). utf8 new.pool y.descriptor) g.is ∙ g.typed)) in
+      let two = taker_in a.setter (setter_takes a.setter (ap (λ (y : Member). utf8 new.pool y.descriptor) s.is ∙ s.typed)) in
+      ap (list_all (is_rewritten_method P new)) (flat_map-cons both_of a A) ∙ and_true _ _ one (and_true _ _ two (accessors_in (n + 1) fs A h.1))
 
   pub few_params : (m : Member) (k : Method) (h : IsOld c P.fields m k) → h.shape.params ≤ 254
   few_params m k h = let p = h.params in let r = h.room in let l = h.locals in let f = h.few in omega (arith, p, r, l, f)
@@ -372,7 +463,7 @@ module _ (c new : ClassFile) (P : Program) (K : Known c new P) where
       let d : k.name.descriptor ≡ descriptor_of c.pool m = ap (λ (x : MethodName). x.descriptor) h.name in
       ap (λ (t : List ℕ). has_context (signature_of (with_context t))) d ∙ context_taken (descriptor_of c.pool m) h.shape h.shaped (few_params m k h)
 
-  copies_in : (names : Names) (n : ℕ) (ms D : List Member) (ks : List Method) → AllOld c P.fields ms ks → Each (λ Z n p x. IsCopyOf c names Z p x) new.pool n (zip ks ms) D → list_all (is_program_method new.pool) D ≡ true
+  copies_in : (names : Names) (n : ℕ) (ms D : List Member) (ks : List Method) → AllOld c P.fields ms ks → Each (λ Z n p x. IsCopyOf c names Z p x) new.pool n (zip ks ms) D → list_all (is_rewritten_method P new) D ≡ true
   copies_in names n [] [] [] a h = refl
   copies_in names n [] D (k ∷ ks) a h = absurd a
   copies_in names n [] (x ∷ D) [] a h = absurd h
@@ -382,51 +473,45 @@ module _ (c new : ClassFile) (P : Program) (K : Known c new P) where
       let typed = ap (λ (y : Member). utf8 new.pool y.descriptor) h.0.copy.is ∙ h.0.copy.typed in
       and_true _ _ (taker_in x (rw typed (takes_it m k a.0))) (copies_in names (n + 1) ms D ks a.1 h.1)
 
-  abbrev pub wrappers : List Member
-  wrappers = filter (is_program_method new.pool) K.rewritten.methods.olds
+  abbrev pub olds_now : List Member
+  olds_now = filter (is_rewritten_method P new) K.rewritten.methods.olds
 
-  pub wrapped : Each IsWrapper new.pool 0 (program_methods c) (filter (is_program_method new.pool) K.rewritten.methods.olds)
-  wrapped = let len = old_length c P.fields (program_methods c) P.methods olds in
-      old_program 0 c.methods K.rewritten.methods.olds K.rules.methods form.methods (omega (arith, len)) K.rewritten.methods.each
+  pub replaced : EachTaken 0 0 (program_methods c) (filter (is_rewritten_method P new) K.rewritten.methods.olds)
+  replaced =
+      let from_zero : (j : ℕ) → slice_get P.methods (0 + j) ≡ slice_get P.methods j = λ j. let z : 0 + j ≡ j = omega arith in ap (slice_get P.methods) z in
+      let at_zero : (j : ℕ) → slice_get c.methods (0 + j) ≡ slice_get c.methods j = λ j. let z : 0 + j ≡ j = omega arith in ap (slice_get c.methods) z in
+      old_program 0 0 0 c.methods K.rewritten.methods.olds P.methods K.rules.methods olds at_zero from_zero K.rewritten.methods.each
 
-  pub parts : program_methods new ≡ filter (is_program_method new.pool) K.rewritten.methods.olds ++ (flat_map both_of K.rewritten.methods.new.accessors ++ K.rewritten.methods.new.copies)
+  pub parts : rewritten_methods P new ≡ filter (is_rewritten_method P new) K.rewritten.methods.olds ++ (flat_map both_of K.rewritten.methods.new.accessors ++ K.rewritten.methods.new.copies)
   parts =
       let M = K.rewritten.methods in
       let N = M.new in
       let a = accessors_in 0 P.fields N.accessors N.each in
       let d = copies_in N.copied.names 0 (program_methods c) N.copies P.methods olds N.copied.each in
-      let both : list_all (is_program_method new.pool) (flat_map both_of N.accessors ++ N.copies) ≡ true = list_all-append (is_program_method new.pool) (flat_map both_of N.accessors) N.copies ∙ and_true _ _ a d in
-      let behind : filter (is_program_method new.pool) M.added ≡ flat_map both_of N.accessors ++ N.copies = ap (filter (is_program_method new.pool)) N.are ∙ all_in (flat_map both_of N.accessors ++ N.copies) both in
-      ap (filter (is_program_method new.pool)) M.are ∙ filter-append (is_program_method new.pool) M.olds M.added ∙ ap (λ (l : List Member). filter (is_program_method new.pool) M.olds ++ l) behind
+      let both : list_all (is_rewritten_method P new) (flat_map both_of N.accessors ++ N.copies) ≡ true = list_all-append (is_rewritten_method P new) (flat_map both_of N.accessors) N.copies ∙ and_true _ _ a d in
+      let behind : filter (is_rewritten_method P new) M.added ≡ flat_map both_of N.accessors ++ N.copies = ap (filter (is_rewritten_method P new)) N.are ∙ all_in (flat_map both_of N.accessors ++ N.copies) both in
+      ap (filter (is_rewritten_method P new)) M.are ∙ filter-append (is_rewritten_method P new) M.olds M.added ∙ ap (λ (l : List Member). filter (is_rewritten_method P new) M.olds ++ l) behind
 
   -- ---- the names of the methods
 
-  as_names : (name name' descriptor descriptor' : List ℕ) → name ≡ name' → descriptor ≡ descriptor' → name_as (own_name new) name descriptor ≡ name_as (own_name c) name' descriptor'
-  as_names name name' descriptor descriptor' p q =
-      ap (λ (t : List ℕ). name_as t name descriptor) own_same ∙ ap (λ (t : List ℕ). name_as (own_name c) t descriptor) p ∙ ap (name_as (own_name c) name') q
+  old_names_are : (ms : List Member) (ks : List Method) → AllOld c P.fields ms ks → map (name_of c) ms ≡ old_names (own_name c) ks
+  old_names_are [] [] h = refl
+  old_names_are [] (k ∷ ks) h = absurd h
+  old_names_are (m ∷ ms) [] h = absurd h
+  old_names_are (m ∷ ms) (k ∷ ks) h =
+      ap (λ (l : List MethodName). name_of c m ∷ l) (old_names_are ms ks h.1) ∙ ap (λ (y : MethodName). name_as (own_name c) y.name y.descriptor ∷ old_names (own_name c) ks) (sym h.0.name)
 
-  wrapped_names : (n : ℕ) (ms W : List Member) (ks : List Method) → Each IsWrapper new.pool n ms W → AllOld c P.fields ms ks → AreBoth c.pool ms → ((j : ℕ) → slice_get P.methods (n + j) ≡ slice_get ks j)
-      → map (name_of new) W ≡ old_names (own_name c) ks
-  wrapped_names n [] [] [] w h a r = refl
-  wrapped_names n [] [] (k ∷ ks) w h a r = absurd h
-  wrapped_names n [] (x ∷ W) ks w h a r = absurd w
-  wrapped_names n (m ∷ ms) [] ks w h a r = absurd w
-  wrapped_names n (m ∷ ms) (x ∷ W) [] w h a r = absurd h
-  wrapped_names n (m ∷ ms) (x ∷ W) (k ∷ ks) w h a r =
-      let G = K.rewritten.grown in
+  taken_names : (n id : ℕ) (ms W : List Member) (ks : List Method) → EachTaken n id ms W → AllOld c P.fields ms ks → AreBoth c.pool ms → ((j : ℕ) → slice_get P.methods (n + j) ≡ slice_get ks j) → map (name_of new) W ≡ map (name_of c) ms
+  taken_names n id [] [] ks w h a r = refl
+  taken_names n id [] (x ∷ W) ks w h a r = absurd w
+  taken_names n id (m ∷ ms) [] ks w h a r = absurd w
+  taken_names n id (m ∷ ms) (x ∷ W) [] w h a r = absurd h
+  taken_names n id (m ∷ ms) (x ∷ W) (k ∷ ks) w h a r =
       let here : slice_get P.methods n ≡ Some k = (let z : n ≡ n + 0 = omega arith in ap (slice_get P.methods) z ∙ r 0) in
-      let one = w.0 k here in
-      let old_name = a.0.2 in
-      let old_type = a.0.3 in
-      let new_name = utf8_grown c.pool new.pool G m.name a.0.0 a.0.2 in
-      let new_type = utf8_grown c.pool new.pool G m.descriptor a.0.1 a.0.3 in
-      let k_name : k.name.name ≡ a.0.0 = ap (λ (x : MethodName). x.name) h.0.name ∙ rw old_name refl in
-      let k_type : k.name.descriptor ≡ a.0.1 = ap (λ (x : MethodName). x.descriptor) h.0.name ∙ rw old_type refl in
-      let x_name : text_or_none (utf8 new.pool x.name) ≡ k.name.name = ap (λ (y : Member). text_or_none (utf8 new.pool y.name)) one.is ∙ ap text_or_none new_name ∙ sym k_name in
-      let x_type : text_or_none (utf8 new.pool x.descriptor) ≡ k.name.descriptor = ap (λ (y : Member). text_or_none (utf8 new.pool y.descriptor)) one.is ∙ ap text_or_none new_type ∙ sym k_type in
-      let first = as_names _ _ _ _ x_name x_type in
+      let names = replaced_names n id k m x here w.0 in
+      let first = name_kept m x a.0.0 a.0.1 names.0 names.1 a.0.2 a.0.3 in
       let later : (j : ℕ) → slice_get P.methods (n + 1 + j) ≡ slice_get ks j = λ j. let z : n + 1 + j ≡ n + suc j = omega arith in ap (slice_get P.methods) z ∙ r (suc j) in
-      ap (λ (t : MethodName). t ∷ map (name_of new) W) first ∙ ap (λ (l : List MethodName). name_as (own_name c) k.name.name k.name.descriptor ∷ l) (wrapped_names (n + 1) ms W ks w.1 h.1 a.1 later)
+      ap (λ (t : MethodName). t ∷ map (name_of new) W) first ∙ ap (λ (l : List MethodName). name_of c m ∷ l) (taken_names (n + 1) (id_behind c.pool id m) ms W ks w.1 h.1 a.1 later)
 
   accessors_names : (n : ℕ) (fs : List Field) (A : List Accessors) → Each (λ Z n f a. AreAccessors (own_name c) f Z a) new.pool n fs A → map (name_of new) (flat_map both_of A) ≡ accessor_names (own_name c) fs
   accessors_names n [] [] h = refl
@@ -462,35 +547,42 @@ module _ (c new : ClassFile) (P : Program) (K : Known c new P) where
       let first = as_names _ _ _ _ x_name x_type in
       ap (λ (t : MethodName). t ∷ map (name_of new) D) first ∙ ap (λ (l : List MethodName). name_as (own_name c) k.name.name (with_context k.name.descriptor) ∷ l) (copies_names names (n + 1) ms D ks w.1 h.1 a.1)
 
-  pub names_are : (symbols_of new P.fields).methods ≡ all_names (own_name c) P.fields P.methods
+  pub names_are : (symbols_of new P.fields (rewritten_methods P new)).methods ≡ all_names (own_name c) P.fields P.methods
   names_are =
       let M = K.rewritten.methods in
       let N = M.new in
-      let w = wrapped_names 0 (program_methods c) (filter (is_program_method new.pool) M.olds) P.methods wrapped olds both (λ j. let z : 0 + j ≡ j = omega arith in ap (slice_get P.methods) z) in
+      let w = taken_names 0 0 (program_methods c) (filter (is_rewritten_method P new) M.olds) P.methods replaced olds both (λ j. let z : 0 + j ≡ j = omega arith in ap (slice_get P.methods) z) ∙ old_names_are (program_methods c) P.methods olds in
       let a = accessors_names 0 P.fields N.accessors N.each in
       let d = copies_names N.copied.names 0 (program_methods c) N.copies P.methods N.copied.each olds named in
       let behind : map (name_of new) (flat_map both_of N.accessors ++ N.copies) ≡ accessor_names (own_name c) P.fields ++ copy_names (own_name c) P.methods =
       map_append (name_of new) (flat_map both_of N.accessors) N.copies ∙ ap (λ (l : List MethodName). l ++ map (name_of new) N.copies) a ∙ ap (λ (l : List MethodName). accessor_names (own_name c) P.fields ++ l) d in
-      ap (map (name_of new)) parts ∙ map_append (name_of new) (filter (is_program_method new.pool) M.olds) (flat_map both_of N.accessors ++ N.copies)
+      ap (map (name_of new)) parts ∙ map_append (name_of new) (filter (is_rewritten_method P new) M.olds) (flat_map both_of N.accessors ++ N.copies)
       ∙ ap (λ (l : List MethodName). l ++ map (name_of new) (flat_map both_of N.accessors ++ N.copies)) w ∙ ap (λ (l : List MethodName). old_names (own_name c) P.methods ++ l) behind
 
   -- ---- what names stand for
 
-  pub calls_getter : (i : ℕ) (f : Field) → slice_get P.fields i ≡ Some f → static_call_op (symbols_of new P.fields) (wanted (own_name c) (getter_name f) getter_type) ≡ Some (op.InvokeStatic (getter P i))
+  -- a method of the original's program keeps its number
+  pub number_kept : (w : MemberName) (i : ℕ) → method_number (symbols_of c P.fields (program_methods c)).methods w ≡ Some i → method_number (symbols_of new P.fields (rewritten_methods P new)).methods w ≡ Some i
+  number_kept w i e =
+      let told : method_number (old_names (own_name c) P.methods) w ≡ Some i = ap (λ (l : List MethodName). method_number l w) (sym (old_names_are (program_methods c) P.methods olds)) ∙ e in
+      let front = at_front (is_method_of w) (old_names (own_name c) P.methods) (accessor_names (own_name c) P.fields ++ copy_names (own_name c) P.methods) i (position_at (is_method_of w) (old_names (own_name c) P.methods) i told) in
+      ap (λ (l : List MethodName). method_number l w) names_are ∙ at_position (is_method_of w) (all_names (own_name c) P.fields P.methods) i front
+
+  pub calls_getter : (i : ℕ) (f : Field) → slice_get P.fields i ≡ Some f → static_call_op (symbols_of new P.fields (rewritten_methods P new)) (wanted (own_name c) (getter_name f) getter_type) ≡ Some (op.InvokeStatic (getter P i))
   calls_getter i f e =
       let n = names_are in
       let no = third_fails (bytes_eq (own_name c) (codes "org/deuce/transaction/ContextDelegator")) (bytes_eq (getter_name f) (codes "getInstance")) false refl in
       let x = getter_number (own_name c) P.fields P.methods free i f fields_apart e in
       rw no (rw n (rw x refl))
 
-  pub calls_setter : (i : ℕ) (f : Field) → slice_get P.fields i ≡ Some f → static_call_op (symbols_of new P.fields) (wanted (own_name c) (setter_name f) setter_type) ≡ Some (op.InvokeStatic (setter P i))
+  pub calls_setter : (i : ℕ) (f : Field) → slice_get P.fields i ≡ Some f → static_call_op (symbols_of new P.fields (rewritten_methods P new)) (wanted (own_name c) (setter_name f) setter_type) ≡ Some (op.InvokeStatic (setter P i))
   calls_setter i f e =
       let n = names_are in
       let no = third_fails (bytes_eq (own_name c) (codes "org/deuce/transaction/ContextDelegator")) (bytes_eq (setter_name f) (codes "getInstance")) false refl in
       let x = setter_number (own_name c) P.fields P.methods free i f fields_apart e in
       rw no (rw n (rw x refl))
 
-  pub calls_copy : (n : ℕ) (k : Method) → slice_get P.methods n ≡ Some k → static_call_op (symbols_of new P.fields) (wanted (own_name c) k.name.name (with_context k.name.descriptor)) ≡ Some (op.InvokeStatic (duplicate P n))
+  pub calls_copy : (n : ℕ) (k : Method) → slice_get P.methods n ≡ Some k → static_call_op (symbols_of new P.fields (rewritten_methods P new)) (wanted (own_name c) k.name.name (with_context k.name.descriptor)) ≡ Some (op.InvokeStatic (duplicate P n))
   calls_copy n k e =
       let m = names_are in
       let r = free_name n k e in
@@ -499,10 +591,10 @@ module _ (c new : ClassFile) (P : Program) (K : Known c new P) where
       let x = copy_number (own_name c) P.fields P.methods free n k apart (no_getter k.name.name r) (no_setter k.name.name r) e in
       rw no (rw m (rw x refl))
 
-  pub gets_field : (i : ℕ) (f : Field) → slice_get P.fields i ≡ Some f → get_op (symbols_of new P.fields) (wanted (own_name c) f.name (codes "I")) ≡ Some (op.GetStatic i)
+  pub gets_field : (i : ℕ) (f : Field) → slice_get P.fields i ≡ Some f → get_op (symbols_of new P.fields (rewritten_methods P new)) (wanted (own_name c) f.name (codes "I")) ≡ Some (op.GetStatic i)
   gets_field i f e = let x = number_of_field (own_name c) (codes "I") P.fields i f owned fields_apart e in rw x refl
 
-  pub gets_base : (f : Field) → f.place.object ≡ 2 → get_op (symbols_of new P.fields) (wanted (own_name c) (codes "__CLASS_BASE__") (codes "Ljava/lang/Object;")) ≡ Some (base f)
+  pub gets_base : (f : Field) → f.place.object ≡ 2 → get_op (symbols_of new P.fields (rewritten_methods P new)) (wanted (own_name c) (codes "__CLASS_BASE__") (codes "Ljava/lang/Object;")) ≡ Some (base f)
   gets_base f e = let o = own_same in let t = same (own_name c) in rw o (rw t (rw e refl))
 
   left_fails : (x y : Bool) → x ≡ false → (x && y) ≡ false
@@ -517,7 +609,7 @@ module _ (c new : ClassFile) (P : Program) (K : Known c new P) where
       let no : is_member new.pool (address_name f) (codes "J") m ≡ false = rw later (left_fails _ _ other) in
       rw no (no_long f ms h.1)
 
-  pub gets_address : (i : ℕ) (f : Field) → slice_get P.fields i ≡ Some f → get_op (symbols_of new P.fields) (wanted (own_name c) (address_name f) (codes "J")) ≡ Some (offset f)
+  pub gets_address : (i : ℕ) (f : Field) → slice_get P.fields i ≡ Some f → get_op (symbols_of new P.fields (rewritten_methods P new)) (wanted (own_name c) (address_name f) (codes "J")) ≡ Some (offset f)
   gets_address i f e =
       let o = own_same in
       let t = same (own_name c) in

@@ -11,14 +11,14 @@ use Rattle.jmodel.specs.Decoding.{own_name}
 use Rattle.jmodel.specs.Name.{printed}
 use Rattle.jmodel.specs.Relocation.{Block}
 use Rattle.jmodel.specs.Rewriting.{with_context}
-use Rattle.jmodel.specs.Linking.{Coded, decoded, is_program_method, program_methods}
+use Rattle.jmodel.specs.Linking.{Coded, decoded, is_marked, program_methods}
 use Rattle.const_pool.proofs.Takes.{bind_ok, guard_ok, ok_is, fine}
 use Rattle.rewriter.specs.declared.accessors.Accessors.{Accessors}
 use Rattle.rewriter.specs.declared.names.Calls.{Calls}
 use Rattle.rewriter.specs.declared.wrappers.Opening.{Opening}
 use Rattle.rewriter.specs.declared.wrappers.Ending.{Ending}
 use Rattle.rewriter.specs.Members.{added_method, address_member, accessors_of, getter_name, setter_name, getter_type, Names, gets, puts, calls, some_op, method_if_needed, getter_call, setter_call, calls_of, duplicate_call, blocks_from, plain, stub, laid_code, laid_bytes, of_method, duplicate_body, duplicate_flags, coded_duplicate, duplicate_of, wrapper_bytes, with_code, wrapper_of}
-use Rattle.rewriter.specs.Rewritten.{grow_from, wrapper_if, replaced, number_behind, old_from, bases, both_of, added_fields, names_of, duplicates, added_methods, new_methods, rewritten_class}
+use Rattle.rewriter.specs.Rewritten.{grow_from, wrapper_if, replaced, number_behind, id_behind, old_from, bases, both_of, added_fields, names_of, duplicates, added_methods, new_methods, rewritten_class}
 use Rattle.rewriter.proofs.Grown.{Grown, grown_refl}
 use Rattle.rewriter.proofs.Added.{Says}
 use Rattle.rewriter.proofs.Puts.{Puts, puts_more, puts_end, utf8_puts, class_puts, method_puts, IsClassAt, IsMethodAt, IsAddress, address_puts, base_grows, AreAccessors, accessors_put, IsOpening, opening_puts, IsEnding, ending_puts}
@@ -152,21 +152,21 @@ wrapped_puts c n k m pool r e =
     let b = bind_ok _ _ r a.2 in
     let d = bind_ok (wrapper_bytes k a.0.0 b.0.0) (λ bytes. Ok (with_code c.pool bytes m, b.0.1)) r b.2 in
     puts_end _ (λ Z y. IsWrapped c Z n k m y) pool b.0 (with_code c.pool d.0 m) r
-    (λ Z h. record { opening = a.0.0; ending = b.0.0; bytes = d.0; laid = d.1; is = refl {a = with_code c.pool d.0 m}; opens = h.0; ends = h.1 })
+    (λ Z h. record { opening = a.0.0; ending = b.0.0; bytes = d.0; laid = d.1; is = refl; opens = h.0; ends = h.1 })
     (puts_more (IsOpening n) (IsEnding k) pool a.0 b.0 (opening_puts n pool a.0 few a.1) (ending_puts k a.0.1 b.0 b.1)) d.2
 
 -- ---- old methods
 
 -- what stands in the place of an old method
-pub record IsReplaced (P : Program) (c : ClassFile) (Z : Pool) (n : ℕ) (m x : Member) : Type 0 where
-  pub wrapped : is_program_method c.pool m ≡ true → (k : Method) → slice_get P.methods n ≡ Some k → IsWrapped c Z n k m x
-  pub kept : is_program_method c.pool m ≡ false → x ≡ m
+pub record IsReplaced (P : Program) (c : ClassFile) (Z : Pool) (n id : ℕ) (m x : Member) : Type 0 where
+  pub wrapped : is_marked c.pool m ≡ true → (k : Method) → slice_get P.methods n ≡ Some k → IsWrapped c Z id k m x
+  pub kept : is_marked c.pool m ≡ false → x ≡ m
 
-abbrev pub EachReplaced : Program → ClassFile → Pool → ℕ → List Member → List Member → Type 0
-EachReplaced P c Z n [] [] = Unit {0}
-EachReplaced P c Z n [] (x ∷ xs) = ⊥
-EachReplaced P c Z n (m ∷ ms) [] = ⊥
-EachReplaced P c Z n (m ∷ ms) (x ∷ xs) = IsReplaced P c Z n m x × EachReplaced P c Z (number_behind c.pool n m) ms xs
+abbrev pub EachReplaced : Program → ClassFile → Pool → ℕ → ℕ → List Member → List Member → Type 0
+EachReplaced P c Z n id [] [] = Unit {0}
+EachReplaced P c Z n id [] (x ∷ xs) = ⊥
+EachReplaced P c Z n id (m ∷ ms) [] = ⊥
+EachReplaced P c Z n id (m ∷ ms) (x ∷ xs) = IsReplaced P c Z n id m x × EachReplaced P c Z (number_behind c n m) (id_behind c.pool id m) ms xs
 
 if_puts : (P : Program) (c : ClassFile) (n : ℕ) (m : Member) (o : Option Method) (pool : Pool) (r : Member × Pool) → wrapper_if c n o m pool ≡ Ok r → Puts (λ Z x. (k : Method) → o ≡ Some k → IsWrapped c Z n k m x) pool r
 if_puts P c n m None pool r e = subst (Puts (λ Z x. (k : Method) → None ≡ Some k → IsWrapped c Z n k m x) pool) (ok_is (m, pool) r e) (record { grown = grown_refl pool; facts = λ Z g k t. absurd (cc (t)) })
@@ -174,20 +174,21 @@ if_puts P c n m (Some k) pool r e =
     let q = wrapped_puts c n k m pool r e in
     record { grown = q.grown; facts = λ Z g j t. let s : k ≡ j = cc (t) in subst (λ (y : Method). IsWrapped c Z n y m r.0) s (q.facts Z g) }
 
-replaced_puts : (P : Program) (c : ClassFile) (n : ℕ) (m : Member) (pool : Pool) (r : Member × Pool) → replaced P c n m pool ≡ Ok r → Puts (λ Z x. IsReplaced P c Z n m x) pool r
-replaced_puts P c n m pool r e = go (is_program_method c.pool m) refl e
+replaced_puts : (P : Program) (c : ClassFile) (n id : ℕ) (m : Member) (pool : Pool) (r : Member × Pool) → replaced P c n id m pool ≡ Ok r → Puts (λ Z x. IsReplaced P c Z n id m x) pool r
+replaced_puts P c n id m pool r e = go (is_marked c.pool m) refl e
   where
-    go : (b : Bool) → is_program_method c.pool m ≡ b → (if b then wrapper_if c n (slice_get P.methods n) m pool else Ok (m, pool)) ≡ Ok r → Puts (λ Z x. IsReplaced P c Z n m x) pool r
-    go true p h = let q = if_puts P c n m (slice_get P.methods n) pool r h in record { grown = q.grown; facts = λ Z g. record { wrapped = λ t k at. q.facts Z g k at; kept = λ f. absurd (cc (p, f)) } }
-    go false p h = subst (Puts (λ Z x. IsReplaced P c Z n m x) pool) (ok_is (m, pool) r h) (record { grown = grown_refl pool; facts = λ Z g. record { wrapped = λ t k at. absurd (cc (p, t)); kept = λ f. refl } })
+    go : (b : Bool) → is_marked c.pool m ≡ b → (if b then wrapper_if c id (slice_get P.methods n) m pool else Ok (m, pool)) ≡ Ok r → Puts (λ Z x. IsReplaced P c Z n id m x) pool r
+    go true p h = let q = if_puts P c id m (slice_get P.methods n) pool r h in record { grown = q.grown; facts = λ Z g. record { wrapped = λ t k at. q.facts Z g k at; kept = λ f. absurd (cc (p, f)) } }
+    go false p h = subst (Puts (λ Z x. IsReplaced P c Z n id m x) pool) (ok_is (m, pool) r h) (record { grown = grown_refl pool; facts = λ Z g. record { wrapped = λ t k at. absurd (cc (p, t)); kept = λ f. refl } })
 
-olds_put : (P : Program) (c : ClassFile) (n : ℕ) (ms : List Member) (pool : Pool) (r : List Member × Pool) → old_from P c n ms pool ≡ Ok r → Puts (λ Z xs. EachReplaced P c Z n ms xs) pool r
-olds_put P c n [] pool r e = subst (Puts (λ Z xs. EachReplaced P c Z n [] xs) pool) (ok_is ([], pool) r e) (record { grown = grown_refl pool; facts = λ Z g. tt })
-olds_put P c n (m ∷ ms) pool r e =
+olds_put : (P : Program) (c : ClassFile) (n id : ℕ) (ms : List Member) (pool : Pool) (r : List Member × Pool) → old_from P c n id ms pool ≡ Ok r → Puts (λ Z xs. EachReplaced P c Z n id ms xs) pool r
+olds_put P c n id [] pool r e = subst (Puts (λ Z xs. EachReplaced P c Z n id [] xs) pool) (ok_is ([], pool) r e) (record { grown = grown_refl pool; facts = λ Z g. tt })
+olds_put P c n id (m ∷ ms) pool r e =
     let a = bind_ok _ _ r e in
     let b = bind_ok _ _ r a.2 in
-    puts_end _ (λ Z xs. EachReplaced P c Z n (m ∷ ms) xs) pool b.0 (a.0.0 ∷ b.0.0) r (λ Z h. h)
-    (puts_more (λ Z x. IsReplaced P c Z n m x) (λ Z xs. EachReplaced P c Z (number_behind c.pool n m) ms xs) pool a.0 b.0 (replaced_puts P c n m pool a.0 a.1) (olds_put P c (number_behind c.pool n m) ms a.0.1 b.0 b.1)) b.2
+    puts_end _ (λ Z xs. EachReplaced P c Z n id (m ∷ ms) xs) pool b.0 (a.0.0 ∷ b.0.0) r (λ Z h. h)
+    (puts_more (λ Z x. IsReplaced P c Z n id m x) (λ Z xs. EachReplaced P c Z (number_behind c n m) (id_behind c.pool id m) ms xs) pool a.0 b.0 (replaced_puts P c n id m pool a.0 a.1)
+    (olds_put P c (number_behind c n m) (id_behind c.pool id m) ms a.0.1 b.0 b.1)) b.2
 
 -- ---- all of them
 
@@ -263,7 +264,7 @@ pub record AreMethods (P : Program) (c : ClassFile) (Z : Pool) (ms : List Member
   pub olds : List Member
   pub added : List Member
   pub are : ms ≡ olds ++ added
-  pub each : EachReplaced P c Z 0 c.methods olds
+  pub each : EachReplaced P c Z 0 0 c.methods olds
   pub new : AreNewMethods P c Z added
 
 methods_put : (P : Program) (c : ClassFile) (pool : Pool) (r : List Member × Pool) → new_methods P c pool ≡ Ok r → Puts (λ Z ms. AreMethods P c Z ms) pool r
@@ -272,7 +273,7 @@ methods_put P c pool r e =
     let a = bind_ok _ _ r e in
     let b = bind_ok _ _ r a.2 in
     puts_end _ (λ Z ms. AreMethods P c Z ms) pool b.0 (b.0.0 ++ a.0.0) r (λ Z h. record { olds = b.0.0; added = a.0.0; are = refl; each = h.1; new = h.0 })
-    (puts_more (λ Z ms. AreNewMethods P c Z ms) (λ Z ys. EachReplaced P c Z 0 c.methods ys) pool a.0 b.0 (added_put P c pool a.0 a.1) (olds_put P c 0 c.methods a.0.1 b.0 b.1)) b.2
+    (puts_more (λ Z ms. AreNewMethods P c Z ms) (λ Z ys. EachReplaced P c Z 0 0 c.methods ys) pool a.0 b.0 (added_put P c pool a.0 a.1) (olds_put P c 0 0 c.methods a.0.1 b.0 b.1)) b.2
 
 -- what a rewritten class has
 pub record Rewrites (P : Program) (c new : ClassFile) : Type 0 where

@@ -16,7 +16,7 @@ use Rattle.jmodel.specs.ClassRules.{IsAttribute}
 use Rattle.jmodel.specs.ClassReading.{code_of}
 use Rattle.jmodel.specs.Rewriting.{duplicate, with_context, wrapper_method, body_end, conflict_at, catch}
 use Rattle.jmodel.specs.Decoding.{own_name}
-use Rattle.jmodel.specs.Linking.{shape_of, is_marked, symbols_of, method_of}
+use Rattle.jmodel.specs.Linking.{shape_of, is_marked, rewritten_methods, symbols_of, method_of}
 use Rattle.jmodel.specs.Relocation.{relocated}
 use Rattle.const_pool.proofs.Takes.{bind_ok, ok_is}
 use Rattle.rewriter.specs.declared.wrappers.Opening.{Opening}
@@ -52,8 +52,8 @@ name_of_parts class name descriptor = record { class = class; name = name; descr
 greater : (n : ℕ) → n ≤ 1000 → max (n + 1) 3 < 65536
 greater n h = grind (arith, nat_tests)
 
-module _ (c new : ClassFile) (P : Program) (K : Known c new P) (n : ℕ) (m x : Member) (k : Method) (t d : List ℕ) (named : utf8 c.pool m.name ≡ Some t) (described : utf8 c.pool m.descriptor ≡ Some d)
-    (at : slice_get P.methods n ≡ Some k) (h : IsOld c P.fields m k) (lawful : AllByRecursion (IsAttribute c.pool) m.attributes) (marked : is_marked c.pool m ≡ true) (w : IsWrapped c new.pool n k m x) where
+module _ (c new : ClassFile) (P : Program) (K : Known c new P) (n id : ℕ) (m x : Member) (k : Method) (t d : List ℕ) (named : utf8 c.pool m.name ≡ Some t) (described : utf8 c.pool m.descriptor ≡ Some d)
+    (at : slice_get P.methods n ≡ Some k) (h : IsOld c P.fields m k) (lawful : AllByRecursion (IsAttribute c.pool) m.attributes) (marked : is_marked c.pool m ≡ true) (w : IsWrapped c new.pool id k m x) where
   few : k.params ≤ 1000
   few = let r = h.room in let l = h.locals in let f = h.few in omega (arith, r, l, f)
 
@@ -63,7 +63,7 @@ module _ (c new : ClassFile) (P : Program) (K : Known c new P) (n : ℕ) (m x : 
   owner : k.name.class ≡ own_name c
   owner = method_class c new P K n k at
 
-  names : Named (symbols_of new P.fields) n (duplicate P n) w.opening w.ending
+  names : Named (symbols_of new P.fields (rewritten_methods P new)) id (duplicate P n) w.opening w.ending
   names = record {
     opens = w.opens;
     duplicate = record {
@@ -90,26 +90,26 @@ module _ (c new : ClassFile) (P : Program) (K : Known c new P) (n : ℕ) (m x : 
   shaped : shape_of d ≡ Some h.shape
   shaped = ap shape_of (sym (ap text_or_none described)) ∙ h.shaped
 
-  pub wrapper_is : method_of (symbols_of new P.fields) false x ≡ Some (wrapper_method P n n (pos 2147483647) k)
+  pub wrapper_is : method_of (symbols_of new P.fields (rewritten_methods P new)) false x ≡ Some (wrapper_method P id n (pos 2147483647) k)
   wrapper_is =
-      let s = symbols_of new P.fields in
+      let s = symbols_of new P.fields (rewritten_methods P new) in
       let L = relocated (wrapper_blocks k.params k.gives w.opening w.ending) [] in
-      let rules = wrapper_rules k.params k.gives w.opening w.ending s small n (duplicate P n) names (max (k.params + 1) 3) (k.params + 2) loop.code loop.laid (greater k.params few) (omega (arith, few)) in
+      let rules = wrapper_rules k.params k.gives w.opening w.ending s small id (duplicate P n) names (max (k.params + 1) 3) (k.params + 2) loop.code loop.laid (greater k.params few) (omega (arith, few)) in
       let swapped = code_swapped c.pool new.pool K.rewritten.grown w.bytes m.attributes h.coded.code lawful (decoded_is c m h.coded h.decodes).code in
       let mark = mark_swapped c.pool new.pool K.rewritten.grown w.bytes m.attributes marked in
-      let ops : List Op = wrapper_ops k.params k.gives w.opening w.ending s small n (duplicate P n) names in
-      let facts : CodedFacts s (with_code c.pool w.bytes m) loop.code L t d h.shape (wrapper_ops k.params k.gives w.opening w.ending s small n (duplicate P n) names)
+      let ops : List Op = wrapper_ops k.params k.gives w.opening w.ending s small id (duplicate P n) names in
+      let facts : CodedFacts s (with_code c.pool w.bytes m) loop.code L t d h.shape (wrapper_ops k.params k.gives w.opening w.ending s small id (duplicate P n) names)
       (catch 6 (body_end k.params) (conflict_at k.gives k.params) Conflict ∷ catch 6 (body_end k.params) (conflict_at k.gives k.params + 4) Any ∷ []) (Some (pos 2147483647)) = record {
         code = swapped ∙ ap (code_of new.pool) loop.bytes_are ∙ code_back new.pool loop.code rules;
-        read = wrapper_read k.params k.gives w.opening w.ending s small n (duplicate P n) names (max (k.params + 1) 3) (k.params + 2) loop.code loop.laid;
+        read = wrapper_read k.params k.gives w.opening w.ending s small id (duplicate P n) names (max (k.params + 1) 3) (k.params + 2) loop.code loop.laid;
         named = utf8_grown c.pool new.pool K.rewritten.grown m.name t named;
         typed = utf8_grown c.pool new.pool K.rewritten.grown m.descriptor d described;
         shaped = shaped;
-        ops_are = wrapper_means k.params k.gives w.opening w.ending s small n (duplicate P n) names;
-        catches_are = wrapper_catches k.params k.gives w.opening w.ending s small n (duplicate P n) names (max (k.params + 1) 3) (k.params + 2) loop.code loop.laid;
+        ops_are = wrapper_means k.params k.gives w.opening w.ending s small id (duplicate P n) names;
+        catches_are = wrapper_catches k.params k.gives w.opening w.ending s small id (duplicate P n) names (max (k.params + 1) 3) (k.params + 2) loop.code loop.laid;
         retries_are = rw mark refl;
       } in
-      let it = coded_means s false (with_code c.pool w.bytes m) loop.code L t d h.shape (wrapper_ops k.params k.gives w.opening w.ending s small n (duplicate P n) names)
+      let it = coded_means s false (with_code c.pool w.bytes m) loop.code L t d h.shape (wrapper_ops k.params k.gives w.opening w.ending s small id (duplicate P n) names)
       (catch 6 (body_end k.params) (conflict_at k.gives k.params) Conflict ∷ catch 6 (body_end k.params) (conflict_at k.gives k.params + 4) Any ∷ []) (Some (pos 2147483647)) facts in
       let own_text : t ≡ k.name.name = sym (ap (λ (y : MethodName). y.name) h.name ∙ ap text_or_none named) in
       let own_class : own_name new ≡ k.name.class = own_same c new P K ∙ sym owner in

@@ -5,7 +5,8 @@ use Rattle.jmodel.specs.declared.refusal.Refusal.{Refusal}
 use Rattle.jmodel.specs.ClassFile.{Member, Pool, ClassFile}
 use Rattle.jmodel.specs.Program.{Field, Method, Program}
 use Rattle.jmodel.specs.Decoding.{own_name}
-use Rattle.jmodel.specs.Linking.{is_program_method, program_methods}
+use Rattle.jmodel.specs.Taken.{is_taken}
+use Rattle.jmodel.specs.Linking.{is_marked, program_methods}
 use Rattle.jmodel.specs.Reading.{◌>>=◌}
 use Rattle.rewriter.specs.Members.{Names, address_member, base_member, accessors_of, calls_of, duplicate_call, duplicate_of, wrapper_of}
 use Rattle.rewriter.specs.declared.accessors.Accessors.{Accessors}
@@ -53,31 +54,35 @@ added_methods P c pool = do
   copies ← duplicates P c accessors.1
   Ok (flat_map both_of accessors.0 ++ copies.0, copies.1)
 
--- a method of the program gets its wrapper, where there is such a method
+-- a marked method of the program gets its wrapper, where there is such a method
 abbrev pub wrapper_if : ClassFile → ℕ → Option Method → Member → Pool → Result (Member × Pool) Refusal
 wrapper_if c n None m pool = Ok (m, pool)
 wrapper_if c n (Some k) m pool = wrapper_of c n k m pool
 
--- an old method: the wrapper of one of the program, which has this number among the wrappers, any other as it is
-abbrev pub replaced : Program → ClassFile → ℕ → Member → Pool → Result (Member × Pool) Refusal
-replaced P c n m pool = if is_program_method c.pool m then wrapper_if c n (slice_get P.methods n) m pool else Ok (m, pool)
+-- an old method, before which so many are taken and so many are marked: the wrapper of a marked one, any other as it is
+abbrev pub replaced : Program → ClassFile → ℕ → ℕ → Member → Pool → Result (Member × Pool) Refusal
+replaced P c n id m pool = if is_marked c.pool m then wrapper_if c id (slice_get P.methods n) m pool else Ok (m, pool)
+
+-- the number of the next taken method
+abbrev pub number_behind : ClassFile → ℕ → Member → ℕ
+number_behind c n m = if is_taken c m then n + 1 else n
 
 -- the number of the next wrapper
-abbrev pub number_behind : Pool → ℕ → Member → ℕ
-number_behind pool n m = if is_program_method pool m then n + 1 else n
+abbrev pub id_behind : Pool → ℕ → Member → ℕ
+id_behind pool id m = if is_marked pool m then id + 1 else id
 
-abbrev pub old_from : Program → ClassFile → ℕ → List Member → Pool → Result (List Member × Pool) Refusal
-old_from P c n [] pool = Ok ([], pool)
-old_from P c n (m ∷ ms) pool = do
-  first ← replaced P c n m pool
-  others ← old_from P c (number_behind c.pool n m) ms first.1
+abbrev pub old_from : Program → ClassFile → ℕ → ℕ → List Member → Pool → Result (List Member × Pool) Refusal
+old_from P c n id [] pool = Ok ([], pool)
+old_from P c n id (m ∷ ms) pool = do
+  first ← replaced P c n id m pool
+  others ← old_from P c (number_behind c n m) (id_behind c.pool id m) ms first.1
   Ok (first.0 ∷ others.0, others.1)
 
 -- the old methods with wrappers among them, behind them those that are added, whose entries come first
 unfoldable pub new_methods : Program → ClassFile → Pool → Result (List Member × Pool) Refusal
 new_methods P c pool = do
   added ← added_methods P c pool
-  olds ← old_from P c 0 c.methods added.1
+  olds ← old_from P c 0 0 c.methods added.1
   Ok (olds.0 ++ added.0, olds.1)
 
 -- the rewritten class

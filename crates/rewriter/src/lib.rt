@@ -23,4 +23,6 @@ pub use rewriting::rewrite;
 #[cfg(test)]
 mod tests;
 #[cfg(test)]
+mod unmarked_tests;
+#[cfg(test)]
 mod wide_tests;

@@ -5,11 +5,12 @@ ghost use Rattle.jmodel.specs.ClassFile.{Member as MemberForm};
 ghost use Rattle.jmodel.specs.Program.{Method as MethodForm};
 ghost use Rattle.jmodel.specs.Reading.{Gives};
 ghost use Rattle.jmodel.specs.Decoding.{own_name as own_name_of};
-ghost use Rattle.jmodel.specs.Linking.{linked, program_methods as methods_of_program};
+ghost use Rattle.jmodel.specs.Taken.{is_taken};
+ghost use Rattle.jmodel.specs.Linking.{linked};
 ghost use Rattle.rewriter.specs.Adding.{Grows};
 ghost use Rattle.rewriter.specs.Made.{IsSmallMethod, CanBeMade};
 ghost use Rattle.rewriter.specs.Members.{address_member as address, accessors_of as accessors, duplicate_of as duplicate};
-ghost use Rattle.rewriter.specs.Rewritten.{grow_from, wrapper_if as wrapper_of_some, old_from, bases as base_of, both_of, added_fields as all_fields, duplicates as all_duplicates, added_methods as all_added, new_methods as all_methods, rewritten_class, Keeps};
+ghost use Rattle.rewriter.specs.Rewritten.{grow_from, wrapper_if as wrapper_of_some, replaced as replaced_method, old_from, bases as base_of, both_of, added_fields as all_fields, duplicates as all_duplicates, added_methods as all_added, new_methods as all_methods, rewritten_class, Keeps};
 
 use crate::accessors::{Accessors, accessors_of};
 use crate::copies::{copy_attributes, copy_member, copy_members, copy_pool};
@@ -19,7 +20,7 @@ use crate::names::{Names, names_of};
 use crate::wrappers::wrapper_of;
 use const_pool::{ClassFile, Member, Pool};
 use hierarchy::symbols::own_name;
-use hierarchy::{Field, Method, Program, is_program_method, program_methods};
+use hierarchy::{Field, Method, Program, are_taken, is_marked, program_methods};
 use jmodel::Halt;
 use std::alloc::{AllocError, Global};
 
@@ -110,7 +111,7 @@ fn duplicates(
     )
 }
 
-// A method of the program gets its wrapper, where there is such a method.
+// A marked method of the program gets its wrapper, where there is such a method.
 fn wrapper_if(
     alloc: Global,
     pool: &mut Pool,
@@ -128,26 +129,46 @@ fn wrapper_if(
     }
 }
 
-// The old methods, with the wrapper of each one of the program in its place.
+// An old method, before which so many are taken and so many are marked: the wrapper of a marked one, any other as it is.
+fn replaced(
+    alloc: Global,
+    pool: &mut Pool,
+    original: &Program,
+    class: &ClassFile,
+    number: usize,
+    wrapper: usize,
+    member: &Member,
+) -> Result<Member, Halt>
+    requires { AllByRecursion IsSmallMethod original.now.methods }
+    ensures { Grows (λ m. m) result pool.new (replaced_method original.now class.now number wrapper member.now pool.old) }
+{
+    if is_marked(&class.pool, member) {
+        let method = original.methods().get(number);
+        wrapper_if(alloc, pool, class, wrapper, method, member)
+    } else {
+        Ok(copy_member(alloc, member)?)
+    }
+}
+
+// The old methods, with the wrapper of each marked one in its place. The flags say which methods are taken.
 fn old_methods(
     alloc: Global,
     pool: &mut Pool,
     original: &Program,
     class: &ClassFile,
+    flags: &[bool],
 ) -> Result<Vec<Member>, Halt>
-    requires { AllByRecursion IsSmallMethod original.now.methods }
-    ensures { Grows (λ v. v.items) result pool.new (old_from original.now class.now 0 class.now.methods pool.old) }
+    requires small { AllByRecursion IsSmallMethod original.now.methods }
+    requires told { flags.now ≡ map (is_taken class.now) class.now.methods }
+    ensures { Grows (λ v. v.items) result pool.new (old_from original.now class.now 0 0 class.now.methods pool.old) }
 {
     let mut members = Vec::new(alloc);
     let mut number = 0;
-    for member in &class.methods {
-        if is_program_method(alloc, &class.pool, member)? {
-            let method = original.methods().get(number);
-            members.push(wrapper_if(alloc, pool, class, number, method, member)?)?;
-            number += 1;
-        } else {
-            members.push(copy_member(alloc, member)?)?;
-        }
+    let mut wrapper = 0;
+    for (member, is_taken) in class.methods.iter().zip(flags) {
+        members.push(replaced(alloc, pool, original, class, number, wrapper, member)?)?;
+        number += usize::from(*is_taken);
+        wrapper += usize::from(is_marked(&class.pool, member));
     }
     Ok(members)
 }
@@ -193,7 +214,8 @@ fn new_methods(
     ensures { Grows (λ v. v.items) result pool.new (all_methods original.now class.now pool.old) }
 {
     let mut added = added_methods(alloc, pool, original, class)?;
-    let mut members = old_methods(alloc, pool, original, class)?;
+    let flags = are_taken(alloc, class)?;
+    let mut members = old_methods(alloc, pool, original, class, flags.as_slice())?;
     members.append(&mut added)?;
     Ok(members)
 }
@@ -223,8 +245,8 @@ fn rewritten(alloc: Global, class: &ClassFile, original: &Program) -> Result<Cla
 }
 
 /// The rewriting of a class over the program that it means: a field for the place of each static field and one for the
-/// static base, accessors, a duplicate of each method of the program, and a wrapper in its place. Every other method stays
-/// as it is. The old pool is a front of the new one, to which only needed entries are added. Refused, at the first member
+/// static base, accessors, a duplicate of each method of the program, and a wrapper in the place of each marked one. Every
+/// other method stays as it is. The old pool is a front of the new one, to which only needed entries are added. Refused, at the first member
 /// that can't be made, as
 ///
 /// - `TooManyPlaces` with an old method's printed name and `Locals` or `Stack`, where its duplicate would have more than two

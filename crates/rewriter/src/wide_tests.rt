@@ -28,7 +28,7 @@ fn rows(descriptor: &str) -> [(u8, u16, u16, &str); 15] {
 }
 
 // A Code with these greatest heights and this code.
-fn code_of(alloc: Global, stack: u8, locals: u8, code: &[u8]) -> Result<Bytes, AllocError> {
+pub fn code_of(alloc: Global, stack: u8, locals: u8, code: &[u8]) -> Result<Bytes, AllocError> {
     let mut bytes = Bytes::from_slice(alloc, &[0, stack, 0, locals])?;
     let length = u32::try_from(code.len()).unwrap_or(u32::MAX);
     bytes.extend_from_slice(&length.to_be_bytes())?;

@@ -12,6 +12,6 @@ pub returns : goal.returns
 returns c =
     let class = c.args.class.now in
     let whole =
-    form_all class c.args.fields.now c.in_ok-names_of.field-0.items c.args.methods.now c.requires.are c.in_ok-names_of.ensures c.args.coded.now
-    ∙ ap (λ (fs : List Field). each (λ (p : Member × Coded). form_method (symbols_of class fs) p.0 p.1) (zip (program_methods class) c.args.coded.now)) c.requires.fields_are in
+    form_all class c.args.fields.now c.in_ok-names_of.field-0.items c.args.methods.now (program_methods class) c.requires.are c.in_ok-names_of.ensures c.args.coded.now
+    ∙ ap (λ (fs : List Field). each (λ (p : Member × Coded). form_method (symbols_of class fs (program_methods class)) p.0 p.1) (zip (program_methods class) c.args.coded.now)) c.requires.fields_are in
     subst (λ (o : Option (List Method)). Builds (λ v. v.items) c.form_methods.result o) whole c.form_methods.ensures

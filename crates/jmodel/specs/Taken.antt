@@ -1,0 +1,69 @@
+-- Which methods of a class are taken: those that are marked, and those that taken ones call, by whatever chain.
+use Rattle.std.specs.Prelude.{◌≡◌, ℕ, zero, suc, length, filter, Option, Some, None, Result, Ok, Err, Bool, true, false, not, ◌&&◌, ◌||◌, nat_le, codes, bytes_eq, option_and_then}
+use Rattle.std.specs.List.{AllByRecursion, list_any}
+use Rattle.jmodel.specs.declared.instruction.Operands.{Operands}
+use Rattle.jmodel.specs.declared.instruction.Operands.TheVariants as operands
+use Rattle.jmodel.specs.declared.instruction.Instr.{Instr}
+use Rattle.jmodel.specs.declared.name.MethodName.{MethodName}
+use Rattle.jmodel.specs.declared.refusal.Refusal.{Refusal}
+use Rattle.jmodel.specs.ClassFile.{Member, Pool, ClassFile}
+use Rattle.jmodel.specs.Pool.{MemberName, member_name}
+use Rattle.jmodel.specs.Decoding.{name_of}
+use Rattle.jmodel.specs.Coded.{Coded, is_marked, decoded}
+
+-- the index of the pool that an instruction names
+abbrev pub index_of : Operands → Option ℕ
+index_of (operands.Pool i) = Some i
+index_of (operands.Interface i count) = Some i
+index_of o = None
+
+-- the method that an invoke names, 182 to 185
+abbrev pub invoked : Pool → Instr → Option MemberName
+invoked pool i = if_invoke (nat_le 182 i.op && nat_le i.op 185) (option_and_then (member_name pool) (index_of i.operands))
+  where
+    if_invoke : Bool → Option MemberName → Option MemberName
+    if_invoke true n = n
+    if_invoke false n = None
+
+-- A call of this name takes each method of the name and the descriptor; a constructor, only that of the named class.
+abbrev pub is_taken_by : MemberName → MethodName → Bool
+is_taken_by n k = bytes_eq n.name k.name && bytes_eq n.descriptor k.descriptor && (not (bytes_eq n.name (codes "<init>")) || bytes_eq n.class k.class)
+
+abbrev pub is_named_by : Option MemberName → MethodName → Bool
+is_named_by None k = false
+is_named_by (Some n) k = is_taken_by n k
+
+-- whether some instruction of code calls a method of this name; code with a fault calls none
+abbrev pub code_calls : Pool → Result Coded Refusal → MethodName → Bool
+code_calls pool (Ok k) name = list_any (λ (i : Instr). is_named_by (invoked pool i) name) k.instrs
+code_calls pool (Err r) name = false
+
+-- whether a method calls another
+abbrev pub calls : ClassFile → Member → Member → Bool
+calls c k m = code_calls c.pool (decoded c k) (name_of c m)
+
+-- a method that is marked, or that one of a set calls
+abbrev pub is_next : ClassFile → (Member → Bool) → Member → Bool
+is_next c s m = is_marked c.pool m || list_any (λ k. calls c k m) (filter s c.methods)
+
+-- what is found in so many rounds
+abbrev pub is_found : ClassFile → ℕ → Member → Bool
+is_found c zero m = false
+is_found c (suc n) m = is_next c (is_found c n) m
+
+-- As many rounds as there are methods find all.
+abbrev pub is_taken : ClassFile → Member → Bool
+is_taken c m = is_found c (length c.methods) m
+
+-- a set that has the marked methods, and each that one of its own calls
+abbrev pub IsClosed : ClassFile → (Member → Bool) → Type 0
+IsClosed c s = AllByRecursion (λ m. is_next c s m ≡ true → s m ≡ true) c.methods
+
+-- The least such set.
+pub record IsLeastClosed (c : ClassFile) (s : Member → Bool) : Type 0 where
+  pub closed : IsClosed c s
+  pub least : (t : Member → Bool) → IsClosed c t → AllByRecursion (λ m. s m ≡ true → t m ≡ true) c.methods
+
+-- The taken methods are the least such set.
+abbrev pub TakenLaw : Type 0
+TakenLaw = (c : ClassFile) → IsLeastClosed c (is_taken c)
