@@ -290,7 +290,7 @@ const WIDE: [(u8, u16, u16, &str); 20] = [
 // A marked static method `inc` of a descriptor, with 6 places of stack and so many locals.
 fn atomic(alloc: Global, descriptor: u16, locals: u8, code: &[u8]) -> Result<Member, AllocError> {
     let mut bytes = Bytes::from_slice(alloc, &[0, 6, 0, locals, 0, 0, 0])?;
-    bytes.push(code.len() as u8)?;
+    bytes.push(u8::try_from(code.len()).unwrap_or(u8::MAX))?;
     bytes.extend_from_slice(code)?;
     bytes.extend_from_slice(&[0, 0, 0, 0])?;
     Ok(Member {
