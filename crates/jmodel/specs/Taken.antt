@@ -1,4 +1,5 @@
--- Which methods of a class are taken: those that are marked, and those that taken ones call, by whatever chain.
+-- Which methods of a class are taken: those that are marked, and those that taken ones call, by whatever chain. That these alone are
+-- typed and rewritten is this project's own rule; which instructions call is the JVM Specification's, Java SE 7, section 6.5.
 use Rattle.std.specs.Prelude.{◌≡◌, ℕ, zero, suc, length, filter, Option, Some, None, Result, Ok, Err, Bool, true, false, not, ◌&&◌, ◌||◌, nat_le, codes, bytes_eq, option_and_then}
 use Rattle.std.specs.List.{AllByRecursion, list_any}
 use Rattle.jmodel.specs.declared.instruction.Operands.{Operands}
