@@ -21,6 +21,7 @@ field_n = record { class = codes "Counter"; name = codes "n"; place = record { o
 abbrev pub method_inc : Method
 method_inc = record {
   name = record { class = codes "Counter"; name = codes "inc"; descriptor = codes "()I" };
+  takes = [];
   params = 0;
   locals = 0;
   max_stack = 2;

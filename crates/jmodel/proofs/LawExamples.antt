@@ -13,7 +13,7 @@ use Rattle.jmodel.proofs.Examples.{counter_program, method_inc, bounds, second_a
 use Rattle.jmodel.proofs.Simulates.{simulation}
 
 counter_method : IsSourceMethod counter_program method_inc
-counter_method = record { counted = refl; room = omega arith; no_entries = refl; each = (lit< tt, (record { sfits = lit< tt }, (tt, (tt, (lit< tt, (refl, tt)))))) }
+counter_method = record { counted = refl; takes = refl; room = omega arith; no_entries = refl; each = (lit< tt, (record { sfits = lit< tt }, (tt, (tt, (lit< tt, (refl, tt)))))) }
 
 counter_source : IsSource counter_program
 counter_source = record { fields = (record { object = lit< tt; index = lit< tt; address = lit< tt }, tt); methods = (counter_method, tt) }

@@ -1,7 +1,7 @@
 -- What is linked is a program of source code.
 use Rattle.std.proofs.Common.{◌≡◌, ℕ, ℤ, suc, ◌+◌, ◌-◌, ◌<◌, ◌≤◌, List, [], ◌∷◌, ◌++◌, length, Bool, true, false, not, ◌&&◌, nat_le, nat_eq, nat_lt, Option, Some, None, Result, Ok, Err, refl, sym, ◌∙◌, ap, subst, arith, ◌⊎◌, inl, inr}
-use Rattle.std.specs.Prelude.{if◌then◌else◌, codes, filter, pos, option_map, option_and_then, zip, ◌==◌, ◌-ℤ◌, FitsSigned}
-use Rattle.std.specs.List.{AllByRecursion, list_all}
+use Rattle.std.specs.Prelude.{if◌then◌else◌, codes, filter, map, replicate, is_some, bytes_eq, ◌||◌, pos, option_map, option_and_then, zip, ◌==◌, ◌-ℤ◌, FitsSigned}
+use Rattle.std.specs.List.{AllByRecursion, list_all, list_any}
 use Rattle.std.specs.Int.{w32}
 use Rattle.std.proofs.lemmas.Bool.Decides.{nat_tests}
 use Rattle.std.proofs.lemmas.Int.{ints}
@@ -9,6 +9,8 @@ use Rattle.std.proofs.lemmas.List.{length-map}
 use Rattle.std.proofs.lemmas.List.Quantifiers.{position-Some}
 use Rattle.std.proofs.lemmas.Slice.Zip.{length-zip}
 use Rattle.jmodel.specs.declared.name.MethodName.{MethodName}
+use Rattle.jmodel.specs.declared.class_file.FieldType.{FieldType}
+use Rattle.jmodel.specs.declared.class_file.FieldType.TheVariants as types
 use Rattle.jmodel.specs.declared.class_file.Handler.{Handler}
 use Rattle.jmodel.specs.declared.instruction.Operands.{Operands}
 use Rattle.jmodel.specs.declared.instruction.Operands.TheVariants as operands
@@ -16,6 +18,8 @@ use Rattle.jmodel.specs.declared.instruction.Instr.{Instr}
 use Rattle.jmodel.specs.declared.refusal.Refusal.{Refusal}
 use Rattle.jmodel.specs.declared.op.WordType.TheVariants as word
 use Rattle.jmodel.specs.declared.value.Value.TheVariants as value
+use Rattle.jmodel.specs.declared.typing.VType.{VType}
+use Rattle.jmodel.specs.declared.typing.VType.TheVariants as type
 use Rattle.jmodel.specs.declared.op.Op.{Op}
 use Rattle.jmodel.specs.declared.op.Op.TheVariants as op
 use Rattle.jmodel.specs.declared.op.Rearrange.TheVariants as rearrange
@@ -26,13 +30,15 @@ use Rattle.jmodel.specs.declared.op.Catch.{Catch}
 use Rattle.jmodel.specs.ClassFile.{Member, Pool, ClassFile, Code}
 use Rattle.jmodel.specs.Pool.{utf8, MemberName, field_name, method_name}
 use Rattle.jmodel.specs.ClassRules.{same_text}
+use Rattle.jmodel.specs.Descriptor.{Signature}
+use Rattle.jmodel.specs.DescriptorReading.{signature_of}
 use Rattle.jmodel.specs.Constants.{integer}
 use Rattle.jmodel.specs.Reading.{◌>>=◌}
 use Rattle.jmodel.specs.Program.{Field, Method, Program}
 use Rattle.jmodel.specs.Source.{IsSourceOp, IsSourceMethod, IsSourceField}
-use Rattle.jmodel.specs.Decoding.{Symbols, number_at, name_of, simple_op, short_local_op, arithmetic_op, rearranging_op, leaving_op, number_op, local_op, wide_op, test_of, jump_to, jump_op, get_op, put_op, static_call_op, context_op, virtual_call_op, pool_op, meaning, op_of, ops_of, in_front, each, field_number, method_number, is_field_of, is_method_of, long_field}
+use Rattle.jmodel.specs.Decoding.{context_class, Symbols, number_at, name_of, simple_op, short_local_op, arithmetic_op, rearranging_op, leaving_op, number_op, local_op, wide_op, test_of, jump_to, jump_op, get_op, put_op, static_call_op, context_op, virtual_call_op, pool_op, meaning, op_of, ops_of, in_front, each, field_number, method_number, is_field_of, is_method_of, long_field}
 use Rattle.jmodel.specs.InstructionReading.{instrs_of}
-use Rattle.jmodel.specs.Linking.{catch_of, Shape, code_in, retries_of, Coded, make_method, descriptor_of, shape_of, named_fault, decoded_code, decoded, all_decoded, is_marked, program_methods, is_form_attribute, is_form_atomic, is_form_method, is_form_field, are_form_fields, are_form_methods, is_form_class, is_form_code, is_form_instr, is_form_op, is_form_method_of, if_form, form_method, symbols_of, original_fields, form_methods, form_program, program_in, linked}
+use Rattle.jmodel.specs.Linking.{catch_of, Shape, is_context, is_parameter, parameter_type, is_result, shape_in, has_context, takes_context, code_in, retries_of, Coded, make_method, descriptor_of, shape_of, named_fault, decoded_code, decoded, all_decoded, is_marked, program_methods, is_form_attribute, is_form_atomic, is_form_method, is_form_field, are_form_fields, are_form_methods, is_form_class, is_form_code, is_form_instr, is_form_op, is_form_method_of, if_form, form_method, symbols_of, original_fields, form_methods, form_program, program_in, linked}
 use Rattle.jmodel.specs.Layout.{fields_from, statics, base_of}
 use Rattle.jmodel.specs.LinkedLaw.{IsPlainlyMarked, IsLinked}
 use Rattle.jmodel.specs.Taken.{is_taken}
@@ -288,6 +294,7 @@ all_source P k (o ∷ os) h b =
 abbrev pub meant : Symbols → Member → Coded → Shape → List Op → List Catch → Method
 meant s m k shape ops catches = record {
   name = name_of s.class m;
+  takes = shape.takes;
   params = shape.params;
   locals = k.code.max_locals;
   max_stack = k.code.max_stack;
@@ -304,28 +311,60 @@ pub record Means (s : Symbols) (m : Member) (k : Coded) (p : Method) : Type 0 wh
   pub ops : List Op
   pub catches : List Catch
   pub is : p ≡ meant s m k shape ops catches
+  pub shaped : shape_of (descriptor_of s.class.pool m) ≡ Some shape
   pub told : ops_of s k.instrs ≡ Some ops
   pub caught : each (catch_of s.class.pool k.instrs (length k.code.code)) k.code.handlers ≡ Some catches
   pub form : is_form_method_of k p ≡ true
 
 pub means_of : (s : Symbols) (m : Member) (k : Coded) (p : Method) → form_method s m k ≡ Some p → Means s m k p
-means_of s m k p h = go (shape_of (descriptor_of s.class.pool m)) (ops_of s k.instrs) refl (each (catch_of s.class.pool k.instrs (length k.code.code)) k.code.handlers) refl h
+means_of s m k p h = go (shape_of (descriptor_of s.class.pool m)) refl (ops_of s k.instrs) refl (each (catch_of s.class.pool k.instrs (length k.code.code)) k.code.handlers) refl h
   where
-    choose : (shape : Shape) (ops : List Op) (catches : List Catch) → ops_of s k.instrs ≡ Some ops
+    choose : (shape : Shape) (ops : List Op) (catches : List Catch) → shape_of (descriptor_of s.class.pool m) ≡ Some shape → ops_of s k.instrs ≡ Some ops
         → each (catch_of s.class.pool k.instrs (length k.code.code)) k.code.handlers ≡ Some catches
         → (b : Bool) → is_form_method_of k (meant s m k shape ops catches) ≡ b → (if b then Some (meant s m k shape ops catches) else None) ≡ Some p → Means s m k p
-    choose shape ops catches t c true e h =
+    choose shape ops catches d t c true e h =
         let same : p ≡ meant s m k shape ops catches = cc in
-        record { shape = shape; ops = ops; catches = catches; is = same; told = t; caught = c; form = rw same e }
-    choose shape ops catches t c false e h = cc
+        record { shape = shape; ops = ops; catches = catches; is = same; shaped = d; told = t; caught = c; form = rw same e }
+    choose shape ops catches d t c false e h = cc
 
-    go : (shape : Option Shape) (ops : Option (List Op)) → ops_of s k.instrs ≡ ops → (catches : Option (List Catch))
+    go : (shape : Option Shape) → shape_of (descriptor_of s.class.pool m) ≡ shape → (ops : Option (List Op)) → ops_of s k.instrs ≡ ops → (catches : Option (List Catch))
         → each (catch_of s.class.pool k.instrs (length k.code.code)) k.code.handlers ≡ catches
         → if_form k (make_method s true m k.code shape ops catches) ≡ Some p → Means s m k p
-    go (Some shape) (Some ops) t (Some catches) c h = choose shape ops catches t c (is_form_method_of k (meant s m k shape ops catches)) refl h
-    go (Some shape) (Some ops) t None c h = cc
-    go (Some shape) None t catches c h = cc
-    go None ops t catches c h = cc
+    go (Some shape) d (Some ops) t (Some catches) c h = choose shape ops catches d t c (is_form_method_of k (meant s m k shape ops catches)) refl h
+    go (Some shape) d (Some ops) t None c h = cc
+    go (Some shape) d None t catches c h = cc
+    go None d ops t catches c h = cc
+
+-- ---- parameters
+
+neither : (a b : Bool) → (a || b) ≡ false → a ≡ false
+neither false b h = refl
+neither true b h = h
+
+-- parameters none of which is a context are ints
+int_types : (ts : List FieldType) → list_all is_parameter ts ≡ true → list_any is_context ts ≡ false → map parameter_type ts ≡ replicate (length ts) type.Int
+int_types [] h n = refl
+int_types (types.Int ∷ ts) h n = ap (λ (us : List VType). type.Int ∷ us) (int_types ts h n)
+int_types (types.Reference name ∷ ts) h n =
+    let is : bytes_eq name context_class ≡ true = (both (bytes_eq name context_class) (list_all is_parameter ts) h).0 in
+    let no : bytes_eq name context_class ≡ false = neither (bytes_eq name context_class) (list_any is_context ts) n in
+    absurd (cc (is, no))
+int_types (t ∷ ts) h n = absurd (cc (h))
+
+shape_ints : (d : List ℕ) (shape : Shape) → shape_of d ≡ Some shape → has_context (signature_of d) ≡ false → shape.takes ≡ replicate shape.params type.Int
+shape_ints d shape h n = go (signature_of d) h n
+  where
+    choose : (s : Signature) (b : Bool) → (list_all is_parameter s.parameters && is_result s.result) ≡ b
+        → (if b then Some (record { takes = map parameter_type s.parameters; params = length s.parameters; gives = is_some s.result }) else None) ≡ Some shape
+        → list_any is_context s.parameters ≡ false → shape.takes ≡ replicate shape.params type.Int
+    choose s true e h n =
+        let same : shape ≡ record { takes = map parameter_type s.parameters; params = length s.parameters; gives = is_some s.result } = cc in
+        rw same (int_types s.parameters (both (list_all is_parameter s.parameters) (is_result s.result) e).0 n)
+    choose s false e h n = cc
+
+    go : (o : Option Signature) → option_and_then shape_in o ≡ Some shape → has_context o ≡ false → shape.takes ≡ replicate shape.params type.Int
+    go None h n = cc
+    go (Some s) h n = choose s (list_all is_parameter s.parameters && is_result s.result) refl h n
 
 -- ---- which methods are of the form
 
@@ -362,6 +401,9 @@ form_atomic c m h =
     let is = h.0 in
     rw is at t
 
+no_context : (c : ClassFile) (m : Member) → IsFormProgram c m → takes_context c.pool m ≡ false
+no_context c m h = is_not (takes_context c.pool m) (both _ _ (both _ _ (form_atomic c m h)).0).1
+
 -- ---- a method of the program
 
 -- what a linked method keeps
@@ -384,9 +426,9 @@ each_none : {A B : Type 0} (f : A → Option B) (xs : List A) (ys : List B) → 
 each_none f [] ys e h = cc
 each_none f (x ∷ xs) ys e h = cc
 
-method_of : (P : Program) (s : Symbols) (m : Member) (k : Coded) (p : Method) → length P.fields ≡ length s.fields → length P.methods ≡ length s.methods
+method_of : (P : Program) (s : Symbols) (m : Member) (k : Coded) (p : Method) → takes_context s.class.pool m ≡ false → length P.fields ≡ length s.fields → length P.methods ≡ length s.methods
     → AllByRecursion IsSmallInstr k.instrs → form_method s m k ≡ Some p → IsMethodOf P p
-method_of P s m k p same many smalls h =
+method_of P s m k p plain same many smalls h =
     let means = means_of s m k p h in
     let q = meant s m k means.shape means.ops means.catches in
     let ends = both _ _ (let f = means.form in let same_method = means.is in rw same_method at f) in
@@ -400,6 +442,7 @@ method_of P s m k p same many smalls h =
     rw means.is (record {
       source = record {
         counted = refl;
+        takes = shape_ints (descriptor_of s.class.pool m) means.shape means.shaped plain;
         room = room;
         no_entries = empty;
         each = all_source P q means.ops ends.1 (rw (← fits) all.0);
@@ -484,7 +527,7 @@ module _ (c : ClassFile) (P : Program) (fields_are : are_form_fields c ≡ true)
           let zipped : length (zip (program_methods c) ks) ≡ length (program_methods c) = length-zip (program_methods c) ks ∙ omega (arith, long) in
           let many : length P.methods ≡ length own.methods = ap length members ∙ lengths ∙ zipped ∙ sym names in
           let all = (each_all (λ (p : Member × Coded). form_method own p.0 p.1) (IsGoodPair c) (IsMethodOf P)
-          (λ p k g e. method_of P own p.0 p.1 k (ap length statics_are) many g.1 e) (zip (program_methods c) ks) ms pairs e).0 in
+          (λ p k g e. method_of P own p.0 p.1 k (no_context c p.0 g.0) (ap length statics_are) many g.1 e) (zip (program_methods c) ks) ms pairs e).0 in
           let parts = split_methods P ms all in
           let few : 0 + length (statics c) ≤ 1000 = omega (arith, few_statics c fields_are) in
           let Sources : List Method → Type 0 = λ l. AllByRecursion (IsSourceMethod P) l in

@@ -3,8 +3,10 @@ use Rattle.std.proofs.Common.{◌≡◌, ℕ, zero, suc, ◌<◌, ◌≤◌, Lis
 use Rattle.std.specs.Prelude.{option_and_then}
 use Rattle.std.specs.List.{AllByRecursion}
 use Rattle.jmodel.specs.declared.op.Op.{Op}
+use Rattle.jmodel.specs.declared.op.Catch.{Catch}
+use Rattle.jmodel.specs.declared.typing.VType.{VType}
 use Rattle.jmodel.specs.Program.{Method, Program}
-use Rattle.jmodel.specs.Typing.{Types, Table, Flow, Leads, Wrong, types_at, flow, Covers, Keeps, KeepsAt, IsTypedAt, IsTypingUpTo, IsUntypableAt}
+use Rattle.jmodel.specs.Typing.{Types, Table, Flow, Leads, Wrong, types_at, flow, Covers, AreCaught, KeepsFlow, KeepsAt, IsTypedAt, IsTypingUpTo, IsUntypableAt}
 
 -- a front of a list has the items of its places, and no others
 taken : {A : Type 0} (n : ℕ) (xs : List A) (i : ℕ) → i < n → slice_get (take n xs) i ≡ slice_get xs i
@@ -31,16 +33,21 @@ module _ (P : Program) (k : Method) (T : Table) where
   covered h (pc ∷ to) all =
       (record { inside = all.0.inside; types = all.0.types; there = same pc all.0.inside ∙ all.0.there; fits = all.0.fits }, covered h to all.1)
 
-  kept : (f : Flow) → Keeps k T f → Keeps k cut f
-  kept (Leads to h) all = (all.0, covered h to all.1)
-  kept Wrong all = all
+  caught : (pc : ℕ) (l : List VType) (cs : List Catch) → AreCaught k T pc l cs → AreCaught k cut pc l cs
+  caught pc l [] all = tt
+  caught pc l (c ∷ cs) all =
+      (λ g. let x = all.0 g in record { inside = x.inside; types = x.types; there = same c.at x.inside ∙ x.there; fits = x.fits }, caught pc l cs all.1)
+
+  kept : (pc : ℕ) (l : List VType) (f : Flow) → KeepsFlow k T pc l f → KeepsFlow k cut pc l f
+  kept pc l (Leads to h) all = record { room = all.room; goes = covered h to all.goes; before = caught pc l k.catches all.before; after = caught pc h.locals k.catches all.after }
+  kept pc l Wrong all = all
 
   kept_at : (pc : ℕ) (h : Types) (o : Option Op) → KeepsAt P k T pc h o → KeepsAt P k cut pc h o
-  kept_at pc h (Some o) keeps = kept (flow P k pc o h) keeps
+  kept_at pc h (Some o) keeps = kept pc h.locals (flow P k pc o h) keeps
   kept_at pc h None keeps = keeps
 
   typed : (pc : ℕ) (h : Types) → IsTypedAt P k T pc h → IsTypedAt P k cut pc h
-  typed pc h t = record { locals = t.locals; each_local = t.each_local; room = t.room; each_place = t.each_place; keeps = kept_at pc h (slice_get k.ops pc) t.keeps }
+  typed pc h t = record { locals = t.locals; each_local = t.each_local; room = t.room; stack = t.stack; keeps = kept_at pc h (slice_get k.ops pc) t.keeps }
 
   -- what meets the rules of all instructions meets those of any number of them
   all_places : (last place : ℕ) → length k.ops ≡ suc last → IsTypingUpTo P k last T → IsTypingUpTo P k place cut

@@ -19,6 +19,7 @@ use Rattle.jmodel.specs.Pool.{utf8, class_name, MemberName, field_name, method_n
 use Rattle.jmodel.specs.ClassRules.{same_text}
 use Rattle.jmodel.specs.Constants.{integer, long_value}
 use Rattle.jmodel.specs.Program.{Field}
+pub use Rattle.jmodel.specs.TypeOrder.{context_class}
 use Rattle.jmodel.specs.Layout.{text_or_none, base_of}
 
 -- the number of the instruction at a place of code
@@ -171,9 +172,6 @@ get_op s m =
 
 abbrev pub put_op : Symbols → MemberName → Option Op
 put_op s m = if bytes_eq m.descriptor (codes "I") then option_map op.PutStatic (field_number s.fields m) else None
-
-abbrev pub context_class : List ℕ
-context_class = codes "org/deuce/transaction/Context"
 
 abbrev pub is_get_context : MemberName → Bool
 is_get_context m = bytes_eq m.class (codes "org/deuce/transaction/ContextDelegator") && bytes_eq m.name (codes "getInstance")

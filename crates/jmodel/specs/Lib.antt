@@ -16,6 +16,7 @@ pub mod Rewriting
 pub mod Meaning
 pub mod Source
 pub mod Free
+pub mod TypeOrder
 pub mod Typing
 pub mod Law
 pub mod TypingLaw

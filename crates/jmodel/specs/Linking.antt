@@ -13,6 +13,8 @@ use Rattle.jmodel.specs.declared.instruction.Instr.{Instr}
 use Rattle.jmodel.specs.declared.name.MethodName.{MethodName}
 use Rattle.jmodel.specs.declared.refusal.Refusal.{Refusal}
 use Rattle.jmodel.specs.declared.value.Value.TheVariants as value
+use Rattle.jmodel.specs.declared.typing.VType.{VType}
+use Rattle.jmodel.specs.declared.typing.VType.TheVariants.{Int, Ref}
 use Rattle.jmodel.specs.declared.op.Op.{Op}
 use Rattle.jmodel.specs.declared.op.Op.TheVariants as op
 use Rattle.jmodel.specs.declared.op.Catch.{Catch}
@@ -51,8 +53,9 @@ catch_of pool is len h = make_catch (number_at is h.start) (end_at is len h.end)
 
 -- ---- methods
 
--- places of parameters, and whether a value is given, for the descriptors that have a meaning here
+-- types and places of parameters, and whether a value is given, for the descriptors that have a meaning here
 pub record Shape : Type 0 where
+  pub takes : List VType
   pub params : ℕ
   pub gives : Bool
 
@@ -65,6 +68,11 @@ abbrev pub is_parameter : FieldType → Bool
 is_parameter types.Int = true
 is_parameter t = is_context t
 
+-- a reference, or else an int
+abbrev pub parameter_type : FieldType → VType
+parameter_type (types.Reference name) = Ref name
+parameter_type t = Int
+
 -- an int or nothing
 abbrev pub is_result : Option FieldType → Bool
 is_result None = true
@@ -72,7 +80,7 @@ is_result (Some types.Int) = true
 is_result (Some t) = false
 
 abbrev pub shape_in : Signature → Option Shape
-shape_in s = if list_all is_parameter s.parameters && is_result s.result then Some (record { params = length s.parameters; gives = is_some s.result }) else None
+shape_in s = if list_all is_parameter s.parameters && is_result s.result then Some (record { takes = map parameter_type s.parameters; params = length s.parameters; gives = is_some s.result }) else None
 
 abbrev pub shape_of : List ℕ → Option Shape
 shape_of d = option_and_then shape_in (signature_of d)
@@ -84,6 +92,7 @@ retries_of pool m = if is_marked pool m then Some (pos 2147483647) else None
 abbrev pub make_method : Symbols → Bool → Member → Code → Option Shape → Option (List Op) → Option (List Catch) → Option Method
 make_method s counted m k (Some shape) (Some ops) (Some catches) = Some (record {
   name = name_of s.class m;
+  takes = shape.takes;
   params = shape.params;
   locals = k.max_locals;
   max_stack = k.max_stack;

@@ -1,6 +1,7 @@
 -- Programs, with every name resolved to a number.
 use Rattle.std.specs.Prelude.{ℕ, ℤ, List, [], ◌∷◌, Option, Some, None, Bool, true, false, slice_get, option_and_then, nat_le, nat_lt, nat_eq, ◌&&◌, if◌then◌else◌}
 use Rattle.jmodel.specs.declared.name.MethodName.{MethodName}
+use Rattle.jmodel.specs.declared.typing.VType.{VType}
 use Rattle.jmodel.specs.declared.op.Op.{Op}
 use Rattle.jmodel.specs.declared.op.Place.{Place}
 use Rattle.jmodel.specs.declared.op.WordType.{WordType}
@@ -17,7 +18,9 @@ pub record Field : Type 0 where
 
 pub record Method : Type 0 where
   pub name : MethodName
-  -- places of its parameters, and of all its locals
+  -- the types of the places of its parameters
+  pub takes : List VType
+  -- how many places these are, and those of all its locals
   pub params : ℕ
   pub locals : ℕ
   -- how many places its operand stack takes at most

@@ -2,6 +2,7 @@
 use Rattle.std.specs.Prelude.{ℕ, ℤ, zero, suc, pos, ◌+◌, ◌*◌, List, [], ◌∷◌, ◌++◌, length, map, take, drop, sum_by, max, Option, Some, None, Bool, true, false, not, ◌==◌, nat_lt, if◌then◌else◌, codes}
 use Rattle.std.specs.List.{flat_map}
 use Rattle.jmodel.specs.declared.value.Value.TheVariants.{Int, Long, Ref}
+use Rattle.jmodel.specs.declared.typing.VType.TheVariants as type
 use Rattle.jmodel.specs.declared.op.Op.{Op}
 use Rattle.jmodel.specs.declared.op.Op.TheVariants.{Constant, Load, Store, Rearrange, Increment, Branch, BranchInts, Goto, GetStatic, PutStatic, InvokeStatic, Return, ReturnValue, Throw, GetContext, Context}
 use Rattle.jmodel.specs.declared.op.Rearrange.TheVariants.{Pop}
@@ -13,6 +14,7 @@ use Rattle.jmodel.specs.declared.op.Catch.{Catch}
 use Rattle.jmodel.specs.declared.op.Catches.{Catches}
 use Rattle.jmodel.specs.declared.op.Catches.TheVariants.{Conflict, Any}
 use Rattle.jmodel.specs.Program.{Field, Method, Program}
+use Rattle.jmodel.specs.TypeOrder.{context_class, type_of}
 use Rattle.std.specs.Int.{w64, cast_signed}
 
 -- the descriptor of the context's class
@@ -53,6 +55,7 @@ offset f = Constant (Long (cast_signed w64 f.place.index))
 abbrev pub getter_method : ℕ → Field → Method
 getter_method n f = record {
   name = record { class = f.class; name = f.name ++ codes "__Getter$"; descriptor = codes "(" ++ context_type ++ codes ")" ++ type_descriptor f.type };
+  takes = type.Ref context_class ∷ [];
   params = 1;
   locals = 1;
   max_stack = 5;
@@ -67,6 +70,7 @@ getter_method n f = record {
 abbrev pub setter_method : ℕ → Field → Method
 setter_method n f = record {
   name = record { class = f.class; name = f.name ++ codes "__Setter$"; descriptor = codes "(" ++ type_descriptor f.type ++ context_type ++ codes ")V" };
+  takes = type_of f.type ∷ type.Ref context_class ∷ [];
   params = 2;
   locals = 2;
   max_stack = 5;
@@ -121,6 +125,7 @@ catch from to at catches = record { from = from; to = to; at = at; catches = cat
 abbrev pub duplicate_method : Program → Method → Method
 duplicate_method P k = record {
   name = record { class = k.name.class; name = k.name.name; descriptor = with_context k.name.descriptor };
+  takes = k.takes ++ type.Ref context_class ∷ [];
   params = k.params + 1;
   locals = k.locals + 1;
   max_stack = k.max_stack + 1;

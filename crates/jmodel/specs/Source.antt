@@ -1,8 +1,9 @@
 -- Programs that are rewritten: what their instructions may be.
-use Rattle.std.specs.Prelude.{◌≡◌, ℕ, ◌+◌, ◌-◌, ◌<◌, ◌≤◌, ◌^◌, List, [], ◌∷◌, length, Bool, true, false, nat_le, ◌&&◌, FitsSigned}
+use Rattle.std.specs.Prelude.{◌≡◌, ℕ, ◌+◌, ◌-◌, ◌<◌, ◌≤◌, ◌^◌, List, [], ◌∷◌, length, Bool, true, false, nat_le, ◌&&◌, replicate, FitsSigned}
 use Rattle.std.specs.List.{AllByRecursion}
 use Rattle.std.specs.Int.{w32}
 use Rattle.jmodel.specs.declared.value.Value.TheVariants.{Int}
+use Rattle.jmodel.specs.declared.typing.VType.TheVariants as type
 use Rattle.jmodel.specs.declared.op.Op.{Op}
 use Rattle.jmodel.specs.declared.op.Op.TheVariants.{Constant, Load, Store, Rearrange, Binary, Unary, Increment, Branch, BranchInts, Goto, GetStatic, PutStatic, InvokeStatic, Return, ReturnValue}
 use Rattle.jmodel.specs.declared.op.Rearrange.TheVariants.{Pop, PopTwo, Duplicate, DuplicateUnder, DuplicateTwo, Swap}
@@ -29,6 +30,7 @@ IsSourceOp P k o = ⊥
 
 pub record IsSourceMethod (P : Program) (k : Method) : Type 0 where
   pub counted : k.counted ≡ true
+  pub takes : k.takes ≡ replicate k.params type.Int
   pub room : k.params ≤ k.locals
   pub no_entries : k.catches ≡ []
   pub each : AllByRecursion (IsSourceOp P k) k.ops

@@ -1,18 +1,22 @@
 -- Typed code (JVM Specification, Java SE 7, section 4.10.1): a table of the types before each instruction, tested against what the
--- instructions ask. Places are counted in instructions. Code so far has ints alone.
-use Rattle.std.specs.Prelude.{◌≡◌, ℕ, zero, suc, ◌+◌, ◌-◌, ◌<◌, ◌≤◌, List, [], ◌∷◌, ◌++◌, length, replicate, Option, Some, None, Bool, true, false, not, nat_lt, slice_get, slice_set, option_and_then}
+-- instructions ask. Places are counted in instructions.
+use Rattle.std.specs.Prelude.{◌≡◌, ℕ, zero, suc, ◌+◌, ◌-◌, ◌<◌, ◌≤◌, List, [], ◌∷◌, ◌++◌, length, replicate, reverse, Option, Some, None, Bool, true, false, IsTrue, not, nat_le, nat_lt, ◌&&◌, if◌then◌else◌, slice_get, slice_set, option_and_then}
 use Rattle.std.specs.List.{AllByRecursion}
 use Rattle.jmodel.specs.declared.value.Value.{Value}
 use Rattle.jmodel.specs.declared.value.Value.TheVariants as value
 use Rattle.jmodel.specs.declared.typing.VType.{VType}
-use Rattle.jmodel.specs.declared.typing.VType.TheVariants.{Int, Top}
-use Rattle.jmodel.specs.declared.op.WordType.{WordType}
-use Rattle.jmodel.specs.declared.op.WordType.TheVariants as word
+use Rattle.jmodel.specs.declared.typing.VType.TheVariants.{Int, Long, Second, Null, Ref, Top}
 use Rattle.jmodel.specs.declared.op.Op.{Op}
 use Rattle.jmodel.specs.declared.op.Op.TheVariants as op
 use Rattle.jmodel.specs.declared.op.Rearrange.{Rearrange}
 use Rattle.jmodel.specs.declared.op.Rearrange.TheVariants as rearrange
+use Rattle.jmodel.specs.declared.op.ContextCall.{ContextCall}
+use Rattle.jmodel.specs.declared.op.ContextCall.TheVariants as call
+use Rattle.jmodel.specs.declared.op.Catch.{Catch}
+use Rattle.jmodel.specs.declared.op.Catches.{Catches}
+use Rattle.jmodel.specs.declared.op.Catches.TheVariants.{Conflict, Any}
 use Rattle.jmodel.specs.Program.{Field, Method, Program, method_at, place_at}
+pub use Rattle.jmodel.specs.TypeOrder.{object_class, throwable_class, context_class, conflict_class, type_of, is_within, IsWithin, AreWithin, IsLocalType, IsStack}
 
 -- the types before an instruction; of the stack the topmost first
 pub record Types : Type 0 where
@@ -25,29 +29,6 @@ Table = List (Option Types)
 
 abbrev pub types_at : Table → ℕ → Option Types
 types_at T pc = option_and_then (λ (h : Option Types). h) (slice_get T pc)
-
--- Types of a local: int, and top where nothing is known.
-abbrev pub IsLocalType : VType → Type 0
-IsLocalType Int = Unit {0}
-IsLocalType Top = Unit {0}
-IsLocalType t = ⊥
-
--- Types of a stack place: int. None is top.
-abbrev pub IsStackType : VType → Type 0
-IsStackType Int = Unit {0}
-IsStackType t = ⊥
-
--- The second type is at least as wide as the first.
-abbrev pub IsWithin : VType → VType → Type 0
-IsWithin Int Int = Unit {0}
-IsWithin t Top = Unit {0}
-IsWithin t u = ⊥
-
--- so at each place of two lists of one length
-abbrev pub AreWithin : List VType → List VType → Type 0
-AreWithin [] [] = Unit {0}
-AreWithin (t ∷ ts) (u ∷ us) = IsWithin t u × AreWithin ts us
-AreWithin ts us = ⊥
 
 -- The second types are at least as wide as the first, over a stack of the same height.
 pub record FitsIn (h g : Types) : Type 0 where
@@ -70,34 +51,58 @@ abbrev pub ends : Bool → Types → Flow
 ends true h = Leads [] h
 ends false h = Wrong
 
+-- a value of this type on top
+abbrev pub on : VType → List VType → (List VType → Flow) → Flow
+on t [] k = Wrong
+on t (u ∷ s) k = if is_within u t then k s else Wrong
+
+-- values of these types, the first topmost
+abbrev pub on_each : List VType → List VType → (List VType → Flow) → Flow
+on_each [] s k = k s
+on_each (t ∷ ts) s k = on t s (λ s. on_each ts s k)
+
 -- an int on top
 abbrev pub on_int : List VType → (List VType → Flow) → Flow
 on_int [] k = Wrong
 on_int (Int ∷ s) k = k s
 on_int (t ∷ s) k = Wrong
 
-abbrev pub on_ints : ℕ → List VType → (List VType → Flow) → Flow
-on_ints zero s k = k s
-on_ints (suc n) s k = on_int s (λ s. on_ints n s k)
+abbrev pub on_long : List VType → (List VType → Flow) → Flow
+on_long s k = on_each (Second ∷ Long ∷ []) s k
+
+-- null, or an object
+abbrev pub on_reference : List VType → (List VType → Flow) → Flow
+on_reference s k = on (Ref object_class) s k
+
+-- a transaction's context
+abbrev pub on_context : List VType → (List VType → Flow) → Flow
+on_context s k = on (Ref context_class) s k
 
 -- a value of one place on top
 abbrev pub on_one : List VType → (VType → List VType → Flow) → Flow
 on_one [] k = Wrong
 on_one (Int ∷ s) k = k Int s
+on_one (Null ∷ s) k = k Null s
+on_one (Ref n ∷ s) k = k (Ref n) s
 on_one (t ∷ s) k = Wrong
 
 -- a value of one place in a local
 abbrev pub one_in : Option VType → (VType → Flow) → Flow
 one_in (Some Int) k = k Int
+one_in (Some Null) k = k Null
+one_in (Some (Ref n)) k = k (Ref n)
 one_in t k = Wrong
 
 abbrev pub int_in : Option VType → Flow → Flow
 int_in (Some Int) k = k
 int_in t k = Wrong
 
-abbrev pub constant_in : Value → (VType → Flow) → Flow
-constant_in (value.Int n) k = k Int
-constant_in v k = Wrong
+-- The types of a constant's places. A reference that isn't null is that of a class's static fields, which is known as an object alone.
+abbrev pub constant_types : Value → List VType
+constant_types (value.Int n) = Int ∷ []
+constant_types (value.Long n) = Second ∷ Long ∷ []
+constant_types (value.Ref zero) = Null ∷ []
+constant_types (value.Ref (suc o)) = Ref object_class ∷ []
 
 abbrev pub field_in : Option Field → (Field → Flow) → Flow
 field_in None k = Wrong
@@ -110,13 +115,6 @@ method_in (Some c) k = k c
 abbrev pub stores : Bool → ℕ → VType → ℕ → Types → List VType → Flow
 stores true i t pc h s = Leads ((pc + 1) ∷ []) (record { locals = slice_set h.locals i t; stack = s })
 stores false i t pc h s = Wrong
-
-abbrev pub type_of : WordType → VType
-type_of word.Int = Int
-
-abbrev pub on_type : VType → List VType → (List VType → Flow) → Flow
-on_type Int s k = on_int s k
-on_type t s k = Wrong
 
 -- what a method gives
 abbrev pub results : Bool → List VType
@@ -132,9 +130,18 @@ rearranged rearrange.DuplicateUnder pc h = on_one h.stack (λ t s. on_one s (λ 
 rearranged rearrange.DuplicateTwo pc h = on_one h.stack (λ t s. on_one s (λ u s. leaves pc h (t ∷ u ∷ t ∷ u ∷ s)))
 rearranged rearrange.Swap pc h = on_one h.stack (λ t s. on_one s (λ u s. leaves pc h (u ∷ t ∷ s)))
 
+-- The arguments of a call of the context lie in order, the last topmost: the context, the object, a value, and the place.
+abbrev pub called : ContextCall → ℕ → Types → Flow
+called call.Init pc h = on_int h.stack (λ s. on_int s (λ s. on_context s (λ s. leaves pc h s)))
+called call.BeforeRead pc h = on_long h.stack (λ s. on_reference s (λ s. on_context s (λ s. leaves pc h s)))
+called (call.OnRead t) pc h = on_long h.stack (λ s. on (type_of t) s (λ s. on_reference s (λ s. on_context s (λ s. leaves pc h (type_of t ∷ s)))))
+called (call.OnWrite t) pc h = on_long h.stack (λ s. on (type_of t) s (λ s. on_reference s (λ s. on_context s (λ s. leaves pc h s))))
+called call.Commit pc h = on_context h.stack (λ s. leaves pc h (Int ∷ s))
+called call.Rollback pc h = on_context h.stack (λ s. leaves pc h s)
+
 -- what an instruction of a method asks of the types before it, where it goes on, and what it leaves
 abbrev pub flow : Program → Method → ℕ → Op → Types → Flow
-flow P k pc (op.Constant v) h = constant_in v (λ t. leaves pc h (t ∷ h.stack))
+flow P k pc (op.Constant v) h = leaves pc h (constant_types v ++ h.stack)
 flow P k pc (op.Load i) h = one_in (slice_get h.locals i) (λ t. leaves pc h (t ∷ h.stack))
 flow P k pc (op.Store i) h = on_one h.stack (λ t s. stores (nat_lt i (length h.locals)) i t pc h s)
 flow P k pc (op.Rearrange r) h = rearranged r pc h
@@ -145,11 +152,13 @@ flow P k pc (op.Branch t to) h = on_int h.stack (λ s. Leads ((pc + 1) ∷ to �
 flow P k pc (op.BranchInts t to) h = on_int h.stack (λ s. on_int s (λ s. Leads ((pc + 1) ∷ to ∷ []) (with_stack h s)))
 flow P k pc (op.Goto to) h = Leads (to ∷ []) h
 flow P k pc (op.GetStatic n) h = field_in (place_at P n) (λ f. leaves pc h (type_of f.type ∷ h.stack))
-flow P k pc (op.PutStatic n) h = field_in (place_at P n) (λ f. on_type (type_of f.type) h.stack (λ s. leaves pc h s))
-flow P k pc (op.InvokeStatic m) h = method_in (method_at P m) (λ c. on_ints c.params h.stack (λ s. leaves pc h (results c.gives ++ s)))
+flow P k pc (op.PutStatic n) h = field_in (place_at P n) (λ f. on (type_of f.type) h.stack (λ s. leaves pc h s))
+flow P k pc (op.InvokeStatic m) h = method_in (method_at P m) (λ c. on_each (reverse c.takes) h.stack (λ s. leaves pc h (results c.gives ++ s)))
 flow P k pc op.Return h = ends (not k.gives) h
 flow P k pc op.ReturnValue h = on_int h.stack (λ s. ends k.gives (with_stack h s))
-flow P k pc o h = Wrong
+flow P k pc op.Throw h = on (Ref throwable_class) h.stack (λ s. ends true (with_stack h s))
+flow P k pc op.GetContext h = leaves pc h (Ref context_class ∷ h.stack)
+flow P k pc (op.Context c) h = called c pc h
 
 -- A place of the code has types that are at least as wide as these.
 pub record Covers (k : Method) (T : Table) (h : Types) (pc : ℕ) : Type 0 where
@@ -158,26 +167,48 @@ pub record Covers (k : Method) (T : Table) (h : Types) (pc : ℕ) : Type 0 where
   pub there : types_at T pc ≡ Some types
   pub fits : FitsIn h types
 
--- What an instruction leaves stays within the stack, and each place where it may go on covers that.
-abbrev pub Keeps : Method → Table → Flow → Type 0
-Keeps k T Wrong = ⊥
-Keeps k T (Leads to h) = (length h.stack ≤ k.max_stack) × AllByRecursion (Covers k T h) to
+-- the type of the exceptions that an entry takes
+abbrev pub caught_type : Catches → VType
+caught_type Conflict = Ref conflict_class
+caught_type Any = Ref throwable_class
+
+abbrev pub is_guarded : Catch → ℕ → Bool
+is_guarded c pc = nat_le c.from pc && nat_lt pc c.to
+
+-- Where an exception goes that is thrown at a place, over these locals: the place of each entry that guards the first covers them, with
+-- the exception alone on the stack.
+abbrev pub AreCaught : Method → Table → ℕ → List VType → List Catch → Type 0
+AreCaught k T pc l [] = Unit {0}
+AreCaught k T pc l (c ∷ cs) =
+    (IsTrue (is_guarded c pc) → Covers k T (record { locals = l; stack = caught_type c.catches ∷ [] }) c.at) × AreCaught k T pc l cs
+
+-- What an instruction leaves stays within the stack, each place where it may go on covers that, and the places of exception entries cover
+-- the locals before and after it.
+pub record Keeps (k : Method) (T : Table) (pc : ℕ) (l : List VType) (to : List ℕ) (h : Types) : Type 0 where
+  pub room : length h.stack ≤ k.max_stack
+  pub goes : AllByRecursion (Covers k T h) to
+  pub before : AreCaught k T pc l k.catches
+  pub after : AreCaught k T pc h.locals k.catches
+
+abbrev pub KeepsFlow : Method → Table → ℕ → List VType → Flow → Type 0
+KeepsFlow k T pc l Wrong = ⊥
+KeepsFlow k T pc l (Leads to h) = Keeps k T pc l to h
 
 abbrev pub KeepsAt : Program → Method → Table → ℕ → Types → Option Op → Type 0
 KeepsAt P k T pc h None = ⊥
-KeepsAt P k T pc h (Some o) = Keeps k T (flow P k pc o h)
+KeepsAt P k T pc h (Some o) = KeepsFlow k T pc h.locals (flow P k pc o h)
 
 -- The types at a place are those of a frame of the method, and its instruction keeps the rules.
 pub record IsTypedAt (P : Program) (k : Method) (T : Table) (pc : ℕ) (h : Types) : Type 0 where
   pub locals : length h.locals ≡ k.locals
   pub each_local : AllByRecursion IsLocalType h.locals
   pub room : length h.stack ≤ k.max_stack
-  pub each_place : AllByRecursion IsStackType h.stack
+  pub stack : IsStack h.stack
   pub keeps : KeepsAt P k T pc h (slice_get k.ops pc)
 
 -- the types before the first instruction: the parameters, and nothing else
 abbrev pub first_types : Method → Types
-first_types k = record { locals = replicate k.params Int ++ replicate (k.locals - k.params) Top; stack = [] }
+first_types k = record { locals = k.takes ++ replicate (k.locals - k.params) Top; stack = [] }
 
 -- The table meets the rules of the instructions at places up to the last.
 pub record IsTypingUpTo (P : Program) (k : Method) (last : ℕ) (T : Table) : Type 0 where
