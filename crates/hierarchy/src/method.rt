@@ -118,6 +118,7 @@ fn make_method(
     let retries = retries_of(&class.pool, method);
     Ok(Method::new(
         name,
+        shape.takes,
         shape.params,
         code.max_locals as usize,
         code.max_stack as usize,

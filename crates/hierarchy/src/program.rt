@@ -3,6 +3,7 @@ ghost use Rattle.std.specs.Prelude.{◌≡◌, slice_get, option_map, ◌<◌, �
 ghost use Rattle.jmodel.specs.Program.{Field as JField, Method as JMethod, Program as JProgram, op_at, catch_at, is_counted, place_at, method_at, find_catch, takes};
 ghost use Rattle.std.specs.Prelude.{nat_le, nat_lt, ◌&&◌};
 
+use jmodel::VType;
 use jmodel::bytes::Bytes;
 use jmodel::name::MethodName;
 use jmodel::op::{Catch, Catches, Op, Place, WordType};
@@ -71,6 +72,7 @@ pub struct Entry {
 #[derive(Drop)]
 pub struct Method {
     name: MethodName,
+    takes: Vec<VType>,
     params: usize,
     locals: usize,
     max_stack: usize,
@@ -84,15 +86,16 @@ pub struct Method {
 impl Model for Method {
     ghost Value = { JMethod };
 
-    ghost view = { λ m. record { name = m.name; params = m.params; locals = m.locals; max_stack = m.max_stack; gives = m.gives; counted = m.counted; retries = m.retries; ops = m.ops.items; catches = m.catches.items } };
+    ghost view = { λ m. record { name = m.name; takes = m.takes.items; params = m.params; locals = m.locals; max_stack = m.max_stack; gives = m.gives; counted = m.counted; retries = m.retries; ops = m.ops.items; catches = m.catches.items } };
 }
 
 impl Method {
-    /// A method of `params` places of parameters, `locals` places in all and at most `max_stack` on its stack, which
-    /// `gives` a value or none, whose entering and frames count where it is `counted`, and which may make `retries`
-    /// attempts where it is marked.
+    /// A method whose `params` places of parameters have the types that it `takes`, of `locals` places in all and at most
+    /// `max_stack` on its stack, which `gives` a value or none, whose entering and frames count where it is `counted`, and
+    /// which may make `retries` attempts where it is marked.
     pub fn new(
         name: MethodName,
+        takes: Vec<VType>,
         params: usize,
         locals: usize,
         max_stack: usize,
@@ -102,10 +105,11 @@ impl Method {
         ops: Vec<Op>,
         catches: Vec<Catch>,
     ) -> Self
-        ensures { result ≡ record { name = name; params = params; locals = locals; max_stack = max_stack; gives = gives; counted = counted; retries = retries; ops = ops.items; catches = catches.items } }
+        ensures { result ≡ record { name = name; takes = takes.items; params = params; locals = locals; max_stack = max_stack; gives = gives; counted = counted; retries = retries; ops = ops.items; catches = catches.items } }
     {
         Method {
             name,
+            takes,
             params,
             locals,
             max_stack,
@@ -122,6 +126,13 @@ impl Method {
         ensures { result.now ≡ self.now.name }
     {
         &self.name
+    }
+
+    /// The types of the places of its parameters.
+    pub fn takes(&self) -> &[VType]
+        ensures { result.now ≡ self.now.takes }
+    {
+        self.takes.as_slice()
     }
 
     /// How many places its operand stack takes at most.

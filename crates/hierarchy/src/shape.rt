@@ -1,18 +1,19 @@
 //! What a method takes and gives, by its descriptor.
-ghost use Rattle.std.specs.Prelude.{◌≡◌, IfOk, option_map};
+ghost use Rattle.std.specs.Prelude.{◌≡◌, IfOk, map, option_map};
 ghost use Rattle.std.specs.List.{list_all, list_any};
 ghost use Rattle.jmodel.specs.DescriptorReading.{signature_of};
-ghost use Rattle.jmodel.specs.Linking.{is_context as context, is_parameter as parameter, is_result as result_type, shape_in as shape_of_signature, shape_of as shape, has_context as with_context};
+ghost use Rattle.jmodel.specs.Linking.{is_context as context, is_parameter as parameter, is_result as result_type, parameter_type as type_of_parameter, shape_in as shape_of_signature, shape_of as shape, has_context as with_context};
 
 use crate::symbols::same;
 use const_pool::Descriptor;
-use jmodel::{FieldType, Halt, NoMemory};
-use std::alloc::Global;
+use jmodel::{FieldType, Halt, NoMemory, VType};
+use std::alloc::{AllocError, Global};
 use std::marker::Model;
 
-/// Places of parameters, and whether a value is given.
+/// Types and places of parameters, and whether a value is given.
 #[derive(Debug, Drop)]
 pub struct Shape {
+    pub takes: Vec<VType>,
     pub params: usize,
     pub gives: bool,
 }
@@ -22,7 +23,7 @@ impl Model for Shape {
 
     ghost Value = { Form };
 
-    ghost view = { λ s. record { params = s.params; gives = s.gives } };
+    ghost view = { λ s. record { takes = s.takes.items; params = s.params; gives = s.gives } };
 }
 
 fn is_context(t: &FieldType) -> bool
@@ -71,17 +72,38 @@ fn have_context(types: &[FieldType]) -> bool
     types.iter().any(|t| is_context(t))
 }
 
-fn shape_in(found: &Descriptor) -> Option<Shape>
-    ensures { result ≡ shape_of_signature found.now }
+// A reference, or else an int.
+fn parameter_type(alloc: Global, t: &FieldType) -> Result<VType, AllocError>
+    ensures { IfOk result (λ v. v ≡ type_of_parameter t.now) }
 {
-    if are_parameters(found.parameters.as_slice()) && is_result(&found.result) {
-        Some(Shape {
-            params: found.parameters.len(),
-            gives: found.result.is_some(),
-        })
-    } else {
-        None
+    match t {
+        FieldType::Reference(name) => Ok(VType::Ref(name.copy(alloc)?)),
+        _ => Ok(VType::Int),
     }
+}
+
+fn parameter_types(alloc: Global, types: &[FieldType]) -> Result<Vec<VType>, AllocError>
+    ensures { IfOk result (λ v. v.items ≡ map type_of_parameter types.now) }
+{
+    let mut takes = Vec::new(alloc);
+    for t in types {
+        takes.push(parameter_type(alloc, t)?)?;
+    }
+    Ok(takes)
+}
+
+fn shape_in(alloc: Global, found: &Descriptor) -> Result<Option<Shape>, NoMemory>
+    ensures { IfOk result (λ s. s ≡ shape_of_signature found.now) }
+{
+    let parameters = found.parameters.as_slice();
+    if !are_parameters(parameters) || !is_result(&found.result) {
+        return Ok(None);
+    }
+    Ok(Some(Shape {
+        takes: parameter_types(alloc, parameters)?,
+        params: parameters.len(),
+        gives: found.result.is_some(),
+    }))
 }
 
 /// What a method of this descriptor takes and gives, None where the descriptor has no meaning so far.
@@ -89,7 +111,7 @@ pub fn shape_of(alloc: Global, descriptor: &[u8]) -> Result<Option<Shape>, NoMem
     ensures { IfOk result (λ s. s ≡ shape descriptor.now) }
 {
     match signature(alloc, descriptor)? {
-        Some(found) => Ok(shape_in(&found)),
+        Some(found) => shape_in(alloc, &found),
         None => Ok(None),
     }
 }
