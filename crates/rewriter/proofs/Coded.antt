@@ -3,6 +3,7 @@ use Rattle.std.proofs.Common.{◌≡◌, ℕ, Bool, List, [], length, Option, So
 use Rattle.std.specs.Prelude.{codes, ℤ}
 use Rattle.jmodel.specs.declared.instruction.Instr.{Instr}
 use Rattle.jmodel.specs.declared.name.MethodName.{MethodName}
+use Rattle.jmodel.specs.declared.typing.VType.{VType}
 use Rattle.jmodel.specs.declared.op.Op.{Op}
 use Rattle.jmodel.specs.declared.op.Catch.{Catch}
 use Rattle.jmodel.specs.ClassFile.{Pool, Member, Code, code_spelling}
@@ -23,9 +24,10 @@ pub code_back : (pool : Pool) (k : Code) → IsCode pool k → code_of pool (cod
 code_back pool k h = code_is_read pool (code_spelling k) k (record { code = h; is = refl })
 
 -- a method of these parts
-abbrev pub method_as : Bool → MethodName → ℕ → ℕ → ℕ → Bool → Option ℤ → List Op → List Catch → Method
-method_as counted name params locals max_stack gives retries ops catches = record {
+abbrev pub method_as : Bool → MethodName → List VType → ℕ → ℕ → ℕ → Bool → Option ℤ → List Op → List Catch → Method
+method_as counted name takes params locals max_stack gives retries ops catches = record {
   name = name;
+  takes = takes;
   params = params;
   locals = locals;
   max_stack = max_stack;
@@ -47,7 +49,7 @@ pub record CodedFacts (s : Symbols) (m : Member) (k : Code) (is : List Instr) (n
   pub retries_are : retries_of s.class.pool m ≡ retries
 
 pub coded_means : (s : Symbols) (counted : Bool) (m : Member) (k : Code) (is : List Instr) (n d : List ℕ) (shape : Shape) (ops : List Op) (catches : List Catch) (retries : Option ℤ) → CodedFacts s m k is n d shape ops catches retries
-    → method_of s counted m ≡ Some (method_as counted (record { class = own_name s.class; name = n; descriptor = d }) shape.params k.max_locals k.max_stack shape.gives retries ops catches)
+    → method_of s counted m ≡ Some (method_as counted (record { class = own_name s.class; name = n; descriptor = d }) shape.takes shape.params k.max_locals k.max_stack shape.gives retries ops catches)
 coded_means s counted m k is n d shape ops catches retries h =
     let a = h.named in let b = h.typed in let x = h.code in let t = h.read in let r = h.retries_are in
     let y = h.shaped in let z = h.ops_are in let w = h.catches_are in
@@ -61,14 +63,15 @@ pub added_retries : (pool : Pool) (flags name descriptor code : ℕ) (bytes : Li
 added_retries pool flags name descriptor code bytes c = rw c refl
 
 -- methods of the same parts
-pub same_methods : (counted : Bool) (name name' : MethodName) (params params' locals locals' max_stack max_stack' : ℕ) (gives gives' : Bool) (retries : Option ℤ) (ops ops' : List Op) (catches catches' : List Catch)
-    → name ≡ name' → params ≡ params' → locals ≡ locals' → max_stack ≡ max_stack' → gives ≡ gives' → ops ≡ ops' → catches ≡ catches'
-    → method_as counted name params locals max_stack gives retries ops catches ≡ method_as counted name' params' locals' max_stack' gives' retries ops' catches'
-same_methods counted name name' params params' locals locals' max_stack max_stack' gives gives' retries ops ops' catches catches' a b c d e f g =
-    ap (λ (x : MethodName). method_as counted x params locals max_stack gives retries ops catches) a
-    ∙ ap (λ (x : ℕ). method_as counted name' x locals max_stack gives retries ops catches) b
-    ∙ ap (λ (x : ℕ). method_as counted name' params' x max_stack gives retries ops catches) c
-    ∙ ap (λ (x : ℕ). method_as counted name' params' locals' x gives retries ops catches) d
-    ∙ ap (λ (x : Bool). method_as counted name' params' locals' max_stack' x retries ops catches) e
-    ∙ ap (λ (x : List Op). method_as counted name' params' locals' max_stack' gives' retries x catches) f
-    ∙ ap (λ (x : List Catch). method_as counted name' params' locals' max_stack' gives' retries ops' x) g
+pub same_methods : (counted : Bool) (name name' : MethodName) (takes takes' : List VType) (params params' locals locals' max_stack max_stack' : ℕ) (gives gives' : Bool) (retries : Option ℤ) (ops ops' : List Op) (catches catches' : List Catch)
+    → name ≡ name' → takes ≡ takes' → params ≡ params' → locals ≡ locals' → max_stack ≡ max_stack' → gives ≡ gives' → ops ≡ ops' → catches ≡ catches'
+    → method_as counted name takes params locals max_stack gives retries ops catches ≡ method_as counted name' takes' params' locals' max_stack' gives' retries ops' catches'
+same_methods counted name name' takes takes' params params' locals locals' max_stack max_stack' gives gives' retries ops ops' catches catches' a t b c d e f g =
+    ap (λ (x : MethodName). method_as counted x takes params locals max_stack gives retries ops catches) a
+    ∙ ap (λ (x : List VType). method_as counted name' x params locals max_stack gives retries ops catches) t
+    ∙ ap (λ (x : ℕ). method_as counted name' takes' x locals max_stack gives retries ops catches) b
+    ∙ ap (λ (x : ℕ). method_as counted name' takes' params' x max_stack gives retries ops catches) c
+    ∙ ap (λ (x : ℕ). method_as counted name' takes' params' locals' x gives retries ops catches) d
+    ∙ ap (λ (x : Bool). method_as counted name' takes' params' locals' max_stack' x retries ops catches) e
+    ∙ ap (λ (x : List Op). method_as counted name' takes' params' locals' max_stack' gives' retries x catches) f
+    ∙ ap (λ (x : List Catch). method_as counted name' takes' params' locals' max_stack' gives' retries ops' x) g

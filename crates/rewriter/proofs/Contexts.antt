@@ -1,5 +1,5 @@
 -- Descriptors with the context as last parameter.
-use Rattle.std.proofs.Common.{◌≡◌, ℕ, zero, suc, ◌+◌, ◌≤◌, Bool, true, false, not, ◌&&◌, ◌||◌, List, [], ◌∷◌, ◌++◌, length, take, drop, Option, Some, None, refl, sym, ap, ◌∙◌, subst, arith, append_assoc, length-append, eq-eqb}
+use Rattle.std.proofs.Common.{◌≡◌, ℕ, zero, suc, ◌+◌, ◌≤◌, Bool, true, false, not, ◌&&◌, ◌||◌, List, [], ◌∷◌, ◌++◌, length, map, take, drop, Option, Some, None, refl, sym, ap, ◌∙◌, subst, arith, append_assoc, length-append, eq-eqb}
 use Rattle.std.specs.Prelude.{if◌then◌else◌, ◌==◌, codes, bytes_eq, option_and_then, is_some, ◌≢◌}
 use Rattle.std.specs.List.{flat_map, list_any, list_all, AllByRecursion}
 use Rattle.std.proofs.lemmas.Slice.Eq.{bytes_eq-Decides}
@@ -8,11 +8,13 @@ use Rattle.std.proofs.lemmas.List.Concat.{flat_map-cons}
 use Rattle.std.proofs.lemmas.List.Folds.{list_all-append}
 use Rattle.jmodel.specs.declared.class_file.FieldType.{FieldType}
 use Rattle.jmodel.specs.declared.class_file.FieldType.TheVariants as types
+use Rattle.jmodel.specs.declared.typing.VType.{VType}
+use Rattle.jmodel.specs.declared.typing.VType.TheVariants.{Ref}
 use Rattle.jmodel.specs.Descriptor.{field_descriptor, result_descriptor, method_descriptor, places, places_of, Signature, IsFieldType, IsSignature, IsClassName}
 use Rattle.jmodel.specs.DescriptorReading.{element_rest, type_rest, is_field_descriptor, type_of, types_at, result_of, signature_of}
 use Rattle.rewriter.specs.Members.{getter_type, setter_type}
 use Rattle.jmodel.specs.Decoding.{context_class}
-use Rattle.jmodel.specs.Linking.{Shape, is_context, is_parameter, is_result, shape_in, shape_of, has_context, has_part}
+use Rattle.jmodel.specs.Linking.{Shape, is_context, is_parameter, is_result, parameter_type, shape_in, shape_of, has_context, has_part}
 use Rattle.jmodel.specs.Rewriting.{context_type, before_end, with_context}
 use Rattle.const_pool.proofs.Signatures.{signature_found, signature_again}
 use Rattle.rewriter.proofs.Added.{two_true}
@@ -155,8 +157,8 @@ put_at_end front back d is n =
     let r : drop (before_end false d) d ≡ back = ap (λ (k : ℕ). drop k d) n ∙ ap (drop (length front)) is ∙ drop_front front back in
     with_is d ∙ ap (λ (l : List ℕ). l ++ (context_type ++ drop (before_end false d) d)) t ∙ ap (λ (l : List ℕ). front ++ (context_type ++ l)) r
 
-abbrev wider : Signature → Signature
-wider s = record { parameters = s.parameters ++ types.Reference context_class ∷ []; result = s.result }
+abbrev wider_in : Signature → Signature
+wider_in s = record { parameters = s.parameters ++ types.Reference context_class ∷ []; result = s.result }
 
 flat_append : (ts us : List FieldType) → flat_map field_descriptor (ts ++ us) ≡ flat_map field_descriptor ts ++ flat_map field_descriptor us
 flat_append [] us = refl
@@ -170,7 +172,7 @@ pub record IsShape (d : List ℕ) (shape : Shape) : Type 0 where
   pub is : signature_of d ≡ Some signature
   pub parameters : list_all is_parameter signature.parameters ≡ true
   pub result : is_result signature.result ≡ true
-  pub shape_is : shape ≡ record { params = length signature.parameters; gives = is_some signature.result }
+  pub shape_is : shape ≡ record { takes = map parameter_type signature.parameters; params = length signature.parameters; gives = is_some signature.result }
 
 abbrev the : {A : Type 0} → A → Option A
 the x = Some x
@@ -182,7 +184,7 @@ pub shape_is : (d : List ℕ) (shape : Shape) → shape_of d ≡ Some shape → 
 shape_is d shape h = go (signature_of d) refl h
   where
     last : (s : Signature) → signature_of d ≡ Some s → (b : Bool) → (list_all is_parameter s.parameters && is_result s.result) ≡ b
-        → (if b then Some (record { params = length s.parameters; gives = is_some s.result }) else None) ≡ Some shape → IsShape d shape
+        → (if b then Some (record { takes = map parameter_type s.parameters; params = length s.parameters; gives = is_some s.result }) else None) ≡ Some shape → IsShape d shape
     last s e true q h = let t = two_true (list_all is_parameter s.parameters) (is_result s.result) q in
         record { signature = s; is = e; parameters = t.0; result = t.1; shape_is = sym (some_is _ shape h) }
     last s e false q h = cc
@@ -220,7 +222,7 @@ context_named : IsClassName context_class
 context_named = record { is_there = λ e. absurd cc; no_end = unlike context_class refl; no_array = refl }
 
 -- the signature of a descriptor with a context
-pub wider_signature : (d : List ℕ) (shape : Shape) (h : IsShape d shape) → shape.params ≤ 254 → signature_of (with_context d) ≡ Some (wider h.signature)
+pub wider_signature : (d : List ℕ) (shape : Shape) (h : IsShape d shape) → shape.params ≤ 254 → signature_of (with_context d) ≡ Some (wider_in h.signature)
 wider_signature d shape h few =
     let s = h.signature in
     let D = signature_found d h.signature h.is in
@@ -230,17 +232,17 @@ wider_signature d shape h few =
     let d_is : d ≡ front ++ back = D.is ∙ append_assoc (codes "(" ++ flat_map field_descriptor h.signature.parameters) (codes ")") (result_descriptor h.signature.result) in
     let n : before_end false (front ++ back) ≡ length front = omega (arith, end_of_types h.signature.parameters (result_descriptor h.signature.result) h.parameters) in
     let put = put_at_end (codes "(" ++ flat_map field_descriptor h.signature.parameters) (codes ")" ++ result_descriptor h.signature.result) d d_is (ap (before_end false) d_is ∙ n) in
-    let types_are : flat_map field_descriptor (wider h.signature).parameters ≡ flat_map field_descriptor h.signature.parameters ++ context_type = flat_append h.signature.parameters (types.Reference context_class ∷ []) in
-    let text : front ++ (context_type ++ back) ≡ method_descriptor (wider h.signature) =
+    let types_are : flat_map field_descriptor (wider_in h.signature).parameters ≡ flat_map field_descriptor h.signature.parameters ++ context_type = flat_append h.signature.parameters (types.Reference context_class ∷ []) in
+    let text : front ++ (context_type ++ back) ≡ method_descriptor (wider_in h.signature) =
     sym (append_assoc (codes "(" ++ flat_map field_descriptor h.signature.parameters) context_type (codes ")" ++ result_descriptor h.signature.result))
     ∙ ap (λ (l : List ℕ). l ++ (codes ")" ++ result_descriptor h.signature.result)) (append_assoc (codes "(") (flat_map field_descriptor h.signature.parameters) context_type ∙ ap (λ (l : List ℕ). codes "(" ++ l) (sym types_are))
-    ∙ sym (append_assoc (codes "(" ++ flat_map field_descriptor (wider h.signature).parameters) (codes ")") (result_descriptor h.signature.result)) in
-    let rules : IsSignature (wider h.signature) = record {
+    ∙ sym (append_assoc (codes "(" ++ flat_map field_descriptor (wider_in h.signature).parameters) (codes ")") (result_descriptor h.signature.result)) in
+    let rules : IsSignature (wider_in h.signature) = record {
       parameters = each_more IsFieldType h.signature.parameters (types.Reference context_class) D.signature.parameters context_named;
       result = D.signature.result;
       few = omega (arith, one_more h.signature.parameters, one_each h.signature.parameters h.parameters, count, few);
     } in
-    signature_again (with_context d) (wider h.signature) (record { signature = rules; is = put ∙ text })
+    signature_again (with_context d) (wider_in h.signature) (record { signature = rules; is = put ∙ text })
 
 all_more : (ts : List FieldType) → list_all is_parameter ts ≡ true → list_all is_parameter (ts ++ types.Reference context_class ∷ []) ≡ true
 all_more ts h = list_all-append is_parameter ts (types.Reference context_class ∷ []) ∙ rw h refl
@@ -252,18 +254,30 @@ any_more (t ∷ ts) = or_true _ _ (any_more ts)
 more_length : (ts : List FieldType) (t : FieldType) → length (ts ++ t ∷ []) ≡ length ts + 1
 more_length ts t = length-append ts (t ∷ [])
 
-pub wider_shape : (d : List ℕ) (shape : Shape) → shape_of d ≡ Some shape → shape.params ≤ 254 → shape_of (with_context d) ≡ Some (record { params = shape.params + 1; gives = shape.gives })
+-- what a method with a context behind its parameters takes and gives
+abbrev pub wider : Shape → Shape
+wider s = record { takes = s.takes ++ Ref context_class ∷ []; params = s.params + 1; gives = s.gives }
+
+more_types : (ts : List FieldType) → map parameter_type (ts ++ types.Reference context_class ∷ []) ≡ map parameter_type ts ++ Ref context_class ∷ []
+more_types [] = refl
+more_types (t ∷ ts) = ap (λ (l : List VType). parameter_type t ∷ l) (more_types ts)
+
+pub wider_shape : (d : List ℕ) (shape : Shape) → shape_of d ≡ Some shape → shape.params ≤ 254 → shape_of (with_context d) ≡ Some (wider shape)
 wider_shape d shape e few = go (shape_is d shape e)
   where
-    go : IsShape d shape → shape_of (with_context d) ≡ Some (record { params = shape.params + 1; gives = shape.gives })
+    go : IsShape d shape → shape_of (with_context d) ≡ Some (wider shape)
     go h =
         let s = wider_signature d shape h few in
         let p = all_more h.signature.parameters h.parameters in
         let r = h.result in
-        let n : length (h.signature.parameters ++ types.Reference context_class ∷ []) ≡ shape.params + 1 = omega (arith, more_length h.signature.parameters (types.Reference context_class), ap (λ (x : Shape). x.params) h.shape_is) in
-        let g : is_some h.signature.result ≡ shape.gives = sym (ap (λ (x : Shape). x.gives) h.shape_is) in
-        let in_it : shape_in (wider h.signature) ≡ Some (record { params = length (h.signature.parameters ++ types.Reference context_class ∷ []); gives = is_some h.signature.result }) = rw (p, r) refl in
-        ap (option_and_then shape_in) s ∙ in_it ∙ ap (λ (k : ℕ). Some (record { params = k; gives = is_some h.signature.result })) n ∙ ap (λ (b : Bool). Some (record { params = shape.params + 1; gives = b })) g
+        let n : length (h.signature.parameters ++ types.Reference context_class ∷ []) ≡ length h.signature.parameters + 1 = more_length h.signature.parameters (types.Reference context_class) in
+        let t = more_types h.signature.parameters in
+        let in_it : shape_in (wider_in h.signature)
+        ≡ Some (record { takes = map parameter_type (h.signature.parameters ++ types.Reference context_class ∷ []); params = length (h.signature.parameters ++ types.Reference context_class ∷ []); gives = is_some h.signature.result }) = rw (p, r) refl in
+        ap (option_and_then shape_in) s ∙ in_it
+        ∙ ap (λ (k : ℕ). Some (record { takes = map parameter_type (h.signature.parameters ++ types.Reference context_class ∷ []); params = k; gives = is_some h.signature.result })) n
+        ∙ ap (λ (l : List VType). Some (record { takes = l; params = length h.signature.parameters + 1; gives = is_some h.signature.result })) t
+        ∙ ap (λ (x : Shape). Some (wider x)) (sym h.shape_is)
 
 pub context_taken : (d : List ℕ) (shape : Shape) → shape_of d ≡ Some shape → shape.params ≤ 254 → has_context (signature_of (with_context d)) ≡ true
 context_taken d shape e few = let h = shape_is d shape e in let s = wider_signature d shape h few in rw s (any_more h.signature.parameters)

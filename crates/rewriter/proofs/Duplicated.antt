@@ -8,6 +8,8 @@ use Rattle.std.proofs.lemmas.List.Sums.{sum_by-cons}
 use Rattle.jmodel.specs.declared.class_file.Handler.{Handler}
 use Rattle.jmodel.specs.declared.instruction.Instr.{Instr}
 use Rattle.jmodel.specs.declared.name.MethodName.{MethodName}
+use Rattle.jmodel.specs.declared.typing.VType.{VType}
+use Rattle.jmodel.specs.declared.typing.VType.TheVariants.{Ref}
 use Rattle.jmodel.specs.declared.op.Op.{Op}
 use Rattle.jmodel.specs.declared.op.Op.TheVariants as op
 use Rattle.jmodel.specs.declared.op.Catch.{Catch}
@@ -19,6 +21,7 @@ use Rattle.jmodel.specs.Program.{Method, Program}
 use Rattle.jmodel.specs.Layout.{text_or_none}
 use Rattle.jmodel.specs.Source.{IsSourceOp, IsSourceMethod}
 use Rattle.jmodel.specs.Rewriting.{getter, setter, duplicate, block as ops_of_block, block_len, block_at, blocks, moved_catch, duplicate_method, with_context, catch}
+use Rattle.jmodel.specs.TypeOrder.{context_class}
 use Rattle.jmodel.specs.Decoding.{Symbols, own_name, each, op_of, ops_of}
 use Rattle.jmodel.specs.InstructionReading.{instrs_of}
 use Rattle.jmodel.specs.ClassRules.{IsCode}
@@ -37,7 +40,7 @@ use Rattle.rewriter.proofs.Pairs.{each_append, each_length, all_append, IsCalled
 use Rattle.rewriter.proofs.Coded.{method_as, CodedFacts, coded_means, added_code, added_retries, same_methods}
 use Rattle.rewriter.proofs.Filed.{IsRead, decoded_is, IsFiled, filed, spelled, some_instr, parts_of}
 use Rattle.rewriter.proofs.Laid.{IsLaidCode, laid_is, stub_read, stub_rules, stub_catches}
-use Rattle.rewriter.proofs.Contexts.{wider_shape}
+use Rattle.rewriter.proofs.Contexts.{wider, wider_shape}
 use Rattle.rewriter.proofs.Whole.{Each, AreCalls, AreNames, IsCopy, IsCopyOf}
 use Rattle.rewriter.proofs.Old.{IsOld}
 use Rattle.rewriter.proofs.Numbers.{wanted}
@@ -277,12 +280,12 @@ module _ (c new : ClassFile) (P : Program) (K : Known c new P) (L : linked c ≡
     k_type : k.name.descriptor ≡ d
     k_type = ap (λ (y : MethodName). y.descriptor) h.name ∙ ap text_or_none described
 
-    shape : shape_of (with_context k.name.descriptor) ≡ Some (record { params = h.shape.params + 1; gives = h.shape.gives })
+    shape : shape_of (with_context k.name.descriptor) ≡ Some (wider h.shape)
     shape = ap (λ (y : List ℕ). shape_of (with_context y)) (ap (λ (y : MethodName). y.descriptor) h.name) ∙ wider_shape (descriptor_of c.pool m) h.shape h.shaped (few_params c new P K m k h)
 
     pub copy_is : method_of (symbols_of new P.fields (rewritten_methods P new)) true x ≡ Some (duplicate_method P k)
     copy_is =
-        let facts : CodedFacts (symbols_of new P.fields (rewritten_methods P new)) (added_method (duplicate_flags m.flags) m.name copy.t copy.c (code_spelling copy.body.code)) copy.body.code (relocated zipped (plain 191 ∷ [])) t (with_context k.name.descriptor) (record { params = h.shape.params + 1; gives = h.shape.gives })
+        let facts : CodedFacts (symbols_of new P.fields (rewritten_methods P new)) (added_method (duplicate_flags m.flags) m.name copy.t copy.c (code_spelling copy.body.code)) copy.body.code (relocated zipped (plain 191 ∷ [])) t (with_context k.name.descriptor) (wider h.shape)
         (blocks P k.params k.ops ++ op.Throw ∷ []) (catch 0 (length (all_instrs zipped)) (length (all_instrs zipped)) Conflict ∷ []) None = record {
           code = added_code new.pool (duplicate_flags m.flags) m.name copy.t copy.c copy.body.code copy.coded_is code_rules;
           read = code_read;
@@ -293,7 +296,7 @@ module _ (c new : ClassFile) (P : Program) (K : Known c new P) (L : linked c ≡
           catches_are = code_catches;
           retries_are = added_retries new.pool (duplicate_flags m.flags) m.name copy.t copy.c (code_spelling copy.body.code) copy.coded_is;
         } in
-        let it = coded_means (symbols_of new P.fields (rewritten_methods P new)) true (added_method (duplicate_flags m.flags) m.name copy.t copy.c (code_spelling copy.body.code)) copy.body.code (relocated zipped (plain 191 ∷ [])) t (with_context k.name.descriptor) (record { params = h.shape.params + 1; gives = h.shape.gives })
+        let it = coded_means (symbols_of new P.fields (rewritten_methods P new)) true (added_method (duplicate_flags m.flags) m.name copy.t copy.c (code_spelling copy.body.code)) copy.body.code (relocated zipped (plain 191 ∷ [])) t (with_context k.name.descriptor) (wider h.shape)
         (blocks P k.params k.ops ++ op.Throw ∷ []) (catch 0 (length (all_instrs zipped)) (length (all_instrs zipped)) Conflict ∷ []) None facts in
         let owner : own_name new ≡ k.name.class = own_same c new P K ∙ sym (in_class n k at) in
         let own_text : t ≡ k.name.name = sym (ap (λ (y : MethodName). y.name) h.name ∙ ap text_or_none named) in
@@ -301,10 +304,10 @@ module _ (c new : ClassFile) (P : Program) (K : Known c new P) (L : linked c ≡
         ap (λ (y : List ℕ). name_of_parts y t (with_context k.name.descriptor)) owner ∙ ap (λ (y : List ℕ). name_of_parts k.name.class y (with_context k.name.descriptor)) own_text in
         let catches_are : catch 0 (length (all_instrs zipped)) (length (all_instrs zipped)) Conflict ∷ [] ≡ catch 0 (block_at k.ops (length k.ops)) (block_at k.ops (length k.ops)) Conflict ∷ map (moved_catch (block_at k.ops)) k.catches =
         ap (λ (y : ℕ). catch 0 y y Conflict ∷ []) many ∙ ap (λ (y : List Catch). catch 0 (block_at k.ops (length k.ops)) (block_at k.ops (length k.ops)) Conflict ∷ map (moved_catch (block_at k.ops)) y) (sym h.no_catches) in
-        let same : method_as true (record { class = own_name new; name = t; descriptor = with_context k.name.descriptor }) (h.shape.params + 1) copy.body.code.max_locals copy.body.code.max_stack h.shape.gives None (blocks P k.params k.ops ++ op.Throw ∷ [])
+        let same : method_as true (record { class = own_name new; name = t; descriptor = with_context k.name.descriptor }) (h.shape.takes ++ Ref context_class ∷ []) (h.shape.params + 1) copy.body.code.max_locals copy.body.code.max_stack h.shape.gives None (blocks P k.params k.ops ++ op.Throw ∷ [])
         (catch 0 (length (all_instrs zipped)) (length (all_instrs zipped)) Conflict ∷ []) ≡ duplicate_method P k =
         same_methods true (record { class = own_name new; name = t; descriptor = with_context k.name.descriptor }) (record { class = k.name.class; name = k.name.name; descriptor = with_context k.name.descriptor })
-        (h.shape.params + 1) (k.params + 1) copy.body.code.max_locals (k.locals + 1) copy.body.code.max_stack (k.max_stack + 1) h.shape.gives k.gives None (blocks P k.params k.ops ++ op.Throw ∷ []) (blocks P k.params k.ops ++ op.Throw ∷ [])
+        (h.shape.takes ++ Ref context_class ∷ []) (k.takes ++ Ref context_class ∷ []) (h.shape.params + 1) (k.params + 1) copy.body.code.max_locals (k.locals + 1) copy.body.code.max_stack (k.max_stack + 1) h.shape.gives k.gives None (blocks P k.params k.ops ++ op.Throw ∷ []) (blocks P k.params k.ops ++ op.Throw ∷ [])
         (catch 0 (length (all_instrs zipped)) (length (all_instrs zipped)) Conflict ∷ []) (catch 0 (block_at k.ops (length k.ops)) (block_at k.ops (length k.ops)) Conflict ∷ map (moved_catch (block_at k.ops)) k.catches)
-        name_is (ap (λ (y : ℕ). y + 1) (sym h.params)) (laid.locals ∙ ap (λ (y : ℕ). y + 1) (sym h.locals)) (laid.stack ∙ ap (λ (y : ℕ). y + 1) (sym h.max_stack)) (sym h.gives) refl catches_are in
+        name_is (ap (λ (y : List VType). y ++ Ref context_class ∷ []) (sym h.takes)) (ap (λ (y : ℕ). y + 1) (sym h.params)) (laid.locals ∙ ap (λ (y : ℕ). y + 1) (sym h.locals)) (laid.stack ∙ ap (λ (y : ℕ). y + 1) (sym h.max_stack)) (sym h.gives) refl catches_are in
         ap (method_of (symbols_of new P.fields (rewritten_methods P new)) true) (copy.is ∙ ap (added_method (duplicate_flags m.flags) m.name copy.t copy.c) copy.body.is) ∙ it ∙ ap (λ (y : Method). Some y) same

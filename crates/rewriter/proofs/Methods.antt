@@ -3,6 +3,7 @@ use Rattle.std.proofs.Common.{◌≡◌, ℕ, true, false, List, [], ◌∷◌, 
 use Rattle.std.specs.Prelude.{codes, slice_get}
 use Rattle.std.specs.List.{AllByRecursion}
 use Rattle.jmodel.specs.declared.instruction.Instr.{Instr}
+use Rattle.jmodel.specs.declared.typing.VType.TheVariants.{Int, Ref}
 use Rattle.jmodel.specs.declared.op.Op.{Op}
 use Rattle.jmodel.specs.declared.op.Op.TheVariants as op
 use Rattle.jmodel.specs.declared.op.ContextCall.TheVariants as context
@@ -11,7 +12,7 @@ use Rattle.jmodel.specs.ClassFile.{Member, ClassFile, code_spelling}
 use Rattle.jmodel.specs.Program.{Field, Program}
 use Rattle.jmodel.specs.Rewriting.{base, offset, getter_method, setter_method}
 use Rattle.jmodel.specs.Decoding.{own_name, each}
-use Rattle.jmodel.specs.Linking.{catch_of, shape_of, rewritten_methods, symbols_of, method_of}
+use Rattle.jmodel.specs.Linking.{Shape, catch_of, shape_of, rewritten_methods, symbols_of, method_of}
 use Rattle.jmodel.specs.Relocation.{place_of, relocated}
 use Rattle.rewriter.specs.Members.{added_method, getter_code, setter_code, getter_name, setter_name, getter_type, setter_type, address_name, context_class}
 use Rattle.rewriter.proofs.Read.{IsLaid, LeadsIn}
@@ -23,10 +24,17 @@ use Rattle.rewriter.proofs.Puts.{IsGetter, IsSetter}
 use Rattle.rewriter.proofs.Numbers.{wanted}
 use Rattle.rewriter.proofs.Tables.{Known, own_same, gets_base, gets_address, gets_field}
 
-getter_shape : shape_of getter_type ≡ Some (record { params = 1; gives = true })
+-- what accessors take and give
+abbrev one_context : Shape
+one_context = record { takes = Ref context_class ∷ []; params = 1; gives = true }
+
+abbrev int_and_context : Shape
+int_and_context = record { takes = Int ∷ Ref context_class ∷ []; params = 2; gives = false }
+
+getter_shape : shape_of getter_type ≡ Some one_context
 getter_shape = let s = getter_signature in rw s refl
 
-setter_shape : shape_of setter_type ≡ Some (record { params = 2; gives = false })
+setter_shape : shape_of setter_type ≡ Some int_and_context
 setter_shape = let s = setter_signature in rw s refl
 
 module _ (c new : ClassFile) (P : Program) (K : Known c new P) where
@@ -107,7 +115,7 @@ module _ (c new : ClassFile) (P : Program) (K : Known c new P) where
       (tt, (tt, (tt, (tt, (tt, (tt, (tt, (tt, (tt, (tt, tt)))))))))) in
       let ops : List Op = op.Load 0 ∷ base f ∷ offset f ∷ op.Context context.BeforeRead ∷ op.Load 0 ∷ base f ∷ op.GetStatic i ∷ offset f ∷ op.Context (context.OnRead word.Int) ∷ op.ReturnValue ∷ [] in
       let rules = run_rules new.pool 5 1 (getter_code B.look.0 B.look.1 B.read.0 B.read.1) R.code R.laid laid (omega arith) leads (omega arith) (omega arith) in
-      let facts : CodedFacts s (added_method 0x1009 A.n A.t A.c (code_spelling R.code)) R.code L (getter_name f) getter_type (record { params = 1; gives = true })
+      let facts : CodedFacts s (added_method 0x1009 A.n A.t A.c (code_spelling R.code)) R.code L (getter_name f) getter_type one_context
       (op.Load 0 ∷ base f ∷ offset f ∷ op.Context context.BeforeRead ∷ op.Load 0 ∷ base f ∷ op.GetStatic i ∷ offset f ∷ op.Context (context.OnRead word.Int) ∷ op.ReturnValue ∷ []) [] None = record {
         code = added_code new.pool 0x1009 A.n A.t A.c R.code A.coded rules;
         read = run_read new.pool 5 1 (getter_code B.look.0 B.look.1 B.read.0 B.read.1) R.code R.laid laid (omega arith) leads;
@@ -118,7 +126,7 @@ module _ (c new : ClassFile) (P : Program) (K : Known c new P) where
         catches_are = ap (each (catch_of new.pool L (length R.code.code))) R.laid.moved.handlers;
         retries_are = added_retries new.pool 0x1009 A.n A.t A.c (code_spelling R.code) A.coded;
       } in
-      let it = coded_means s false (added_method 0x1009 A.n A.t A.c (code_spelling R.code)) R.code L (getter_name f) getter_type (record { params = 1; gives = true }) ops [] None facts in
+      let it = coded_means s false (added_method 0x1009 A.n A.t A.c (code_spelling R.code)) R.code L (getter_name f) getter_type one_context ops [] None facts in
       let o = own_same c new P K ∙ sym class in
       let lo = R.laid.locals in
       let st = R.laid.stack in
@@ -162,7 +170,7 @@ module _ (c new : ClassFile) (P : Program) (K : Known c new P) where
       let leads : AllByRecursion (λ (x : Instr). LeadsIn (run (setter_code B.places B.write)) x.operands) (setter_code B.places B.write) = (tt, (tt, (tt, (tt, (tt, (tt, tt)))))) in
       let ops : List Op = op.Load 1 ∷ base f ∷ op.Load 0 ∷ offset f ∷ op.Context (context.OnWrite word.Int) ∷ op.Return ∷ [] in
       let rules = run_rules new.pool 5 2 (setter_code B.places B.write) R.code R.laid laid (omega arith) leads (omega arith) (omega arith) in
-      let facts : CodedFacts s (added_method 0x1009 A.n A.t A.c (code_spelling R.code)) R.code L (setter_name f) setter_type (record { params = 2; gives = false })
+      let facts : CodedFacts s (added_method 0x1009 A.n A.t A.c (code_spelling R.code)) R.code L (setter_name f) setter_type int_and_context
       (op.Load 1 ∷ base f ∷ op.Load 0 ∷ offset f ∷ op.Context (context.OnWrite word.Int) ∷ op.Return ∷ []) [] None = record {
         code = added_code new.pool 0x1009 A.n A.t A.c R.code A.coded rules;
         read = run_read new.pool 5 2 (setter_code B.places B.write) R.code R.laid laid (omega arith) leads;
@@ -173,7 +181,7 @@ module _ (c new : ClassFile) (P : Program) (K : Known c new P) where
         catches_are = ap (each (catch_of new.pool L (length R.code.code))) R.laid.moved.handlers;
         retries_are = added_retries new.pool 0x1009 A.n A.t A.c (code_spelling R.code) A.coded;
       } in
-      let it = coded_means s false (added_method 0x1009 A.n A.t A.c (code_spelling R.code)) R.code L (setter_name f) setter_type (record { params = 2; gives = false }) ops [] None facts in
+      let it = coded_means s false (added_method 0x1009 A.n A.t A.c (code_spelling R.code)) R.code L (setter_name f) setter_type int_and_context ops [] None facts in
       let o = own_same c new P K ∙ sym class in
       let lo = R.laid.locals in
       let st = R.laid.stack in

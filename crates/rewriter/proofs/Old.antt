@@ -103,6 +103,7 @@ pub record IsOld (c : ClassFile) (fields : List Field) (m : Member) (k : Method)
   pub shaped : shape_of (descriptor_of c.pool m) ≡ Some shape
   pub ops : ops_of (symbols_of c fields (program_methods c)) coded.instrs ≡ Some k.ops
   pub name : k.name ≡ name_of c m
+  pub takes : k.takes ≡ shape.takes
   pub params : k.params ≡ shape.params
   pub locals : k.locals ≡ coded.code.max_locals
   pub max_stack : k.max_stack ≡ coded.code.max_stack
@@ -143,6 +144,7 @@ old_of c fields m k coded d h = go (coded_method (symbols_of c fields (program_m
           shaped = es;
           ops = eo ∙ ap (λ (y : Method). Some y.ops) is;
           name = sym (ap (λ (y : Method). y.name) is);
+          takes = sym (ap (λ (y : Method). y.takes) is);
           params = sym (ap (λ (y : Method). y.params) is);
           locals = sym (ap (λ (y : Method). y.locals) is);
           max_stack = sym (ap (λ (y : Method). y.max_stack) is);

@@ -77,7 +77,7 @@ module _ (c new : ClassFile) (P : Program) (K : Known c new P) (m : Member) (k :
       let retries : k.retries ≡ None = h.retries ∙ rw unmarked refl in
       let name_is : name_of_parts (own_name new) t d ≡ k.name =
       ap (λ (y : List ℕ). name_of_parts y t d) (sym owner) ∙ ap (λ (y : List ℕ). name_of_parts k.name.class y d) (sym own_text) ∙ ap (λ (y : List ℕ). name_of_parts k.name.class k.name.name y) (sym descriptor_is) in
-      let same = same_methods true (name_of_parts (own_name new) t d) k.name h.shape.params k.params h.coded.code.max_locals k.locals h.coded.code.max_stack k.max_stack h.shape.gives k.gives None k.ops k.ops [] k.catches
-      name_is (sym h.params) (sym h.locals) (sym h.max_stack) (sym h.gives) refl (sym h.no_catches) in
-      it ∙ ap (λ (y : Method). Some y) same ∙ ap (λ (y : Option ℤ). Some (method_as true k.name k.params k.locals k.max_stack k.gives y k.ops k.catches)) (sym retries)
-      ∙ ap (λ (y : Bool). Some (method_as y k.name k.params k.locals k.max_stack k.gives k.retries k.ops k.catches)) (sym h.counted)
+      let same = same_methods true (name_of_parts (own_name new) t d) k.name h.shape.takes k.takes h.shape.params k.params h.coded.code.max_locals k.locals h.coded.code.max_stack k.max_stack h.shape.gives k.gives None k.ops k.ops [] k.catches
+      name_is (sym h.takes) (sym h.params) (sym h.locals) (sym h.max_stack) (sym h.gives) refl (sym h.no_catches) in
+      it ∙ ap (λ (y : Method). Some y) same ∙ ap (λ (y : Option ℤ). Some (method_as true k.name k.takes k.params k.locals k.max_stack k.gives y k.ops k.catches)) (sym retries)
+      ∙ ap (λ (y : Bool). Some (method_as y k.name k.takes k.params k.locals k.max_stack k.gives k.retries k.ops k.catches)) (sym h.counted)

@@ -117,6 +117,6 @@ module _ (c new : ClassFile) (P : Program) (K : Known c new P) (n id : ℕ) (m x
       ap (λ (y : List ℕ). name_of_parts y t d) own_class ∙ ap (λ (y : List ℕ). name_of_parts k.name.class y d) own_text ∙ ap (λ (y : List ℕ). name_of_parts k.name.class k.name.name y) (sym descriptor_is) in
       let retries : k.retries ≡ Some (pos 2147483647) = h.retries ∙ rw marked refl in
       let cs : List Catch = catch 6 (body_end k.params) (conflict_at k.gives k.params) Conflict ∷ catch 6 (body_end k.params) (conflict_at k.gives k.params + 4) Any ∷ [] in
-      let same = same_methods false (record { class = own_name new; name = t; descriptor = d }) (record { class = k.name.class; name = k.name.name; descriptor = k.name.descriptor }) h.shape.params k.params loop.code.max_locals (k.params + 2) loop.code.max_stack (max (k.params + 1) 3)
-      h.shape.gives k.gives (Some (pos 2147483647)) ops ops cs cs name_is (sym h.params) loop.laid.locals loop.laid.stack (sym h.gives) refl refl in
-      ap (method_of s false) w.is ∙ it ∙ ap (λ (y : Method). Some y) same ∙ ap (λ (y : Option ℤ). Some (method_as false k.name k.params (k.params + 2) (max (k.params + 1) 3) k.gives y ops cs)) (sym retries)
+      let same = same_methods false (record { class = own_name new; name = t; descriptor = d }) (record { class = k.name.class; name = k.name.name; descriptor = k.name.descriptor }) h.shape.takes k.takes h.shape.params k.params loop.code.max_locals (k.params + 2) loop.code.max_stack (max (k.params + 1) 3)
+      h.shape.gives k.gives (Some (pos 2147483647)) ops ops cs cs name_is (sym h.takes) (sym h.params) loop.laid.locals loop.laid.stack (sym h.gives) refl refl in
+      ap (method_of s false) w.is ∙ it ∙ ap (λ (y : Method). Some y) same ∙ ap (λ (y : Option ℤ). Some (method_as false k.name k.takes k.params (k.params + 2) (max (k.params + 1) 3) k.gives y ops cs)) (sym retries)
