@@ -3,6 +3,7 @@ ghost use Rattle.std.specs.Prelude.{◌≡◌, ◌+◌, ◌≤◌, ◌^◌};
 
 use crate::machine::{Limits, Machine, Stuck};
 use hierarchy::program::{Field, Method, Program};
+use jmodel::VType;
 use jmodel::bytes::Bytes;
 use jmodel::name::MethodName;
 use jmodel::op::{Binary, Catch, Catches, ContextCall, Op, Place, Rearrange, Test, WordType};
@@ -22,6 +23,23 @@ fn name(alloc: Global) -> MethodName {
         name: Bytes::new(alloc),
         descriptor: Bytes::new(alloc),
     }
+}
+
+/// The types of so many ints.
+fn int_types(alloc: Global, count: usize) -> Result<Vec<VType>, AllocError> {
+    let mut types = Vec::new(alloc);
+    for _ in 0..count {
+        types.push(VType::Int)?;
+    }
+    Ok(types)
+}
+
+/// The types of so many ints, and a context's behind them.
+fn ints_and_context(alloc: Global, count: usize) -> Result<Vec<VType>, AllocError> {
+    let context = Bytes::from_slice(alloc, b"org/deuce/transaction/Context")?;
+    let mut types = int_types(alloc, count)?;
+    types.push(VType::Ref(context))?;
+    Ok(types)
 }
 
 /// The wrapper: attempts until one is committed, and what it gave or threw.
@@ -66,7 +84,18 @@ fn wrapper(alloc: Global) -> Result<Method, AllocError> {
             catches: Catches::Any
         },
     ]?;
-    Ok(Method::new(name(alloc), 0, 2, 3, true, false, None, ops, catches))
+    Ok(Method::new(
+        name(alloc),
+        Vec::new(alloc),
+        0,
+        2,
+        3,
+        true,
+        false,
+        None,
+        ops,
+        catches,
+    ))
 }
 
 fn getter(alloc: Global) -> Result<Method, AllocError> {
@@ -82,8 +111,10 @@ fn getter(alloc: Global) -> Result<Method, AllocError> {
         Op::Context(ContextCall::OnRead(WordType::Int)),
         Op::ReturnValue,
     ]?;
+    let takes = ints_and_context(alloc, 0)?;
     Ok(Method::new(
         name(alloc),
+        takes,
         1,
         1,
         5,
@@ -104,8 +135,10 @@ fn setter(alloc: Global) -> Result<Method, AllocError> {
         Op::Context(ContextCall::OnWrite(WordType::Int)),
         Op::Return,
     ]?;
+    let takes = ints_and_context(alloc, 1)?;
     Ok(Method::new(
         name(alloc),
+        takes,
         2,
         2,
         5,
@@ -137,7 +170,8 @@ fn duplicate(alloc: Global) -> Result<Method, AllocError> {
             catches: Catches::Conflict
         },
     ]?;
-    Ok(Method::new(name(alloc), 1, 1, 3, true, true, None, ops, catches))
+    let takes = ints_and_context(alloc, 0)?;
+    Ok(Method::new(name(alloc), takes, 1, 1, 3, true, true, None, ops, catches))
 }
 
 fn counter(alloc: Global) -> Result<Program, AllocError> {

@@ -2,7 +2,7 @@
 //! budget, calls with arguments, and calls that go deep. The code is that of duplicates, put together by hand.
 ghost use Rattle.std.specs.Prelude.{◌≡◌, ◌≤◌, ◌+◌, ◌^◌, IfOk};
 
-use super::{at_zero, getter, limits, name, setter};
+use super::{at_zero, getter, int_types, ints_and_context, limits, name, setter};
 use crate::machine::{Machine, Stuck};
 use hierarchy::program::{Field, Method, Program};
 use jmodel::bytes::Bytes;
@@ -54,8 +54,10 @@ fn wrapper(alloc: Global, params: usize, gives: bool) -> Result<Method, AllocErr
     } else {
         ops.push(Op::Return)?;
     }
+    let takes = int_types(alloc, params)?;
     Ok(Method::new(
         name(alloc),
+        takes,
         params,
         params + 2,
         params + 3,
@@ -77,8 +79,10 @@ fn program(alloc: Global, params: usize, gives: bool, ops: Vec<Op>) -> Result<Pr
     };
     let field = Field::new(Bytes::new(alloc), Bytes::new(alloc), place, WordType::Int);
     let fields = vec![in alloc; field].map_err(|_| AllocError)?;
+    let takes = ints_and_context(alloc, params)?;
     let duplicate = Method::new(
         name(alloc),
+        takes,
         params + 1,
         params + 6,
         10,
