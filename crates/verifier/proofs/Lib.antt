@@ -1,10 +1,11 @@
+pub mod Numbers
+pub mod Orders
 pub mod Lists
-pub mod Outcome
 pub mod Flow
 pub mod Narrow
-pub mod Numbers
 pub mod Outcomes
-pub mod Infers
 pub mod Growth
 pub mod Pours
+pub mod Infers
+pub mod Flowing
 pub mod Checks

@@ -1,66 +1,170 @@
--- What an instruction of int code does to the types before it, in numbers. Its stack has ints alone.
-use Rattle.std.specs.Prelude.{ℕ, ◌+◌, ◌-◌, List, [], ◌∷◌, length, replicate, Option, Some, None, Bool, true, false, nat_le, nat_lt, slice_get, slice_set, if◌then◌else◌}
+-- What an instruction does to the types before it, in terms of their places.
+use Rattle.std.specs.Prelude.{ℕ, zero, suc, ◌+◌, List, [], ◌∷◌, ◌++◌, length, map, reverse, drop, Option, Some, None, Bool, true, false, nat_lt, ◌&&◌, slice_get, slice_set, if◌then◌else◌}
+use Rattle.jmodel.specs.declared.value.Value.{Value}
 use Rattle.jmodel.specs.declared.value.Value.TheVariants as value
 use Rattle.jmodel.specs.declared.typing.VType.{VType}
-use Rattle.jmodel.specs.declared.typing.VType.TheVariants.{Int}
+use Rattle.jmodel.specs.declared.typing.VType.TheVariants as type
+use Rattle.jmodel.specs.declared.op.WordType.{WordType}
+use Rattle.jmodel.specs.declared.op.WordType.TheVariants as word
 use Rattle.jmodel.specs.declared.op.Op.{Op}
 use Rattle.jmodel.specs.declared.op.Op.TheVariants as op
 use Rattle.jmodel.specs.declared.op.Rearrange.{Rearrange}
 use Rattle.jmodel.specs.declared.op.Rearrange.TheVariants as rearrange
+use Rattle.jmodel.specs.declared.op.ContextCall.{ContextCall}
+use Rattle.jmodel.specs.declared.op.ContextCall.TheVariants as call
 use Rattle.jmodel.specs.Program.{Field, Method, Program, method_at, place_at}
+use Rattle.jmodel.specs.TypeOrder.{is_within, type_of, object_class, throwable_class, context_class}
 use Rattle.jmodel.specs.Typing.{Types, Flow, Leads, Wrong}
 use Rattle.verifier.specs.declared.effect.Ways.{Ways}
 use Rattle.verifier.specs.declared.effect.Ways.TheVariants.{Following, Target, Either, Nowhere}
+use Rattle.verifier.specs.declared.effect.Want.{Want}
+use Rattle.verifier.specs.declared.effect.Want.TheVariants as want
+use Rattle.verifier.specs.declared.effect.Leave.{Leave}
+use Rattle.verifier.specs.declared.effect.Leave.TheVariants.{Int, Long, Second, Null, Object, Context, Stacked, Local}
+use Rattle.verifier.specs.declared.effect.Leaves.{Leaves}
+use Rattle.verifier.specs.declared.effect.Leaves.TheVariants.{Nothing, One, Two, Three, Four}
 use Rattle.verifier.specs.declared.effect.Effect.{Effect}
 
-abbrev pub on_stack : ℕ → ℕ → Effect
-on_stack takes leaves = record { takes = takes; leaves = leaves; stores = None; ways = Following }
+-- a type of a list, top where there is none
+abbrev pub or_top : Option VType → VType
+or_top None = type.Top
+or_top (Some t) = t
 
-abbrev pub going : ℕ → Ways → Effect
-going takes ways = record { takes = takes; leaves = 0; stores = None; ways = ways }
+abbrev pub type_at : List VType → ℕ → VType
+type_at l i = or_top (slice_get l i)
 
-abbrev pub storing : ℕ → Effect
-storing i = record { takes = 1; leaves = 0; stores = Some i; ways = Following }
+abbrev pub want_type : Want → VType
+want_type want.Int = type.Int
+want_type want.Long = type.Long
+want_type want.Second = type.Second
+want_type want.Object = type.Ref object_class
+want_type want.Throwable = type.Ref throwable_class
+want_type want.Context = type.Ref context_class
+
+abbrev pub wanted : WordType → Want
+wanted word.Int = want.Int
+
+-- the topmost places have types within these
+abbrev pub are_taken : List VType → List VType → Bool
+are_taken [] s = true
+are_taken (t ∷ ts) [] = false
+are_taken (t ∷ ts) (u ∷ s) = is_within u t && are_taken ts s
+
+-- a value of one place
+abbrev pub is_one : Option VType → Bool
+is_one (Some type.Int) = true
+is_one (Some type.Null) = true
+is_one (Some (type.Ref n)) = true
+is_one t = false
 
 abbrev pub is_int : Option VType → Bool
-is_int (Some Int) = true
+is_int (Some type.Int) = true
 is_int t = false
 
-abbrev pub rearrangement : Rearrange → Effect
-rearrangement rearrange.Nothing = on_stack 0 0
-rearrangement rearrange.Pop = on_stack 1 0
-rearrangement rearrange.PopTwo = on_stack 2 0
-rearrangement rearrange.Duplicate = on_stack 1 2
-rearrangement rearrange.DuplicateUnder = on_stack 2 3
-rearrangement rearrange.DuplicateTwo = on_stack 2 4
-rearrangement rearrange.Swap = on_stack 2 2
+abbrev pub on_stack : ℕ → Leaves → Effect
+on_stack takes ls = record { takes = takes; leaves = ls; stores = None; ways = Following }
 
-abbrev pub of_field : Option Field → ℕ → ℕ → Option Effect
-of_field None takes leaves = None
-of_field (Some f) takes leaves = Some (on_stack takes leaves)
+abbrev pub storing : ℕ → Effect
+storing i = record { takes = 1; leaves = Nothing; stores = Some i; ways = Following }
 
-abbrev pub of_call : Option Method → Option Effect
-of_call None = None
-of_call (Some c) = Some (on_stack c.params (if c.gives then 1 else 0))
+-- that of an instruction that takes values of these types, the first topmost
+abbrev pub taking : List VType → List VType → Leaves → Ways → Option Effect
+taking ts s ls w = if are_taken ts s then Some (record { takes = length ts; leaves = ls; stores = None; ways = w }) else None
 
--- the effect of an instruction over these locals, or none where they don't fit
-abbrev pub effect_of : Program → Method → Op → List VType → Option Effect
-effect_of P k (op.Constant (value.Int n)) l = Some (on_stack 0 1)
-effect_of P k (op.Load i) l = if is_int (slice_get l i) then Some (on_stack 0 1) else None
-effect_of P k (op.Store i) l = if nat_lt i (length l) then Some (storing i) else None
-effect_of P k (op.Rearrange r) l = Some (rearrangement r)
-effect_of P k (op.Binary b) l = Some (on_stack 2 1)
-effect_of P k (op.Unary u) l = Some (on_stack 1 1)
-effect_of P k (op.Increment i n) l = if is_int (slice_get l i) then Some (on_stack 0 0) else None
-effect_of P k (op.Branch t to) l = Some (going 1 (Either to))
-effect_of P k (op.BranchInts t to) l = Some (going 2 (Either to))
-effect_of P k (op.Goto to) l = Some (going 0 (Target to))
-effect_of P k (op.GetStatic n) l = of_field (place_at P n) 0 1
-effect_of P k (op.PutStatic n) l = of_field (place_at P n) 1 0
-effect_of P k (op.InvokeStatic m) l = of_call (method_at P m)
-effect_of P k op.Return l = if k.gives then None else Some (going 0 Nowhere)
-effect_of P k op.ReturnValue l = if k.gives then Some (going 1 Nowhere) else None
-effect_of P k o l = None
+abbrev pub on_one : List VType → Leaves → Option Effect
+on_one s ls = if is_one (slice_get s 0) then Some (on_stack 1 ls) else None
+
+abbrev pub on_two : List VType → Leaves → Option Effect
+on_two s ls = if is_one (slice_get s 0) && is_one (slice_get s 1) then Some (on_stack 2 ls) else None
+
+abbrev pub constant : Value → Leaves
+constant (value.Int n) = One Int
+constant (value.Long n) = Two Second Long
+constant (value.Ref zero) = One Null
+constant (value.Ref (suc o)) = One Object
+
+abbrev pub loading : List VType → ℕ → Option Effect
+loading l i = if is_one (slice_get l i) then Some (on_stack 0 (One (Local i))) else None
+
+abbrev pub storing_in : List VType → List VType → ℕ → Option Effect
+storing_in l s i = if is_one (slice_get s 0) && nat_lt i (length l) then Some (storing i) else None
+
+abbrev pub incrementing : List VType → ℕ → Option Effect
+incrementing l i = if is_int (slice_get l i) then Some (on_stack 0 Nothing) else None
+
+abbrev pub rearrangement : Rearrange → List VType → Option Effect
+rearrangement rearrange.Nothing s = Some (on_stack 0 Nothing)
+rearrangement rearrange.Pop s = on_one s Nothing
+rearrangement rearrange.PopTwo s = on_two s Nothing
+rearrangement rearrange.Duplicate s = on_one s (Two (Stacked 0) (Stacked 0))
+rearrangement rearrange.DuplicateUnder s = on_two s (Three (Stacked 0) (Stacked 1) (Stacked 0))
+rearrangement rearrange.DuplicateTwo s = on_two s (Four (Stacked 0) (Stacked 1) (Stacked 0) (Stacked 1))
+rearrangement rearrange.Swap s = on_two s (Two (Stacked 1) (Stacked 0))
+
+abbrev pub leave_of : WordType → Leave
+leave_of word.Int = Int
+
+abbrev pub getting : Option Field → Option Effect
+getting None = None
+getting (Some f) = Some (on_stack 0 (One (leave_of f.type)))
+
+abbrev pub putting : Option Field → List VType → Option Effect
+putting None s = None
+putting (Some f) s = taking (type_of f.type ∷ []) s Nothing Following
+
+abbrev pub given : Bool → Leaves
+given true = One Int
+given false = Nothing
+
+abbrev pub invoking : Option Method → List VType → Option Effect
+invoking None s = None
+invoking (Some c) s = taking (reverse c.takes) s (given c.gives) Following
+
+abbrev pub returning : Bool → Option Effect
+returning true = None
+returning false = Some (record { takes = 0; leaves = Nothing; stores = None; ways = Nowhere })
+
+abbrev pub giving : Bool → List VType → Option Effect
+giving true s = taking (type.Int ∷ []) s Nothing Nowhere
+giving false s = None
+
+-- a read or a write, which take a value of the word's type under the place
+abbrev pub accessing : WordType → List VType → Leaves → Option Effect
+accessing t s ls = taking (type.Second ∷ type.Long ∷ type_of t ∷ type.Ref object_class ∷ type.Ref context_class ∷ []) s ls Following
+
+abbrev pub called : ContextCall → List VType → Option Effect
+called call.Init s = taking (type.Int ∷ type.Int ∷ type.Ref context_class ∷ []) s Nothing Following
+called call.BeforeRead s = taking (type.Second ∷ type.Long ∷ type.Ref object_class ∷ type.Ref context_class ∷ []) s Nothing Following
+called (call.OnRead t) s = accessing t s (One (leave_of t))
+called (call.OnWrite t) s = accessing t s Nothing
+called call.Commit s = taking (type.Ref context_class ∷ []) s (One Int) Following
+called call.Rollback s = taking (type.Ref context_class ∷ []) s Nothing Following
+
+-- that of an instruction that only computes with ints, jumps or throws
+abbrev pub effect_on_ints : Op → List VType → Option Effect
+effect_on_ints (op.Binary b) s = taking (type.Int ∷ type.Int ∷ []) s (One Int) Following
+effect_on_ints (op.Unary u) s = taking (type.Int ∷ []) s (One Int) Following
+effect_on_ints (op.Branch t to) s = taking (type.Int ∷ []) s Nothing (Either to)
+effect_on_ints (op.BranchInts t to) s = taking (type.Int ∷ type.Int ∷ []) s Nothing (Either to)
+effect_on_ints (op.Goto to) s = taking [] s Nothing (Target to)
+effect_on_ints op.Throw s = taking (type.Ref throwable_class ∷ []) s Nothing Nowhere
+effect_on_ints o s = None
+
+-- the effect of an instruction over these types, or none where they don't fit
+abbrev pub effect_of : Program → Method → Op → Types → Option Effect
+effect_of P k (op.Constant v) h = Some (on_stack 0 (constant v))
+effect_of P k (op.Load i) h = loading h.locals i
+effect_of P k (op.Store i) h = storing_in h.locals h.stack i
+effect_of P k (op.Rearrange r) h = rearrangement r h.stack
+effect_of P k (op.Increment i n) h = incrementing h.locals i
+effect_of P k (op.GetStatic n) h = getting (place_at P n)
+effect_of P k (op.PutStatic n) h = putting (place_at P n) h.stack
+effect_of P k (op.InvokeStatic m) h = invoking (method_at P m) h.stack
+effect_of P k op.Return h = returning k.gives
+effect_of P k op.ReturnValue h = giving k.gives h.stack
+effect_of P k op.GetContext h = Some (on_stack 0 (One Context))
+effect_of P k (op.Context c) h = called c h.stack
+effect_of P k o h = effect_on_ints o h.stack
 
 -- the places where an instruction goes on
 abbrev pub places : Ways → ℕ → List ℕ
@@ -69,22 +173,36 @@ places (Target to) pc = to ∷ []
 places (Either to) pc = (pc + 1) ∷ to ∷ []
 places Nowhere pc = []
 
-abbrev pub ints : ℕ → List VType
-ints n = replicate n Int
+abbrev pub leaves_of : Leaves → List Leave
+leaves_of Nothing = []
+leaves_of (One a) = a ∷ []
+leaves_of (Two a b) = a ∷ b ∷ []
+leaves_of (Three a b c) = a ∷ b ∷ c ∷ []
+leaves_of (Four a b c d) = a ∷ b ∷ c ∷ d ∷ []
 
-abbrev pub with_store : Option ℕ → List VType → List VType
-with_store None l = l
-with_store (Some i) l = slice_set l i Int
+abbrev pub leave_type : Types → Leave → VType
+leave_type h Int = type.Int
+leave_type h Long = type.Long
+leave_type h Second = type.Second
+leave_type h Null = type.Null
+leave_type h Object = type.Ref object_class
+leave_type h Context = type.Ref context_class
+leave_type h (Stacked i) = type_at h.stack i
+leave_type h (Local i) = type_at h.locals i
 
--- how many ints the stack has after it
-abbrev pub height : Effect → Types → ℕ
-height e h = e.leaves + (length h.stack - e.takes)
+-- the locals, of which one may get the topmost type
+abbrev pub with_store : Option ℕ → Types → List VType
+with_store None h = h.locals
+with_store (Some i) h = slice_set h.locals i (type_at h.stack 0)
 
--- the types that it leaves
+abbrev pub left_stack : Effect → Types → List VType
+left_stack e h = map (leave_type h) (leaves_of e.leaves) ++ drop e.takes h.stack
+
+-- the types that an instruction leaves
 abbrev pub left : Effect → Types → Types
-left e h = record { locals = with_store e.stores h.locals; stack = ints (height e h) }
+left e h = record { locals = with_store e.stores h; stack = left_stack e h }
 
 -- where an instruction of this effect goes on, and with which types
 abbrev pub flow_of : Option Effect → ℕ → Types → Flow
 flow_of None pc h = Wrong
-flow_of (Some e) pc h = if nat_le e.takes (length h.stack) then Leads (places e.ways pc) (left e h) else Wrong
+flow_of (Some e) pc h = Leads (places e.ways pc) (left e h)

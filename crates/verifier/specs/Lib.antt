@@ -1,3 +1,4 @@
+pub mod Order
 pub mod Effect
 pub mod Search
 pub mod Answer

@@ -1,9 +1,11 @@
 //! The narrowest typing of a method, or the place from which on it has none.
-ghost use Rattle.std.specs.Prelude.{◌<◌, length, IfOk, IfErr};
+ghost use Rattle.std.specs.Prelude.{◌≡◌, ◌<◌, length, IfOk, IfErr};
 ghost use Rattle.verifier.specs.Answer.{IsEnd, IsInferred};
+ghost use Rattle.verifier.specs.Search.{is_entered};
 
+use crate::order::all_local;
 use crate::search::Search;
-use hierarchy::Program;
+use hierarchy::{Method, Program};
 use jmodel::Typing;
 use std::alloc::{AllocError, Global};
 
@@ -27,6 +29,14 @@ impl From<AllocError> for TypeEnd {
     }
 }
 
+/// Whether a method's parameters fill the first places of its locals, with types that those may have.
+fn is_entered(method: &Method) -> bool
+    ensures { result ≡ is_entered method.now }
+{
+    let entry = method.entry();
+    method.takes().len() == entry.params.min(entry.locals) && all_local(method.takes())
+}
+
 /// The typing of a program's method by its number, the narrowest: at each place that has types, each other typing has some
 /// that are at least as wide (JVM Specification, Java SE 7, section 4.10.2).
 pub fn infer(alloc: Global, program: &Program, method: usize) -> Result<Typing, TypeEnd>
@@ -36,8 +46,7 @@ pub fn infer(alloc: Global, program: &Program, method: usize) -> Result<Typing, 
 {
     let code = &program.methods()[method];
     let count = code.ops().len();
-    let entry = code.entry();
-    if count == 0 || entry.params > entry.locals {
+    if count == 0 || !is_entered(code) {
         return Err(TypeEnd::Untypable(0));
     }
     let mut search = Search::start(alloc, code)?;

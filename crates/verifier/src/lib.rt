@@ -5,8 +5,8 @@
 mod checking;
 mod effect;
 mod inference;
+mod order;
 mod search;
-mod types;
 
 pub use checking::check;
 pub use inference::{TypeEnd, infer};

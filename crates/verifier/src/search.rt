@@ -1,12 +1,16 @@
 //! The search for a typing: a table so far, and the places that are still to be looked at.
-ghost use Rattle.std.specs.Prelude.{◌≡◌, ◌+◌, ◌^◌, ◌<◌, ◌≤◌, ◌∷◌, [], All, slice_get, IfOk, IfSome, IfNone, length};
-ghost use Rattle.jmodel.specs.Typing.{first_types};
-ghost use Rattle.verifier.specs.Effect.{left};
-ghost use Rattle.verifier.specs.Search.{change_of, GoesOn, IsPour, IsVisit, joined, local_types, merged, outcome_at, starting};
+ghost use Rattle.std.specs.Prelude.{◌≡◌, ◌+◌, ◌^◌, ◌<◌, ◌≤◌, ◌∷◌, ◌++◌, [], All, false, map, slice_get, slice_set, IfOk, IfSome, IfNone, OnOk, length};
+ghost use Rattle.jmodel.specs.Typing.{caught_type, first_types, is_guarded};
+ghost use Rattle.verifier.specs.Effect.{leave_type, leaves_of, left, left_stack, places, type_at, with_store};
+ghost use Rattle.verifier.specs.Search.{caught, change_of, each_to, fits_in, Flows, Follows, is_alike, is_ready, is_stack_under, IsPour, IsVisit, joined, merged, next_under, outcome_at, outcome_in, outcome_of, starting, types_of};
 
-use crate::effect::{Effect, Ways, effect_of};
-use crate::types::{are_within, copies, ints, ints_and_tops, join_all};
+use crate::effect::{Effect, Leave, Leaves, Ways, effect_of};
+use crate::order::{
+    are_within, class_type, conflict_class, context_class, copies, copies_and_tops, copy, join_all,
+    object_class, push_copies, rest, throwable_class,
+};
 use hierarchy::{Method, Program};
+use jmodel::op::{Catch, Catches, Op};
 use jmodel::{TypeEntry, Typing, VType};
 use std::alloc::{AllocError, Global};
 use std::collections::BTreeSet;
@@ -33,39 +37,158 @@ fn first_types(alloc: Global, method: &Method) -> Result<TypeEntry, AllocError>
 {
     let entry = method.entry();
     let tops = entry.locals.saturating_sub(entry.params);
-    let locals = ints_and_tops(alloc, entry.params, tops)?;
+    let locals = copies_and_tops(alloc, method.takes(), tops)?;
     Ok(TypeEntry::new(locals, Vec::new(alloc)))
 }
 
-/// The types that an instruction leaves, whose operands the stack has.
-fn left(alloc: Global, entry: &TypeEntry, effect: &Effect) -> Result<TypeEntry, AllocError>
-    requires { effect.now.takes ≤ length entry.now.stack }
-    ensures { IfOk result (λ h. h ≡ left effect.now (local_types entry.now)) }
+/// What a place of the stack may have under one, of which it is told whether it is the second place of a long, and whether
+/// it is such a place itself; none where the two don't go together.
+fn next_under(under: bool, item: &VType) -> Option<bool>
+    ensures { result ≡ next_under under item.now }
 {
-    let mut locals = copies(alloc, entry.locals())?;
-    if let Some(i) = effect.stores {
-        if i < locals.len() {
-            locals[i] = VType::Int;
+    match item {
+        VType::Int | VType::Null | VType::Ref(_) if !under => Some(false),
+        VType::Second if !under => Some(true),
+        VType::Long if under => Some(false),
+        _ => None,
+    }
+}
+
+/// Whether a stack may have these types.
+fn is_stack(stack: &[VType]) -> bool
+    ensures { result ≡ is_stack_under false stack.now }
+{
+    let mut under = false;
+    for item in stack {
+        match next_under(under, item) {
+            Some(next) => under = next,
+            None => return false,
         }
     }
-    let height = usize::from(effect.leaves) + (entry.stack().len() - effect.takes);
-    Ok(TypeEntry::new(locals, ints(alloc, height)?))
+    !under
 }
 
-/// The types of a place, once more.
-fn copy(alloc: Global, entry: &TypeEntry) -> Result<TypeEntry, AllocError>
-    ensures { IfOk result (λ h. h ≡ local_types entry.now) }
+/// Whether a frame of the method may have this stack.
+pub fn is_ready(method: &Method, entry: &TypeEntry) -> bool
+    ensures { result ≡ is_ready method.now entry.now }
 {
-    let locals = copies(alloc, entry.locals())?;
-    Ok(TypeEntry::new(locals, ints(alloc, entry.stack().len())?))
+    entry.stack().len() <= method.max_stack() && is_stack(entry.stack())
 }
 
-/// The narrowest types above two of one height.
-fn joined(alloc: Global, entry: &TypeEntry, other: &TypeEntry) -> Result<TypeEntry, AllocError>
-    ensures { IfOk result (λ h. h ≡ joined entry.now other.now) }
+/// The type of a place of a list, once more.
+fn copy_at(alloc: Global, types: &[VType], place: usize) -> Result<VType, AllocError>
+    ensures { IfOk result (λ t. t ≡ type_at types.now place) }
 {
-    let locals = join_all(alloc, entry.locals(), other.locals())?;
-    Ok(TypeEntry::new(locals, ints(alloc, entry.stack().len())?))
+    match types.get(place) {
+        Some(item) => copy(alloc, item),
+        None => Ok(VType::Top),
+    }
+}
+
+fn leave_type(alloc: Global, entry: &TypeEntry, leave: Leave) -> Result<VType, AllocError>
+    ensures { IfOk result (λ t. t ≡ leave_type entry.now leave) }
+{
+    match leave {
+        Leave::Int => Ok(VType::Int),
+        Leave::Long => Ok(VType::Long),
+        Leave::Second => Ok(VType::Second),
+        Leave::Null => Ok(VType::Null),
+        Leave::Object => class_type(alloc, object_class()),
+        Leave::Context => class_type(alloc, context_class()),
+        Leave::Stacked(place) => copy_at(alloc, entry.stack(), place),
+        Leave::Local(local) => copy_at(alloc, entry.locals(), local),
+    }
+}
+
+/// Puts one type at the end.
+fn push_leave(
+    alloc: Global,
+    types: &mut Vec<VType>,
+    entry: &TypeEntry,
+    leave: Leave,
+) -> Result<(), AllocError>
+    ensures { OnOk result (types.new.items ≡ types.old.items ++ leave_type entry.now leave ∷ []) }
+{
+    types.push(leave_type(alloc, entry, leave)?)?;
+    Ok(())
+}
+
+/// The types that an instruction leaves on top.
+fn leave_types(alloc: Global, entry: &TypeEntry, leaves: Leaves) -> Result<Vec<VType>, AllocError>
+    ensures { IfOk result (λ v. v.items ≡ map (leave_type entry.now) (leaves_of leaves)) }
+{
+    let mut types = Vec::new(alloc);
+    match leaves {
+        Leaves::Nothing => {}
+        Leaves::One(a) => push_leave(alloc, &mut types, entry, a)?,
+        Leaves::Two(a, b) => {
+            push_leave(alloc, &mut types, entry, a)?;
+            push_leave(alloc, &mut types, entry, b)?;
+        }
+        Leaves::Three(a, b, c) => {
+            push_leave(alloc, &mut types, entry, a)?;
+            push_leave(alloc, &mut types, entry, b)?;
+            push_leave(alloc, &mut types, entry, c)?;
+        }
+        Leaves::Four(a, b, c, d) => {
+            push_leave(alloc, &mut types, entry, a)?;
+            push_leave(alloc, &mut types, entry, b)?;
+            push_leave(alloc, &mut types, entry, c)?;
+            push_leave(alloc, &mut types, entry, d)?;
+        }
+    }
+    Ok(types)
+}
+
+/// The stack that an instruction leaves.
+fn left_stack(alloc: Global, entry: &TypeEntry, effect: &Effect) -> Result<Vec<VType>, AllocError>
+    ensures { IfOk result (λ v. v.items ≡ left_stack effect.now entry.now) }
+{
+    let mut stack = leave_types(alloc, entry, effect.leaves)?;
+    push_copies(alloc, &mut stack, rest(entry.stack(), effect.takes))?;
+    Ok(stack)
+}
+
+/// The locals that an instruction leaves.
+fn left_locals(
+    alloc: Global,
+    entry: &TypeEntry,
+    stores: Option<usize>,
+) -> Result<Vec<VType>, AllocError>
+    ensures { IfOk result (λ v. v.items ≡ with_store stores entry.now) }
+{
+    let mut locals = copies(alloc, entry.locals())?;
+    if let Some(i) = stores {
+        let stored = copy_at(alloc, entry.stack(), 0)?;
+        if i < locals.len() {
+            locals[i] = stored;
+        }
+    }
+    Ok(locals)
+}
+
+/// The types that an instruction leaves.
+fn left(alloc: Global, entry: &TypeEntry, effect: &Effect) -> Result<TypeEntry, AllocError>
+    ensures { IfOk result (λ h. h ≡ left effect.now entry.now) }
+{
+    let locals = left_locals(alloc, entry, effect.stores)?;
+    let stack = left_stack(alloc, entry, effect)?;
+    Ok(TypeEntry::new(locals, stack))
+}
+
+/// The narrowest types above two.
+fn joined(
+    alloc: Global,
+    entry: &TypeEntry,
+    locals: &[VType],
+    stack: &[VType],
+) -> Result<TypeEntry, AllocError>
+    requires locals { length entry.now.locals ≡ length locals.now }
+    requires stack { length entry.now.stack ≡ length stack.now }
+    ensures { IfOk result (λ h. h ≡ joined entry.now (types_of locals.now stack.now)) }
+{
+    let wider = join_all(alloc, entry.locals(), locals)?;
+    Ok(TypeEntry::new(wider, join_all(alloc, entry.stack(), stack)?))
 }
 
 /// What types do to those of a place that they flow to.
@@ -75,25 +198,33 @@ enum Change {
     Refused,
 }
 
+/// Whether types are within those of a place.
+pub fn fits_in(locals: &[VType], stack: &[VType], entry: &TypeEntry) -> bool
+    ensures { result ≡ fits_in (types_of locals.now stack.now) entry.now }
+{
+    are_within(locals, entry.locals()) && are_within(stack, entry.stack())
+}
+
 /// What types do to those of a place that has some.
 fn merged(
     alloc: Global,
     to: usize,
     entry: &TypeEntry,
-    out: &TypeEntry,
+    locals: &[VType],
+    stack: &[VType],
 ) -> Result<Change, AllocError>
-    ensures { IfOk result (λ x. x ≡ merged to out.now entry.now) }
+    ensures { IfOk result (λ x. x ≡ merged to (types_of locals.now stack.now) entry.now) }
 {
-    if out.stack().len() != entry.stack().len() {
+    if locals.len() != entry.locals().len() || stack.len() != entry.stack().len() {
         return Ok(Change::Refused);
     }
-    if are_within(out.locals(), None, entry.locals()) {
+    if fits_in(locals, stack, entry) {
         return Ok(Change::Nothing);
     }
     if to == 0 {
         return Ok(Change::Refused);
     }
-    Ok(Change::Put(joined(alloc, entry, out)?))
+    Ok(Change::Put(joined(alloc, entry, locals, stack)?))
 }
 
 /// What types do to those of a place, if the table has the place.
@@ -101,14 +232,92 @@ fn change_at(
     alloc: Global,
     table: &[Option<TypeEntry>],
     to: usize,
-    out: &TypeEntry,
+    locals: &[VType],
+    stack: &[VType],
 ) -> Result<Change, AllocError>
-    ensures { IfOk result (λ x. x ≡ change_of to out.now (slice_get table.now to)) }
+    ensures { IfOk result (λ x. x ≡ change_of to (types_of locals.now stack.now) (slice_get table.now to)) }
 {
     match table.get(to) {
         None => Ok(Change::Refused),
-        Some(None) => Ok(Change::Put(copy(alloc, out)?)),
-        Some(Some(entry)) => merged(alloc, to, entry, out),
+        Some(None) => {
+            let locals = copies(alloc, locals)?;
+            Ok(Change::Put(TypeEntry::new(locals, copies(alloc, stack)?)))
+        }
+        Some(Some(entry)) => merged(alloc, to, entry, locals, stack),
+    }
+}
+
+/// The name of the class whose exceptions an entry takes.
+pub fn caught_class(catches: Catches) -> &'static [u8]
+    ensures { VType.Ref result.now ≡ caught_type catches }
+{
+    match catches {
+        Catches::Conflict => conflict_class(),
+        Catches::Any => throwable_class(),
+    }
+}
+
+/// The stack at an entry's place: the exception.
+fn caught_stack(alloc: Global, catches: Catches) -> Result<Vec<VType>, AllocError>
+    ensures { IfOk result (λ v. v.items ≡ caught_type catches ∷ []) }
+{
+    let mut stack = Vec::new(alloc);
+    stack.push(class_type(alloc, caught_class(catches))?)?;
+    Ok(stack)
+}
+
+/// Whether an entry guards a place.
+pub fn is_guarded(entry: &Catch, pc: usize) -> bool
+    ensures { result ≡ is_guarded entry.now pc }
+{
+    entry.from <= pc && pc < entry.to
+}
+
+/// What the instruction of a place does to its frame: the locals before it, the types after it, and where it goes on.
+#[derive(Drop)]
+struct Outcome {
+    before: TypeEntry,
+    after: TypeEntry,
+    ways: Ways,
+}
+
+/// The outcome of an effect, if it keeps within the stack.
+fn outcome_of(
+    alloc: Global,
+    method: &Method,
+    entry: &TypeEntry,
+    effect: &Effect,
+) -> Result<Option<Outcome>, AllocError>
+    ensures { IfOk result (λ o. o ≡ outcome_of method.now entry.now (Some effect.now)) }
+{
+    let after = left(alloc, entry, effect)?;
+    if after.stack().len() > method.max_stack() {
+        return Ok(None);
+    }
+    let before = TypeEntry::new(copies(alloc, entry.locals())?, Vec::new(alloc));
+    Ok(Some(Outcome {
+        before,
+        after,
+        ways: effect.ways,
+    }))
+}
+
+/// The outcome of an instruction over these types, if its rules hold.
+fn outcome_in(
+    alloc: Global,
+    program: &Program,
+    method: &Method,
+    op: Op,
+    entry: &TypeEntry,
+) -> Result<Option<Outcome>, AllocError>
+    ensures { IfOk result (λ o. o ≡ outcome_in program.now method.now entry.now (Some op)) }
+{
+    if !is_ready(method, entry) {
+        return Ok(None);
+    }
+    match effect_of(program, method, op, entry) {
+        Some(effect) => outcome_of(alloc, method, entry, &effect),
+        None => Ok(None),
     }
 }
 
@@ -140,10 +349,16 @@ impl Search {
     }
 
     /// Lets types flow to a place. False where the place can't take them.
-    fn flow_to(&mut self, alloc: Global, to: usize, out: &TypeEntry) -> Result<bool, AllocError>
-        ensures { IfOk result (λ b. IsPour to out.now self.old self.new b) }
+    fn flow_to(
+        &mut self,
+        alloc: Global,
+        to: usize,
+        locals: &[VType],
+        stack: &[VType],
+    ) -> Result<bool, AllocError>
+        ensures { IfOk result (λ b. IsPour to (types_of locals.now stack.now) self.old self.new b) }
     {
-        match change_at(alloc, &self.table, to, out)? {
+        match change_at(alloc, &self.table, to, locals, stack)? {
             Change::Nothing => Ok(true),
             Change::Refused => Ok(false),
             Change::Put(types) => {
@@ -163,14 +378,14 @@ impl Search {
         out: &TypeEntry,
     ) -> Result<bool, AllocError>
         requires { pc + 1 < 2 ^ 64 }
-        ensures { IfOk result (λ b. GoesOn ways pc out.now self.old self.new b) }
+        ensures { IfOk result (λ b. Flows (each_to (places ways pc) out.now) self.old self.new b) }
     {
         match ways {
-            Ways::Following => self.flow_to(alloc, pc + 1, out),
-            Ways::Target(to) => self.flow_to(alloc, to, out),
+            Ways::Following => self.flow_to(alloc, pc + 1, out.locals(), out.stack()),
+            Ways::Target(to) => self.flow_to(alloc, to, out.locals(), out.stack()),
             Ways::Either(to) => {
-                if self.flow_to(alloc, pc + 1, out)? {
-                    self.flow_to(alloc, to, out)
+                if self.flow_to(alloc, pc + 1, out.locals(), out.stack())? {
+                    self.flow_to(alloc, to, out.locals(), out.stack())
                 } else {
                     Ok(false)
                 }
@@ -179,14 +394,57 @@ impl Search {
         }
     }
 
-    /// What the instruction of a place leaves, and where it goes on, if its rules hold.
+    /// Lets the exceptions of a place flow, over these locals, to the place of each entry that guards it. False where one
+    /// can't take them.
+    fn flow_caught(
+        &mut self,
+        alloc: Global,
+        catches: &[Catch],
+        pc: usize,
+        locals: &[VType],
+    ) -> Result<bool, AllocError>
+        ensures { IfOk result (λ b. Flows (caught catches.now pc locals.now) self.old self.new b) }
+    {
+        for entry in catches {
+            if is_guarded(entry, pc) {
+                let stack = caught_stack(alloc, entry.catches)?;
+                if !self.flow_to(alloc, entry.at, locals, stack.as_slice())? {
+                    return Ok(false);
+                }
+            }
+        }
+        Ok(true)
+    }
+
+    /// Lets an outcome flow to each place where its instruction goes on, and to those of exceptions. False where one can't
+    /// take it.
+    fn follow(
+        &mut self,
+        alloc: Global,
+        method: &Method,
+        pc: usize,
+        outcome: &Outcome,
+    ) -> Result<bool, AllocError>
+        requires { pc + 1 < 2 ^ 64 }
+        ensures { IfOk result (λ b. Follows method.now pc (Some outcome.now) self.old self.new b) }
+    {
+        if !self.flow_on(alloc, pc, outcome.ways, &outcome.after)? {
+            return Ok(false);
+        }
+        if !self.flow_caught(alloc, method.catches(), pc, outcome.before.locals())? {
+            return Ok(false);
+        }
+        self.flow_caught(alloc, method.catches(), pc, outcome.after.locals())
+    }
+
+    /// The outcome of the instruction of a place, if its rules hold.
     fn outcome(
         &self,
         alloc: Global,
         program: &Program,
         method: &Method,
         pc: usize,
-    ) -> Result<Option<(TypeEntry, Ways)>, AllocError>
+    ) -> Result<Option<Outcome>, AllocError>
         ensures { IfOk result (λ o. o ≡ outcome_at program.now method.now pc self.now.table) }
     {
         let Some(Some(entry)) = self.table.get(pc) else {
@@ -195,17 +453,7 @@ impl Search {
         let Some(op) = method.ops().get(pc) else {
             return Ok(None);
         };
-        let Some(effect) = effect_of(program, method, *op, entry.locals()) else {
-            return Ok(None);
-        };
-        if effect.takes > entry.stack().len() {
-            return Ok(None);
-        }
-        let types = left(alloc, entry, &effect)?;
-        if types.stack().len() > method.max_stack() {
-            return Ok(None);
-        }
-        Ok(Some((types, effect.ways)))
+        outcome_in(alloc, program, method, *op, entry)
     }
 
     /// Looks at the instruction of a place. False where its rules fail.
@@ -220,7 +468,7 @@ impl Search {
         ensures { IfOk result (λ b. IsVisit program.now method.now pc self.old self.new b) }
     {
         match self.outcome(alloc, program, method, pc)? {
-            Some((types, ways)) => self.flow_on(alloc, pc, ways, &types),
+            Some(outcome) => self.follow(alloc, method, pc, &outcome),
             None => Ok(false),
         }
     }

@@ -7,9 +7,9 @@ use Rattle.std.specs.Prelude.{slice_get, max}
 use Rattle.jmodel.specs.Program.{Method}
 use Rattle.jmodel.specs.Typing.{IsTyping, IsNarrowest, IsUntypableAt}
 use Rattle.verifier.specs.Search.{IsVisit}
-use Rattle.verifier.proofs.Infers.{Known, known_start, known_typing, known_narrowest, none_empty, none_too_long, turn_holds, turn_less, turn_fails, turn_inside}
+use Rattle.verifier.proofs.Infers.{Known, known_start, known_typing, known_narrowest, none_empty, none_entered, turn_holds, turn_less, turn_fails, turn_inside}
 use Rattle.verifier.proofs.inference.infer.Goals as goal
-use Rattle.verifier.proofs.inference.infer.Goals.{then-count-eq0-via-then-count-eq0, then-count-eq0-via-else-count-eq0+then-entry}
+use Rattle.verifier.proofs.inference.infer.Goals.{then-count-eq0-via-then-count-eq0, then-count-eq0-via-else-count-eq0+then-not-is_entered}
 
 -- the method of the number is the code that is looked at
 the_code : (ms ns : List Method) (i : ℕ) (x : Method) → ms ≡ ns → x ≡ get_or ms i x → (k : Method) → slice_get ns i ≡ Some k → x ≡ k
@@ -20,14 +20,11 @@ max_is a b = grind (arith, nat_tests)
 
 pub returns-then-count-eq0-clause-err : goal.returns-then-count-eq0-clause-err
 returns-then-count-eq0-clause-err c = λ k e.
-    let ops = c.ops-count.ensures in
-    let l = ap (length) ops in
-    let p = c.entry-entry.ensures.params in
-    let q = c.entry-entry.ensures.locals in
+    let l = ap (length) c.ops-count.ensures in
     subst (λ (x : Method). IsUntypableAt c.args.program.now x 0) (the_code c.methods.result.now c.args.program.now.methods c.args.method c.index-methods-method.result c.methods.ensures c.index-methods-method.is k e)
     (elim c.then-count-eq0.branch [
       | then-count-eq0-via-then-count-eq0 w ↦ none_empty c.args.program.now c.index-methods-method.result (omega arith)
-      | then-count-eq0-via-else-count-eq0+then-entry w ↦ none_too_long c.args.program.now c.index-methods-method.result (omega arith)
+      | then-count-eq0-via-else-count-eq0+then-not-is_entered w ↦ none_entered c.args.program.now c.index-methods-method.result (sym w.is_entered.ensures ∙ w.if-not-is_entered.true)
     ])
 
 pub returns-in_err-search-clause-err : goal.returns-in_err-search-clause-err
@@ -37,16 +34,11 @@ returns-in_err-search-clause-err c =
 
 pub loop-pc-init : goal.loop-pc-init
 loop-pc-init c =
-    let ops = c.ops-count.ensures in
-    let l = ap (length) ops in
-    let p = c.entry-entry.ensures.params in
-    let q = c.entry-entry.ensures.locals in
+    let l = ap (length) c.ops-count.ensures in
     let f = c.if-count-eq0.false in
-    let g = c.if-entry.false in
     let some : 0 < length c.index-methods-method.result.ops = omega arith in
-    let le : c.index-methods-method.result.params ≤ c.index-methods-method.result.locals = omega arith in
-    let e = c.in_ok-search.ensures in
-    subst (Known c.args.program.now c.index-methods-method.result 0) (sym e) (known_start c.args.program.now c.index-methods-method.result some le)
+    let entered = sym c.is_entered.ensures ∙ c.if-not-is_entered.false in
+    subst (Known c.args.program.now c.index-methods-method.result 0) (sym c.in_ok-search.ensures) (known_start c.args.program.now c.index-methods-method.result some entered)
 
 pub visit-requires : goal.visit-requires
 visit-requires c =
