@@ -30,3 +30,8 @@ pub mod Counter
 pub mod Untypable
 pub mod Told
 pub mod Taken
+pub mod Tables
+pub mod AccessorTypes
+pub mod WrapperTypes
+pub mod DuplicateTypes
+pub mod TypedRewriting

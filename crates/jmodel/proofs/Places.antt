@@ -18,13 +18,13 @@ get_front [] ys i x h = cc
 get_front (a ∷ xs) ys zero x h = h
 get_front (a ∷ xs) ys (suc i) x h = get_front xs ys i x h
 
-get_map : {A B : Type 0} (f : A → B) (xs : List A) (i : ℕ) (x : A) → slice_get xs i ≡ Some x → slice_get (map f xs) i ≡ Some (f x)
+pub get_map : {A B : Type 0} (f : A → B) (xs : List A) (i : ℕ) (x : A) → slice_get xs i ≡ Some x → slice_get (map f xs) i ≡ Some (f x)
 get_map f [] i x h = cc
 get_map f (a ∷ xs) zero x h = cc
 get_map f (a ∷ xs) (suc i) x h = get_map f xs i x h
 
 -- the old methods
-old_at : (P : Program) (id m i : ℕ) (ks : List Method) (k : Method) → slice_get ks i ≡ Some k
+pub old_at : (P : Program) (id m i : ℕ) (ks : List Method) (k : Method) → slice_get ks i ≡ Some k
     → (j : ℕ) × (slice_get (old_methods P id m ks) i ≡ Some (old_method P j (m + i) k.retries k))
 old_at P id m i [] k h = cc
 old_at P id m zero (x ∷ ks) k h = let e : x ≡ k = cc in let z : m + 0 ≡ m = omega arith in (id, rw (e, z) refl)
@@ -98,12 +98,12 @@ module _ (P : Program) where
   pub rewrites : Rewrites P (rewritten P)
   rewrites = record { fields = refl; wrapper = is_wrapper; getters = is_getter; setters = is_setter; duplicates = is_duplicate }
 
--- instructions that stand one after another
-abbrev pub HasAt : List Op → ℕ → List Op → Type 0
+-- items that stand one after another
+abbrev pub HasAt : {A : Type 0} → List A → ℕ → List A → Type 0
 HasAt code a [] = Unit {0}
 HasAt code a (o ∷ ops) = (slice_get code a ≡ Some o) × HasAt code (a + 1) ops
 
-pub has_all : (pre ops post : List Op) → HasAt (pre ++ (ops ++ post)) (length pre) ops
+pub has_all : {A : Type 0} (pre ops post : List A) → HasAt (pre ++ (ops ++ post)) (length pre) ops
 has_all pre [] post = tt
 has_all pre (o ∷ ops) post =
     let n : length (pre ++ o ∷ []) ≡ length pre + 1 = omega (arith, length-append pre (o ∷ [])) in
@@ -112,7 +112,7 @@ has_all pre (o ∷ ops) post =
     let s : (pre ++ o ∷ []) ++ (ops ++ post) ≡ pre ++ o ∷ (ops ++ post) = append_assoc pre (o ∷ []) (ops ++ post) in
     (e, subst (λ k. HasAt (pre ++ o ∷ (ops ++ post)) k ops) n (subst (λ c. HasAt c (length (pre ++ o ∷ [])) ops) s (has_all (pre ++ o ∷ []) ops post)))
 
-at_cons : (x : Op) (code : List Op) (i : ℕ) → block_at (x ∷ code) (suc i) ≡ block_len x + block_at code i
+pub at_cons : (x : Op) (code : List Op) (i : ℕ) → block_at (x ∷ code) (suc i) ≡ block_len x + block_at code i
 at_cons x code i = sum_by-cons block_len x (take i code)
 
 one_len : (P : Program) (p : ℕ) (at : ℕ → ℕ) (o : Op) → length (block P p at o) ≡ block_len o

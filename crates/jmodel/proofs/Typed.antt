@@ -117,7 +117,7 @@ lets : (k : Method) (T : Table) (pc : ℕ) (l : List VType) (f : Flow) → Keeps
 lets k T pc l Wrong e = absurd e
 lets k T pc l (Leads to h) e = (e.room, e.goes)
 
-same_reversed : (n : ℕ) → reverse (replicate n Int) ≡ replicate n Int
+pub same_reversed : (n : ℕ) → reverse (replicate n Int) ≡ replicate n Int
 same_reversed zero = refl
 same_reversed (suc n) =
     let z : n + 1 ≡ suc n = omega arith in

@@ -26,6 +26,7 @@ pub record IsWrapper (wm : Method) (c id dn : ℕ) (retries : ℤ) (gives : Bool
   pub place : q ≡ 6 + c
   pub call : HasAt wm.ops q (Load c ∷ InvokeStatic dn ∷ end_code gives c)
   pub conflict : HasAt wm.ops z (conflict_code c)
+  pub exception : HasAt wm.ops (z + 4) (exception_code c)
   pub catch : find_catch wm.catches (q + 1) 1 ≡ Some z
   pub counted : wm.counted ≡ false
 
@@ -70,6 +71,15 @@ module _ (c id dn : ℕ) (retries : ℤ) (gives : Bool) where
       subst (λ n. HasAt code n (conflict_code c)) conflict_length
       (subst (λ l. HasAt l (length (before ++ (Load c ∷ InvokeStatic dn ∷ end_code gives c))) (conflict_code c)) e (has_all (before ++ (Load c ∷ InvokeStatic dn ∷ end_code gives c)) (conflict_code c) (exception_code c)))
 
+  exception_length : length ((before ++ (Load c ∷ InvokeStatic dn ∷ end_code gives c)) ++ conflict_code c) ≡ conflict_at gives c + 4
+  exception_length = omega (arith, length-append (before ++ (Load c ∷ InvokeStatic dn ∷ end_code gives c)) (conflict_code c), conflict_length)
+
+  code_exception : HasAt code (conflict_at gives c + 4) (exception_code c)
+  code_exception =
+      let e : ((before ++ (Load c ∷ InvokeStatic dn ∷ end_code gives c)) ++ conflict_code c) ++ (exception_code c ++ []) ≡ code = simp append_assoc in
+      subst (λ n. HasAt code n (exception_code c)) exception_length
+      (subst (λ l. HasAt l (length ((before ++ (Load c ∷ InvokeStatic dn ∷ end_code gives c)) ++ conflict_code c)) (exception_code c)) e (has_all ((before ++ (Load c ∷ InvokeStatic dn ∷ end_code gives c)) ++ conflict_code c) (exception_code c) []))
+
 in_call : (c : ℕ) → (nat_le 6 (6 + c + 1) && nat_lt (6 + c + 1) (body_end c)) ≡ true
 in_call c = grind (arith, nat_tests)
 
@@ -81,6 +91,7 @@ wrapper_is P id m retries k = record {
   place = refl;
   call = code_call k.params id (duplicate P m) retries k.gives;
   conflict = code_conflict k.params id (duplicate P m) retries k.gives;
+  exception = code_exception k.params id (duplicate P m) retries k.gives;
   catch = rw (in_call k.params) refl;
   counted = refl;
 }

@@ -1,6 +1,6 @@
 //! Laws of the definitions: each function's contract is one, and its body does nothing.
 ghost use Rattle.jmodel.specs.Law.{Completion, Preservation, Simulation, Soundness};
-ghost use Rattle.jmodel.specs.TypingLaw.{TypedSafety, TypedSoundness};
+ghost use Rattle.jmodel.specs.TypingLaw.{TypedRewriting, TypedSafety, TypedSoundness};
 
 /// Rewritten straight-line code never gets stuck: whatever words the engine answers, wherever it meets conflicts and
 /// whatever the limits are, no instruction misses an operand, a local or a phase that it needs.
@@ -35,4 +35,9 @@ pub fn typed_safety()
 /// Nor does its rewriting, whatever words the engine answers, wherever it meets conflicts and whatever the limits are.
 pub fn typed_soundness()
     ensures { TypedSoundness }
+{}
+
+/// The rewriting of typed code is typed: each duplicate, accessor and wrapper has a typing.
+pub fn typed_rewriting()
+    ensures { TypedRewriting }
 {}
