@@ -170,6 +170,13 @@ impl Method {
         self.ops.as_slice()
     }
 
+    /// The exception entries.
+    pub fn catches(&self) -> &[Catch]
+        ensures { result.now ≡ self.now.catches }
+    {
+        self.catches.as_slice()
+    }
+
     /// What entering it needs.
     pub fn entry(&self) -> Entry
         ensures params { result.params ≡ self.now.params }
