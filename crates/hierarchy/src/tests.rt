@@ -2,7 +2,7 @@ use crate::{BuildEnd, Program, are_taken, opening_words, pc_of, program_methods}
 use const_pool::{Attribute, ClassFile, Constant, Member, Pool};
 use jmodel::op::{Binary, Op, Rearrange};
 use jmodel::value::Value;
-use jmodel::{Bytes, Refusal};
+use jmodel::{Bytes, Refusal, VType};
 use std::alloc::{AllocError, Global};
 
 const GOOD: [u8; 10] = [0xb2, 0, 10, 4, 0x60, 0x59, 0xb3, 0, 10, 0xac];
@@ -464,6 +464,7 @@ fn a_method_that_gives_nothing(rt: HostRuntime) {
     let set = program.method(0).expect(&rt, "a method");
     assert!(&rt; !set.gives());
     assert_eq!(&rt; set.entry().params, 2);
+    assert!(&rt; matches!(set.takes(), [VType::Int, VType::Int]));
     assert_eq!(&rt; set.max_stack(), 6);
     assert!(&rt; matches!(program.op(0, 2), Some(Op::Return)));
     assert!(&rt; matches!(program.op(1, 2), Some(Op::InvokeStatic(0))));
