@@ -10,21 +10,18 @@ use Rattle.script.specs.declared.reading.ScriptEnd.TheVariants as script
 use Rattle.deuce.specs.Ending.{IsEndOfScript, EndsOnClass, EndsBuild, EndsTyping, EndsRewriting, EndsScript}
 use Rattle.script.proofs.Items.{same_scripts}
 use Rattle.jmodel.specs.ClassFile.{ClassFile}
-use Rattle.jmodel.specs.ClassRules.{IsClassFile, Spells}
+use Rattle.jmodel.specs.ClassRules.{Spells}
 use Rattle.jmodel.specs.Program.{Program}
 use Rattle.jmodel.specs.Layout.{opening_state}
 use Rattle.jmodel.specs.Decoding.{each}
-use Rattle.jmodel.specs.Linking.{linked, relinked}
+use Rattle.jmodel.specs.Linking.{linked}
 use Rattle.jmodel.specs.Rewriting.{rewritten}
 use Rattle.jmodel.specs.Typing.{IsTypable}
 use Rattle.jmodel.proofs.Linked.{links}
 use Rattle.rewriter.specs.Rewritten.{rewritten_class}
-use Rattle.rewriter.specs.Meaning.{AreFiled}
-use Rattle.rewriter.proofs.Assembled.{law}
 use Rattle.script.specs.Script.{Wanted, Script, IsScript}
 use Rattle.deuce.specs.Headline.{Known, known, AreCalls, IsRun, IsRunnable, IsScriptFor}
 use Rattle.deuce.specs.Rule.{IsReady}
-use Rattle.deuce.proofs.Lists.{some_not_none}
 
 -- the rewriting of a typed program that a class means is ready to run
 pub ready : (c : ClassFile) (P Q : Program) → linked c ≡ Some P → AllByRecursion (IsTypable P) P.methods → Q ≡ rewritten P → IsReady P Q
@@ -32,14 +29,6 @@ ready c P Q is typed code = record { code = code; typed = record { source = (lin
 
 pub runnable : (c : ClassFile) (P : Program) (new : ClassFile) → linked c ≡ Some P → AllByRecursion (IsTypable P) P.methods → rewritten_class P c ≡ Ok new → IsRunnable c P
 runnable c P new is typed made = record { links = is; typed = typed; instrumented = new; rewrites = made }
-
--- what is linked again is the rewriting of what was linked
-pub is_rewritten : (c new : ClassFile) (P Q : Program) → IsClassFile c → AreFiled c → linked c ≡ Some P → rewritten_class P c ≡ Ok new → relinked P new ≡ Some Q → Q ≡ rewritten P
-is_rewritten c new P Q form filed is made again = let both : Some Q ≡ Some (rewritten P) = sym again ∙ law c new P form filed is made in cc (both)
-
--- the rewriting of a class has a program
-pub has_program : (c new : ClassFile) (P : Program) → IsClassFile c → AreFiled c → linked c ≡ Some P → rewritten_class P c ≡ Ok new → relinked P new ≡ None → ⊥
-has_program c new P form filed is made none = some_not_none (rewritten P) (sym (law c new P form filed is made) ∙ none)
 
 pub is_run : (bytes script : List ℕ) (c : ClassFile) (P : Program) (s : Script) (wanted : List Wanted) (calls seen : List Known) (text : List ℕ) → Spells bytes c → linked c ≡ Some P → AllByRecursion (IsTypable P) P.methods → IsScript script s
     → wanted ≡ s.calls → each (known P) wanted ≡ Some calls → seen ≡ calls → AreCalls P s.budget (opening_state (c ∷ [])) seen text → IsRun bytes script text

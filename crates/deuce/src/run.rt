@@ -1,10 +1,11 @@
 //! A run, from the bytes of a class file and a script to the text of its journal.
 ghost use Rattle.std.specs.Prelude.{◌≡◌, ◌≤◌, ℕ, List, length, Some, Ok, IfOk, IfErr, OnOk};
-ghost use Rattle.jmodel.specs.ClassFile.{ClassFile as Form};
 ghost use Rattle.jmodel.specs.ClassRules.{IsClassFile, Spells};
 ghost use Rattle.jmodel.specs.Linking.{linked};
 ghost use Rattle.jmodel.specs.Rewriting.{rewritten as rewritten_program};
-ghost use Rattle.rewriter.specs.Meaning.{AreFiled};
+ghost use Rattle.jmodel.specs.Typing.{IsTypable};
+ghost use Rattle.std.specs.List.{AllByRecursion};
+ghost use Rattle.rewriter.specs.Meaning.{AreFiled, AreTypings};
 ghost use Rattle.rewriter.specs.Rewritten.{rewritten_class};
 ghost use Rattle.deuce.specs.Headline.{IsRun};
 ghost use Rattle.deuce.specs.Ending.{EndsReading, EndsRun, EndsOnClass, EndsBuild, EndsRewriting, EndsScript, IsLimit};
@@ -19,7 +20,7 @@ use const_pool::ClassFile;
 use hierarchy::symbols::own_name;
 use hierarchy::{BuildEnd, Program, opening_words};
 use jmodel::{Bytes, Halt, Refusal};
-use rewriter::rewrite;
+use rewriter::{Rewriting, rewrite};
 use script::{ScriptEnd, read_script};
 use std::alloc::{AllocError, Global};
 
@@ -100,8 +101,8 @@ fn run_class(alloc: Global, class: &ClassFile, script: &[u8]) -> Result<Bytes, R
 {
     let original = build(alloc, class)?;
     type_all(alloc, class, &original)?;
-    let rewritten = instrument(alloc, class, &original)?;
-    run_script(alloc, class, &original, &rewritten, script)
+    let rewriting = instrument(alloc, class, &original)?;
+    run_script(alloc, class, &original, &rewriting.program, script)
 }
 
 /// The program that a class means.
@@ -117,40 +118,20 @@ fn build(alloc: Global, class: &ClassFile) -> Result<Program, RunEnd>
     }
 }
 
-/// The rewriting of a class's program, by way of the rewritten class.
-fn instrument(alloc: Global, class: &ClassFile, original: &Program) -> Result<Program, RunEnd>
+/// The rewriting of a typed class, with the program that it means, whose methods are typed too.
+fn instrument(alloc: Global, class: &ClassFile, original: &Program) -> Result<Rewriting, RunEnd>
     requires form { IsClassFile class.now }
     requires filed { AreFiled class.now }
     requires links { linked class.now ≡ Some original.now }
-    ensures rewritten { IfOk result (λ p. (p ≡ rewritten_program original.now) × (new : Form) × (rewritten_class original.now class.now ≡ Ok new)) }
+    requires typed { AllByRecursion (IsTypable original.now) original.now.methods }
+    ensures rewritten { IfOk result (λ r. (r.program ≡ rewritten_program original.now) × (rewritten_class original.now class.now ≡ Ok r.class)) }
+    ensures typings { IfOk result (λ r. AreTypings r.program r.program.methods r.typings.items) }
     ensures cause { IfErr result (EndsRewriting original.now class.now) }
 {
     match rewrite(alloc, class, original) {
-        Ok(instrumented) => rebuilt(alloc, class, &instrumented, original),
+        Ok(rewriting) => Ok(rewriting),
         Err(Halt::Refused(refusal)) => Err(limit(alloc, class, refusal)),
         Err(Halt::NoMemory) => Err(RunEnd::NoMemory),
-    }
-}
-
-/// The program of a rewritten class. It has one.
-fn rebuilt(
-    alloc: Global,
-    class: &ClassFile,
-    instrumented: &ClassFile,
-    original: &Program,
-) -> Result<Program, RunEnd>
-    requires form { IsClassFile class.now }
-    requires filed { AreFiled class.now }
-    requires links { linked class.now ≡ Some original.now }
-    requires rewrites { rewritten_class original.now class.now ≡ Ok instrumented.now }
-    ensures rewritten { IfOk result (λ p. p ≡ rewritten_program original.now) }
-    ensures cause { IfErr result (λ e. e ≡ RunEnd.NoMemory) }
-{
-    match Program::rebuilt(alloc, instrumented, original) {
-        Ok(program) => Ok(program),
-        Err(BuildEnd::NoMemory) => Err(RunEnd::NoMemory),
-        Err(BuildEnd::Refused(_)) => unreachable!(),
-        Err(BuildEnd::NotBuilt) => unreachable!(),
     }
 }
 

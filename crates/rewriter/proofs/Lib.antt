@@ -29,3 +29,4 @@ pub mod Assembled
 pub mod Making
 pub mod Steps
 mod Counter
+pub mod Typings

@@ -1,9 +1,10 @@
 -- A rewritten class means the rewritten program.
-use Rattle.std.specs.Prelude.{◌≡◌, ℕ, ◌<◌, List, slice_index, Some, Ok}
+use Rattle.std.specs.Prelude.{◌≡◌, ℕ, ◌<◌, List, [], ◌∷◌, slice_index, Some, Ok}
 use Rattle.std.specs.List.{AllByRecursion}
 use Rattle.jmodel.specs.ClassFile.{Attribute, Member, ClassFile}
 use Rattle.jmodel.specs.ClassRules.{IsClassFile}
-use Rattle.jmodel.specs.Program.{Program}
+use Rattle.jmodel.specs.Program.{Method, Program}
+use Rattle.jmodel.specs.Typing.{Table, IsTyping}
 use Rattle.jmodel.specs.Linking.{linked, relinked}
 use Rattle.jmodel.specs.Rewriting.{rewritten}
 use Rattle.rewriter.specs.Rewritten.{rewritten_class}
@@ -22,3 +23,9 @@ AreFiled c = AllByRecursion HasBytes c.methods
 -- For a class that keeps the rules, linked to a program, what rewriting gives is linked to that program's rewriting.
 abbrev pub RewritingLaw : Type 0
 RewritingLaw = (c c' : ClassFile) (P : Program) → IsClassFile c → AreFiled c → linked c ≡ Some P → rewritten_class P c ≡ Ok c' → relinked P c' ≡ Some (rewritten P)
+
+-- Tables for methods of a program, each a typing of the method at its place.
+abbrev pub AreTypings : Program → List Method → List Table → Type 0
+AreTypings P [] [] = Unit {0}
+AreTypings P (k ∷ ks) (T ∷ Ts) = IsTyping P k T × AreTypings P ks Ts
+AreTypings P ks Ts = ⊥

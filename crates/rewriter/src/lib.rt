@@ -15,10 +15,12 @@ mod loops;
 mod meaning;
 mod names;
 mod rewriting;
+mod typed;
 mod wrappers;
 
 pub use meaning::rewriting_law;
-pub use rewriting::rewrite;
+pub use rewriting::rewrite_class;
+pub use typed::{Rewriting, rewrite};
 
 #[cfg(test)]
 mod tests;

@@ -254,7 +254,11 @@ fn rewritten(alloc: Global, class: &ClassFile, original: &Program) -> Result<Cla
 /// - else `PoolFull`, whose class the caller names, where the pool's count would pass 65535;
 /// - else `CodeTooLarge` or `BranchTooFar` with an old method's printed name, where the code of its duplicate or wrapper
 ///   can't be laid; the pc is that of the jump in the old method.
-pub fn rewrite(alloc: Global, class: &ClassFile, original: &Program) -> Result<ClassFile, Halt>
+pub fn rewrite_class(
+    alloc: Global,
+    class: &ClassFile,
+    original: &Program,
+) -> Result<ClassFile, Halt>
     // The program is the one that the class means.
     requires { linked class.now ≡ Some original.now }
     ensures exact { Gives (λ c. c) result (rewritten_class original.now class.now) }

@@ -1,4 +1,4 @@
-use crate::rewrite;
+use crate::rewrite_class;
 use const_pool::{Attribute, ClassFile, Constant, Member, Pool};
 use hierarchy::{Method, Program};
 use jmodel::Bytes;
@@ -209,7 +209,7 @@ fn rewrites_counter(rt: HostRuntime) {
     let alloc = rt.alloc();
     let class = counter(alloc).expect(&rt, "memory");
     let original = Program::build(alloc, &class).expect(&rt, "a program");
-    let rewritten = rewrite(alloc, &class, &original).expect(&rt, "a class");
+    let rewritten = rewrite_class(alloc, &class, &original).expect(&rt, "a class");
     assert_eq!(&rt; rewritten.pool.entries().len(), 70);
     assert_eq!(&rt; rewritten.fields.len(), 3);
     let program = Program::rebuilt(alloc, &rewritten, &original).expect(&rt, "a program");
@@ -226,7 +226,7 @@ fn rewrites_a_compiled_class(rt: HostRuntime) {
     let alloc = rt.alloc();
     let class = compiled(alloc).expect(&rt, "memory");
     let original = Program::build(alloc, &class).expect(&rt, "a program");
-    let rewritten = rewrite(alloc, &class, &original).expect(&rt, "a class");
+    let rewritten = rewrite_class(alloc, &class, &original).expect(&rt, "a class");
     assert_eq!(&rt; rewritten.methods.len(), 5);
     let first = rewritten.methods.first().expect(&rt, "a method");
     assert_eq!(&rt; first.name, 7);

@@ -1,4 +1,4 @@
-use crate::rewrite;
+use crate::rewrite_class;
 use crate::tests::{pool_of, shown};
 use crate::wide_tests::code_of;
 use const_pool::{Attribute, ClassFile, Member};
@@ -114,7 +114,7 @@ fn unmarked_methods_stay(rt: HostRuntime) {
     let class = class(alloc).expect(&rt, "memory");
     let original = Program::build(alloc, &class).expect(&rt, "a program");
     assert_eq!(&rt; original.methods().len(), 2);
-    let rewritten = rewrite(alloc, &class, &original).expect(&rt, "a class");
+    let rewritten = rewrite_class(alloc, &class, &original).expect(&rt, "a class");
     assert_eq!(&rt; rewritten.methods.len(), 7);
     for (old, new) in class.methods.iter().zip(&rewritten.methods).take(2) {
         let kept = is_kept(old, new);

@@ -1,4 +1,4 @@
-use crate::rewrite;
+use crate::rewrite_class;
 use crate::tests::{pool_of, shown};
 use const_pool::{Attribute, ClassFile, Member};
 use hierarchy::Program;
@@ -91,7 +91,7 @@ fn means(
     let Ok(original) = Program::build(alloc, class) else {
         return Ok(false);
     };
-    let Ok(rewritten) = rewrite(alloc, class, &original) else {
+    let Ok(rewritten) = rewrite_class(alloc, class, &original) else {
         return Ok(false);
     };
     let Ok(program) = Program::rebuilt(alloc, &rewritten, &original) else {
@@ -172,7 +172,7 @@ fn is_too_far(alloc: Global, fill: usize, distance: u16) -> Result<Option<bool>,
     let Ok(original) = Program::build(alloc, &class) else {
         return Ok(None);
     };
-    match rewrite(alloc, &class, &original) {
+    match rewrite_class(alloc, &class, &original) {
         Ok(_) => Ok(Some(false)),
         Err(Halt::Refused(Refusal::BranchTooFar(name, pc))) => {
             Ok(Some(pc == 1 && name.as_slice() == b"W.b(I)V".as_slice()))

@@ -4,7 +4,7 @@ use class_reader::read_class;
 use class_writer::write_class;
 use const_pool::ClassFile;
 use hierarchy::Program;
-use rewriter::rewrite;
+use rewriter::rewrite_class;
 use std::alloc::{AllocError, Global};
 use std::test::Fail;
 
@@ -90,7 +90,7 @@ fn counter_is_rewritten_as_the_formats_say(rt: HostRuntime) -> Result<(), Fail> 
     let alloc = rt.alloc();
     let class = read_class(alloc, COUNTER.as_slice())?;
     let original = Program::build(alloc, &class)?;
-    let rewritten = rewrite(alloc, &class, &original)?;
+    let rewritten = rewrite_class(alloc, &class, &original)?;
     let expected = read_class(alloc, REWRITTEN.as_slice())?;
     assert_eq!(rt; shown(alloc, &rewritten)?, shown(alloc, &expected)?);
     let written = write_class(alloc, &expected)?;
