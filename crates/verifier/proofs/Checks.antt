@@ -1,26 +1,25 @@
 -- The tests of a given table, and what they mean.
-use Rattle.std.proofs.Common.{◌≡◌, ◌≢◌, ℕ, zero, suc, ◌+◌, ◌-◌, ◌<◌, ◌≤◌, List, [], ◌∷◌, ◌++◌, length, map, replicate, take, drop, Option, Some, None, Bool, true, false, refl, sym, ap, subst, ◌∙◌, get_or, arith}
+use Rattle.std.proofs.Common.{◌≡◌, ℕ, zero, suc, ◌+◌, ◌-◌, ◌<◌, ◌≤◌, List, [], ◌∷◌, ◌++◌, length, map, replicate, take, drop, Option, Some, None, Bool, true, false, refl, sym, ap, subst, ◌∙◌, get_or, arith}
 use Rattle.std.proofs.Math.Seq.{drop-cons}
 use Rattle.std.proofs.lemmas.List.{length-append, length-map}
 use Rattle.std.proofs.lemmas.Bool.Decides.{nat_tests}
-use Rattle.std.specs.Prelude.{slice_get, nat_eq, nat_le, nat_lt, ◌&&◌, ◌↔◌}
-use Rattle.std.specs.List.{AllByRecursion}
+use Rattle.std.specs.Prelude.{slice_get, nat_eq, nat_le, nat_lt, ◌&&◌}
 use Rattle.jmodel.specs.declared.typing.VType.{VType}
 use Rattle.jmodel.specs.declared.typing.VType.TheVariants.{Top}
 use Rattle.jmodel.specs.declared.op.Op.{Op}
 use Rattle.jmodel.specs.Program.{Method, Program}
-use Rattle.jmodel.specs.TypeOrder.{is_within, AreWithin}
-use Rattle.jmodel.specs.Typing.{Types, Table, FitsIn, Covers, KeepsAt, IsTypedAt, IsTyping, types_at, first_types}
+use Rattle.jmodel.specs.TypeOrder.{is_within}
+use Rattle.jmodel.specs.Typing.{Types, Table, Covers, KeepsAt, IsTypedAt, IsTyping, types_at, first_types}
 use Rattle.verifier.specs.declared.effect.Leave.{Leave}
 use Rattle.verifier.specs.declared.effect.Effect.{Effect}
 use Rattle.verifier.specs.Effect.{effect_of, leave_type, leaves_of, left, left_stack, places}
 use Rattle.verifier.specs.Order.{are_within, all_local}
-use Rattle.verifier.specs.Search.{Demands, demands, each_to, caught, fits_in, is_ready}
+use Rattle.verifier.specs.Search.{Demands, demands, each_to, caught, is_ready}
 use Rattle.verifier.specs.Check as test
 use Rattle.verifier.specs.Check.{fits_leave, fit_each}
 use Rattle.verifier.proofs.Lists.{both, and_true, to_local, of_local, to_within, of_within, all_self, all_both, past}
 use Rattle.verifier.proofs.Numbers.{of_entry, to_entry}
-use Rattle.verifier.proofs.Outcomes.{Met, Kept, to_keeps, from_keeps, to_ready, of_ready, fits_self}
+use Rattle.verifier.proofs.Outcomes.{Met, to_keeps, from_keeps, to_ready, of_ready, fits_self}
 use Rattle.verifier.proofs.Pours.{to_fits, of_fits}
 
 module _ (P : Program) (k : Method) (T : Table) where

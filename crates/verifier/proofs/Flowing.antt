@@ -1,15 +1,14 @@
 -- Flows to the places of a list, one by one.
-use Rattle.std.proofs.Common.{◌≡◌, ℕ, zero, suc, ◌+◌, ◌<◌, ◌≤◌, List, [], ◌∷◌, ◌++◌, length, drop, get_or, Option, Some, None, Bool, true, false, refl, sym, ap, subst, ◌∙◌, arith}
-use Rattle.std.specs.Prelude.{◌&&◌, Result, Ok, Err, IfOk, if◌then◌else◌}
+use Rattle.std.proofs.Common.{◌≡◌, ℕ, zero, suc, ◌+◌, ◌<◌, ◌≤◌, List, [], ◌∷◌, ◌++◌, length, drop, get_or, Bool, true, false, refl, sym, ap, subst, ◌∙◌, arith}
+use Rattle.std.specs.Prelude.{Result, Ok, Err, IfOk}
 use Rattle.jmodel.specs.declared.typing.VType.{VType}
 use Rattle.jmodel.specs.declared.op.Catch.{Catch}
 use Rattle.jmodel.specs.Program.{Method}
-use Rattle.jmodel.specs.Typing.{Types, Table, caught_type, is_guarded}
+use Rattle.jmodel.specs.Typing.{Types, caught_type, is_guarded}
 use Rattle.verifier.specs.declared.effect.Ways.{Ways}
 use Rattle.verifier.specs.declared.effect.Ways.TheVariants.{Following, Target, Either}
 use Rattle.verifier.specs.Effect.{places}
 use Rattle.verifier.specs.Search.{State, Demands, IsPour, Flows, caught, types_of, each_to, demands}
-use Rattle.verifier.specs.Check.{covers, covers_each}
 use Rattle.verifier.proofs.Lists.{past}
 
 pub flows_first : (d : ℕ × Types) (ds : Demands) (s m n : State) (b : Bool) → IsPour d.0 d.1 s m true → Flows ds m n b → Flows (d ∷ ds) s n b

@@ -1,15 +1,14 @@
 -- Types that flow to a place: the table only widens, and stays within each other typing.
-use Rattle.std.proofs.Common.{◌≡◌, ◌≢◌, ℕ, suc, ◌+◌, ◌*◌, ◌<◌, ◌≤◌, ◌⊎◌, inl, inr, List, [], ◌∷◌, length, Option, Some, None, Bool, true, false, cond, refl, sym, ap, subst, ◌∙◌, get_or, arith}
+use Rattle.std.proofs.Common.{◌≡◌, ◌≢◌, ℕ, ◌+◌, ◌*◌, ◌<◌, ◌≤◌, ◌⊎◌, inl, inr, length, Option, Some, None, Bool, true, false, cond, refl, sym, ap, subst, ◌∙◌, get_or, arith}
 use Rattle.std.proofs.Math.ListN.{length-set}
 use Rattle.std.proofs.lemmas.List.Sums.{sum_by-set}
 use Rattle.std.proofs.lemmas.Option.{get_or_from_slice_get}
 use Rattle.std.specs.Prelude.{◌&&◌, sum_by, slice_get, slice_set}
 use Rattle.std.specs.Ordering.{nat_cmp}
 use Rattle.std.specs.BTreeMap.{is_at}
-use Rattle.jmodel.specs.declared.typing.VType.{VType}
 use Rattle.jmodel.specs.Program.{Method}
 use Rattle.jmodel.specs.Typing.{Types, Table, FitsIn, Covers, types_at}
-use Rattle.verifier.specs.Order.{are_within, join_all}
+use Rattle.verifier.specs.Order.{are_within}
 use Rattle.verifier.specs.Search.{State, fits_in, joined, waits, IsInserted}
 use Rattle.verifier.proofs.Lists.{heights, heights_high, six, joins_up, joins_less}
 use Rattle.verifier.proofs.Narrow.{fits_trans}

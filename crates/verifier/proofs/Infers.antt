@@ -2,7 +2,7 @@
 use Rattle.std.proofs.Common.{◌≡◌, ◌≢◌, ℕ, zero, suc, ◌+◌, ◌-◌, ◌<◌, ◌≤◌, max, min, ◌⊎◌, inl, inr, List, [], ◌∷◌, ◌++◌, length, replicate, Option, Some, None, Bool, true, false, refl, sym, ap, subst, ◌∙◌, arith}
 use Rattle.std.proofs.lemmas.Bool.Decides.{nat_tests}
 use Rattle.std.proofs.lemmas.List.{length-replicate, length-append}
-use Rattle.std.specs.Prelude.{◌&&◌, slice_get, nat_eq, nat_le, nat_lt, All, if◌then◌else◌}
+use Rattle.std.specs.Prelude.{slice_get, nat_eq, nat_le, nat_lt, All, if◌then◌else◌}
 use Rattle.std.specs.List.{AllByRecursion}
 use Rattle.std.specs.Ordering.{nat_cmp}
 use Rattle.std.specs.BTreeMap.{is_at}
@@ -11,7 +11,7 @@ use Rattle.jmodel.specs.declared.typing.VType.TheVariants.{Top}
 use Rattle.jmodel.specs.declared.op.Op.{Op}
 use Rattle.jmodel.specs.declared.op.Catch.{Catch}
 use Rattle.jmodel.specs.Program.{Method, Program}
-use Rattle.jmodel.specs.Typing.{Types, Table, IsLocalType, FitsIn, Covers, AreCaught, KeepsAt, KeepsFlow, Keeps, Flow, Leads, Wrong, flow, IsTypedAt, IsTyping, IsTypingUpTo, IsNarrowest, IsUntypableAt, types_at, first_types}
+use Rattle.jmodel.specs.Typing.{Types, Table, IsLocalType, Covers, AreCaught, KeepsAt, KeepsFlow, Flow, Leads, Wrong, flow, IsTypedAt, IsTyping, IsTypingUpTo, IsNarrowest, IsUntypableAt, types_at, first_types}
 use Rattle.verifier.specs.declared.effect.Effect.{Effect}
 use Rattle.verifier.specs.Effect.{effect_of, left}
 use Rattle.verifier.specs.Order.{all_local}
@@ -19,7 +19,7 @@ use Rattle.verifier.specs.Search.{State, waits, demands, is_ready, is_entered, o
 use Rattle.verifier.proofs.Lists.{both, and_true, to_local, of_local}
 use Rattle.verifier.proofs.Numbers.{same_or_not, waits_not, at_same, at_self, get_within, to_entry}
 use Rattle.verifier.proofs.Outcomes.{Frame, Above, Met, Kept, fits_self, covers_up, to_keeps, from_keeps, kept_down, demands_framed, to_ready, of_ready}
-use Rattle.verifier.proofs.Growth.{room, Framed, AreCovered, Grows}
+use Rattle.verifier.proofs.Growth.{room, Framed, AreCovered}
 use Rattle.verifier.proofs.Pours.{Flowed, flows, blocked}
 
 -- What is known of a search: its last place is the greatest looked at so far.

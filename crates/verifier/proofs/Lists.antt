@@ -1,16 +1,14 @@
 -- Lists of types, place by place.
-use Rattle.std.proofs.Common.{◌≡◌, ◌≢◌, ℕ, zero, suc, ◌+◌, ◌<◌, ◌≤◌, List, [], ◌∷◌, ◌++◌, length, map, Option, Some, None, Bool, true, false, refl, sym, ap, subst, ◌∙◌, drop, get_or, arith}
-use Rattle.std.proofs.Math.ListN.{length-set}
-use Rattle.std.proofs.lemmas.Bool.Decides.{nat_tests}
-use Rattle.std.specs.Prelude.{◌&&◌, slice_get, slice_set, if◌then◌else◌}
+use Rattle.std.proofs.Common.{◌≡◌, ◌≢◌, ℕ, zero, suc, ◌+◌, ◌<◌, ◌≤◌, List, [], ◌∷◌, ◌++◌, length, Bool, true, false, refl, ap, ◌∙◌, drop, get_or, arith}
+use Rattle.std.specs.Prelude.{◌&&◌, slice_set, if◌then◌else◌}
 use Rattle.std.specs.List.{AllByRecursion}
 use Rattle.jmodel.specs.declared.typing.VType.{VType}
-use Rattle.jmodel.specs.declared.typing.VType.TheVariants.{Int, Long, Second, Null, Ref, Uninit, UninitThis, Top}
+use Rattle.jmodel.specs.declared.typing.VType.TheVariants.{Int, Null, Ref, Top}
 use Rattle.jmodel.specs.TypeOrder.{AreWithin, IsLocalType, is_within}
 use Rattle.verifier.specs.Effect.{are_taken, type_at}
 use Rattle.verifier.specs.Order.{are_within, join, join_all, is_local, all_local}
 use Rattle.verifier.specs.Order as ord
-use Rattle.verifier.proofs.Orders.{within_self, within_trans, within_top, join_first, join_second, join_least, join_less, join_up, height, height_high, within_both}
+use Rattle.verifier.proofs.Orders.{within_self, within_trans, join_first, join_second, join_least, join_less, join_up, height, height_high, within_both}
 
 pub both : (a b : Bool) → (a && b) ≡ true → (a ≡ true) × (b ≡ true)
 both true true h = (refl, refl)

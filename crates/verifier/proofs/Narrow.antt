@@ -1,11 +1,9 @@
 -- An instruction does the same over narrower types, and leaves narrower ones.
-use Rattle.std.proofs.Common.{◌≡◌, ℕ, zero, suc, ◌<◌, ◌≤◌, List, [], ◌∷◌, ◌++◌, length, map, reverse, drop, Option, Some, None, Bool, true, false, refl, sym, ap, subst, ◌∙◌, arith}
-use Rattle.std.proofs.lemmas.Bool.Decides.{nat_tests}
+use Rattle.std.proofs.Common.{◌≡◌, ℕ, zero, suc, List, [], ◌∷◌, length, map, reverse, drop, Option, Some, None, Bool, true, false, refl, sym, subst}
 use Rattle.std.proofs.Math.ListN.{length-set}
-use Rattle.std.specs.Prelude.{◌&&◌, slice_get, slice_set, nat_lt, if◌then◌else◌}
-use Rattle.std.specs.List.{AllByRecursion}
+use Rattle.std.specs.Prelude.{◌&&◌, slice_get, nat_lt, if◌then◌else◌}
 use Rattle.jmodel.specs.declared.typing.VType.{VType}
-use Rattle.jmodel.specs.declared.typing.VType.TheVariants.{Int, Long, Second, Null, Ref, Uninit, UninitThis, Top}
+use Rattle.jmodel.specs.declared.typing.VType.TheVariants.{Int, Long, Second, Null, Ref}
 use Rattle.jmodel.specs.declared.op.WordType.{WordType}
 use Rattle.jmodel.specs.declared.op.Op.{Op}
 use Rattle.jmodel.specs.declared.op.Op.TheVariants as op
@@ -14,7 +12,7 @@ use Rattle.jmodel.specs.declared.op.Rearrange.TheVariants as rearrange
 use Rattle.jmodel.specs.declared.op.ContextCall.{ContextCall}
 use Rattle.jmodel.specs.declared.op.ContextCall.TheVariants as call
 use Rattle.jmodel.specs.Program.{Field, Method, Program, method_at, place_at}
-use Rattle.jmodel.specs.TypeOrder.{is_within, AreWithin, IsLocalType, type_of, object_class, throwable_class, context_class}
+use Rattle.jmodel.specs.TypeOrder.{is_within, AreWithin, type_of, object_class, throwable_class, context_class}
 use Rattle.jmodel.specs.Typing.{Types, FitsIn}
 use Rattle.verifier.specs.declared.effect.Ways.{Ways}
 use Rattle.verifier.specs.declared.effect.Ways.TheVariants as ways
@@ -26,7 +24,7 @@ use Rattle.verifier.specs.declared.effect.Effect.{Effect}
 use Rattle.verifier.specs.Effect as effect
 use Rattle.verifier.specs.Effect.{type_at, are_taken, is_one, is_int, effect_of, effect_on_ints, leaves_of, leave_type, with_store, left_stack, left}
 use Rattle.verifier.proofs.Orders.{within_self}
-use Rattle.verifier.proofs.Lists.{both, and_true, all_trans, same_length, at_within, rest_within, append_within, set_within, taken_within, set_local}
+use Rattle.verifier.proofs.Lists.{both, and_true, all_trans, same_length, at_within, rest_within, append_within, set_within, taken_within}
 
 pub fits_trans : (h g f : Types) → FitsIn h g → FitsIn g f → FitsIn h f
 fits_trans h g f a b = record { locals = all_trans h.locals g.locals f.locals a.locals b.locals; stack = all_trans h.stack g.stack f.stack a.stack b.stack }

@@ -1,10 +1,10 @@
 -- What an instruction asks of a table, and the rules of the definition.
-use Rattle.std.proofs.Common.{◌≡◌, ℕ, zero, suc, ◌+◌, ◌<◌, ◌≤◌, List, [], ◌∷◌, ◌++◌, length, reverse, Option, Some, None, Bool, true, false, refl, sym, ap, subst, ◌∙◌, arith}
+use Rattle.std.proofs.Common.{◌≡◌, ℕ, ◌+◌, ◌≤◌, List, [], ◌∷◌, ◌++◌, length, reverse, Option, Some, None, Bool, true, false, refl, sym, ap, subst, ◌∙◌, arith}
 use Rattle.std.proofs.lemmas.Bool.Decides.{nat_tests}
-use Rattle.std.specs.Prelude.{IsTrue, ◌&&◌, slice_get, slice_set, nat_le, nat_lt, if◌then◌else◌}
+use Rattle.std.specs.Prelude.{IsTrue, ◌&&◌, slice_get, nat_le, nat_lt, if◌then◌else◌}
 use Rattle.std.specs.List.{AllByRecursion}
 use Rattle.jmodel.specs.declared.typing.VType.{VType}
-use Rattle.jmodel.specs.declared.typing.VType.TheVariants.{Int, Long, Second, Null, Ref, Uninit, UninitThis, Top}
+use Rattle.jmodel.specs.declared.typing.VType.TheVariants.{Int, Long, Second, Null, Ref}
 use Rattle.jmodel.specs.declared.op.WordType.{WordType}
 use Rattle.jmodel.specs.declared.op.Op.{Op}
 use Rattle.jmodel.specs.declared.op.Op.TheVariants as op
@@ -13,11 +13,9 @@ use Rattle.jmodel.specs.declared.op.Rearrange.TheVariants as rearrange
 use Rattle.jmodel.specs.declared.op.ContextCall.{ContextCall}
 use Rattle.jmodel.specs.declared.op.ContextCall.TheVariants as call
 use Rattle.jmodel.specs.declared.op.Catch.{Catch}
-use Rattle.jmodel.specs.declared.op.Catches.{Catches}
-use Rattle.jmodel.specs.declared.op.Catches.TheVariants.{Conflict, Any}
 use Rattle.jmodel.specs.Program.{Field, Method, Program, method_at, place_at}
 use Rattle.jmodel.specs.TypeOrder.{is_within, IsStackUnder, type_of, object_class, throwable_class, context_class}
-use Rattle.jmodel.specs.Typing.{Types, Table, IsLocalType, IsStack, AreWithin, FitsIn, Flow, Leads, Wrong, flow, caught_type, is_guarded, Covers, AreCaught, Keeps, KeepsFlow, KeepsAt, types_at}
+use Rattle.jmodel.specs.Typing.{Types, Table, IsLocalType, IsStack, AreWithin, FitsIn, Leads, flow, caught_type, is_guarded, Covers, AreCaught, Keeps, KeepsFlow, KeepsAt, types_at}
 use Rattle.verifier.specs.declared.effect.Ways.{Ways}
 use Rattle.verifier.specs.declared.effect.Ways.TheVariants as ways
 use Rattle.verifier.specs.declared.effect.Leave.TheVariants as leave
@@ -27,7 +25,7 @@ use Rattle.verifier.specs.declared.effect.Effect.{Effect}
 use Rattle.verifier.specs.Effect as effect
 use Rattle.verifier.specs.Effect.{effect_of, effect_on_ints, places, with_store, type_at, is_one, left, left_stack, flow_of}
 use Rattle.verifier.specs.Search.{Demands, each_to, caught, demands, types_of, next_under, some_and, is_stack_under, is_ready}
-use Rattle.verifier.proofs.Lists.{both, and_true, all_self, all_trans, same_length, set_local}
+use Rattle.verifier.proofs.Lists.{both, and_true, all_self, same_length, set_local}
 use Rattle.verifier.proofs.Flow.{flow_is}
 use Rattle.verifier.proofs.Narrow.{fits_trans, effect_narrow, left_within, stored_length}
 

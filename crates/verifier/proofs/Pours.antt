@@ -1,18 +1,16 @@
 -- Types that flow to places are taken or refused there.
-use Rattle.std.proofs.Common.{◌≡◌, ◌≢◌, ℕ, ◌+◌, ◌<◌, ◌≤◌, List, [], ◌∷◌, length, Option, Some, None, Bool, true, false, refl, sym, subst, ◌∙◌, arith}
+use Rattle.std.proofs.Common.{◌≡◌, ◌≢◌, ℕ, ◌+◌, ◌<◌, ◌≤◌, [], ◌∷◌, length, Option, Some, None, Bool, true, false, refl, sym, subst, ◌∙◌, arith}
 use Rattle.std.proofs.lemmas.Bool.Decides.{nat_tests}
-use Rattle.std.specs.Prelude.{not, ◌&&◌, slice_get, nat_eq, if◌then◌else◌}
-use Rattle.std.specs.List.{AllByRecursion}
-use Rattle.jmodel.specs.declared.typing.VType.{VType}
+use Rattle.std.specs.Prelude.{not, slice_get, nat_eq, if◌then◌else◌}
 use Rattle.jmodel.specs.Program.{Method}
-use Rattle.jmodel.specs.Typing.{Types, Table, AreWithin, FitsIn, Covers, types_at, first_types}
+use Rattle.jmodel.specs.Typing.{Types, Table, FitsIn, Covers, types_at, first_types}
 use Rattle.verifier.specs.declared.search.Change.TheVariants.{Nothing, Put, Refused}
-use Rattle.verifier.specs.Order.{are_within, join_all}
+use Rattle.verifier.specs.Order.{are_within}
 use Rattle.verifier.specs.Search.{State, joined, fits_in, is_alike, change_of, merged, Makes, IsPour, Demands, Flows}
 use Rattle.verifier.proofs.Lists.{both, and_true, same_length, to_within, of_within, joins_least, joins_first, joins_second, joins_local}
 use Rattle.verifier.proofs.Numbers.{get_within, get_past, of_entry}
 use Rattle.verifier.proofs.Outcomes.{Frame, Frames, Met, fits_self, covers_up}
-use Rattle.verifier.proofs.Growth.{weight, first_weight, joined_weight, Framed, AreCovered, Grows, grows_refl, grows_trans, put_grows, put_covers, put_forced}
+use Rattle.verifier.proofs.Growth.{first_weight, joined_weight, Framed, AreCovered, Grows, grows_refl, grows_trans, put_grows, put_covers, put_forced}
 
 -- what a flow to a place leaves
 pub record Poured (k : Method) (s n : State) (to : ℕ) (out : Types) : Type 0 where

@@ -1,7 +1,7 @@
 -- Classes by their rank among a conflict's, and the narrowest types above two.
-use Rattle.std.specs.Prelude.{ℕ, List, [], ◌∷◌, length, Bool, true, false, ◌&&◌, ◌||◌, not, nat_eq, nat_lt, bytes_eq, codes, if◌then◌else◌}
+use Rattle.std.specs.Prelude.{ℕ, List, [], ◌∷◌, Bool, true, false, ◌&&◌, ◌||◌, nat_eq, nat_lt, bytes_eq, codes, if◌then◌else◌}
 use Rattle.jmodel.specs.declared.typing.VType.{VType}
-use Rattle.jmodel.specs.declared.typing.VType.TheVariants.{Int, Long, Second, Null, Ref, Top}
+use Rattle.jmodel.specs.declared.typing.VType.TheVariants.{Int, Null, Ref, Top}
 use Rattle.jmodel.specs.TypeOrder.{object_class, throwable_class, conflict_class, is_within}
 
 abbrev pub exception_class : List ℕ

@@ -1,5 +1,5 @@
 -- What the search for a typing keeps: a table so far, and the places that are to be looked at.
-use Rattle.std.specs.Prelude.{◌≡◌, ℕ, ◌+◌, ◌-◌, ◌≤◌, List, [], ◌∷◌, ◌++◌, length, map, min, replicate, Option, Some, None, Bool, true, false, not, cond, nat_eq, nat_le, ◌&&◌, slice_get, slice_set, if◌then◌else◌}
+use Rattle.std.specs.Prelude.{◌≡◌, ℕ, ◌+◌, ◌-◌, ◌≤◌, List, [], ◌∷◌, ◌++◌, length, min, replicate, Option, Some, None, Bool, true, false, not, cond, nat_eq, nat_le, ◌&&◌, slice_get, slice_set, if◌then◌else◌}
 use Rattle.std.specs.List.{list_any}
 use Rattle.std.specs.Ordering.{nat_cmp}
 use Rattle.std.specs.BTreeMap.{is_at}

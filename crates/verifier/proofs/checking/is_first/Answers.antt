@@ -1,6 +1,5 @@
-use Rattle.std.proofs.Common.{◌≡◌, ℕ, ◌-◌, ◌≤◌, List, Bool, length, take, drop, true, sym, ap, ◌∙◌, arith}
+use Rattle.std.proofs.Common.{◌≡◌, ◌-◌, length, take, drop, true, sym, ap, ◌∙◌, arith}
 use Rattle.std.proofs.lemmas.Bool.Decides.{nat_tests}
-use Rattle.jmodel.specs.declared.typing.VType.{VType}
 use Rattle.verifier.specs.Check.{all_tops, are_same}
 use Rattle.verifier.proofs.Checks.{to_first, first_same, first_tops}
 use Rattle.verifier.proofs.checking.is_first.Goals as goal

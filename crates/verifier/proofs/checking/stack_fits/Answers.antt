@@ -1,8 +1,8 @@
-use Rattle.std.proofs.Common.{◌≡◌, List, Bool, true, false, length, map, drop, sym, ap, ◌∙◌}
+use Rattle.std.proofs.Common.{◌≡◌, List, Bool, true, false, length, drop, sym, ap, ◌∙◌}
 use Rattle.std.specs.Prelude.{◌&&◌}
 use Rattle.jmodel.specs.declared.typing.VType.{VType}
 use Rattle.verifier.specs.Check.{fit_each}
-use Rattle.verifier.specs.Effect.{leaves_of, left_stack}
+use Rattle.verifier.specs.Effect.{leaves_of}
 use Rattle.verifier.specs.Order.{are_within}
 use Rattle.verifier.proofs.Checks.{split_within}
 use Rattle.verifier.proofs.checking.stack_fits.Goals as goal
