@@ -11,4 +11,3 @@ pub mod PutLaws
 pub mod RelocationLaws
 pub mod LaidLaws
 pub mod OriginLaws
-pub mod GrownLaws

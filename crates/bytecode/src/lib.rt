@@ -21,8 +21,3 @@ pub use decoding::decode;
 pub use encoding::encode;
 pub use jmodel::{EntryKind, Form, Instr, Operands, Pairs, Targets};
 pub use relocation::relocate;
-
-#[cfg(test)]
-mod relocation_tests;
-#[cfg(test)]
-mod tests;

@@ -8,6 +8,3 @@ mod methods;
 mod reader;
 
 pub use reader::read_class;
-
-#[cfg(test)]
-mod tests;

@@ -26,8 +26,3 @@ pub use jmodel::{Constant, FieldType, Handler};
 pub use pool::Pool;
 pub use references::{Descriptors, want_descriptor};
 pub use signature::Descriptor;
-
-#[cfg(test)]
-mod index_tests;
-#[cfg(test)]
-mod tests;

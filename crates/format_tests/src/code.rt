@@ -2,7 +2,7 @@ ghost use Rattle.std.specs.Prelude.{◌≤◌, length, IfOk};
 ghost use Rattle.std.specs.List.{AllByRecursion};
 ghost use Rattle.jmodel.specs.Instruction.{IsInstr};
 
-use super::*;
+use bytecode::{Instr, Operands, decode, encode};
 use const_pool::Pool;
 use jmodel::{Bytes, Halt, Handler, Refusal};
 use std::alloc::Global;

@@ -1,6 +1,6 @@
 use Rattle.std.proofs.Common.{take}
-use Rattle.bytecode.proofs.GrownLaws.{AreGrown}
-use Rattle.bytecode.proofs.relocation_tests.blocks_of.Given as goal
+use Rattle.format_tests.proofs.GrownLaws.{AreGrown}
+use Rattle.format_tests.proofs.laying.blocks_of.Given as goal
 
 abbrev pub invariant-loop-i : goal.invariant-loop-i
 invariant-loop-i l = AreGrown l.blocks.items (take l.i-index l.i-items)

@@ -1,4 +1,4 @@
-use super::*;
+use const_pool::{Code, Constant, Descriptor, FieldType, Pool};
 use jmodel::{Bytes, Halt, Refusal};
 use std::alloc::{AllocError, Global};
 use std::test::*;

@@ -1,4 +1,4 @@
-use super::*;
+use class_reader::read_class;
 use jmodel::{Bytes, Halt, Refusal};
 use std::alloc::Global;
 use std::test::*;

@@ -1,5 +1,5 @@
 use Rattle.bytecode.proofs.CodeLaws.{found_instrs}
-use Rattle.bytecode.proofs.tests.instructions.Goals as goal
+use Rattle.format_tests.proofs.code.instructions.Goals as goal
 
 pub returns : goal.returns
 returns c = found_instrs _ _ _ _ c.decode.ensures.found

@@ -5,7 +5,7 @@ ghost use Rattle.jmodel.specs.declared.instruction.Operands.TheVariants as opera
 ghost use Rattle.jmodel.specs.Instruction.{targets_of};
 ghost use Rattle.jmodel.specs.Relocation.{IsShaped, HasRoom, AreBlocks};
 
-use super::*;
+use bytecode::{Block, Instr, Operands, Pairs, Targets, decode, relocate};
 use const_pool::Pool;
 use jmodel::{Bytes, Halt, Handler, Refusal};
 use std::alloc::{AllocError, Global};

@@ -1,4 +1,4 @@
-use super::*;
+use const_pool::{Constant, Pool};
 use jmodel::Bytes;
 use std::alloc::{AllocError, Global};
 use std::test::*;

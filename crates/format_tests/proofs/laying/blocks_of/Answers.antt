@@ -1,6 +1,6 @@
 use Rattle.std.proofs.Common.{arith}
-use Rattle.bytecode.proofs.GrownLaws.{grown_next, grown_end, grown_blocks}
-use Rattle.bytecode.proofs.relocation_tests.blocks_of.Goals as goal
+use Rattle.format_tests.proofs.GrownLaws.{grown_next, grown_end, grown_blocks}
+use Rattle.format_tests.proofs.laying.blocks_of.Goals as goal
 
 pub loop-i-preserved : goal.loop-i-preserved
 loop-i-preserved c =
