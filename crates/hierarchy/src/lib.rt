@@ -22,6 +22,3 @@ pub use form::is_marked;
 pub use outcome::BuildEnd;
 pub use program::{Field, Method, Program};
 pub use taken::{are_taken, program_methods};
-
-#[cfg(test)]
-mod tests;

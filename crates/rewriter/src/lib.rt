@@ -21,10 +21,3 @@ mod wrappers;
 pub use meaning::rewriting_law;
 pub use rewriting::rewrite_class;
 pub use typed::{Rewriting, rewrite};
-
-#[cfg(test)]
-mod tests;
-#[cfg(test)]
-mod unmarked_tests;
-#[cfg(test)]
-mod wide_tests;

@@ -1,7 +1,7 @@
-use crate::rewrite_class;
 use const_pool::{Attribute, ClassFile, Constant, Member, Pool};
 use hierarchy::{Method, Program};
 use jmodel::Bytes;
+use rewriter::rewrite_class;
 use std::alloc::{AllocError, Global};
 
 fn utf8(alloc: Global, text: &[u8]) -> Result<Constant, AllocError> {

@@ -1,8 +1,8 @@
-use crate::rewrite_class;
-use crate::tests::{pool_of, shown};
+use crate::rewriting::{pool_of, shown};
 use const_pool::{Attribute, ClassFile, Member};
 use hierarchy::Program;
 use jmodel::{Bytes, Halt, Refusal};
+use rewriter::rewrite_class;
 use std::alloc::{AllocError, Global};
 
 // The entries of W's pool: a tag, two indexes, a text. The method's name and descriptor are 7 and 8; 10 is the field n, and 14

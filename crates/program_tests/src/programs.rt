@@ -1,5 +1,5 @@
-use crate::{BuildEnd, Program, are_taken, opening_words, pc_of, program_methods};
 use const_pool::{Attribute, ClassFile, Constant, Member, Pool};
+use hierarchy::{BuildEnd, Program, are_taken, opening_words, pc_of, program_methods};
 use jmodel::op::{Binary, Op, Rearrange};
 use jmodel::value::Value;
 use jmodel::{Bytes, Refusal, VType};

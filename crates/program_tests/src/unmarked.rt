@@ -1,9 +1,9 @@
-use crate::rewrite_class;
-use crate::tests::{pool_of, shown};
-use crate::wide_tests::code_of;
+use crate::rewriting::{pool_of, shown};
+use crate::wide::code_of;
 use const_pool::{Attribute, ClassFile, Member};
 use hierarchy::Program;
 use jmodel::Bytes;
+use rewriter::rewrite_class;
 use std::alloc::{AllocError, Global};
 
 // The entries of U's pool: a tag, two indexes, a text. 10 is the field n, and 14 the method help.
