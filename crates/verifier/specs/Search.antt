@@ -88,7 +88,7 @@ caught (c ∷ cs) pc l = if is_guarded c pc then (c.at, types_of l (caught_type 
 abbrev pub demands : Method → ℕ → List VType → Types → Ways → Demands
 demands k pc l out w = each_to (places w pc) out ++ (caught k.catches pc l ++ caught k.catches pc out.locals)
 
--- from where a stack is looked at; true where it is between the two places of a long
+-- whether a place of a stack is the second one of a long, where the place just above was one or not; none where the two don't go together
 abbrev pub next_under : Bool → VType → Option Bool
 next_under false Int = Some false
 next_under false Null = Some false

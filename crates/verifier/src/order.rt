@@ -1,5 +1,5 @@
 //! Types in their order: which are within others, and the narrowest ones above two.
-ghost use Rattle.std.specs.Prelude.{◌≡◌, ◌++◌, ◌≤◌, IfOk, IfSome, OnOk, bytes_eq, drop, length, replicate};
+ghost use Rattle.std.specs.Prelude.{◌≡◌, ◌++◌, IfOk, OnOk, bytes_eq, drop, length, replicate};
 ghost use Rattle.jmodel.specs.TypeOrder.{conflict_class, context_class, is_within, object_class, throwable_class};
 ghost use Rattle.verifier.specs.Order.{all_local, apart, are_within, class_rank, exception_class, is_above_class, is_local, join, join_all, runtime_class};
 

@@ -1,8 +1,8 @@
 //! The search for a typing: a table so far, and the places that are still to be looked at.
-ghost use Rattle.std.specs.Prelude.{◌≡◌, ◌+◌, ◌^◌, ◌<◌, ◌≤◌, ◌∷◌, ◌++◌, [], All, false, map, slice_get, slice_set, IfOk, IfSome, IfNone, OnOk, length};
+ghost use Rattle.std.specs.Prelude.{◌≡◌, ◌+◌, ◌^◌, ◌<◌, ◌∷◌, ◌++◌, [], All, false, map, slice_get, IfOk, IfSome, IfNone, OnOk, length};
 ghost use Rattle.jmodel.specs.Typing.{caught_type, first_types, is_guarded};
 ghost use Rattle.verifier.specs.Effect.{leave_type, leaves_of, left, left_stack, places, type_at, with_store};
-ghost use Rattle.verifier.specs.Search.{caught, change_of, each_to, fits_in, Flows, Follows, is_alike, is_ready, is_stack_under, IsPour, IsVisit, joined, merged, next_under, outcome_at, outcome_in, outcome_of, starting, types_of};
+ghost use Rattle.verifier.specs.Search.{caught, change_of, each_to, fits_in, Flows, Follows, is_ready, is_stack_under, IsPour, IsVisit, joined, merged, next_under, outcome_at, outcome_in, outcome_of, starting, types_of};
 
 use crate::effect::{Effect, Leave, Leaves, Ways, effect_of};
 use crate::order::{
@@ -41,8 +41,8 @@ fn first_types(alloc: Global, method: &Method) -> Result<TypeEntry, AllocError>
     Ok(TypeEntry::new(locals, Vec::new(alloc)))
 }
 
-/// What a place of the stack may have under one, of which it is told whether it is the second place of a long, and whether
-/// it is such a place itself; none where the two don't go together.
+/// Whether a place of the stack is the second one of a long, where the place just above it was one or not; none where the
+/// two don't go together.
 fn next_under(under: bool, item: &VType) -> Option<bool>
     ensures { result ≡ next_under under item.now }
 {
