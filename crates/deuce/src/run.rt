@@ -5,7 +5,7 @@ ghost use Rattle.jmodel.specs.Linking.{linked};
 ghost use Rattle.jmodel.specs.Rewriting.{rewritten as rewritten_program};
 ghost use Rattle.jmodel.specs.Typing.{IsTypable};
 ghost use Rattle.std.specs.List.{AllByRecursion};
-ghost use Rattle.rewriter.specs.Meaning.{AreFiled, AreTypings};
+ghost use Rattle.rewriter.specs.Meaning.{AreFiled};
 ghost use Rattle.rewriter.specs.Rewritten.{rewritten_class};
 ghost use Rattle.deuce.specs.Headline.{IsRun};
 ghost use Rattle.deuce.specs.Ending.{EndsReading, EndsRun, EndsOnClass, EndsBuild, EndsRewriting, EndsScript, IsLimit};
@@ -74,7 +74,7 @@ pub fn run(alloc: Global, class: &[u8], script: &[u8]) -> Result<Bytes, RunEnd>
 }
 
 /// The class of a class file.
-fn class_of(alloc: Global, bytes: &[u8]) -> Result<ClassFile, RunEnd>
+pub fn class_of(alloc: Global, bytes: &[u8]) -> Result<ClassFile, RunEnd>
     ensures within { OnOk result (length bytes.now ≤ 1048576) }
     ensures class { IfOk result (Spells bytes.now) }
     ensures filed { IfOk result AreFiled }
@@ -106,7 +106,7 @@ fn run_class(alloc: Global, class: &ClassFile, script: &[u8]) -> Result<Bytes, R
 }
 
 /// The program that a class means.
-fn build(alloc: Global, class: &ClassFile) -> Result<Program, RunEnd>
+pub fn build(alloc: Global, class: &ClassFile) -> Result<Program, RunEnd>
     ensures links { IfOk result (λ p. linked class.now ≡ Some p) }
     ensures cause { IfErr result (EndsBuild class.now) }
 {
@@ -119,13 +119,13 @@ fn build(alloc: Global, class: &ClassFile) -> Result<Program, RunEnd>
 }
 
 /// The rewriting of a typed class, with the program that it means, whose methods are typed too.
-fn instrument(alloc: Global, class: &ClassFile, original: &Program) -> Result<Rewriting, RunEnd>
+pub fn instrument(alloc: Global, class: &ClassFile, original: &Program) -> Result<Rewriting, RunEnd>
     requires form { IsClassFile class.now }
     requires filed { AreFiled class.now }
     requires links { linked class.now ≡ Some original.now }
     requires typed { AllByRecursion (IsTypable original.now) original.now.methods }
     ensures rewritten { IfOk result (λ r. (r.program ≡ rewritten_program original.now) × (rewritten_class original.now class.now ≡ Ok r.class)) }
-    ensures typings { IfOk result (λ r. AreTypings r.program r.program.methods r.typings.items) }
+    ensures typed { IfOk result (λ r. AllByRecursion (IsTypable r.program) r.program.methods) }
     ensures cause { IfErr result (EndsRewriting original.now class.now) }
 {
     match rewrite(alloc, class, original) {

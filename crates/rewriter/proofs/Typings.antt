@@ -1,5 +1,5 @@
 -- The program of a rewritten class, and its typings.
-use Rattle.std.proofs.Common.{◌≡◌, ℕ, zero, suc, ◌+◌, ◌<◌, ◌≤◌, List, [], ◌∷◌, ◌++◌, length, take, Option, Some, None, Ok, refl, sym, ap, subst, ◌∙◌, arith}
+use Rattle.std.proofs.Common.{◌≡◌, ℕ, ◌<◌, length, Some, None, Ok, sym, subst, ◌∙◌}
 use Rattle.std.specs.Prelude.{slice_get}
 use Rattle.std.specs.List.{AllByRecursion}
 use Rattle.jmodel.specs.ClassFile.{ClassFile}
@@ -7,12 +7,12 @@ use Rattle.jmodel.specs.ClassRules.{IsClassFile}
 use Rattle.jmodel.specs.Program.{Method, Program}
 use Rattle.jmodel.specs.Linking.{linked, relinked}
 use Rattle.jmodel.specs.Rewriting.{rewritten}
-use Rattle.jmodel.specs.Typing.{Table, IsTyping, IsTypable, IsUntypableAt}
+use Rattle.jmodel.specs.Typing.{IsTypable, IsUntypableAt}
 use Rattle.jmodel.proofs.Fields.{each_at, some_at}
 use Rattle.jmodel.proofs.Linked.{links}
 use Rattle.jmodel.proofs.TypedRewriting.{typed_rewriting}
 use Rattle.rewriter.specs.Rewritten.{rewritten_class}
-use Rattle.rewriter.specs.Meaning.{AreFiled, AreTypings}
+use Rattle.rewriter.specs.Meaning.{AreFiled}
 use Rattle.rewriter.proofs.Assembled.{law}
 
 -- what is linked again is the rewriting of what was linked
@@ -33,13 +33,3 @@ is_typable P m place all lt none =
     let k = some_at P.methods m lt in
     let t = each_at (IsTypable P) P.methods m k.0 all k.1 in
     (none k.0 k.1).none t.table (record { first = t.typing.first; each = λ pc h le e. t.typing.each pc h e })
-
--- one more method with its typing
-pub typings_more : (P : Program) (ks : List Method) (m : ℕ) (Ts : List Table) (T : Table) → AreTypings P (take m ks) Ts → m < length ks → ((k : Method) → slice_get ks m ≡ Some k → IsTyping P k T) → AreTypings P (take (m + 1) ks) (Ts ++ T ∷ [])
-typings_more P [] m Ts T a lt f = absurd (omega (arith, lt))
-typings_more P (k ∷ ks) zero [] T a lt f = (f k refl, tt)
-typings_more P (k ∷ ks) zero (U ∷ Ts) T a lt f = absurd a
-typings_more P (k ∷ ks) (suc m) [] T a lt f = absurd a
-typings_more P (k ∷ ks) (suc m) (U ∷ Ts) T a lt f =
-    let z : suc m + 1 ≡ suc (m + 1) = omega arith in
-    rw z (a.0, typings_more P ks m Ts T a.1 (omega (arith, lt)) f)

@@ -1,5 +1,5 @@
 -- A rewritten class means the rewritten program.
-use Rattle.std.specs.Prelude.{◌≡◌, ℕ, ◌<◌, List, [], ◌∷◌, slice_index, Some, Ok}
+use Rattle.std.specs.Prelude.{◌≡◌, ℕ, ◌<◌, List, slice_get, slice_index, Some, Ok}
 use Rattle.std.specs.List.{AllByRecursion}
 use Rattle.jmodel.specs.ClassFile.{Attribute, Member, ClassFile}
 use Rattle.jmodel.specs.ClassRules.{IsClassFile}
@@ -24,8 +24,6 @@ AreFiled c = AllByRecursion HasBytes c.methods
 abbrev pub RewritingLaw : Type 0
 RewritingLaw = (c c' : ClassFile) (P : Program) → IsClassFile c → AreFiled c → linked c ≡ Some P → rewritten_class P c ≡ Ok c' → relinked P c' ≡ Some (rewritten P)
 
--- Tables for methods of a program, each a typing of the method at its place.
-abbrev pub AreTypings : Program → List Method → List Table → Type 0
-AreTypings P [] [] = Unit {0}
-AreTypings P (k ∷ ks) (T ∷ Ts) = IsTyping P k T × AreTypings P ks Ts
-AreTypings P ks Ts = ⊥
+-- a typing of a program's method by its number
+abbrev pub IsTypingOf : Program → ℕ → Table → Type 0
+IsTypingOf P m T = (k : Method) → slice_get P.methods m ≡ Some k → IsTyping P k T

@@ -1,12 +1,12 @@
 //! The rewriting of a class, with the program that it means and the types of its code.
-ghost use Rattle.std.specs.Prelude.{◌≡◌, Some, Ok, IfOk, IfErr};
+ghost use Rattle.std.specs.Prelude.{◌≡◌, ◌<◌, Some, Ok, IfOk, length};
 ghost use Rattle.std.specs.List.{AllByRecursion};
 ghost use Rattle.jmodel.specs.ClassRules.{IsClassFile};
 ghost use Rattle.jmodel.specs.Linking.{linked};
 ghost use Rattle.jmodel.specs.Reading.{Gives};
 ghost use Rattle.jmodel.specs.Rewriting.{rewritten};
 ghost use Rattle.jmodel.specs.Typing.{IsTypable};
-ghost use Rattle.rewriter.specs.Meaning.{AreFiled, AreTypings};
+ghost use Rattle.rewriter.specs.Meaning.{AreFiled, IsTypingOf};
 ghost use Rattle.rewriter.specs.Rewritten.{rewritten_class, Keeps};
 
 use crate::rewriting::rewrite_class;
@@ -16,12 +16,29 @@ use jmodel::{Halt, NoMemory, Typing};
 use std::alloc::Global;
 use verifier::{TypeEnd, infer};
 
-/// A rewritten class, the program that it means, and a typing of each method of that program, by its number.
+/// A rewritten class, and the program that it means.
 #[derive(Drop)]
 pub struct Rewriting {
     pub class: ClassFile,
     pub program: Program,
-    pub typings: Vec<Typing>,
+}
+
+impl Rewriting {
+    /// The typing of a method of the program, by its number: a duplicate, a wrapper, an accessor, or one that stayed as it was
+    /// (JVM Specification, Java SE 7, section 4.10). It is found when it is asked for, since it has the types of all locals at
+    /// each instruction.
+    pub fn typing(&self, alloc: Global, method: usize) -> Result<Typing, NoMemory>
+        // As `rewrite` answers it.
+        requires typed { AllByRecursion (IsTypable self.now.program) self.now.program.methods }
+        requires number { method < length self.now.program.methods }
+        ensures { IfOk result (IsTypingOf self.now.program method) }
+    {
+        match infer(alloc, &self.program, method) {
+            Ok(typing) => Ok(typing),
+            Err(TypeEnd::NoMemory) => Err(NoMemory),
+            Err(TypeEnd::Untypable(_)) => unreachable!(),
+        }
+    }
 }
 
 /// The program of a rewritten class. It has one.
@@ -45,24 +62,8 @@ fn rebuilt(
     }
 }
 
-/// A typing of each method of a program in which each has one.
-fn typings_of(alloc: Global, program: &Program) -> Result<Vec<Typing>, NoMemory>
-    requires { AllByRecursion (IsTypable program.now) program.now.methods }
-    ensures { IfOk result (λ v. AreTypings program.now program.now.methods v.items) }
-{
-    let mut typings = Vec::new(alloc);
-    for method in 0..program.methods().len() {
-        match infer(alloc, program, method) {
-            Ok(typing) => typings.push(typing)?,
-            Err(TypeEnd::NoMemory) => return Err(NoMemory),
-            Err(TypeEnd::Untypable(_)) => unreachable!(),
-        }
-    }
-    Ok(typings)
-}
-
 /// The rewriting of a typed class, over the program that it means: the class as `rewrite_class` makes it, with its refusals; the
-/// program that this class means; and a typing of each method of that program (JVM Specification, Java SE 7, section 4.10).
+/// program that this class means, each method of which has a typing (JVM Specification, Java SE 7, section 4.10).
 pub fn rewrite(alloc: Global, class: &ClassFile, original: &Program) -> Result<Rewriting, Halt>
     // The class is one that was read, and the program is the one that it means.
     requires form { IsClassFile class.now }
@@ -73,14 +74,12 @@ pub fn rewrite(alloc: Global, class: &ClassFile, original: &Program) -> Result<R
     ensures class { Gives (λ r. r.class) result (rewritten_class original.now class.now) }
     ensures keeps { IfOk result (λ r. Keeps class.now r.class) }
     ensures program { IfOk result (λ r. r.program ≡ rewritten original.now) }
-    ensures typings { IfOk result (λ r. AreTypings r.program r.program.methods r.typings.items) }
+    ensures typed { IfOk result (λ r. AllByRecursion (IsTypable r.program) r.program.methods) }
 {
     let instrumented = rewrite_class(alloc, class, original)?;
     let program = rebuilt(alloc, class, &instrumented, original)?;
-    let typings = typings_of(alloc, &program)?;
     Ok(Rewriting {
         class: instrumented,
         program,
-        typings,
     })
 }

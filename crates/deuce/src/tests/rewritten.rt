@@ -1,10 +1,17 @@
 //! What the rewriting makes of Counter, against bytes that were made from docs/FORMATS.md without it.
+ghost use Rattle.std.specs.Prelude.{IfSome};
+ghost use Rattle.std.specs.List.{AllByRecursion};
+ghost use Rattle.jmodel.specs.Typing.{IsTypable};
+
 use super::COUNTER;
+use crate::run::{build, class_of, instrument};
+use crate::typed::type_all;
 use class_reader::read_class;
 use class_writer::write_class;
 use const_pool::ClassFile;
 use hierarchy::Program;
-use rewriter::rewrite_class;
+use jmodel::VType;
+use rewriter::{Rewriting, rewrite_class};
 use std::alloc::{AllocError, Global};
 use std::test::Fail;
 
@@ -96,4 +103,59 @@ fn counter_is_rewritten_as_the_formats_say(rt: HostRuntime) -> Result<(), Fail> 
     let written = write_class(alloc, &expected)?;
     assert_eq!(rt; written.as_slice(), REWRITTEN.as_slice());
     Ok(())
+}
+
+/// The rewriting of a class file each method of which has a typing.
+fn rewriting(alloc: Global, bytes: &[u8]) -> Option<Rewriting>
+    ensures { IfSome result (λ r. AllByRecursion (IsTypable r.program) r.program.methods) }
+{
+    let Ok(class) = class_of(alloc, bytes) else {
+        return None;
+    };
+    let Ok(original) = build(alloc, &class) else {
+        return None;
+    };
+    let Ok(()) = type_all(alloc, &class, &original) else {
+        return None;
+    };
+    match instrument(alloc, &class, &original) {
+        Ok(rewriting) => Some(rewriting),
+        Err(_) => None,
+    }
+}
+
+/// How many places the stack has before an instruction of a method, and whether a long is topmost.
+fn stack_at(alloc: Global, rewriting: &Rewriting, method: usize, pc: usize) -> Option<(usize, bool)>
+    requires { AllByRecursion (IsTypable rewriting.now.program) rewriting.now.program.methods }
+{
+    if method >= rewriting.program.methods().len() {
+        return None;
+    }
+    let typing = rewriting.typing(alloc, method).ok()?;
+    let stack = typing.at(pc)?.stack();
+    Some((stack.len(), matches!(stack.first(), Some(VType::Second))))
+}
+
+/// The wrapper, the getter, the setter and the duplicate.
+#[test]
+fn rewritten_methods_are_typed(rt: HostRuntime) {
+    let alloc = rt.alloc();
+    let Some(rewriting) = rewriting(alloc, COUNTER.as_slice()) else {
+        assert!(rt; false, "no rewriting");
+        return;
+    };
+    for (method, pc, places, is_long) in [
+        (0, 5, 3, false),
+        (1, 3, 4, true),
+        (1, 8, 5, true),
+        (2, 4, 5, true),
+        (3, 0, 0, false),
+        (3, 1, 1, false),
+    ] {
+        assert!(rt;
+            stack_at(alloc, &rewriting, method, pc) == Some((places, is_long)),
+            "{method} at {pc}"
+        );
+    }
+    assert!(rt; stack_at(alloc, &rewriting, 4, 0).is_none());
 }
