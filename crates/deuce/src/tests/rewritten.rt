@@ -1,10 +1,10 @@
 //! What the rewriting makes of Counter, against bytes that were made from docs/FORMATS.md without it.
-ghost use Rattle.std.specs.Prelude.{IfSome};
+ghost use Rattle.std.specs.Prelude.{IfOk};
 ghost use Rattle.std.specs.List.{AllByRecursion};
 ghost use Rattle.jmodel.specs.Typing.{IsTypable};
 
 use super::COUNTER;
-use crate::run::{build, class_of, instrument};
+use crate::run::{RunEnd, build, class_of, instrument};
 use crate::typed::type_all;
 use class_reader::read_class;
 use class_writer::write_class;
@@ -105,23 +105,14 @@ fn counter_is_rewritten_as_the_formats_say(rt: HostRuntime) -> Result<(), Fail> 
     Ok(())
 }
 
-/// The rewriting of a class file each method of which has a typing.
-fn rewriting(alloc: Global, bytes: &[u8]) -> Option<Rewriting>
-    ensures { IfSome result (λ r. AllByRecursion (IsTypable r.program) r.program.methods) }
+/// The rewriting of a class file.
+fn rewriting_of(alloc: Global, bytes: &[u8]) -> Result<Rewriting, RunEnd>
+    ensures { IfOk result (λ r. AllByRecursion (IsTypable r.program) r.program.methods) }
 {
-    let Ok(class) = class_of(alloc, bytes) else {
-        return None;
-    };
-    let Ok(original) = build(alloc, &class) else {
-        return None;
-    };
-    let Ok(()) = type_all(alloc, &class, &original) else {
-        return None;
-    };
-    match instrument(alloc, &class, &original) {
-        Ok(rewriting) => Some(rewriting),
-        Err(_) => None,
-    }
+    let class = class_of(alloc, bytes)?;
+    let original = build(alloc, &class)?;
+    type_all(alloc, &class, &original)?;
+    instrument(alloc, &class, &original)
 }
 
 /// How many places the stack has before an instruction of a method, and whether a long is topmost.
@@ -140,7 +131,7 @@ fn stack_at(alloc: Global, rewriting: &Rewriting, method: usize, pc: usize) -> O
 #[test]
 fn rewritten_methods_are_typed(rt: HostRuntime) {
     let alloc = rt.alloc();
-    let Some(rewriting) = rewriting(alloc, COUNTER.as_slice()) else {
+    let Ok(rewriting) = rewriting_of(alloc, COUNTER.as_slice()) else {
         assert!(rt; false, "no rewriting");
         return;
     };
