@@ -52,6 +52,7 @@ pub fn read_inputs<F: Folder>(
     script: &str,
 ) -> Result<Inputs, InputEnd>
     ensures inputs { IfOk result (AreInputs (F.files folder.old) dir.now script.now) }
+    ensures files_kept { F.files folder.new ≡ F.files folder.old }
     ensures cause { IfErr result (EndsInRun (F.files folder.old) dir.now script.now (F.faults folder.old) (F.faults folder.new) (F.failed folder.new)) }
 {
     let items = match folder.list(dir) {

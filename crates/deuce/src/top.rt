@@ -68,6 +68,9 @@ pub fn deuce<F: Folder, O: Sink>(alloc: Global, words: &[String], folder: &mut F
     // What can be run is run, unless the folder or the sink fails or memory runs out.
     ensures complete { CanRunWords words.now (F.files folder.old) → (result ≡ 0) ⊎ ((result ≡ 8) ⊎ ((result ≡ 9) ⊎ (result ≡ 10))) }
 
+    // The folder's files are read alone.
+    ensures files_kept { F.files folder.new ≡ F.files folder.old }
+
     ensures statuses { (result ≡ 0) ⊎ ((result ≡ 2) ⊎ ((result ≡ 3) ⊎ ((result ≡ 4) ⊎ ((result ≡ 5) ⊎ ((result ≡ 8) ⊎ ((result ≡ 9) ⊎ ((result ≡ 10) ⊎ (result ≡ 12)))))))) }
 {
     let Ok(outcome) = outcome_of(alloc, words, folder) else {
@@ -90,7 +93,8 @@ fn outcome_of<F: Folder>(
     words: &[String],
     folder: &mut F,
 ) -> Result<Outcome, NoMemory>
-    ensures { IfOk result (IsOutcome words.now (F.files folder.old) (F.faults folder.old) (F.faults folder.new) (F.failed folder.new)) }
+    ensures outcome { IfOk result (IsOutcome words.now (F.files folder.old) (F.faults folder.old) (F.faults folder.new) (F.failed folder.new)) }
+    ensures files_kept { F.files folder.new ≡ F.files folder.old }
 {
     let Some(Command::Run { dir, script }) = command_of(words) else {
         return Ok(Outcome::Usage);

@@ -3,8 +3,8 @@ use Rattle.deuce.proofs.Reading.{journal_of, bad_class, has_class, not_run, one_
 use Rattle.deuce.specs.Ending.{IsBadProgram, IsUntypable}
 use Rattle.deuce.proofs.top.outcome_of.Goals as goal
 
-pub returns-in-Ok-run : goal.returns-in-Ok-run
-returns-in-Ok-run g c =
+pub returns-in-Ok-run-clause-outcome : goal.returns-in-Ok-run-clause-outcome
+returns-in-Ok-run-clause-outcome g c =
     let cmd = one_command c.in-Some-Run.field-0 in (
       cmd.0.now,
       cmd.1.now,
@@ -14,8 +14,8 @@ returns-in-Ok-run g c =
           (rw (c.as_slice.ensures, c.as_slice-2.ensures) at c.in-Ok-run.ensures.run),
     )
 
-pub returns-in-Err-NotBuilt : goal.returns-in-Err-NotBuilt
-returns-in-Err-NotBuilt g c =
+pub returns-in-Err-NotBuilt-clause-outcome : goal.returns-in-Err-NotBuilt-clause-outcome
+returns-in-Err-NotBuilt-clause-outcome g c =
     let cmd = one_command c.in-Some-Run.field-0 in (
       cmd.0.now,
       cmd.1.now,
@@ -23,8 +23,8 @@ returns-in-Err-NotBuilt g c =
       inl (rw (cmd.2, c.in-Err-NotBuilt.field-0-is) at c.in-Err-NotBuilt.ensures.cause),
     )
 
-pub returns-in-Err-BadClass : goal.returns-in-Err-BadClass
-returns-in-Err-BadClass g c =
+pub returns-in-Err-BadClass-clause-outcome : goal.returns-in-Err-BadClass-clause-outcome
+returns-in-Err-BadClass-clause-outcome g c =
     let cmd = one_command c.in-Some-Run.field-0 in (
       cmd.0.now,
       cmd.1.now,
@@ -33,8 +33,8 @@ returns-in-Err-BadClass g c =
           (rw (c.as_slice.ensures, c.in-Err-BadClass.field-0-is) at c.in-Err-BadClass.ensures.cause),
     )
 
-pub returns-in-Err-NotBuilt-run : goal.returns-in-Err-NotBuilt-run
-returns-in-Err-NotBuilt-run g c =
+pub returns-in-Err-NotBuilt-run-clause-outcome : goal.returns-in-Err-NotBuilt-run-clause-outcome
+returns-in-Err-NotBuilt-run-clause-outcome g c =
     let cmd = one_command c.in-Some-Run.field-0 in (
       cmd.0.now,
       cmd.1.now,
@@ -43,8 +43,8 @@ returns-in-Err-NotBuilt-run g c =
           (rw (c.as_slice.ensures, c.as_slice-2.ensures, c.in-Err-NotBuilt-run.field-0-is) at c.in-Err-NotBuilt-run.ensures.cause)),
     )
 
-pub returns-in-Err-BadProgram : goal.returns-in-Err-BadProgram
-returns-in-Err-BadProgram g c =
+pub returns-in-Err-BadProgram-clause-outcome : goal.returns-in-Err-BadProgram-clause-outcome
+returns-in-Err-BadProgram-clause-outcome g c =
     let cmd = one_command c.in-Some-Run.field-0 in (
       cmd.0.now,
       cmd.1.now,
@@ -53,8 +53,8 @@ returns-in-Err-BadProgram g c =
           (rw (c.as_slice.ensures, c.as_slice-2.ensures, c.in-Err-BadProgram.field-0-is) at c.in-Err-BadProgram.ensures.cause),
     )
 
-pub returns-in-Err-Untyped : goal.returns-in-Err-Untyped
-returns-in-Err-Untyped g c =
+pub returns-in-Err-Untyped-clause-outcome : goal.returns-in-Err-Untyped-clause-outcome
+returns-in-Err-Untyped-clause-outcome g c =
     let cmd = one_command c.in-Some-Run.field-0 in (
       cmd.0.now,
       cmd.1.now,
