@@ -1,6 +1,6 @@
 -- A rewritten class means the rewritten program.
 use Rattle.std.proofs.Common.{Bool, ◌≡◌, ℕ, ℤ, suc, ◌+◌, ◌-◌, ◌≤◌, true, false, not, None, subst, List, [], ◌∷◌, ◌++◌, length, map, take, drop, Option, Some, Ok, refl, sym, ap, ◌∙◌, arith, append_assoc, length-append, add-one}
-use Rattle.std.specs.Prelude.{slice_get, nat_le, option_map, pos, zip, filter}
+use Rattle.std.specs.Prelude.{slice_get, nat_le, option_map, pos, zip}
 use Rattle.std.specs.List.{flat_map, AllByRecursion}
 use Rattle.std.proofs.lemmas.List.Concat.{flat_map-cons}
 use Rattle.std.proofs.lemmas.Bool.Decides.{nat_tests}
@@ -17,6 +17,7 @@ use Rattle.rewriter.specs.Meaning.{HasBytes, AreFiled}
 use Rattle.rewriter.specs.Members.{Names}
 use Rattle.rewriter.specs.Rewritten.{id_behind, both_of, rewritten_class}
 use Rattle.rewriter.proofs.Puts.{AreAccessors}
+use Rattle.rewriter.proofs.Rests.{here, behind, from_first, all_where}
 use Rattle.rewriter.proofs.Pairs.{each_append, each_length}
 use Rattle.rewriter.proofs.Whole.{Each, AreNames, IsCopyOf, rewrites}
 use Rattle.rewriter.proofs.Marks.{or_first, or_later, neither, mark_swapped, stays_unmarked}
@@ -27,14 +28,6 @@ use Rattle.rewriter.proofs.Tables.{Known, AreLawful, AreFormal, AreGood, EachTak
 use Rattle.rewriter.proofs.Methods.{getter_is, setter_is}
 use Rattle.rewriter.proofs.Wraps.{wrapper_is}
 use Rattle.rewriter.proofs.Duplicated.{copy_is}
-
--- the rest of a list, from a place on
-module _ {A : Type 0} (all : List A) (n : ℕ) (x : A) (xs : List A) (rest : (j : ℕ) → slice_get all (n + j) ≡ slice_get (x ∷ xs) j) where
-  here : slice_get all n ≡ Some x
-  here = let z : n ≡ n + 0 = omega arith in ap (slice_get all) z ∙ rest 0
-
-  behind : (j : ℕ) → slice_get all (n + 1 + j) ≡ slice_get xs j
-  behind j = let z : n + 1 + j ≡ n + suc j = omega arith in ap (slice_get all) z ∙ rest (suc j)
 
 front : {B : Type 0} (o : Option B) (os : Option (List B)) (y : B) (ys : List B) → o ≡ Some y → os ≡ Some ys → in_front o os ≡ Some (y ∷ ys)
 front o os y ys p q = rw (p, q) refl
@@ -150,25 +143,15 @@ relinked_as s xs ds us vs n len x d =
 abbrev program : List Field → List Method → Program
 program fs ms = record { fields = fs; methods = ms }
 
-held_where : (p : Member → Bool) (ms : List Member) → AllByRecursion HasBytes ms → AllByRecursion HasBytes (filter p ms)
-held_where p [] h = tt
-held_where p (m ∷ ms) h = go (p m) refl (held_where p ms h.1)
-  where
-    go : (b : Bool) → p m ≡ b → AllByRecursion HasBytes (filter p ms) → AllByRecursion HasBytes (filter p (m ∷ ms))
-    go true e rest = rw e (h.0, rest)
-    go false e rest = rw e rest
-
 pub law : (c new : ClassFile) (P : Program) → IsClassFile c → AreFiled c → linked c ≡ Some P → rewritten_class P c ≡ Ok new → relinked P new ≡ Some (rewritten P)
 law c new P rules F L e =
     let K : Known c new P = record { rules = rules; original = original c P L; rewritten = rewrites P c new e } in
     let M = K.rewritten.methods in
     let N = M.new in
-    let from_zero : (j : ℕ) → slice_get P.methods (0 + j) ≡ slice_get P.methods j = λ j. let z : 0 + j ≡ j = omega arith in ap (slice_get P.methods) z in
-    let fields_zero : (j : ℕ) → slice_get P.fields (0 + j) ≡ slice_get P.fields j = λ j. let z : 0 + j ≡ j = omega arith in ap (slice_get P.fields) z in
-    let held = held_where (is_taken c) c.methods F in
-    let w = olds_each c new P K 0 0 (program_methods c) (olds_now c new P K) P.methods (replaced c new P K) (olds c new P K) (both c new P K) (lawful c new P K) (formal c new P K) held from_zero in
-    let a = accessors_each c new P K 0 P.fields N.accessors N.each (good c new P K) (owned c new P K) fields_zero in
-    let d = copies_each c new P K L N.copied.names N.copied.are_names 0 (program_methods c) N.copies P.methods N.copied.each (olds c new P K) (both c new P K) held from_zero in
+    let held = all_where HasBytes (is_taken c) c.methods F in
+    let w = olds_each c new P K 0 0 (program_methods c) (olds_now c new P K) P.methods (replaced c new P K) (olds c new P K) (both c new P K) (lawful c new P K) (formal c new P K) held (from_first P.methods) in
+    let a = accessors_each c new P K 0 P.fields N.accessors N.each (good c new P K) (owned c new P K) (from_first P.fields) in
+    let d = copies_each c new P K L N.copied.names N.copied.are_names 0 (program_methods c) N.copies P.methods N.copied.each (olds c new P K) (both c new P K) held (from_first P.methods) in
     let fronts = each_append (first_of c new P K) (olds_now c new P K) (flat_map both_of N.accessors) (old_methods P 0 0 P.methods) (accessors 0 P.fields) w a in
     let list : rewritten_methods P new ≡ (olds_now c new P K ++ flat_map both_of N.accessors) ++ N.copies = parts c new P K ∙ sym (append_assoc (olds_now c new P K) (flat_map both_of N.accessors) N.copies) in
     let len : length N.copies ≡ length P.methods = each_length (method_of (symbols_of new P.fields (rewritten_methods P new)) true) N.copies (map (duplicate_method P) P.methods) d ∙ map_length (duplicate_method P) P.methods in

@@ -201,7 +201,7 @@ module _ (c new : ClassFile) (P : Program) (K : Known c new P) (L : linked c ≡
     zipped_are : blocks_from names k.params k.ops 0 h.coded.instrs ≡ zipped
     zipped_are = blocks_are (symbols_of c P.fields (program_methods c)) (symbols_of new P.fields (rewritten_methods P new)) K.rewritten.grown P names k.params few h.coded.instrs k.locals room k.gives k.ops 0 k.ops h.coded.instrs parts (λ j. let z : 0 + j ≡ j = omega arith in ap (slice_get k.ops) z)
 
-    copy : IsCopy names k m h.coded new.pool x
+    pub copy : IsCopy names k m h.coded new.pool x
     copy = let same : w.coded ≡ h.coded = ok_is w.coded h.coded (sym w.decodes ∙ h.decodes) in subst (λ (y : Coded). IsCopy names k m y new.pool x) same w.copy
 
     laid : IsLaidCode (h.coded.code.max_stack + 1) (h.coded.code.max_locals + 1) zipped [] (Some copy.body.conflict) (plain 191 ∷ []) copy.body.code
@@ -264,7 +264,12 @@ module _ (c new : ClassFile) (P : Program) (K : Known c new P) (L : linked c ≡
     code_read = stub_read new.pool (h.coded.code.max_stack + 1) (h.coded.code.max_locals + 1) copy.body.conflict zipped (plain 191) copy.body.code laid (λ at. refl) solid_all (shaped_all new.pool (all_instrs zipped) laid_blocks) each_laid refl leads some_ops
         copy.body.conflict_is.0 copy.body.conflict_is.1 copy.body.conflict_is.2
 
-    code_rules : IsCode new.pool copy.body.code
+    -- the code of a duplicate has no attributes and keeps the rules of code
+    pub code_alone : copy.body.code.attributes ≡ []
+    code_alone = laid.attributes
+
+    -- the code of a duplicate keeps the rules of code
+    pub code_rules : IsCode new.pool copy.body.code
     code_rules =
         let a = code_filed.rules.stack in
         let b = code_filed.rules.locals in

@@ -1,6 +1,6 @@
 -- Pools that grow at their end: what an index meant it still means.
 use Rattle.std.proofs.Common.{◌≡◌, ℕ, ℤ, zero, suc, List, [], ◌++◌, Option, Some, None, refl, sym, ap, ◌∙◌, append_assoc}
-use Rattle.std.specs.Prelude.{option_and_then}
+use Rattle.std.specs.Prelude.{option_and_then, IsSome, IsSomeAnd}
 use Rattle.std.proofs.lemmas.List.{append-nil}
 use Rattle.jmodel.specs.declared.class_file.Constant.{Constant}
 use Rattle.jmodel.specs.declared.class_file.Constant.TheVariants as constants
@@ -8,6 +8,16 @@ use Rattle.jmodel.specs.ClassFile.{Pool}
 use Rattle.jmodel.specs.Pool.{entry, utf8, text_in, class_name, name_in, both, pair, pair_in, MemberName, named, field_name, field_in, method_name, method_in}
 use Rattle.jmodel.specs.Constants.{integer, integer_in, long_in}
 use Rattle.jmodel.proofs.Places.{get_front}
+
+-- what an option that is not empty holds
+pub the_some : {A : Type 0} (o : Option A) → IsSome o → (x : A) × (o ≡ Some x)
+the_some None h = absurd cc
+the_some (Some x) h = (x, refl)
+
+-- the same where something holds of it
+pub the_and : {A : Type 0} (o : Option A) (Q : A → Type 0) → IsSomeAnd o Q → (x : A) × (o ≡ Some x)
+the_and None Q h = absurd h
+the_and (Some x) Q h = (x, refl)
 
 pub record Grown (a b : Pool) : Type 0 where
   pub more : Pool

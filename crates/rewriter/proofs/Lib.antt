@@ -30,3 +30,16 @@ pub mod Making
 pub mod Steps
 mod Counter
 pub mod Typings
+pub mod Rests
+pub mod StillForms
+pub mod FieldForms
+pub mod Became
+pub mod CodeForms
+pub mod MethodForms
+pub mod Keys
+pub mod DistinctFields
+pub mod DistinctMethods
+pub mod Lawful
+pub mod Texts
+pub mod Pools
+pub mod Forms

@@ -1,5 +1,5 @@
 -- What a duplicate and a wrapper are made of can be laid.
-use Rattle.std.proofs.Common.{◌≡◌, ℕ, zero, suc, ◌+◌, ◌<◌, ◌≤◌, ℤ, Bool, true, false, List, [], ◌∷◌, Option, Some, None, Result, Ok, refl, sym, ap, ◌∙◌, subst, arith, inl, length}
+use Rattle.std.proofs.Common.{◌≡◌, ℕ, zero, suc, ◌+◌, ◌<◌, ◌≤◌, ℤ, Bool, true, false, List, [], ◌∷◌, Option, Some, None, Result, Ok, refl, sym, ap, ◌∙◌, subst, arith, inl}
 use Rattle.std.specs.Prelude.{if◌then◌else◌, slice_get, slice_index, zip, nat_lt, FitsSigned}
 use Rattle.std.specs.Int.{w16}
 use Rattle.std.specs.List.{AllByRecursion}
@@ -32,7 +32,7 @@ use Rattle.rewriter.proofs.Single.{local_cases, increment_cases, load_laid, stor
 use Rattle.rewriter.proofs.Kept.{adds_little}
 use Rattle.rewriter.proofs.Pairs.{all_append, IsPart, AreParts}
 use Rattle.rewriter.proofs.Filed.{parts_of}
-use Rattle.rewriter.proofs.Old.{original, form_of as form_parts, IsOld, AllOld, all_old}
+use Rattle.rewriter.proofs.Old.{original, IsOld, AllOld, all_old}
 
 -- ---- one instruction
 

@@ -1,6 +1,6 @@
 -- The marks of methods in a pool that has grown, also beside another Code.
-use Rattle.std.proofs.Common.{◌≡◌, ℕ, Bool, true, false, not, ◌&&◌, ◌||◌, List, [], ◌∷◌, map, Option, Some, None, refl, ◌∙◌}
-use Rattle.std.specs.Prelude.{codes, find, option_and_then, nat_eq, IsSome}
+use Rattle.std.proofs.Common.{◌≡◌, ℕ, Bool, true, false, not, ◌&&◌, ◌||◌, List, [], ◌∷◌, map, Some, refl, ◌∙◌}
+use Rattle.std.specs.Prelude.{codes, find, option_and_then, nat_eq}
 use Rattle.std.specs.List.{list_any, list_all, AllByRecursion}
 use Rattle.jmodel.specs.ClassFile.{Attribute, Member, Pool, Code}
 use Rattle.jmodel.specs.Pool.{utf8}
@@ -9,7 +9,7 @@ use Rattle.jmodel.specs.ClassReading.{code_of}
 use Rattle.jmodel.specs.Constants.{pair_number}
 use Rattle.jmodel.specs.Linking.{is_mark, is_plain_mark, is_marked, is_form_attribute, takes_context}
 use Rattle.rewriter.specs.Members.{with_bytes}
-use Rattle.rewriter.proofs.Grown.{Grown, utf8_grown}
+use Rattle.rewriter.proofs.Grown.{the_some, Grown, utf8_grown}
 use Rattle.rewriter.proofs.Added.{two_true, same_text_is}
 
 -- ---- a Code in place of another, beside a mark
@@ -22,10 +22,6 @@ plain_grown a b g (n ∷ m ∷ x ∷ y ∷ p ∷ q ∷ []) h =
     rw u (rw f refl)
 plain_grown a b g bs h = cc
 
-the_some : (o : Option (List ℕ)) → IsSome o → (x : List ℕ) × (o ≡ Some x)
-the_some None h = absurd cc
-the_some (Some x) h = (x, refl)
-
 pub or_first : (u v : Bool) → u ≡ true → (u || v) ≡ true
 or_first true v t = refl
 or_first false v t = cc
@@ -34,7 +30,8 @@ pub or_later : (u v : Bool) → v ≡ true → (u || v) ≡ true
 or_later true v t = refl
 or_later false v t = t
 
-or_false : (u v : Bool) → (u || v) ≡ false → (u ≡ false) × (v ≡ false)
+-- neither of two tests passes
+pub or_false : (u v : Bool) → (u || v) ≡ false → (u ≡ false) × (v ≡ false)
 or_false true v t = absurd cc
 or_false false v t = (refl, t)
 

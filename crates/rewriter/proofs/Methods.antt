@@ -8,8 +8,9 @@ use Rattle.jmodel.specs.declared.op.Op.{Op}
 use Rattle.jmodel.specs.declared.op.Op.TheVariants as op
 use Rattle.jmodel.specs.declared.op.ContextCall.TheVariants as context
 use Rattle.jmodel.specs.declared.op.WordType.TheVariants as word
-use Rattle.jmodel.specs.ClassFile.{Member, ClassFile, code_spelling}
+use Rattle.jmodel.specs.ClassFile.{Member, Pool, ClassFile, code_spelling}
 use Rattle.jmodel.specs.Program.{Field, Program}
+use Rattle.jmodel.specs.ClassRules.{IsCode}
 use Rattle.jmodel.specs.Rewriting.{base, offset, getter_method, setter_method}
 use Rattle.jmodel.specs.Decoding.{own_name, each}
 use Rattle.jmodel.specs.Linking.{Shape, catch_of, shape_of, rewritten_methods, symbols_of, method_of}
@@ -17,7 +18,7 @@ use Rattle.jmodel.specs.Relocation.{place_of, relocated}
 use Rattle.rewriter.specs.Members.{added_method, getter_code, setter_code, getter_name, setter_name, getter_type, setter_type, address_name, context_class}
 use Rattle.rewriter.proofs.Read.{IsLaid, LeadsIn}
 use Rattle.rewriter.proofs.Single.{load_means, load_reference_means, get_static_means, call_virtual_means, plain_laid, load_laid, load_reference_laid, get_static_laid, call_virtual_laid}
-use Rattle.rewriter.proofs.Meant.{AreMeant, run, run_is, run_read, run_rules, run_means}
+use Rattle.rewriter.proofs.Meant.{AreMeant, run, IsRun, run_is, run_read, run_rules, run_means}
 use Rattle.rewriter.proofs.Coded.{CodedFacts, coded_means, added_code, added_retries}
 use Rattle.rewriter.proofs.Contexts.{getter_signature, setter_signature}
 use Rattle.rewriter.proofs.Puts.{IsGetter, IsSetter}
@@ -37,43 +38,37 @@ getter_shape = let s = getter_signature in rw s refl
 setter_shape : shape_of setter_type ≡ Some int_and_context
 setter_shape = let s = setter_signature in rw s refl
 
-module _ (c new : ClassFile) (P : Program) (K : Known c new P) where
-  pub getter_is : (i : ℕ) (f : Field) (m : Member) → slice_get P.fields i ≡ Some f → f.class ≡ own_name c → f.type ≡ word.Int → f.place.object ≡ 2 → IsGetter (own_name c) f new.pool m
-      → method_of (symbols_of new P.fields (rewritten_methods P new)) false m ≡ Some (getter_method i f)
-  getter_is i f m e class type object g =
+-- ---- their code
+
+module _ (own : List ℕ) (f : Field) (Z : Pool) (m : Member) (g : IsGetter own f Z m) where
+  -- the code of a getter
+  pub getter_run : IsRun 5 1 (getter_code g.body.look.0 g.body.look.1 g.body.read.0 g.body.read.1) g.bytes
+  getter_run = run_is 5 1 (getter_code g.body.look.0 g.body.look.1 g.body.read.0 g.body.read.1) g.bytes g.body.is
+
+  -- each instruction of a getter can stand in the pool
+  getter_laid : AllByRecursion (IsLaid Z) (getter_code g.body.look.0 g.body.look.1 g.body.read.0 g.body.read.1)
+  getter_laid =
       let B = g.body in
-      let A = g.method in
-      let is : List Instr = getter_code B.look.0 B.look.1 B.read.0 B.read.1 in
-      let R = run_is 5 1 (getter_code B.look.0 B.look.1 B.read.0 B.read.1) g.bytes B.is in
-      let base_name = wanted (own_name c) (codes "__CLASS_BASE__") (codes "Ljava/lang/Object;") in
-      let address = wanted (own_name c) (address_name f) (codes "J") in
-      let field = wanted (own_name c) f.name (codes "I") in
-      let before = wanted context_class (codes "beforeReadAccess") (codes "(Ljava/lang/Object;J)V") in
-      let after = wanted context_class (codes "onReadAccess") (codes "(Ljava/lang/Object;IJ)I") in
-      let s = symbols_of new P.fields (rewritten_methods P new) in
-      let place = place_of (run (getter_code B.look.0 B.look.1 B.read.0 B.read.1)) in
-      let L = relocated (run (getter_code B.look.0 B.look.1 B.read.0 B.read.1)) [] in
-      let base_laid = get_static_laid new.pool B.look.0.0 base_name B.looks.0.0.1 B.looks.0.0.0 in
-      let address_laid = get_static_laid new.pool B.look.0.1 address B.looks.0.1.1 B.looks.0.1.0 in
-      let laid : AllByRecursion (IsLaid new.pool) (getter_code B.look.0 B.look.1 B.read.0 B.read.1) = (
-        load_reference_laid new.pool 0 (omega arith),
+      let base_laid = get_static_laid Z B.look.0.0 (wanted own (codes "__CLASS_BASE__") (codes "Ljava/lang/Object;")) B.looks.0.0.1 B.looks.0.0.0 in
+      let address_laid = get_static_laid Z B.look.0.1 (wanted own (address_name f) (codes "J")) B.looks.0.1.1 B.looks.0.1.0 in (
+        load_reference_laid Z 0 (omega arith),
         (
           base_laid,
           (
             address_laid,
             (
-              call_virtual_laid new.pool B.look.1 before B.looks.1.1 B.looks.1.0,
+              call_virtual_laid Z B.look.1 (wanted context_class (codes "beforeReadAccess") (codes "(Ljava/lang/Object;J)V")) B.looks.1.1 B.looks.1.0,
               (
-                load_reference_laid new.pool 0 (omega arith),
+                load_reference_laid Z 0 (omega arith),
                 (
                   base_laid,
                   (
-                    get_static_laid new.pool B.read.0 field B.reads.0.1 B.reads.0.0,
+                    get_static_laid Z B.read.0 (wanted own f.name (codes "I")) B.reads.0.1 B.reads.0.0,
                     (
                       address_laid,
                       (
-                        call_virtual_laid new.pool B.read.1 after B.reads.1.1 B.reads.1.0,
-                        (plain_laid new.pool 172 (omega arith) tt tt, tt),
+                        call_virtual_laid Z B.read.1 (wanted context_class (codes "onReadAccess") (codes "(Ljava/lang/Object;IJ)I")) B.reads.1.1 B.reads.1.0,
+                        (plain_laid Z 172 (omega arith) tt tt, tt),
                       ),
                     ),
                   ),
@@ -82,7 +77,66 @@ module _ (c new : ClassFile) (P : Program) (K : Known c new P) where
             ),
           ),
         ),
-      ) in
+      )
+
+  -- a getter has no jump
+  getter_leads : AllByRecursion (λ (x : Instr). LeadsIn (run (getter_code g.body.look.0 g.body.look.1 g.body.read.0 g.body.read.1)) x.operands)
+      (getter_code g.body.look.0 g.body.look.1 g.body.read.0 g.body.read.1)
+  getter_leads = (tt, (tt, (tt, (tt, (tt, (tt, (tt, (tt, (tt, (tt, tt))))))))))
+
+  -- the code of a getter keeps the rules of code
+  pub getter_rules : IsCode Z getter_run.code
+  getter_rules = run_rules Z 5 1 (getter_code g.body.look.0 g.body.look.1 g.body.read.0 g.body.read.1) getter_run.code getter_run.laid getter_laid (omega arith) getter_leads (omega arith) (omega arith)
+
+module _ (own : List ℕ) (f : Field) (Z : Pool) (m : Member) (g : IsSetter own f Z m) where
+  -- the code of a setter
+  pub setter_run : IsRun 5 2 (setter_code g.body.places g.body.write) g.bytes
+  setter_run = run_is 5 2 (setter_code g.body.places g.body.write) g.bytes g.body.is
+
+  -- each instruction of a setter can stand in the pool
+  setter_laid : AllByRecursion (IsLaid Z) (setter_code g.body.places g.body.write)
+  setter_laid =
+      let B = g.body in (
+        load_reference_laid Z 1 (omega arith),
+        (
+          get_static_laid Z B.places.0 (wanted own (codes "__CLASS_BASE__") (codes "Ljava/lang/Object;")) B.are.0.1 B.are.0.0,
+          (
+            load_laid Z 0 (omega arith),
+            (
+              get_static_laid Z B.places.1 (wanted own (address_name f) (codes "J")) B.are.1.1 B.are.1.0,
+              (call_virtual_laid Z B.write (wanted context_class (codes "onWriteAccess") (codes "(Ljava/lang/Object;IJ)V")) B.writes.1 B.writes.0, (plain_laid Z 177 (omega arith) tt tt, tt)),
+            ),
+          ),
+        ),
+      )
+
+  -- a setter has no jump
+  setter_leads : AllByRecursion (λ (x : Instr). LeadsIn (run (setter_code g.body.places g.body.write)) x.operands) (setter_code g.body.places g.body.write)
+  setter_leads = (tt, (tt, (tt, (tt, (tt, (tt, tt))))))
+
+  -- the code of a setter keeps the rules of code
+  pub setter_rules : IsCode Z setter_run.code
+  setter_rules = run_rules Z 5 2 (setter_code g.body.places g.body.write) setter_run.code setter_run.laid setter_laid (omega arith) setter_leads (omega arith) (omega arith)
+
+-- ---- what they mean
+
+module _ (c new : ClassFile) (P : Program) (K : Known c new P) where
+  pub getter_is : (i : ℕ) (f : Field) (m : Member) → slice_get P.fields i ≡ Some f → f.class ≡ own_name c → f.type ≡ word.Int → f.place.object ≡ 2 → IsGetter (own_name c) f new.pool m
+      → method_of (symbols_of new P.fields (rewritten_methods P new)) false m ≡ Some (getter_method i f)
+  getter_is i f m e class type object g =
+      let B = g.body in
+      let A = g.method in
+      let R = getter_run (own_name c) f new.pool m g in
+      let base_name = wanted (own_name c) (codes "__CLASS_BASE__") (codes "Ljava/lang/Object;") in
+      let address = wanted (own_name c) (address_name f) (codes "J") in
+      let field = wanted (own_name c) f.name (codes "I") in
+      let before = wanted context_class (codes "beforeReadAccess") (codes "(Ljava/lang/Object;J)V") in
+      let after = wanted context_class (codes "onReadAccess") (codes "(Ljava/lang/Object;IJ)I") in
+      let s = symbols_of new P.fields (rewritten_methods P new) in
+      let place = place_of (run (getter_code B.look.0 B.look.1 B.read.0 B.read.1)) in
+      let L = relocated (run (getter_code B.look.0 B.look.1 B.read.0 B.read.1)) [] in
+      let laid = getter_laid (own_name c) f new.pool m g in
+      let leads = getter_leads (own_name c) f new.pool m g in
       let base_means = get_static_means s place L B.look.0.0 base_name (base f) B.looks.0.0.0 (gets_base c new P K f object) in
       let address_means = get_static_means s place L B.look.0.1 address (offset f) B.looks.0.1.0 (gets_address c new P K i f e) in
       let meant : AreMeant s place L (getter_code B.look.0 B.look.1 B.read.0 B.read.1)
@@ -111,10 +165,8 @@ module _ (c new : ClassFile) (P : Program) (K : Known c new P) where
           ),
         ),
       ) in
-      let leads : AllByRecursion (λ (x : Instr). LeadsIn (run (getter_code B.look.0 B.look.1 B.read.0 B.read.1)) x.operands) (getter_code B.look.0 B.look.1 B.read.0 B.read.1) =
-      (tt, (tt, (tt, (tt, (tt, (tt, (tt, (tt, (tt, (tt, tt)))))))))) in
       let ops : List Op = op.Load 0 ∷ base f ∷ offset f ∷ op.Context context.BeforeRead ∷ op.Load 0 ∷ base f ∷ op.GetStatic i ∷ offset f ∷ op.Context (context.OnRead word.Int) ∷ op.ReturnValue ∷ [] in
-      let rules = run_rules new.pool 5 1 (getter_code B.look.0 B.look.1 B.read.0 B.read.1) R.code R.laid laid (omega arith) leads (omega arith) (omega arith) in
+      let rules = getter_rules (own_name c) f new.pool m g in
       let facts : CodedFacts s (added_method 0x1009 A.n A.t A.c (code_spelling R.code)) R.code L (getter_name f) getter_type one_context
       (op.Load 0 ∷ base f ∷ offset f ∷ op.Context context.BeforeRead ∷ op.Load 0 ∷ base f ∷ op.GetStatic i ∷ offset f ∷ op.Context (context.OnRead word.Int) ∷ op.ReturnValue ∷ []) [] None = record {
         code = added_code new.pool 0x1009 A.n A.t A.c R.code A.coded rules;
@@ -137,26 +189,15 @@ module _ (c new : ClassFile) (P : Program) (K : Known c new P) where
   setter_is i f m e class type object g =
       let B = g.body in
       let A = g.method in
-      let R = run_is 5 2 (setter_code B.places B.write) g.bytes B.is in
+      let R = setter_run (own_name c) f new.pool m g in
       let base_name = wanted (own_name c) (codes "__CLASS_BASE__") (codes "Ljava/lang/Object;") in
       let address = wanted (own_name c) (address_name f) (codes "J") in
       let write = wanted context_class (codes "onWriteAccess") (codes "(Ljava/lang/Object;IJ)V") in
       let s = symbols_of new P.fields (rewritten_methods P new) in
       let place = place_of (run (setter_code B.places B.write)) in
       let L = relocated (run (setter_code B.places B.write)) [] in
-      let laid : AllByRecursion (IsLaid new.pool) (setter_code B.places B.write) = (
-        load_reference_laid new.pool 1 (omega arith),
-        (
-          get_static_laid new.pool B.places.0 base_name B.are.0.1 B.are.0.0,
-          (
-            load_laid new.pool 0 (omega arith),
-            (
-              get_static_laid new.pool B.places.1 address B.are.1.1 B.are.1.0,
-              (call_virtual_laid new.pool B.write write B.writes.1 B.writes.0, (plain_laid new.pool 177 (omega arith) tt tt, tt)),
-            ),
-          ),
-        ),
-      ) in
+      let laid = setter_laid (own_name c) f new.pool m g in
+      let leads = setter_leads (own_name c) f new.pool m g in
       let meant : AreMeant s place L (setter_code B.places B.write) (op.Load 1 ∷ base f ∷ op.Load 0 ∷ offset f ∷ op.Context (context.OnWrite word.Int) ∷ op.Return ∷ []) = (
         load_reference_means s place L 1,
         (
@@ -167,9 +208,8 @@ module _ (c new : ClassFile) (P : Program) (K : Known c new P) where
           ),
         ),
       ) in
-      let leads : AllByRecursion (λ (x : Instr). LeadsIn (run (setter_code B.places B.write)) x.operands) (setter_code B.places B.write) = (tt, (tt, (tt, (tt, (tt, (tt, tt)))))) in
       let ops : List Op = op.Load 1 ∷ base f ∷ op.Load 0 ∷ offset f ∷ op.Context (context.OnWrite word.Int) ∷ op.Return ∷ [] in
-      let rules = run_rules new.pool 5 2 (setter_code B.places B.write) R.code R.laid laid (omega arith) leads (omega arith) (omega arith) in
+      let rules = setter_rules (own_name c) f new.pool m g in
       let facts : CodedFacts s (added_method 0x1009 A.n A.t A.c (code_spelling R.code)) R.code L (setter_name f) setter_type int_and_context
       (op.Load 1 ∷ base f ∷ op.Load 0 ∷ offset f ∷ op.Context (context.OnWrite word.Int) ∷ op.Return ∷ []) [] None = record {
         code = added_code new.pool 0x1009 A.n A.t A.c R.code A.coded rules;

@@ -46,7 +46,7 @@ apart_at name x (g ∷ fs) (suc i) f h e = go (bytes_eq (name g) x) h (λ t. apa
     go true h r = cc
     go false h r = r h
 
-both_pass : (a b : Bool) → a ≡ true → b ≡ true → (a && b) ≡ true
+pub both_pass : (a b : Bool) → a ≡ true → b ≡ true → (a && b) ≡ true
 both_pass true b h k = k
 both_pass false b h k = h
 

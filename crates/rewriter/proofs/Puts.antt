@@ -1,5 +1,5 @@
 -- What members name is in every pool that is grown from the one that was left.
-use Rattle.std.proofs.Common.{◌≡◌, ℕ, ℤ, ◌<◌, ◌≤◌, List, [], ◌∷◌, Some, Ok, refl, ap, ◌∙◌, subst, arith}
+use Rattle.std.proofs.Common.{◌≡◌, ℕ, ℤ, ◌<◌, ◌≤◌, List, [], ◌∷◌, length, Some, Ok, refl, ap, ◌∙◌, subst, arith}
 use Rattle.std.specs.Prelude.{codes, pos, option_and_then}
 use Rattle.std.specs.Int.{w64, cast_signed}
 use Rattle.std.proofs.lemmas.Int.{ints}
@@ -76,20 +76,25 @@ method_puts class name descriptor pool r e = let a = method_added class name des
 -- ---- fields
 
 abbrev pub HasConstant : ℤ → Pool → Attribute → Type 0
-HasConstant n Z a = (utf8 Z a.name ≡ Some (codes "ConstantValue")) × (option_and_then long_in (named_entry Z a.bytes) ≡ Some n)
+HasConstant n Z a = (utf8 Z a.name ≡ Some (codes "ConstantValue")) × (option_and_then long_in (named_entry Z a.bytes) ≡ Some n) × (length a.bytes ≡ 2)
 
 constant_puts : (n : ℤ) (pool : Pool) (r : Attribute × Pool) → constant_value n pool ≡ Ok r → Puts (HasConstant n) pool r
 unfolding constant_value
 constant_puts n pool r e =
     let a = bind_ok _ _ r e in
     let b = bind_ok _ _ r a.2 in
-    puts_end _ (HasConstant n) pool b.0 (record { name = a.0.0; bytes = high b.0.0 ∷ low b.0.0 ∷ [] }) r (λ Z f. (f.0, rw (rejoined b.0.0) f.1))
+    puts_end _ (HasConstant n) pool b.0 (record { name = a.0.0; bytes = high b.0.0 ∷ low b.0.0 ∷ [] }) r (λ Z f. (f.0, rw (rejoined b.0.0) f.1, refl))
     (puts_more (Says (codes "ConstantValue")) (Measures n) pool a.0 b.0 (utf8_puts (codes "ConstantValue") pool a.0 a.1) (long_puts n a.0.1 b.0 b.1)) b.2
 
 pub record IsAddress (f : Field) (Z : Pool) (m : Member) : Type 0 where
   pub named : utf8 Z m.name ≡ Some (address_name f)
   pub typed : utf8 Z m.descriptor ≡ Some (codes "J")
   pub value : long_value Z m ≡ Some (cast_signed w64 f.place.index)
+  pub flags : m.flags ≡ 0x1019
+  pub constant : Attribute
+  pub attributes : m.attributes ≡ constant ∷ []
+  pub constant_named : utf8 Z constant.name ≡ Some (codes "ConstantValue")
+  pub two : length constant.bytes ≡ 2
 
 pub address_puts : (f : Field) (pool : Pool) (r : Member × Pool) → address_member f pool ≡ Ok r → Puts (IsAddress f) pool r
 unfolding address_member
@@ -97,16 +102,23 @@ address_puts f pool r e =
     let a = bind_ok _ _ r e in
     let b = bind_ok _ _ r a.2 in
     puts_end _ (IsAddress f) pool b.0 (record { flags = 0x1019; name = a.0.0.0; descriptor = a.0.0.1; attributes = b.0.0 ∷ [] }) r
-    (λ Z h. let x = h.1.0 in record { named = h.0.0; typed = h.0.1; value = rw x h.1.1 })
+    (λ Z h. let x = h.1.0 in record { named = h.0.0; typed = h.0.1; value = rw x h.1.1; flags = refl; constant = b.0.0; attributes = refl; constant_named = h.1.0; two = h.1.2 })
     (puts_more (IsTyped (address_name f) (codes "J")) (HasConstant (cast_signed w64 f.place.index)) pool a.0 b.0 (typed_puts (address_name f) (codes "J") pool a.0 a.1) (constant_puts (cast_signed w64 f.place.index) a.0.1 b.0 b.1)) b.2
 
-pub base_grows : (pool : Pool) (r : Member × Pool) → base_member pool ≡ Ok r → Grown pool r.1
+-- the field for the static base
+pub record IsBase (Z : Pool) (m : Member) : Type 0 where
+  pub named : utf8 Z m.name ≡ Some (codes "__CLASS_BASE__")
+  pub typed : utf8 Z m.descriptor ≡ Some (codes "Ljava/lang/Object;")
+  pub flags : m.flags ≡ 0x1019
+  pub attributes : m.attributes ≡ []
+
+-- the field for the static base names what it must
+pub base_puts : (pool : Pool) (r : Member × Pool) → base_member pool ≡ Ok r → Puts IsBase pool r
 unfolding base_member
-base_grows pool r e =
+base_puts pool r e =
     let a = bind_ok _ _ r e in
-    let t = typed_puts (codes "__CLASS_BASE__") (codes "Ljava/lang/Object;") pool a.0 a.1 in
-    let is = ok_is _ r a.2 in
-    subst (λ (x : Member × Pool). Grown pool x.1) is t.grown
+    puts_end (IsTyped (codes "__CLASS_BASE__") (codes "Ljava/lang/Object;")) IsBase pool a.0 (record { flags = 0x1019; name = a.0.0.0; descriptor = a.0.0.1; attributes = [] }) r
+    (λ Z h. record { named = h.0; typed = h.1; flags = refl; attributes = refl }) (typed_puts (codes "__CLASS_BASE__") (codes "Ljava/lang/Object;") pool a.0 a.1) a.2
 
 -- ---- accessors
 

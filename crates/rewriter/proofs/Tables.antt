@@ -1,6 +1,6 @@
 -- What names stand for in a rewritten class.
-use Rattle.std.proofs.Common.{◌≡◌, ◌⊎◌, inl, inr, get_or, ℕ, zero, suc, ◌+◌, Bool, true, false, not, ◌&&◌, ◌||◌, List, [], ◌∷◌, ◌++◌, length, map, Option, Some, None, refl, sym, ap, ◌∙◌, subst, ◌<◌, ◌≤◌, arith}
-use Rattle.std.specs.Prelude.{codes, bytes_eq, slice_get, find, filter, zip, nat_le, option_and_then, IsSome, IsSomeAnd}
+use Rattle.std.proofs.Common.{◌≡◌, ◌⊎◌, inl, inr, get_or, ℕ, zero, suc, ◌+◌, Bool, true, false, not, ◌&&◌, ◌||◌, List, [], ◌∷◌, ◌++◌, length, map, Some, refl, sym, ap, ◌∙◌, subst, ◌<◌, ◌≤◌, arith}
+use Rattle.std.specs.Prelude.{codes, bytes_eq, slice_get, find, filter, zip, nat_le, option_and_then}
 use Rattle.std.specs.Int.{w64, cast_signed}
 use Rattle.std.specs.List.{list_any, list_all, flat_map, AllByRecursion}
 use Rattle.std.proofs.lemmas.List.Concat.{flat_map-cons}
@@ -26,13 +26,13 @@ use Rattle.rewriter.specs.declared.accessors.Accessors.{Accessors}
 use Rattle.rewriter.specs.Members.{Names, getter_name, setter_name, getter_type, setter_type, address_name}
 use Rattle.rewriter.proofs.Contexts.{marker, context_taken, no_context, not_plain, getter_signature, setter_signature}
 use Rattle.rewriter.specs.Rewritten.{number_behind, id_behind, both_of}
-use Rattle.rewriter.proofs.Grown.{utf8_grown, class_grown}
+use Rattle.rewriter.proofs.Grown.{the_some, the_and, utf8_grown, class_grown}
 use Rattle.rewriter.proofs.Added.{two_true, same_text_is}
 use Rattle.rewriter.proofs.Positions.{at_position, at_front, all_pass, same, find_behind, no_such_end}
 use Rattle.rewriter.proofs.Pairs.{position_at}
 use Rattle.rewriter.proofs.Old.{Original, Form, form_of, IsOld, AllOld, all_old, AreNamed, AreTyped, AreBoth, AreApart, AreApartMethods, own_apart, methods_apart, text_name, free_text, none_called}
 use Rattle.rewriter.proofs.Puts.{AreAccessors}
-use Rattle.rewriter.proofs.Marks.{or_first, or_later, neither, context_same}
+use Rattle.rewriter.proofs.Marks.{or_false, or_first, or_later, neither, context_same}
 use Rattle.rewriter.proofs.Whole.{Each, IsReplaced, EachReplaced, IsCopyOf, Rewrites}
 use Rattle.rewriter.proofs.Numbers.{wanted, name_as, old_names, accessor_names, copy_names, all_names, field_names, AreFree, getter_number, setter_number, copy_number, number_of_field, AreOwn, address_found}
 
@@ -41,14 +41,6 @@ filter_keeps p x xs e = rw e refl
 
 filter_drops : {A : Type 0} (p : A → Bool) (x : A) (xs : List A) → p x ≡ false → filter p (x ∷ xs) ≡ filter p xs
 filter_drops p x xs e = rw e refl
-
-the_and : (o : Option (List ℕ)) (Q : List ℕ → Type 0) → IsSomeAnd o Q → (x : List ℕ) × (o ≡ Some x)
-the_and None Q h = absurd h
-the_and (Some x) Q h = (x, refl)
-
-the_some : (o : Option (List ℕ)) → IsSome o → (x : List ℕ) × (o ≡ Some x)
-the_some None h = absurd cc
-the_some (Some x) h = (x, refl)
 
 named_methods : (pool : Pool) (ms : List Member) → AllByRecursion (IsMethod pool) ms → AreNamed pool ms
 named_methods pool [] h = tt
@@ -170,23 +162,19 @@ third_fails true true d h = h
 third_fails true false d h = refl
 third_fails false b d h = refl
 
-or_parts : (a b : Bool) → (a || b) ≡ false → (a ≡ false) × (b ≡ false)
-or_parts true b h = absurd cc
-or_parts false b h = (refl, h)
-
 -- a text without reserved parts shows no context
 pub no_marker : (text : List ℕ) → is_reserved text ≡ false → has_part marker text ≡ false
-no_marker text h = (or_parts _ _ (or_parts _ _ (or_parts _ _ (or_parts _ _ (or_parts _ _ h).0).0).0).0).0
+no_marker text h = (or_false _ _ (or_false _ _ (or_false _ _ (or_false _ _ (or_false _ _ h).0).0).0).0).0
 
 -- nor the name of an address, a getter or a setter
 no_address : (text : List ℕ) → is_reserved text ≡ false → has_part (codes "__ADDRESS__") text ≡ false
-no_address text h = (or_parts _ _ (or_parts _ _ (or_parts _ _ (or_parts _ _ (or_parts _ _ h).0).0).0).0).1
+no_address text h = (or_false _ _ (or_false _ _ (or_false _ _ (or_false _ _ (or_false _ _ h).0).0).0).0).1
 
 no_getter : (text : List ℕ) → is_reserved text ≡ false → has_part (codes "__Getter$") text ≡ false
-no_getter text h = (or_parts _ _ (or_parts _ _ (or_parts _ _ (or_parts _ _ h).0).0).0).1
+no_getter text h = (or_false _ _ (or_false _ _ (or_false _ _ (or_false _ _ h).0).0).0).1
 
 no_setter : (text : List ℕ) → is_reserved text ≡ false → has_part (codes "__Setter$") text ≡ false
-no_setter text h = (or_parts _ _ (or_parts _ _ (or_parts _ _ h).0).0).1
+no_setter text h = (or_false _ _ (or_false _ _ (or_false _ _ h).0).0).1
 
 -- what is known of the class, its program and the rewritten class
 pub record Known (c new : ClassFile) (P : Program) : Type 0 where
@@ -329,7 +317,7 @@ module _ (c new : ClassFile) (P : Program) (K : Known c new P) where
       context_same c.pool new.pool K.rewritten.grown m d typed ∙ (rw typed (no_context d (no_marker d (free_text c.pool m.descriptor d form.pool typed))))
 
   -- a marked method is taken
-  marked_taken : (i : ℕ) (m : Member) → slice_get c.methods i ≡ Some m → is_marked c.pool m ≡ true → is_taken c m ≡ true
+  pub marked_taken : (i : ℕ) (m : Member) → slice_get c.methods i ≡ Some m → is_marked c.pool m ≡ true → is_taken c m ≡ true
   marked_taken i m at marked = go (length c.methods) (below_at c.methods i m at)
     where
       go : (n : ℕ) → i < n → is_found c n m ≡ true

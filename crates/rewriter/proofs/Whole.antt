@@ -21,7 +21,7 @@ use Rattle.rewriter.specs.Members.{added_method, address_member, accessors_of, g
 use Rattle.rewriter.specs.Rewritten.{grow_from, wrapper_if, replaced, number_behind, id_behind, old_from, bases, both_of, added_fields, names_of, duplicates, added_methods, new_methods, rewritten_class}
 use Rattle.rewriter.proofs.Grown.{Grown, grown_refl}
 use Rattle.rewriter.proofs.Added.{Says}
-use Rattle.rewriter.proofs.Puts.{Puts, puts_more, puts_end, utf8_puts, class_puts, method_puts, IsClassAt, IsMethodAt, IsAddress, address_puts, base_grows, AreAccessors, accessors_put, IsOpening, opening_puts, IsEnding, ending_puts}
+use Rattle.rewriter.proofs.Puts.{Puts, puts_more, puts_end, utf8_puts, class_puts, method_puts, IsClassAt, IsMethodAt, IsAddress, address_puts, IsBase, base_puts, AreAccessors, accessors_put, IsOpening, opening_puts, IsEnding, ending_puts}
 
 -- ---- lists of what is put
 
@@ -192,28 +192,34 @@ olds_put P c n id (m ∷ ms) pool r e =
 
 -- ---- all of them
 
+-- the field for the static base, or none
+abbrev pub AreBases : Pool → List Member → Type 0
+AreBases Z [] = Unit {0}
+AreBases Z (m ∷ []) = IsBase Z m
+AreBases Z (m ∷ x ∷ ms) = ⊥
+
 pub record AreNewFields (P : Program) (Z : Pool) (ms : List Member) : Type 0 where
   pub addresses : List Member
   pub base : List Member
   pub are : ms ≡ addresses ++ base
   pub each : Each (λ Z n f m. IsAddress f Z m) Z 0 P.fields addresses
+  pub bases : AreBases Z base
 
-bases_grow : (fs : List Field) (pool : Pool) (r : List Member × Pool) → bases fs pool ≡ Ok r → Grown pool r.1
-bases_grow [] pool r e = let is = ok_is ([], pool) r e in subst (λ (x : List Member × Pool). Grown pool x.1) is (grown_refl pool)
-bases_grow (f ∷ fs) pool r e =
+-- the field for the static base, where there is one, names what it must
+bases_put : (fs : List Field) (pool : Pool) (r : List Member × Pool) → bases fs pool ≡ Ok r → Puts (λ Z ms. AreBases Z ms) pool r
+bases_put [] pool r e = subst (Puts (λ Z ms. AreBases Z ms) pool) (ok_is ([], pool) r e) (record { grown = grown_refl pool; facts = λ Z g. tt })
+bases_put (f ∷ fs) pool r e =
     let a = bind_ok _ _ r e in
-    let is = ok_is _ r a.2 in
-    subst (λ (x : List Member × Pool). Grown pool x.1) is (base_grows pool a.0 a.1)
+    puts_end IsBase (λ Z ms. AreBases Z ms) pool a.0 (a.0.0 ∷ []) r (λ Z h. h) (base_puts pool a.0 a.1) a.2
 
 fields_put : (P : Program) (pool : Pool) (r : List Member × Pool) → added_fields P pool ≡ Ok r → Puts (λ Z ms. AreNewFields P Z ms) pool r
 unfolding added_fields
 fields_put P pool r e =
     let a = bind_ok _ _ r e in
     let b = bind_ok _ _ r a.2 in
-    let base : Puts (λ Z ms. Unit {0}) a.0.1 b.0 = record { grown = bases_grow P.fields a.0.1 b.0 b.1; facts = λ Z g. tt } in
-    puts_end _ (λ Z ms. AreNewFields P Z ms) pool b.0 (a.0.0 ++ b.0.0) r (λ Z h. record { addresses = a.0.0; base = b.0.0; are = refl; each = h.0 })
-    (puts_more (λ Z ys. Each (λ Z n f m. IsAddress f Z m) Z 0 P.fields ys) (λ Z ms. Unit {0}) pool a.0 b.0
-    (grow_puts (λ Z n f m. IsAddress f Z m) (λ n f. address_member f) (λ n f pool r. address_puts f pool r) 0 P.fields pool a.0 a.1) base) b.2
+    puts_end _ (λ Z ms. AreNewFields P Z ms) pool b.0 (a.0.0 ++ b.0.0) r (λ Z h. record { addresses = a.0.0; base = b.0.0; are = refl; each = h.0; bases = h.1 })
+    (puts_more (λ Z ys. Each (λ Z n f m. IsAddress f Z m) Z 0 P.fields ys) (λ Z ms. AreBases Z ms) pool a.0 b.0
+    (grow_puts (λ Z n f m. IsAddress f Z m) (λ n f. address_member f) (λ n f pool r. address_puts f pool r) 0 P.fields pool a.0 a.1) (bases_put P.fields a.0.1 b.0 b.1)) b.2
 
 -- what duplicates name
 pub record AreNames (P : Program) (c : ClassFile) (Z : Pool) (names : Names) : Type 0 where

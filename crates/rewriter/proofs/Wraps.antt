@@ -12,7 +12,7 @@ use Rattle.jmodel.specs.Pool.{utf8}
 use Rattle.jmodel.specs.Name.{printed}
 use Rattle.jmodel.specs.Program.{Method, Program}
 use Rattle.jmodel.specs.Layout.{text_or_none}
-use Rattle.jmodel.specs.ClassRules.{IsAttribute}
+use Rattle.jmodel.specs.ClassRules.{IsAttribute, IsCode}
 use Rattle.jmodel.specs.ClassReading.{code_of}
 use Rattle.jmodel.specs.Rewriting.{duplicate, with_context, wrapper_method, body_end, conflict_at, catch}
 use Rattle.jmodel.specs.Decoding.{own_name}
@@ -57,7 +57,7 @@ module _ (c new : ClassFile) (P : Program) (K : Known c new P) (n id : ℕ) (m x
   few : k.params ≤ 1000
   few = let r = h.room in let l = h.locals in let f = h.few in omega (arith, r, l, f)
 
-  loop : IsLoop k w.opening w.ending w.bytes
+  pub loop : IsLoop k w.opening w.ending w.bytes
   loop = loop_is k w.opening w.ending w.bytes w.laid
 
   owner : k.name.class ≡ own_name c
@@ -90,17 +90,21 @@ module _ (c new : ClassFile) (P : Program) (K : Known c new P) (n id : ℕ) (m x
   shaped : shape_of d ≡ Some h.shape
   shaped = ap shape_of (sym (ap text_or_none described)) ∙ h.shaped
 
+  -- the code of a wrapper keeps the rules of code
+  pub loop_rules : IsCode new.pool loop.code
+  loop_rules = wrapper_rules k.params k.gives w.opening w.ending (symbols_of new P.fields (rewritten_methods P new)) small id (duplicate P n) names
+      (max (k.params + 1) 3) (k.params + 2) loop.code loop.laid (greater k.params few) (omega (arith, few))
+
   pub wrapper_is : method_of (symbols_of new P.fields (rewritten_methods P new)) false x ≡ Some (wrapper_method P id n (pos 2147483647) k)
   wrapper_is =
       let s = symbols_of new P.fields (rewritten_methods P new) in
       let L = relocated (wrapper_blocks k.params k.gives w.opening w.ending) [] in
-      let rules = wrapper_rules k.params k.gives w.opening w.ending s small id (duplicate P n) names (max (k.params + 1) 3) (k.params + 2) loop.code loop.laid (greater k.params few) (omega (arith, few)) in
       let swapped = code_swapped c.pool new.pool K.rewritten.grown w.bytes m.attributes h.coded.code lawful (decoded_is c m h.coded h.decodes).code in
       let mark = mark_swapped c.pool new.pool K.rewritten.grown w.bytes m.attributes marked in
       let ops : List Op = wrapper_ops k.params k.gives w.opening w.ending s small id (duplicate P n) names in
       let facts : CodedFacts s (with_code c.pool w.bytes m) loop.code L t d h.shape (wrapper_ops k.params k.gives w.opening w.ending s small id (duplicate P n) names)
       (catch 6 (body_end k.params) (conflict_at k.gives k.params) Conflict ∷ catch 6 (body_end k.params) (conflict_at k.gives k.params + 4) Any ∷ []) (Some (pos 2147483647)) = record {
-        code = swapped ∙ ap (code_of new.pool) loop.bytes_are ∙ code_back new.pool loop.code rules;
+        code = swapped ∙ ap (code_of new.pool) loop.bytes_are ∙ code_back new.pool loop.code loop_rules;
         read = wrapper_read k.params k.gives w.opening w.ending s small id (duplicate P n) names (max (k.params + 1) 3) (k.params + 2) loop.code loop.laid;
         named = utf8_grown c.pool new.pool K.rewritten.grown m.name t named;
         typed = utf8_grown c.pool new.pool K.rewritten.grown m.descriptor d described;

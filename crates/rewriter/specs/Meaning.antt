@@ -1,5 +1,5 @@
 -- A rewritten class means the rewritten program.
-use Rattle.std.specs.Prelude.{◌≡◌, ℕ, ◌<◌, List, slice_get, slice_index, Some, Ok}
+use Rattle.std.specs.Prelude.{◌≡◌, ℕ, ◌<◌, ◌^◌, List, length, slice_get, slice_index, Some, Ok}
 use Rattle.std.specs.List.{AllByRecursion}
 use Rattle.jmodel.specs.ClassFile.{Attribute, Member, ClassFile}
 use Rattle.jmodel.specs.ClassRules.{IsClassFile}
@@ -23,6 +23,15 @@ AreFiled c = AllByRecursion HasBytes c.methods
 -- For a class that keeps the rules, linked to a program, what rewriting gives is linked to that program's rewriting.
 abbrev pub RewritingLaw : Type 0
 RewritingLaw = (c c' : ClassFile) (P : Program) → IsClassFile c → AreFiled c → linked c ≡ Some P → rewritten_class P c ≡ Ok c' → relinked P c' ≡ Some (rewritten P)
+
+-- The counts of a class file's fields and methods have two bytes.
+pub record HasFewMembers (c : ClassFile) : Type 0 where
+  pub fields : length c.fields < 2 ^ 16
+  pub methods : length c.methods < 2 ^ 16
+
+-- For a class that keeps the rules, linked to a program, what rewriting gives keeps them too, where its members can be counted.
+abbrev pub FormLaw : Type 0
+FormLaw = (c c' : ClassFile) (P : Program) → IsClassFile c → AreFiled c → linked c ≡ Some P → rewritten_class P c ≡ Ok c' → HasFewMembers c' → IsClassFile c'
 
 -- a typing of a program's method by its number
 abbrev pub IsTypingOf : Program → ℕ → Table → Type 0

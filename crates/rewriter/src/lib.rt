@@ -18,6 +18,6 @@ mod rewriting;
 mod typed;
 mod wrappers;
 
-pub use meaning::rewriting_law;
+pub use meaning::{form_law, rewriting_law};
 pub use rewriting::rewrite_class;
 pub use typed::{Rewriting, rewrite};

@@ -6,7 +6,7 @@ ghost use Rattle.jmodel.specs.Linking.{linked};
 ghost use Rattle.jmodel.specs.Reading.{Gives};
 ghost use Rattle.jmodel.specs.Rewriting.{rewritten};
 ghost use Rattle.jmodel.specs.Typing.{IsTypable};
-ghost use Rattle.rewriter.specs.Meaning.{AreFiled, IsTypingOf};
+ghost use Rattle.rewriter.specs.Meaning.{AreFiled, HasFewMembers, IsTypingOf};
 ghost use Rattle.rewriter.specs.Rewritten.{rewritten_class, Keeps};
 
 use crate::rewriting::rewrite_class;
@@ -63,7 +63,8 @@ fn rebuilt(
 }
 
 /// The rewriting of a typed class, over the program that it means: the class as `rewrite_class` makes it, with its refusals; the
-/// program that this class means, each method of which has a typing (JVM Specification, Java SE 7, section 4.10).
+/// program that this class means, each method of which has a typing (JVM Specification, Java SE 7, section 4.10). The class keeps
+/// the rules of class files, so it can be written, where it has at most 65535 fields and as many methods.
 pub fn rewrite(alloc: Global, class: &ClassFile, original: &Program) -> Result<Rewriting, Halt>
     // The class is one that was read, and the program is the one that it means.
     requires form { IsClassFile class.now }
@@ -73,6 +74,7 @@ pub fn rewrite(alloc: Global, class: &ClassFile, original: &Program) -> Result<R
     requires typed { AllByRecursion (IsTypable original.now) original.now.methods }
     ensures class { Gives (λ r. r.class) result (rewritten_class original.now class.now) }
     ensures keeps { IfOk result (λ r. Keeps class.now r.class) }
+    ensures form { IfOk result (λ r. HasFewMembers r.class → IsClassFile r.class) }
     ensures program { IfOk result (λ r. r.program ≡ rewritten original.now) }
     ensures typed { IfOk result (λ r. AllByRecursion (IsTypable r.program) r.program.methods) }
 {

@@ -1,0 +1,78 @@
+-- What became of each old method: it stayed, or it has a wrapper in its place.
+use Rattle.std.proofs.Common.{◌≡◌, ◌⊎◌, inl, inr, ℕ, ◌+◌, Bool, true, false, List, [], ◌∷◌, Some, refl, subst}
+use Rattle.std.specs.Prelude.{slice_get, filter}
+use Rattle.jmodel.specs.ClassFile.{Member, ClassFile}
+use Rattle.jmodel.specs.Program.{Method, Program}
+use Rattle.jmodel.specs.Taken.{is_taken}
+use Rattle.jmodel.specs.Linking.{is_marked}
+use Rattle.rewriter.specs.Rewritten.{number_behind, id_behind}
+use Rattle.rewriter.proofs.Old.{IsOld, AllOld}
+use Rattle.rewriter.proofs.Rests.{here, behind, from_first}
+use Rattle.rewriter.proofs.Whole.{IsWrapped, EachReplaced}
+use Rattle.rewriter.proofs.Tables.{Known, marked_taken, olds}
+
+module _ (c new : ClassFile) (P : Program) (K : Known c new P) where
+  -- the wrapper of a marked method of the program
+  pub record IsWrapper (m x : Member) : Type 0 where
+    pub number : ℕ
+    pub id : ℕ
+    pub method : Method
+    pub at : slice_get P.methods number ≡ Some method
+    pub marked : is_marked c.pool m ≡ true
+    pub old : IsOld c P.fields m method
+    pub wrapped : IsWrapped c new.pool id method m x
+
+  -- a method, or the wrapper of one
+  abbrev pub Became : Member → Member → Type 0
+  Became m x = (x ≡ m) ⊎ IsWrapper m x
+
+  -- the same of each
+  abbrev pub EachBecame : List Member → List Member → Type 0
+  EachBecame [] [] = Unit {0}
+  EachBecame [] (x ∷ xs) = ⊥
+  EachBecame (m ∷ ms) [] = ⊥
+  EachBecame (m ∷ ms) (x ∷ xs) = Became m x × EachBecame ms xs
+
+  -- the old methods from one on, before which so many are taken and so many are marked
+  each_became : (i n id : ℕ) (ms xs : List Member) (ks : List Method) → AllOld c P.fields (filter (is_taken c) ms) ks → ((j : ℕ) → slice_get c.methods (i + j) ≡ slice_get ms j)
+      → ((j : ℕ) → slice_get P.methods (n + j) ≡ slice_get ks j) → EachReplaced P c new.pool n id ms xs → EachBecame ms xs
+  each_became i n id [] [] ks old at numbers h = tt
+  each_became i n id [] (x ∷ xs) ks old at numbers h = absurd h
+  each_became i n id (m ∷ ms) [] ks old at numbers h = absurd h
+  each_became i n id (m ∷ ms) (x ∷ xs) ks old at numbers h =
+      go (is_taken c m) refl ks old numbers (λ (a : ℕ) (ls : List Method) q r s. each_became (i + 1) a (id_behind c.pool id m) ms xs ls q (behind c.methods i m ms at) r s) h.1
+    where
+      one : (k : Method) → slice_get P.methods n ≡ Some k → IsOld c P.fields m k → (b : Bool) → is_marked c.pool m ≡ b → Became m x
+      one k number o true e = inr (record { number = n; id = id; method = k; at = number; marked = e; old = o; wrapped = h.0.wrapped e k number })
+      one k number o false e = inl (h.0.kept e)
+
+      taken : (ks : List Method) → AllOld c P.fields (m ∷ filter (is_taken c) ms) ks → ((j : ℕ) → slice_get P.methods (n + j) ≡ slice_get ks j)
+          → ((ls : List Method) → AllOld c P.fields (filter (is_taken c) ms) ls → ((j : ℕ) → slice_get P.methods (n + 1 + j) ≡ slice_get ls j) → EachBecame ms xs) → EachBecame (m ∷ ms) (x ∷ xs)
+      taken [] old numbers rest = absurd old
+      taken (k ∷ ls) old numbers rest =
+          let number = here P.methods n k ls numbers in
+          (one k number old.0 (is_marked c.pool m) refl, rest ls old.1 (behind P.methods n k ls numbers))
+
+      go : (b : Bool) → is_taken c m ≡ b → (ks : List Method) → AllOld c P.fields (filter (is_taken c) (m ∷ ms)) ks → ((j : ℕ) → slice_get P.methods (n + j) ≡ slice_get ks j)
+          → ((a : ℕ) (ls : List Method) → AllOld c P.fields (filter (is_taken c) ms) ls → ((j : ℕ) → slice_get P.methods (a + j) ≡ slice_get ls j)
+          → EachReplaced P c new.pool a (id_behind c.pool id m) ms xs → EachBecame ms xs)
+          → EachReplaced P c new.pool (number_behind c n m) (id_behind c.pool id m) ms xs → EachBecame (m ∷ ms) (x ∷ xs)
+      go true e ks old numbers rest s =
+          let kept : filter (is_taken c) (m ∷ ms) ≡ m ∷ filter (is_taken c) ms = rw e refl in
+          let count : number_behind c n m ≡ n + 1 = rw e refl in
+          let from_next = subst (λ (a : ℕ). EachReplaced P c new.pool a (id_behind c.pool id m) ms xs) count s in
+          taken ks (subst (λ (us : List Member). AllOld c P.fields us ks) kept old) numbers (λ ls q r. rest (n + 1) ls q r from_next)
+      go false e ks old numbers rest s =
+          let dropped : filter (is_taken c) (m ∷ ms) ≡ filter (is_taken c) ms = rw e refl in
+          let count : number_behind c n m ≡ n = rw e refl in
+          let from_next = subst (λ (a : ℕ). EachReplaced P c new.pool a (id_behind c.pool id m) ms xs) count s in
+          let unmarked : is_marked c.pool m ≡ false = unmarked_of (is_marked c.pool m) refl in
+          (inl (h.0.kept unmarked), rest n ks (subst (λ (us : List Member). AllOld c P.fields us ks) dropped old) numbers from_next)
+        where
+          unmarked_of : (v : Bool) → is_marked c.pool m ≡ v → is_marked c.pool m ≡ false
+          unmarked_of true q = let t = marked_taken c new P K i m (here c.methods i m ms at) q in absurd (cc (t, e))
+          unmarked_of false q = q
+
+  -- all old methods
+  pub became : EachBecame c.methods K.rewritten.methods.olds
+  became = each_became 0 0 0 c.methods K.rewritten.methods.olds P.methods (olds c new P K) (from_first c.methods) (from_first P.methods) K.rewritten.methods.each
