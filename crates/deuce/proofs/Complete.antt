@@ -1,32 +1,31 @@
--- What can be run is run.
+-- What can be run is run, and what can be rewritten is rewritten.
 use Rattle.std.proofs.Common.{◌≡◌, ◌≤◌, ◌⊎◌, ℕ, zero, suc, false, List, [], ◌∷◌, length, take, slice_get, Option, Some, None, Result, Ok, Err, inl, inr, refl, sym, ap, ◌∙◌, subst, arith}
 use Rattle.std.specs.Prelude.{String, string_bytes, option_map}
 use Rattle.std.specs.declared.alloc.Global.{Global}
+use Rattle.std.specs.List.{AllByRecursion}
 use Rattle.std.proofs.lemmas.List.{take_all}
-use Rattle.deuce_io.specs.Fault.{Call}
-use Rattle.deuce_io.specs.Files.{Files, inside}
+use Rattle.deuce_io.specs.Files.{Files, inside, StandsIn}
 use Rattle.jmodel.specs.declared.refusal.Refusal.{Refusal}
 use Rattle.jmodel.specs.ClassFile.{ClassFile}
 use Rattle.jmodel.specs.ClassRules.{Spells}
-use Rattle.class_reader.proofs.ClassLaws.{class_again}
-use Rattle.deuce.specs.Command.{seen_words, run_words}
-use Rattle.std.specs.List.{AllByRecursion}
 use Rattle.jmodel.specs.Program.{Program}
 use Rattle.jmodel.specs.Linking.{linking, linked, program_in}
 use Rattle.jmodel.specs.Typing.{IsTypable}
+use Rattle.class_reader.proofs.ClassLaws.{class_again}
+use Rattle.rewriter.specs.Meaning.{HasFewMembers}
 use Rattle.rewriter.specs.Rewritten.{rewritten_class}
-use Rattle.deuce.specs.Headline.{CanRun, IsScriptFor}
+use Rattle.deuce.specs.Command.{NamesFolder}
+use Rattle.deuce.specs.Headline.{CanRun, IsRunnable, IsScriptFor}
+use Rattle.deuce.specs.Rewritten.{CanRewrite}
 use Rattle.deuce.specs.declared.outcome.Outcome.{Outcome}
-use Rattle.deuce.specs.declared.outcome.Outcome.TheVariants.{Journal, Usage, BadClass, BadProgram, Untyped, Outside, NotBuilt}
-use Rattle.deuce.specs.Ending.{HasNoOneClass, HasClass, IsBadClass, IsBadProgram, IsUntypable, IsOfWords, IsNotRunOn, IsNotRun, IsNotBuilt, IsBadClassOfWords, CanRunIn, CanRunWords, IsOutcome, status_of}
+use Rattle.deuce.specs.declared.outcome.Outcome.TheVariants.{Journal, Rewritten, Usage, BadClass, BadProgram, Untyped, Outside, NotPut, NotBuilt}
+use Rattle.deuce.specs.Ending.{HasNoOneClass, IsOneClass, HasClass, IsBadClass, IsBadProgram, IsUntypable, IsNotRunOn, IsNotRun, IsNotRewritten, CanRunIn, CanRewriteIn}
+use Rattle.deuce.specs.Outcomes.{Seen, Says, IsOfWords, IsNotBuilt, IsBadClassOfWords, CanRunWords, CanRewriteWords, status_of}
+use Rattle.deuce.proofs.Asked.{one_run, one_rewriting, apart, run_folder, rewriting_folder}
 
 -- bytes spell one class
 one_class : (bytes : List ℕ) (a b : ClassFile) → Spells bytes a → Spells bytes b → a ≡ b
 one_class bytes a b p q = let both = sym (class_again bytes a p) ∙ class_again bytes b q in cc
-
--- words ask for one run
-one_run : (words : List (String Global)) (d s e t : List ℕ) → seen_words words ≡ run_words d s → seen_words words ≡ run_words e t → (d ≡ e) × (s ≡ t)
-one_run words d s e t p q = let both = sym p ∙ q in (cc, cc)
 
 -- the front of a file that is no longer than that
 front_is : (told : Option (List ℕ)) (most : ℕ) (whole front : List ℕ) → told ≡ Some whole → option_map (take most) told ≡ Some front → length whole ≤ most → front ≡ whole
@@ -36,9 +35,47 @@ front_is told most whole front is cut few =
     let same : take most whole ≡ front = cc (some) in
     sym same ∙ all
 
--- a class file that can be run has no fault
-no_fault : (told : Files) (dir script path : List ℕ) (r : Refusal) → CanRunIn told dir script → IsBadClass (Some told) dir path r → ⊥
-no_fault told dir script path r can bad =
+-- a class that stands alone in a folder, and can be run
+record Good (told : Files) (dir : List ℕ) : Type 0 where
+  name : List ℕ
+  class_file : IsOneClass (StandsIn told dir) name
+  class_bytes : List ℕ
+  class : told (inside dir name) ≡ Some class_bytes
+  within : length class_bytes ≤ 1048576
+  file : ClassFile
+  spells : Spells class_bytes file
+  program : Program
+  runnable : IsRunnable file program
+
+good_run : (told : Files) (dir script : List ℕ) → CanRunIn told dir script → Good told dir
+good_run told dir script can = record {
+  name = can.name;
+  class_file = can.class_file;
+  class_bytes = can.class_bytes;
+  class = can.class;
+  within = can.within;
+  file = can.file;
+  spells = can.spells;
+  program = can.can.program;
+  runnable = can.can.runnable;
+}
+
+good_rewriting : (told : Files) (dir : List ℕ) → CanRewriteIn told dir → Good told dir
+good_rewriting told dir can = record {
+  name = can.name;
+  class_file = can.class_file;
+  class_bytes = can.class_bytes;
+  class = can.class;
+  within = can.within;
+  file = can.file;
+  spells = can.spells;
+  program = can.can.program;
+  runnable = can.can.runnable;
+}
+
+-- its file has no fault
+no_fault : (told : Files) (dir path : List ℕ) (r : Refusal) → Good told dir → IsBadClass (Some told) dir path r → ⊥
+no_fault told dir path r can bad =
     let name : can.name ≡ bad.name = (bad.class_file told refl).alone (can.name, false) can.class_file.there can.class_file.class_file in
     let at : path ≡ inside dir can.name = rw name bad.class_path in
     let bytes : bad.bytes ≡ can.class_bytes = front_is (told path) 1048577 can.class_bytes bad.bytes (rw at can.class) (bad.front told refl) (let few = can.within in omega arith) in
@@ -48,9 +85,9 @@ no_fault told dir script path r can bad =
       | inr none ↦ none.0 can.file (subst (λ (b : List ℕ). Spells b can.file) (sym bytes) can.spells)
     ]
 
--- what holds of the class of a folder holds of the one that can be run
-held : (told : Files) (dir script : List ℕ) (Holding : ClassFile → Type 0) → (can : CanRunIn told dir script) → HasClass (Some told) dir Holding → Holding can.file
-held told dir script Holding can has =
+-- what holds of the class of the folder holds of it
+held : (told : Files) (dir : List ℕ) (Holding : ClassFile → Type 0) → (can : Good told dir) → HasClass (Some told) dir Holding → Holding can.file
+held told dir Holding can has =
     let name : can.name ≡ has.name = (has.class_file told refl).alone (can.name, false) can.class_file.there can.class_file.class_file in
     let bytes : has.class_bytes ≡ can.class_bytes = let a = can.class in let b = has.class told refl in cc in
     let file : has.file ≡ can.file = one_class can.class_bytes has.file can.file (subst (λ (b : List ℕ). Spells b has.file) bytes has.spells) can.spells in
@@ -69,11 +106,11 @@ not_formed (Ok o) P h is = let none : o ≡ None = cc in let some : o ≡ Some P
 not_formed (Err f) P h is = cc
 
 -- a class that can be run has no fault, passes no limit, and has typings
-no_bad_program : (c : ClassFile) (bytes : List ℕ) (r : Refusal) → CanRun c bytes → IsBadProgram r c → ⊥
-no_bad_program c bytes r can (inl fault) = no_link (linking c) can.program r can.runnable.links fault
-no_bad_program c bytes r can (inr (P, is, typed, limit)) =
-    let same = one_program c can.program P can.runnable.links is in
-    let made : rewritten_class P c ≡ Ok can.runnable.instrumented = subst (λ (p : Program). rewritten_class p c ≡ Ok can.runnable.instrumented) same can.runnable.rewrites in
+no_bad_program : (c : ClassFile) (P : Program) (r : Refusal) → IsRunnable c P → IsBadProgram r c → ⊥
+no_bad_program c P r can (inl fault) = no_link (linking c) P r can.links fault
+no_bad_program c P r can (inr (Q, is, typed, limit)) =
+    let same = one_program c P Q can.links is in
+    let made : rewritten_class Q c ≡ Ok can.instrumented = subst (λ (p : Program). rewritten_class p c ≡ Ok can.instrumented) same can.rewrites in
     let fault = limit.1 in
     cc
 
@@ -82,12 +119,25 @@ all_at P [] i x all h = cc
 all_at P (y ∷ xs) zero x all h = let same : y ≡ x = cc in subst P same all.0
 all_at P (y ∷ xs) (suc i) x all h = all_at P xs i x all.1 h
 
-all_typed : (c : ClassFile) (bytes : List ℕ) (r : Refusal) → CanRun c bytes → IsUntypable r c → ⊥
-all_typed c bytes r can un =
-    let same = one_program c can.program un.program can.runnable.links un.links in
-    let typed : AllByRecursion (IsTypable un.program) un.program.methods = subst (λ (p : Program). AllByRecursion (IsTypable p) p.methods) same can.runnable.typed in
+all_typed : (c : ClassFile) (P : Program) (r : Refusal) → IsRunnable c P → IsUntypable r c → ⊥
+all_typed c P r can un =
+    let same = one_program c P un.program can.links un.links in
+    let typed : AllByRecursion (IsTypable un.program) un.program.methods = subst (λ (p : Program). AllByRecursion (IsTypable p) p.methods) same can.typed in
     let one = all_at (IsTypable un.program) un.program.methods un.number un.method typed un.there in
     un.untypable.none one.table (record { first = one.typing.first; each = λ pc h le is. one.typing.each pc h is })
+
+-- what is said of a refused class isn't said of it
+module _ (words : List (String Global)) (told : Files) (dir : List ℕ) (can : Good told dir) (named : (d : List ℕ) → NamesFolder words d → d ≡ dir) where
+  no_bad_class : (files : Option Files) (path : List ℕ) (r : Refusal) → files ≡ Some told → IsBadClassOfWords words files path r → ⊥
+  no_bad_class files path r is h = no_fault told dir path r can (rw (is, named h.0 h.1) at h.2)
+
+  no_program_fault : (files : Option Files) (r : Refusal) → files ≡ Some told → IsOfWords words files IsBadProgram r → ⊥
+  no_program_fault files r is h = no_bad_program can.file can.program r can.runnable (held told dir (IsBadProgram r) can (rw (is, named h.0 h.1) at h.2))
+
+  none_untyped : (files : Option Files) (r : Refusal) → files ≡ Some told → IsOfWords words files IsUntypable r → ⊥
+  none_untyped files r is h = all_typed can.file can.program r can.runnable (held told dir (IsUntypable r) can (rw (is, named h.0 h.1) at h.2))
+
+-- ---- runs
 
 -- a script that can be run is run
 is_run_on : (c : ClassFile) (bytes : List ℕ) → CanRun c bytes → IsNotRunOn bytes c → ⊥
@@ -97,38 +147,70 @@ is_run_on c bytes can (inr (P, is, no_script)) =
     no_script can.script can.calls (subst (λ (p : Program). IsScriptFor p bytes can.script can.calls) same can.script_for)
 
 is_run : (told : Files) (dir script : List ℕ) → CanRunIn told dir script → IsNotRun (Some told) dir script → ⊥
+unfolding good_run
 is_run told dir script can no_run =
     let front : no_run.script_bytes ≡ can.script_bytes = front_is (told script) 16777217 can.script_bytes no_run.script_bytes can.script_holds (no_run.script_front told refl) (let few = can.can.script_for.within in omega arith) in
-    is_run_on can.file can.script_bytes can.can (subst (λ (b : List ℕ). IsNotRunOn b can.file) front (held told dir script (IsNotRunOn no_run.script_bytes) can no_run.of_class))
+    is_run_on can.file can.script_bytes can.can (subst (λ (b : List ℕ). IsNotRunOn b can.file) front (held told dir (IsNotRunOn no_run.script_bytes) (good_run told dir script can) no_run.of_class))
 
--- the one class file of a folder that can be run is none of which this is said
-unsaid : (words : List (String Global)) (files : Option Files) (Says : Refusal → ClassFile → Type 0) (r : Refusal) → ((c : ClassFile) (bytes : List ℕ) → CanRun c bytes → Says r c → ⊥)
-    → IsOfWords words files Says r → CanRunWords words files → ⊥
-unsaid words files Says r never h can =
+unbuilt_run : (told : Files) (dir script : List ℕ) → CanRunIn told dir script → HasNoOneClass (Some told) dir ⊎ IsNotRun (Some told) dir script → ⊥
+unbuilt_run told dir script can (inl none) = none told refl can.name can.class_file
+unbuilt_run told dir script can (inr no_run) = is_run told dir script can no_run
+
+built_run : (words : List (String Global)) (files : Option Files) → IsNotBuilt words files → CanRunWords words files → ⊥
+built_run words files (inl h) can =
     let same = one_run words h.0 h.1 can.0 can.1 h.2 can.3 in
-    never can.5.file can.5.script_bytes can.5.can (held can.2 can.0 can.1 (Says r) can.5 (rw (can.4, same.0) at h.3))
-
-faulty : (words : List (String Global)) (files : Option Files) (path : List ℕ) (r : Refusal) → IsBadClassOfWords words files path r → CanRunWords words files → ⊥
-faulty words files path r h can =
-    let same = one_run words h.0 h.1 can.0 can.1 h.2 can.3 in
-    no_fault can.2 can.0 can.1 path r can.5 (rw (can.4, same.0) at h.3)
-
-unbuilt : (told : Files) (dir script : List ℕ) → CanRunIn told dir script → HasNoOneClass (Some told) dir ⊎ IsNotRun (Some told) dir script → ⊥
-unbuilt told dir script can (inl none) = none told refl can.name can.class_file
-unbuilt told dir script can (inr no_run) = is_run told dir script can no_run
-
-not_run : (words : List (String Global)) (files : Option Files) → IsNotBuilt words files → CanRunWords words files → ⊥
-not_run words files h can =
-    let same = one_run words h.0 h.1 can.0 can.1 h.2 can.3 in
-    unbuilt can.2 can.0 can.1 can.5 (rw (can.4, same.0, same.1) at h.3)
+    unbuilt_run can.2 can.0 can.1 can.5 (rw (can.4, same.0, same.1) at h.3)
+built_run words files (inr h) can = absurd (apart words can.0 can.1 h.0 h.1 can.3 h.2)
 
 -- no other status than these
-pub complete : (words : List (String Global)) (files : Option Files) (before now : ℕ) (last : Option Call) (o : Outcome) (status : ℕ)
-    → IsOutcome words files before now last o → status ≡ status_of o → CanRunWords words files → (status ≡ 0) ⊎ ((status ≡ 8) ⊎ ((status ≡ 9) ⊎ (status ≡ 10)))
-complete words files before now last (Journal text) status h s can = inl s
-complete words files before now last Usage status h s can = absurd (h can.0 can.1 can.3)
-complete words files before now last (BadClass path r) status h s can = absurd (faulty words files (string_bytes path) r h can)
-complete words files before now last (BadProgram r) status h s can = absurd (unsaid words files IsBadProgram r (λ c bytes can says. no_bad_program c bytes r can says) h can)
-complete words files before now last (Untyped r) status h s can = absurd (unsaid words files IsUntypable r (λ c bytes can says. all_typed c bytes r can says) h can)
-complete words files before now last (Outside path) status h s can = inr (inl s)
-complete words files before now last NotBuilt status h s can = absurd (not_run words files h can)
+pub complete : (words : List (String Global)) (old new : Seen) (o : Outcome) (status : ℕ) → Says words old new o → status ≡ status_of o → CanRunWords words old.files
+    → (status ≡ 0) ⊎ ((status ≡ 8) ⊎ ((status ≡ 9) ⊎ (status ≡ 10)))
+complete words old new (Journal text) status h s can = inl s
+complete words old new (Rewritten taken marked) status h s can = inl s
+complete words old new Usage status h s can = absurd (h.0 can.0 can.1 can.3)
+complete words old new (BadClass path r) status h s can =
+    absurd (no_bad_class words can.2 can.0 (good_run can.2 can.0 can.1 can.5) (λ d n. run_folder words d can.0 can.1 n can.3) old.files (string_bytes path) r can.4 h)
+complete words old new (BadProgram r) status h s can =
+    absurd (no_program_fault words can.2 can.0 (good_run can.2 can.0 can.1 can.5) (λ d n. run_folder words d can.0 can.1 n can.3) old.files r can.4 h)
+complete words old new (Untyped r) status h s can =
+    absurd (none_untyped words can.2 can.0 (good_run can.2 can.0 can.1 can.5) (λ d n. run_folder words d can.0 can.1 n can.3) old.files r can.4 h)
+complete words old new (Outside path) status h s can = inr (inl s)
+complete words old new (NotPut path) status h s can = absurd (apart words can.0 can.1 h.0 h.1 can.3 h.2)
+complete words old new NotBuilt status h s can = absurd (built_run words old.files h can)
+
+-- ---- rewritings
+
+-- a class that can be rewritten is
+is_rewritten : (c : ClassFile) → CanRewrite c → IsNotRewritten c → ⊥
+is_rewritten c can (inl none) = not_formed (linking c) can.program can.runnable.links none
+is_rewritten c can (inr h) =
+    let same = one_program c can.program h.program can.runnable.links h.links in
+    let made : rewritten_class h.program c ≡ Ok can.runnable.instrumented = subst (λ (p : Program). rewritten_class p c ≡ Ok can.runnable.instrumented) same can.runnable.rewrites in
+    let one : can.runnable.instrumented ≡ h.instrumented = let other = h.rewrites in cc in
+    h.many (subst HasFewMembers one can.few)
+
+unbuilt_rewriting : (told : Files) (dir : List ℕ) → CanRewriteIn told dir → HasNoOneClass (Some told) dir ⊎ HasClass (Some told) dir IsNotRewritten → ⊥
+unfolding good_rewriting
+unbuilt_rewriting told dir can (inl none) = none told refl can.name can.class_file
+unbuilt_rewriting told dir can (inr h) = is_rewritten can.file can.can (held told dir IsNotRewritten (good_rewriting told dir can) h)
+
+built_rewriting : (words : List (String Global)) (files : Option Files) → IsNotBuilt words files → CanRewriteWords words files → ⊥
+built_rewriting words files (inl h) can = absurd (apart words h.0 h.1 can.0 can.1 h.2 can.3)
+built_rewriting words files (inr h) can =
+    let same = one_rewriting words h.0 h.1 can.0 can.1 h.2 can.3 in
+    unbuilt_rewriting can.2 can.0 can.5 (rw (can.4, same.0) at h.3)
+
+pub complete_rewriting : (words : List (String Global)) (old new : Seen) (o : Outcome) (status : ℕ) → Says words old new o → status ≡ status_of o → CanRewriteWords words old.files
+    → (status ≡ 0) ⊎ ((status ≡ 8) ⊎ ((status ≡ 9) ⊎ ((status ≡ 10) ⊎ (status ≡ 11))))
+complete_rewriting words old new (Journal text) status h s can = inl s
+complete_rewriting words old new (Rewritten taken marked) status h s can = inl s
+complete_rewriting words old new Usage status h s can = absurd (h.1 can.0 can.1 can.3)
+complete_rewriting words old new (BadClass path r) status h s can =
+    absurd (no_bad_class words can.2 can.0 (good_rewriting can.2 can.0 can.5) (λ d n. rewriting_folder words d can.0 can.1 n can.3) old.files (string_bytes path) r can.4 h)
+complete_rewriting words old new (BadProgram r) status h s can =
+    absurd (no_program_fault words can.2 can.0 (good_rewriting can.2 can.0 can.5) (λ d n. rewriting_folder words d can.0 can.1 n can.3) old.files r can.4 h)
+complete_rewriting words old new (Untyped r) status h s can =
+    absurd (none_untyped words can.2 can.0 (good_rewriting can.2 can.0 can.5) (λ d n. rewriting_folder words d can.0 can.1 n can.3) old.files r can.4 h)
+complete_rewriting words old new (Outside path) status h s can = inr (inl s)
+complete_rewriting words old new (NotPut path) status h s can = inr (inr (inr (inr s)))
+complete_rewriting words old new NotBuilt status h s can = absurd (built_rewriting words old.files h can)

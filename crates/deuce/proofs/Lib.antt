@@ -8,6 +8,9 @@ pub mod Reading
 pub mod Running
 pub mod Folders
 pub mod Failing
+pub mod Asked
+pub mod Outcomes
+pub mod Printed
 pub mod Complete
 pub mod Filed
 pub mod Placed

@@ -1,5 +1,5 @@
 -- What the parts of a run make together.
-use Rattle.std.proofs.Common.{◌≡◌, ℕ, List, [], ◌∷◌, Some, None, Result, Ok, Err, inl, inr, refl, sym, ◌∙◌, subst}
+use Rattle.std.proofs.Common.{◌≡◌, ℕ, List, [], ◌∷◌, Some, None, Result, Ok, Err, inl, inr, refl, sym, subst}
 use Rattle.std.specs.Prelude.{IfErr}
 use Rattle.std.specs.Result.{IsErrAnd}
 use Rattle.std.specs.List.{AllByRecursion}
@@ -7,7 +7,7 @@ use Rattle.deuce.specs.declared.run.RunEnd.{RunEnd}
 use Rattle.deuce.specs.declared.run.RunEnd.TheVariants as run_ends
 use Rattle.script.specs.declared.reading.ScriptEnd.{ScriptEnd}
 use Rattle.script.specs.declared.reading.ScriptEnd.TheVariants as script
-use Rattle.deuce.specs.Ending.{IsEndOfScript, EndsOnClass, EndsBuild, EndsTyping, EndsRewriting, EndsScript}
+use Rattle.deuce.specs.Ending.{IsEndOfScript, IsOutsideForm, IsNotRunOn, EndsOnClass, EndsBuild, EndsTyping, EndsRewriting, EndsScript}
 use Rattle.script.proofs.Items.{same_scripts}
 use Rattle.jmodel.specs.ClassFile.{ClassFile}
 use Rattle.jmodel.specs.ClassRules.{Spells}
@@ -71,30 +71,38 @@ pub on_err : {A : Type 0} (r : Result A RunEnd) (P Q : RunEnd → Type 0) → ((
 on_err (Ok x) P Q f h = tt
 on_err (Err e) P Q f h = f e h
 
-pub of_build : (c : ClassFile) (bytes : List ℕ) (e : RunEnd) → EndsBuild c e → EndsOnClass c bytes e
-of_build c bytes (run_ends.BadClass r) h = absurd h
-of_build c bytes (run_ends.BadProgram r) h = inl h
-of_build c bytes (run_ends.Untyped r) h = absurd h
-of_build c bytes run_ends.NotBuilt h = inl h
-of_build c bytes run_ends.NoMemory h = tt
+pub of_build : (c : ClassFile) (e : RunEnd) → EndsBuild c e → EndsOnClass c IsOutsideForm e
+of_build c (run_ends.BadClass r) h = absurd h
+of_build c (run_ends.BadProgram r) h = inl h
+of_build c (run_ends.Untyped r) h = absurd h
+of_build c run_ends.NotBuilt h = h
+of_build c run_ends.NoMemory h = tt
 
-pub of_typing : (c : ClassFile) (bytes : List ℕ) (e : RunEnd) → EndsTyping c e → EndsOnClass c bytes e
-of_typing c bytes (run_ends.BadClass r) h = absurd h
-of_typing c bytes (run_ends.BadProgram r) h = absurd h
-of_typing c bytes (run_ends.Untyped r) h = h
-of_typing c bytes run_ends.NotBuilt h = absurd h
-of_typing c bytes run_ends.NoMemory h = tt
+pub of_typing : (c : ClassFile) (e : RunEnd) → EndsTyping c e → EndsOnClass c IsOutsideForm e
+of_typing c (run_ends.BadClass r) h = absurd h
+of_typing c (run_ends.BadProgram r) h = absurd h
+of_typing c (run_ends.Untyped r) h = h
+of_typing c run_ends.NotBuilt h = absurd h
+of_typing c run_ends.NoMemory h = tt
 
-pub of_rewriting : (P : Program) (c : ClassFile) (bytes : List ℕ) (e : RunEnd) → linked c ≡ Some P → AllByRecursion (IsTypable P) P.methods → EndsRewriting P c e → EndsOnClass c bytes e
-of_rewriting P c bytes (run_ends.BadClass r) is typed h = absurd h
-of_rewriting P c bytes (run_ends.BadProgram r) is typed h = inr (P, is, typed, h)
-of_rewriting P c bytes (run_ends.Untyped r) is typed h = absurd h
-of_rewriting P c bytes run_ends.NotBuilt is typed h = absurd h
-of_rewriting P c bytes run_ends.NoMemory is typed h = tt
+pub of_rewriting : (P : Program) (c : ClassFile) (e : RunEnd) → linked c ≡ Some P → AllByRecursion (IsTypable P) P.methods → EndsRewriting P c e → EndsOnClass c IsOutsideForm e
+of_rewriting P c (run_ends.BadClass r) is typed h = absurd h
+of_rewriting P c (run_ends.BadProgram r) is typed h = inr (P, is, typed, h)
+of_rewriting P c (run_ends.Untyped r) is typed h = absurd h
+of_rewriting P c run_ends.NotBuilt is typed h = absurd h
+of_rewriting P c run_ends.NoMemory is typed h = tt
 
-pub of_script : (P : Program) (c : ClassFile) (bytes : List ℕ) (e : RunEnd) → IsRunnable c P → EndsScript P bytes e → EndsOnClass c bytes e
+pub of_script : (P : Program) (c : ClassFile) (bytes : List ℕ) (e : RunEnd) → IsRunnable c P → EndsScript P bytes e → EndsOnClass c (IsNotRunOn bytes) e
 of_script P c bytes (run_ends.BadClass r) is h = absurd h
 of_script P c bytes (run_ends.BadProgram r) is h = absurd h
 of_script P c bytes (run_ends.Untyped r) is h = absurd h
 of_script P c bytes run_ends.NotBuilt is h = inr (P, is, h)
 of_script P c bytes run_ends.NoMemory is h = tt
+
+-- what isn't of the form isn't built for a command
+pub of_preparing : (c : ClassFile) (Unbuilt : ClassFile → Type 0) (e : RunEnd) → (IsOutsideForm c → Unbuilt c) → EndsOnClass c IsOutsideForm e → EndsOnClass c Unbuilt e
+of_preparing c Unbuilt (run_ends.BadClass r) f h = absurd h
+of_preparing c Unbuilt (run_ends.BadProgram r) f h = h
+of_preparing c Unbuilt (run_ends.Untyped r) f h = h
+of_preparing c Unbuilt run_ends.NotBuilt f h = f h
+of_preparing c Unbuilt run_ends.NoMemory f h = tt

@@ -1,10 +1,9 @@
 -- What the program writes, and why it ends as it does.
-use Rattle.std.specs.Prelude.{◌≡◌, ◌⊎◌, ℕ, ◌<◌, ◌≤◌, pos, List, ◌++◌, length, Bool, false, Option, Some, None, Ok, Err, slice_get, codes, string_bytes, String}
+use Rattle.std.specs.Prelude.{◌≡◌, ◌⊎◌, ℕ, ◌<◌, ◌≤◌, pos, List, ◌++◌, length, Bool, false, Option, Some, None, Ok, Err, slice_get, codes, string_bytes}
 use Rattle.std.specs.Prelude.{option_map, take}
 use Rattle.std.specs.Option.{ForSome}
-use Rattle.std.specs.Io.KnownBytes.{append_known}
-use Rattle.deuce_io.specs.Fault.{Call, list_of, read_of, Rose}
-use Rattle.deuce_io.specs.Files.{Files, inside, StandsIn}
+use Rattle.deuce_io.specs.Fault.{Call, list_of, read_of, put_of, Rose}
+use Rattle.deuce_io.specs.Files.{Files, inside, with_content, StandsIn}
 use Rattle.deuce_io.specs.declared.end.IoEnd.{IoEnd}
 use Rattle.deuce_io.specs.declared.end.IoEnd.TheVariants as io
 use Rattle.jmodel.specs.declared.refusal.Refusal.{Refusal}
@@ -19,11 +18,10 @@ use Rattle.jmodel.specs.Decoding.{own_name}
 use Rattle.jmodel.specs.Linking.{linking, linked, pc_of}
 use Rattle.jmodel.specs.Typing.{IsTypable, IsUntypableAt}
 use Rattle.rewriter.specs.Rewritten.{rewritten_class}
-use Rattle.jmodel.specs.Output.{◌and◌, refusal_text, error_text}
-use Rattle.std.specs.declared.alloc.Global.{Global}
-use Rattle.deuce.specs.Command.{seen_words, run_words, IsNoCommand}
 use Rattle.script.specs.Script.{Script}
 use Rattle.deuce.specs.Headline.{Known, IsRun, CanRun, IsRunnable, IsScriptFor}
+use Rattle.deuce.specs.Rewritten.{IsRewriting, CanRewrite, HasManyMembers}
+use Rattle.deuce.specs.declared.inputs.ClassInput.{ClassInput}
 use Rattle.deuce.specs.declared.inputs.Inputs.{Inputs}
 use Rattle.deuce.specs.declared.inputs.InputEnd.{InputEnd}
 use Rattle.deuce.specs.declared.inputs.InputEnd.TheVariants as ends
@@ -31,8 +29,6 @@ use Rattle.script.specs.declared.reading.ScriptEnd.{ScriptEnd}
 use Rattle.script.specs.declared.reading.ScriptEnd.TheVariants as script
 use Rattle.deuce.specs.declared.run.RunEnd.{RunEnd}
 use Rattle.deuce.specs.declared.run.RunEnd.TheVariants as run_ends
-use Rattle.deuce.specs.declared.outcome.Outcome.{Outcome}
-use Rattle.deuce.specs.declared.outcome.Outcome.TheVariants.{Journal, Usage, BadClass, BadProgram, Untyped, Outside, NotBuilt}
 
 -- the name of a class file: it ends in `.class`
 abbrev pub IsClassFileName : List ℕ → Type 0
@@ -53,27 +49,21 @@ HoldsOneClass files dir name = ForSome files (λ told. IsOneClass (StandsIn told
 abbrev pub HasNoOneClass : Option Files → List ℕ → Type 0
 HasNoOneClass files dir = ForSome files (λ told. (name : List ℕ) → IsOneClass (StandsIn told dir) name → ⊥)
 
--- what a run asks of its folder: the list of DIR, the read of a class file in it, and that of the script
-abbrev pub IsCallOfRun : List ℕ → List ℕ → Call → Type 0
-IsCallOfRun dir script call = (call ≡ list_of dir) ⊎ ((call ≡ read_of script) ⊎ ((name : List ℕ) × IsClassFileName name × (call ≡ read_of (inside dir name))))
+-- what is asked of a folder of class files: the list of DIR, and the read of a class file in it
+abbrev pub IsCallOfFolder : List ℕ → Call → Type 0
+IsCallOfFolder dir call = (call ≡ list_of dir) ⊎ ((name : List ℕ) × IsClassFileName name × (call ≡ read_of (inside dir name)))
 
--- the folder's count of lists and reads rose, and its last failed call is one of this run, at this path
-pub record FailedInRun (dir script path : List ℕ) (before now : ℕ) (last : Option Call) : Type 0 where
+-- what a run asks: that, and the read of the script
+abbrev pub IsCallOfRun : List ℕ → List ℕ → Call → Type 0
+IsCallOfRun dir script call = (call ≡ read_of script) ⊎ IsCallOfFolder dir call
+
+-- the folder's count of lists and reads rose, and its last failed call is one of these, at this path
+pub record Failed (Asks : Call → Type 0) (path : List ℕ) (before now : ℕ) (last : Option Call) : Type 0 where
   pub rose : Rose before now
   pub call : Call
   pub is_last : last ≡ Some call
-  pub of_run : IsCallOfRun dir script call
+  pub asked : Asks call
   pub at_path : call.path ≡ path
-
--- the text that an outcome is printed as
-abbrev pub IsTextOf : Outcome → List ℕ → Type 0
-IsTextOf (Journal text) printed = printed ≡ text
-IsTextOf Usage printed = printed ≡ error_text (codes "2") (codes "usage")
-IsTextOf (BadClass path refusal) printed = printed ≡ error_text (codes "3") (string_bytes path and refusal_text refusal)
-IsTextOf (BadProgram refusal) printed = printed ≡ error_text (codes "4") (refusal_text refusal)
-IsTextOf (Untyped refusal) printed = printed ≡ error_text (codes "5") (refusal_text refusal)
-IsTextOf (Outside path) printed = printed ≡ error_text (codes "8") (string_bytes path)
-IsTextOf NotBuilt printed = printed ≡ error_text (codes "12") (codes "NotBuilt")
 
 -- the first bytes of the file at a path, at most so many, where the folder tells its files
 abbrev pub IsFrontOf : Option Files → List ℕ → ℕ → List ℕ → Type 0
@@ -83,12 +73,15 @@ IsFrontOf files path most bytes = ForSome files (λ told. option_map (take most)
 abbrev pub Holds : Option Files → List ℕ → List ℕ → Type 0
 Holds files path bytes = ForSome files (λ told. told path ≡ Some bytes)
 
--- what a run has read: the bytes of the class file of its folder, and those of the script, each with at most one over its limit
+-- what was read of the class file of a folder: its bytes, with at most one over the limit
+pub record IsClassInput (files : Option Files) (dir : List ℕ) (input : ClassInput) : Type 0 where
+  pub class_file : HoldsOneClass files dir (string_bytes input.name)
+  pub class_path : string_bytes input.path ≡ inside dir (string_bytes input.name)
+  pub class : IsFrontOf files (inside dir (string_bytes input.name)) 1048577 input.bytes
+
+-- what a run has read: that, and the script's bytes, with at most one over the limit
 pub record AreInputs (files : Option Files) (dir script : List ℕ) (inputs : Inputs) : Type 0 where
-  pub name : List ℕ
-  pub class_file : HoldsOneClass files dir name
-  pub class_path : string_bytes inputs.path ≡ inside dir name
-  pub class : IsFrontOf files (inside dir name) 1048577 inputs.class
+  pub of_class : IsClassInput files dir inputs.class
   pub script_bytes : IsFrontOf files script 16777217 inputs.script
 
 -- The text is that of a run of the script at a path on the class file of a folder.
@@ -100,6 +93,31 @@ pub record IsJournalOf (files : Option Files) (dir script text : List ℕ) : Typ
   pub script_bytes : List ℕ
   pub script_holds : Holds files script script_bytes
   pub run : IsRun class_bytes script_bytes text
+
+-- The one class file of a folder was rewritten, and the new one put into another folder under its own name, with nothing else.
+pub record IsRewritingOf (files files' : Option Files) (dir out : List ℕ) (taken marked : ℕ) : Type 0 where
+  pub name : List ℕ
+  pub class_file : HoldsOneClass files dir name
+  pub class_bytes : List ℕ
+  pub class : Holds files (inside dir name) class_bytes
+  pub new : List ℕ
+  pub rewriting : IsRewriting class_bytes new taken marked
+  pub put : files' ≡ option_map (with_content (inside out name) (Some new)) files
+
+-- Nothing is known of the path that one file under its own name has in another folder; all else is as before.
+pub record PutsOne (files files' : Option Files) (dir out : List ℕ) : Type 0 where
+  pub name : List ℕ
+  pub class_file : HoldsOneClass files dir name
+  pub found : Option (List ℕ)
+  pub left : files' ≡ option_map (with_content (inside out name) found) files
+
+-- the count of failed puts rose, and the last failed call is the put of this path, where the class file of a folder was to go
+pub record FailedPut (files : Option Files) (dir out path : List ℕ) (before now : ℕ) (last : Option Call) : Type 0 where
+  pub name : List ℕ
+  pub class_file : HoldsOneClass files dir name
+  pub is_path : path ≡ inside out name
+  pub rose : Rose before now
+  pub is_last : last ≡ Some (put_of path)
 
 -- Why bytes are no class file: there are more than 1048576 of them, or no class is spelled by them, and this is the first
 -- fault that reading them meets.
@@ -161,6 +179,10 @@ abbrev pub IsNotRunOn : List ℕ → ClassFile → Type 0
 IsNotRunOn script file = (linking file ≡ Ok None)
     ⊎ ((P : Program) × IsRunnable file P × ((s : Script) (calls : List Known) → IsScriptFor P script s calls → ⊥))
 
+-- A class isn't of the form that is built so far, or its rewriting would have too many members.
+abbrev pub IsNotRewritten : ClassFile → Type 0
+IsNotRewritten file = (linking file ≡ Ok None) ⊎ HasManyMembers file
+
 -- A folder has one good class file, on which the script, of which at most one byte over the limit is looked at, can't be run.
 pub record IsNotRun (files : Option Files) (dir script : List ℕ) : Type 0 where
   pub script_bytes : List ℕ
@@ -180,23 +202,34 @@ pub record CanRunIn (told : Files) (dir script : List ℕ) : Type 0 where
   pub script_holds : told script ≡ Some script_bytes
   pub can : CanRun file script_bytes
 
--- a run that ended before its inputs were there: where it failed outside, the folder says so
-abbrev pub EndsInRun : Option Files → List ℕ → List ℕ → ℕ → ℕ → Option Call → InputEnd → Type 0
-EndsInRun files dir script before now last (ends.Outside path) = FailedInRun dir script (string_bytes path) before now last
-EndsInRun files dir script before now last ends.NotBuilt = HasNoOneClass files dir
-EndsInRun files dir script before now last ends.NoMemory = Unit {0}
+-- The files of a folder, as it tells them, let its one class file be rewritten.
+pub record CanRewriteIn (told : Files) (dir : List ℕ) : Type 0 where
+  pub name : List ℕ
+  pub class_file : IsOneClass (StandsIn told dir) name
+  pub class_bytes : List ℕ
+  pub class : told (inside dir name) ≡ Some class_bytes
+  pub within : length class_bytes ≤ 1048576
+  pub file : ClassFile
+  pub spells : Spells class_bytes file
+  pub can : CanRewrite file
+
+-- a command that ended before its inputs were there: where it failed outside, the folder says so
+abbrev pub EndsInputs : (Call → Type 0) → Option Files → List ℕ → ℕ → ℕ → Option Call → InputEnd → Type 0
+EndsInputs Asks files dir before now last (ends.Outside path) = Failed Asks (string_bytes path) before now last
+EndsInputs Asks files dir before now last ends.NotBuilt = HasNoOneClass files dir
+EndsInputs Asks files dir before now last ends.NoMemory = Unit {0}
 
 -- a class that bytes spell, which aren't too many, of which this holds
 abbrev pub IsOfClass : List ℕ → (ClassFile → Type 0) → Type 0
 IsOfClass class Holding = (length class ≤ 1048576) × (file : ClassFile) × Spells class file × Holding file
 
--- why a run of a script on the bytes of a class file has no journal
-abbrev pub EndsRun : List ℕ → List ℕ → RunEnd → Type 0
-EndsRun class script (run_ends.BadClass r) = IsFileFault class r
-EndsRun class script (run_ends.BadProgram r) = IsOfClass class (IsBadProgram r)
-EndsRun class script (run_ends.Untyped r) = IsOfClass class (IsUntypable r)
-EndsRun class script run_ends.NotBuilt = IsOfClass class (IsNotRunOn script)
-EndsRun class script run_ends.NoMemory = Unit {0}
+-- why a command over the bytes of a class file isn't done; what isn't built is said of the class
+abbrev pub EndsCommand : List ℕ → (ClassFile → Type 0) → RunEnd → Type 0
+EndsCommand class Unbuilt (run_ends.BadClass r) = IsFileFault class r
+EndsCommand class Unbuilt (run_ends.BadProgram r) = IsOfClass class (IsBadProgram r)
+EndsCommand class Unbuilt (run_ends.Untyped r) = IsOfClass class (IsUntypable r)
+EndsCommand class Unbuilt run_ends.NotBuilt = IsOfClass class Unbuilt
+EndsCommand class Unbuilt run_ends.NoMemory = Unit {0}
 
 -- why there is no class of these bytes
 abbrev pub EndsReading : List ℕ → RunEnd → Type 0
@@ -204,13 +237,17 @@ EndsReading class (run_ends.BadClass r) = IsFileFault class r
 EndsReading class run_ends.NoMemory = Unit {0}
 EndsReading class end = ⊥
 
--- why a run of a script on a class has no journal
-abbrev pub EndsOnClass : ClassFile → List ℕ → RunEnd → Type 0
-EndsOnClass file script (run_ends.BadClass r) = ⊥
-EndsOnClass file script (run_ends.BadProgram r) = IsBadProgram r file
-EndsOnClass file script (run_ends.Untyped r) = IsUntypable r file
-EndsOnClass file script run_ends.NotBuilt = IsNotRunOn script file
-EndsOnClass file script run_ends.NoMemory = Unit {0}
+-- why a command over a class isn't done
+abbrev pub EndsOnClass : ClassFile → (ClassFile → Type 0) → RunEnd → Type 0
+EndsOnClass file Unbuilt (run_ends.BadClass r) = ⊥
+EndsOnClass file Unbuilt (run_ends.BadProgram r) = IsBadProgram r file
+EndsOnClass file Unbuilt (run_ends.Untyped r) = IsUntypable r file
+EndsOnClass file Unbuilt run_ends.NotBuilt = Unbuilt file
+EndsOnClass file Unbuilt run_ends.NoMemory = Unit {0}
+
+-- the class isn't of the form that is built so far
+abbrev pub IsOutsideForm : ClassFile → Type 0
+IsOutsideForm file = linking file ≡ Ok None
 
 -- why a class has no program
 abbrev pub EndsBuild : ClassFile → RunEnd → Type 0
@@ -254,61 +291,3 @@ IsOutsideAt io.Failed path (ends.Outside p) = string_bytes p ≡ path
 IsOutsideAt io.NoMemory path (ends.Outside p) = ⊥
 IsOutsideAt e path ends.NotBuilt = ⊥
 IsOutsideAt e path ends.NoMemory = Unit {0}
-
--- the status of an outcome that is printed whole
-abbrev pub status_of : Outcome → ℕ
-status_of (Journal text) = 0
-status_of Usage = 2
-status_of (BadClass path refusal) = 3
-status_of (BadProgram refusal) = 4
-status_of (Untyped refusal) = 5
-status_of (Outside path) = 8
-status_of NotBuilt = 12
-
--- the words ask for a run, in whose folder the class file at this path has this fault
-abbrev pub IsBadClassOfWords : List (String Global) → Option Files → List ℕ → Refusal → Type 0
-IsBadClassOfWords words files path r = (dir : List ℕ) × (script : List ℕ) × (seen_words words ≡ run_words dir script) × IsBadClass files dir path r
-
--- the words ask for a run, in whose folder stands one good class file, of which this is said
-abbrev pub IsOfWords : List (String Global) → Option Files → (Refusal → ClassFile → Type 0) → Refusal → Type 0
-IsOfWords words files Says r = (dir : List ℕ) × (script : List ℕ) × (seen_words words ≡ run_words dir script) × HasClass files dir (Says r)
-
--- The words ask for a run, and its folder hasn't one class file alone, or it has, and the script can't be run on that.
-abbrev pub IsNotBuilt : List (String Global) → Option Files → Type 0
-IsNotBuilt words files = (dir : List ℕ) × (script : List ℕ) × (seen_words words ≡ run_words dir script) × (HasNoOneClass files dir ⊎ IsNotRun files dir script)
-
--- The text is that of the run that the words ask for.
-abbrev pub IsJournalOfWords : List (String Global) → Option Files → List ℕ → Type 0
-IsJournalOfWords words files text = (dir : List ℕ) × (script : List ℕ) × (seen_words words ≡ run_words dir script) × IsJournalOf files dir script text
-
--- The words ask for a run, and the folder tells files with which that can be made.
-abbrev pub CanRunWords : List (String Global) → Option Files → Type 0
-CanRunWords words files = (dir : List ℕ) × (script : List ℕ) × (told : Files) × (seen_words words ≡ run_words dir script) × (files ≡ Some told) × CanRunIn told dir script
-
--- a run failed outside, at this path
-abbrev pub FailedOutside : List (String Global) → List ℕ → ℕ → ℕ → Option Call → Type 0
-FailedOutside words path before now last =
-    (dir : List ℕ) × (script : List ℕ) × (seen_words words ≡ run_words dir script) × FailedInRun dir script path before now last
-
--- what an outcome says of the words, of the folder's files, and of its faults
-abbrev pub IsOutcome : List (String Global) → Option Files → ℕ → ℕ → Option Call → Outcome → Type 0
-IsOutcome words files before now last (Journal text) = IsJournalOfWords words files text
-IsOutcome words files before now last Usage = IsNoCommand words
-IsOutcome words files before now last (BadClass path refusal) = IsBadClassOfWords words files (string_bytes path) refusal
-IsOutcome words files before now last (BadProgram refusal) = IsOfWords words files IsBadProgram refusal
-IsOutcome words files before now last (Untyped refusal) = IsOfWords words files IsUntypable refusal
-IsOutcome words files before now last (Outside path) = FailedOutside words (string_bytes path) before now last
-IsOutcome words files before now last NotBuilt = IsNotBuilt words files
-
--- bytes were appended, where they are told
-abbrev pub Appends : Option (List ℕ) → Option (List ℕ) → List ℕ → Type 0
-Appends before now text = now ≡ append_known before text
-
--- What was written is a front of what the command that the words ask for is printed as.
-pub record IsCut (words : List (String Global)) (files : Option Files) (faults faults' : ℕ) (last : Option Call) (before now : Option (List ℕ)) : Type 0 where
-  pub outcome : Outcome
-  pub is_outcome : IsOutcome words files faults faults' last outcome
-  pub text : List ℕ
-  pub is_text : IsTextOf outcome text
-  pub many : ℕ
-  pub front : Appends before now (take many text)

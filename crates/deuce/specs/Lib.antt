@@ -1,4 +1,6 @@
 pub mod Command
 pub mod Ending
 pub mod Headline
+pub mod Outcomes
+pub mod Rewritten
 pub mod Rule

@@ -1,8 +1,8 @@
-//! What a run reads from its folder.
-ghost use Rattle.std.specs.Prelude.{◌≡◌, IfOk, IfErr, IfSome};
+//! What a command reads from its folder.
+ghost use Rattle.std.specs.Prelude.{◌≡◌, ◌≤◌, IfOk, IfErr, IfSome};
 ghost use Rattle.std.specs.Prelude.{◌↔◌, ℕ, List, Contains, IsTrue, MatchOption};
 ghost use Rattle.deuce_io.specs.Files.{NoRepeats, seen_items};
-ghost use Rattle.deuce.specs.Ending.{IsClassFileName, IsOneClass, AreInputs, EndsInRun, IsOutsideAt};
+ghost use Rattle.deuce.specs.Ending.{IsClassFileName, IsOneClass, IsCallOfFolder, IsCallOfRun, IsClassInput, AreInputs, EndsInputs, IsOutsideAt};
 
 use deuce_io::{Folder, IoEnd, Item};
 use jmodel::Bytes;
@@ -14,16 +14,23 @@ pub const CLASS_LIMIT: usize = 1_048_576;
 /// The most bytes of a script.
 pub const SCRIPT_LIMIT: usize = 16_777_216;
 
+/// The one class file of a folder, with at most one byte over its limit.
+#[derive(Drop)]
+pub struct ClassInput {
+    /// Its name in the folder.
+    pub name: String,
+    pub path: String,
+    pub bytes: Bytes,
+}
+
 /// The class file and the script of a run, each with at most one byte over its limit.
 #[derive(Drop)]
 pub struct Inputs {
-    /// The path of the class file.
-    pub path: String,
-    pub class: Bytes,
+    pub class: ClassInput,
     pub script: Bytes,
 }
 
-/// Why a run has no inputs.
+/// Why a command has no inputs.
 #[derive(Drop)]
 pub enum InputEnd {
     /// A list or a read failed at this path.
@@ -44,16 +51,17 @@ impl From<AllocError> for InputEnd {
     }
 }
 
-/// Lists the folder, and reads its one class file and then the script.
-pub fn read_inputs<F: Folder>(
+/// Lists the folder, and reads its one class file.
+pub fn read_class_file<F: Folder>(
     alloc: Global,
     folder: &mut F,
     dir: &str,
-    script: &str,
-) -> Result<Inputs, InputEnd>
-    ensures inputs { IfOk result (AreInputs (F.files folder.old) dir.now script.now) }
+) -> Result<ClassInput, InputEnd>
+    ensures input { IfOk result (IsClassInput (F.files folder.old) dir.now) }
     ensures files_kept { F.files folder.new ≡ F.files folder.old }
-    ensures cause { IfErr result (EndsInRun (F.files folder.old) dir.now script.now (F.faults folder.old) (F.faults folder.new) (F.failed folder.new)) }
+    ensures counts { F.faults folder.old ≤ F.faults folder.new }
+    ensures put_counts { F.put_faults folder.old ≤ F.put_faults folder.new }
+    ensures cause { IfErr result (EndsInputs (IsCallOfFolder dir.now) (F.files folder.old) dir.now (F.faults folder.old) (F.faults folder.new) (F.failed folder.new)) }
 {
     let items = match folder.list(dir) {
         Ok(items) => items,
@@ -63,22 +71,35 @@ pub fn read_inputs<F: Folder>(
         return Err(InputEnd::NotBuilt);
     };
     let path = format!(in alloc; "{dir}/{name}")?;
-    let class = match folder.read(path.as_str(), CLASS_LIMIT + 1) {
-        Ok(class) => class,
-        Err(end) => return Err(outside(alloc, end, path.as_str())),
-    };
-    let script = match folder.read(script, SCRIPT_LIMIT + 1) {
-        Ok(bytes) => bytes,
-        Err(end) => return Err(outside(alloc, end, script)),
-    };
-    Ok(Inputs {
-        path,
-        class,
-        script,
-    })
+    match folder.read(path.as_str(), CLASS_LIMIT + 1) {
+        Ok(bytes) => Ok(ClassInput {
+            name: String::from_str(alloc, name)?,
+            path,
+            bytes,
+        }),
+        Err(end) => Err(outside(alloc, end, path.as_str())),
+    }
 }
 
-/// The end of a run whose call of the folder at this path ended so.
+/// Lists the folder, and reads its one class file and then the script.
+pub fn read_inputs<F: Folder>(
+    alloc: Global,
+    folder: &mut F,
+    dir: &str,
+    script: &str,
+) -> Result<Inputs, InputEnd>
+    ensures inputs { IfOk result (AreInputs (F.files folder.old) dir.now script.now) }
+    ensures files_kept { F.files folder.new ≡ F.files folder.old }
+    ensures cause { IfErr result (EndsInputs (IsCallOfRun dir.now script.now) (F.files folder.old) dir.now (F.faults folder.old) (F.faults folder.new) (F.failed folder.new)) }
+{
+    let class = read_class_file(alloc, folder, dir)?;
+    match folder.read(script, SCRIPT_LIMIT + 1) {
+        Ok(script) => Ok(Inputs { class, script }),
+        Err(end) => Err(outside(alloc, end, script)),
+    }
+}
+
+/// The end of a command whose call of the folder at this path ended so.
 fn outside(alloc: Global, end: IoEnd, path: &str) -> InputEnd
     ensures { IsOutsideAt end path.now result }
 {

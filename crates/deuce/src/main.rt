@@ -2,12 +2,14 @@
 #![tactic(auto)]
 
 mod calls;
+mod commands;
 mod inputs;
 mod known;
 mod lane;
 mod outcome;
 mod print;
 mod refusal;
+mod rewriting;
 mod run;
 mod text;
 mod top;

@@ -1,7 +1,8 @@
 //! How a command ends, before anything is written.
 ghost use Rattle.std.specs.Prelude.{◌≡◌, ◌++◌, ◌∷◌, [], IfOk, codes};
 ghost use Rattle.jmodel.specs.Output.{◌and◌, refusal_text, error_text};
-ghost use Rattle.deuce.specs.Ending.{IsTextOf};
+ghost use Rattle.deuce.specs.Outcomes.{IsTextOf};
+ghost use Rattle.deuce.specs.Rewritten.{counts_text};
 
 use crate::refusal::push_refusal;
 use jmodel::{Bytes, Refusal};
@@ -12,6 +13,8 @@ use std::alloc::{AllocError, Global};
 pub enum Outcome {
     /// With a journal, of which this is the text.
     Journal(Bytes),
+    /// With a new class file, which was put: so many methods of the class are taken, and so many of them are marked.
+    Rewritten { taken: usize, marked: usize },
     /// The words were of no form.
     Usage,
     /// The file at this path is no class file, with the first fault.
@@ -22,7 +25,10 @@ pub enum Outcome {
     Untyped(Refusal),
     /// A list or a read of the folder failed at this path.
     Outside(String),
-    /// The folder, the class or the script isn't of the form that is built so far.
+    /// The put at this path failed.
+    NotPut(String),
+    /// The folder, the class or the script isn't of the form that is built so far, or the rewritten class would have too many
+    /// members.
     NotBuilt,
 }
 
@@ -47,39 +53,57 @@ fn refusal_line(alloc: Global, head: &[u8], refusal: &Refusal) -> Result<Bytes, 
     Ok(line)
 }
 
+// The line of a path, behind its head.
+fn path_line(alloc: Global, head: &[u8], path: &str) -> Result<Bytes, AllocError>
+    ensures { IfOk result (λ line. line ≡ head.now ++ (path.now ++ 10 ∷ [])) }
+{
+    let mut line = Bytes::from_slice(alloc, head)?;
+    line.extend_from_slice(path.as_bytes())?;
+    line.push(b'\n')?;
+    Ok(line)
+}
+
+// How many classes there are, and how many of their methods are taken and marked.
+fn counts(alloc: Global, taken: usize, marked: usize) -> Result<Bytes, AllocError>
+    ensures { IfOk result (λ text. text ≡ counts_text taken marked) }
+{
+    let text = format!(in alloc; "classes 1\ntaken {taken}\natomic {marked}\n")?;
+    Bytes::from_slice(alloc, text.as_bytes())
+}
+
 /// The text that is printed.
 pub fn text_of(alloc: Global, outcome: Outcome) -> Result<Bytes, AllocError>
     ensures { IfOk result (IsTextOf outcome) }
 {
     match outcome {
         Outcome::Journal(text) => Ok(text),
+        Outcome::Rewritten { taken, marked } => counts(alloc, taken, marked),
         Outcome::Usage => Bytes::from_slice(alloc, b"error 2 usage\n"),
         Outcome::BadClass { path, refusal } => bad_class_line(alloc, path.as_str(), &refusal),
         Outcome::BadProgram(refusal) => refusal_line(alloc, b"error 4 ", &refusal),
         Outcome::Untyped(refusal) => refusal_line(alloc, b"error 5 ", &refusal),
-        Outcome::Outside(path) => {
-            let line = format!(in alloc; "error 8 {path}\n")?;
-            Bytes::from_slice(alloc, line.as_bytes())
-        }
+        Outcome::Outside(path) => path_line(alloc, b"error 8 ", path.as_str()),
+        Outcome::NotPut(path) => path_line(alloc, b"error 11 ", path.as_str()),
         Outcome::NotBuilt => Bytes::from_slice(alloc, b"error 12 NotBuilt\n"),
     }
 }
 
 impl Outcome {
     ghost use Rattle.std.specs.Prelude.{◌≡◌};
-    ghost use Rattle.deuce.specs.Ending.{status_of};
+    ghost use Rattle.deuce.specs.Outcomes.{status_of};
 
     /// The exit status, where the text is written whole. Takes no memory.
     pub fn status(&self) -> u8
         ensures { result ≡ status_of self.now }
     {
         match self {
-            Outcome::Journal(_) => 0,
+            Outcome::Journal(_) | Outcome::Rewritten { .. } => 0,
             Outcome::Usage => 2,
             Outcome::BadClass { .. } => 3,
             Outcome::BadProgram(_) => 4,
             Outcome::Untyped(_) => 5,
             Outcome::Outside(_) => 8,
+            Outcome::NotPut(_) => 11,
             Outcome::NotBuilt => 12,
         }
     }

@@ -5,10 +5,10 @@ ghost use Rattle.jmodel.specs.Linking.{linked};
 ghost use Rattle.jmodel.specs.Rewriting.{rewritten as rewritten_program};
 ghost use Rattle.jmodel.specs.Typing.{IsTypable};
 ghost use Rattle.std.specs.List.{AllByRecursion};
-ghost use Rattle.rewriter.specs.Meaning.{AreFiled};
+ghost use Rattle.rewriter.specs.Meaning.{AreFiled, HasFewMembers};
 ghost use Rattle.rewriter.specs.Rewritten.{rewritten_class};
 ghost use Rattle.deuce.specs.Headline.{IsRun};
-ghost use Rattle.deuce.specs.Ending.{EndsReading, EndsRun, EndsOnClass, EndsBuild, EndsRewriting, EndsScript, IsLimit};
+ghost use Rattle.deuce.specs.Ending.{EndsReading, EndsCommand, EndsOnClass, EndsBuild, EndsRewriting, EndsScript, IsLimit, IsNotRunOn, IsOutsideForm};
 ghost use Rattle.deuce.specs.Rule.{IsReady};
 
 use crate::inputs::{CLASS_LIMIT, SCRIPT_LIMIT};
@@ -24,7 +24,7 @@ use rewriter::{Rewriting, rewrite};
 use script::{ScriptEnd, read_script};
 use std::alloc::{AllocError, Global};
 
-/// Why a run has no journal.
+/// Why a command over a class file isn't done.
 #[derive(Drop)]
 pub enum RunEnd {
     /// The bytes are no class file, with the first fault.
@@ -33,7 +33,7 @@ pub enum RunEnd {
     BadProgram(Refusal),
     /// A method has no typing.
     Untyped(Refusal),
-    /// The class or the script isn't of the form that is built so far.
+    /// The class or the script isn't of the form that is built so far, or the rewritten class would have too many members.
     NotBuilt,
     NoMemory,
 }
@@ -67,7 +67,7 @@ pub fn run(alloc: Global, class: &[u8], script: &[u8]) -> Result<Bytes, RunEnd>
     ensures run { IfOk result (IsRun class.now script.now) }
     ensures class { OnOk result (length class.now ≤ 1048576) }
     ensures script { OnOk result (length script.now ≤ 16777216) }
-    ensures cause { IfErr result (EndsRun class.now script.now) }
+    ensures cause { IfErr result (EndsCommand class.now (IsNotRunOn script.now)) }
 {
     let file = class_of(alloc, class)?;
     run_class(alloc, &file, script)
@@ -97,12 +97,43 @@ fn run_class(alloc: Global, class: &ClassFile, script: &[u8]) -> Result<Bytes, R
     requires filed { AreFiled class.now }
     ensures run { IfOk result (λ text. (bytes : List ℕ) → Spells bytes class.now → IsRun bytes script.now text) }
     ensures script { OnOk result (length script.now ≤ 16777216) }
-    ensures cause { IfErr result (EndsOnClass class.now script.now) }
+    ensures cause { IfErr result (EndsOnClass class.now (IsNotRunOn script.now)) }
+{
+    let prepared = prepare(alloc, class)?;
+    run_script(
+        alloc,
+        class,
+        &prepared.original,
+        &prepared.rewriting.program,
+        script,
+    )
+}
+
+/// The program that a class means, each of whose methods has a typing, and the rewriting of the class.
+#[derive(Drop)]
+pub struct Prepared {
+    pub original: Program,
+    pub rewriting: Rewriting,
+}
+
+/// Gives a class its program, types that, and rewrites the class.
+pub fn prepare(alloc: Global, class: &ClassFile) -> Result<Prepared, RunEnd>
+    requires form { IsClassFile class.now }
+    requires filed { AreFiled class.now }
+    ensures links { IfOk result (λ p. linked class.now ≡ Some p.original) }
+    ensures typed { IfOk result (λ p. AllByRecursion (IsTypable p.original) p.original.methods) }
+    ensures rewritten { IfOk result (λ p. (p.rewriting.program ≡ rewritten_program p.original) × (rewritten_class p.original class.now ≡ Ok p.rewriting.class)) }
+    ensures stays_typed { IfOk result (λ p. AllByRecursion (IsTypable p.rewriting.program) p.rewriting.program.methods) }
+    ensures rules { IfOk result (λ p. HasFewMembers p.rewriting.class → IsClassFile p.rewriting.class) }
+    ensures cause { IfErr result (EndsOnClass class.now IsOutsideForm) }
 {
     let original = build(alloc, class)?;
     type_all(alloc, class, &original)?;
     let rewriting = instrument(alloc, class, &original)?;
-    run_script(alloc, class, &original, &rewriting.program, script)
+    Ok(Prepared {
+        original,
+        rewriting,
+    })
 }
 
 /// The program that a class means.
@@ -126,6 +157,7 @@ pub fn instrument(alloc: Global, class: &ClassFile, original: &Program) -> Resul
     requires typed { AllByRecursion (IsTypable original.now) original.now.methods }
     ensures rewritten { IfOk result (λ r. (r.program ≡ rewritten_program original.now) × (rewritten_class original.now class.now ≡ Ok r.class)) }
     ensures typed { IfOk result (λ r. AllByRecursion (IsTypable r.program) r.program.methods) }
+    ensures rules { IfOk result (λ r. HasFewMembers r.class → IsClassFile r.class) }
     ensures cause { IfErr result (EndsRewriting original.now class.now) }
 {
     match rewrite(alloc, class, original) {

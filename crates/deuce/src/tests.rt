@@ -105,6 +105,8 @@ fn words_of_no_form(rt: HostRuntime) -> Result<(), Fail> {
     assert!(rt; is_usage(alloc, ["run", "d"].as_slice())?);
     assert!(rt; is_usage(alloc, ["walk", "d", "s"].as_slice())?);
     assert!(rt; is_usage(alloc, ["run", "d", "s", "s"].as_slice())?);
+    assert!(rt; is_usage(alloc, ["rewrite", "d"].as_slice())?);
+    assert!(rt; is_usage(alloc, ["rewrite", "d", "o", "o"].as_slice())?);
     Ok(())
 }
 

@@ -3,13 +3,14 @@ ghost use Rattle.std.specs.Prelude.{◌≡◌, ◌⊎◌, ℕ, List, IfOk, codes
 ghost use Rattle.deuce_io.specs.Fault.{Rose};
 ghost use Rattle.jmodel.specs.declared.refusal.Refusal.{Refusal};
 ghost use Rattle.jmodel.specs.Output.{◌and◌, refusal_text, error_text};
-ghost use Rattle.deuce.specs.Command.{IsNoCommand};
-ghost use Rattle.deuce.specs.Ending.{IsOutcome, IsJournalOfWords, IsBadClassOfWords, IsBadProgram, IsUntypable, IsOfWords, IsNotBuilt, CanRunWords, FailedOutside, Appends, IsCut};
+ghost use Rattle.deuce.specs.Command.{seen_words, run_words, rewrite_words, IsNoRewriting, IsNoCommand};
+ghost use Rattle.deuce.specs.Ending.{IsJournalOf, IsRewritingOf, IsBadProgram, IsUntypable};
+ghost use Rattle.deuce.specs.Outcomes.{IsOutcome, IsBadClassOfWords, IsOfWords, IsNotBuilt, CanRunWords, CanRewriteWords, FailedOutside, FailedPutOfWords, ArePut, IsRefusal, Appends, IsCut, seen};
+ghost use Rattle.deuce.specs.Rewritten.{counts_text};
 
-use crate::inputs::{InputEnd, read_inputs};
+use crate::commands::{rewrite_command, run_command};
 use crate::outcome::{Outcome, text_of};
 use crate::print::print;
-use crate::run::{RunEnd, run};
 use crate::words::{Command, command_of};
 use deuce_io::{Folder, IoEnd, Sink};
 use jmodel::NoMemory;
@@ -19,23 +20,30 @@ use std::alloc::Global;
 ///
 /// | Status | Comes |
 /// |---|---|
-/// | 0 | the journal of the run was written whole |
+/// | 0 | the journal of the run was written whole; or the rewritten class file was put, and its counts were written whole |
 /// | 2 | the words are none of the forms |
 /// | 3 | the file is no class file; its path and its first fault are printed |
 /// | 4 | the code of the class has a fault, or its rewriting passes a limit; that is printed |
 /// | 5 | a method of the class has no typing; the first is printed |
-/// | 8 | a list or a read of this run failed |
+/// | 8 | a list or a read of this command failed |
 /// | 9 | the sink failed; a front of the output was written |
 /// | 10 | memory ran out; nothing was written, or a front of the output |
-/// | 12 | the folder hasn't one class file alone, or the class or the script isn't of the form that is built so far |
+/// | 11 | the put of the rewritten class file failed |
+/// | 12 | the folder hasn't one class file alone, or the class or the script isn't of the form that is built so far, or the rewritten class would have too many members |
 pub fn deuce<F: Folder, O: Sink>(alloc: Global, words: &[String], folder: &mut F, out: &mut O) -> u8
     // Where the words are of no form, that is said, unless it can't be written or memory runs out.
     ensures no_form { IsNoCommand words.now → (result ≡ 2) ⊎ ((result ≡ 9) ⊎ (result ≡ 10)) }
     ensures usage { result ≡ 2 → IsNoCommand words.now }
-
-    // What was written, where the sink tells it.
-    ensures journal { result ≡ 0 → (text : List ℕ) × IsJournalOfWords words.now (F.files folder.old) text × Appends (O.written out.old) (O.written out.new) text }
     ensures usage_line { result ≡ 2 → Appends (O.written out.old) (O.written out.new) (error_text (codes "2") (codes "usage")) }
+
+    // `run DIR SCRIPT`: what was written, where the sink tells it.
+    ensures journal { result ≡ 0 → (dir script : List ℕ) → seen_words words.now ≡ run_words dir script
+        → (text : List ℕ) × IsJournalOf (F.files folder.old) dir script text × Appends (O.written out.old) (O.written out.new) text }
+
+    // `rewrite DIR OUT`: what was put, where the folder tells its files, and the counts that were written.
+    ensures rewriting { result ≡ 0 → (dir to : List ℕ) → seen_words words.now ≡ rewrite_words dir to
+        → (taken : ℕ) × (marked : ℕ) × IsRewritingOf (F.files folder.old) (F.files folder.new) dir to taken marked
+        × Appends (O.written out.old) (O.written out.new) (counts_text taken marked) }
 
     // The one class file has this fault.
     ensures bad_class { result ≡ 3 → (path : List ℕ) × (refusal : Refusal)
@@ -50,28 +58,35 @@ pub fn deuce<F: Folder, O: Sink>(alloc: Global, words: &[String], folder: &mut F
     ensures untypable { result ≡ 5 → (refusal : Refusal) × IsOfWords words.now (F.files folder.old) IsUntypable refusal
         × Appends (O.written out.old) (O.written out.new) (error_text (codes "5") (refusal_text refusal)) }
 
-    // The folder hasn't one class file alone, or that isn't of the form, or the script isn't one of calls of its methods.
+    // The folder hasn't one class file alone, or that isn't of the form, or the script isn't one of calls of its methods, or
+    // the rewritten class would have too many members.
     ensures not_built { result ≡ 12 → IsNotBuilt words.now (F.files folder.old) }
     ensures not_built_line { result ≡ 12 → Appends (O.written out.old) (O.written out.new) (error_text (codes "12") (codes "NotBuilt")) }
 
-    // A fault of the folder is one of this run's calls, and its path is printed; a fault of the sink is the sink's.
+    // A fault of the folder is one of this command's calls, and its path is printed; a fault of the sink is the sink's.
     ensures outside { result ≡ 8 → (path : List ℕ)
         × FailedOutside words.now path (F.faults folder.old) (F.faults folder.new) (F.failed folder.new)
         × Appends (O.written out.old) (O.written out.new) (error_text (codes "8") path) }
+    ensures not_put { result ≡ 11 → (path : List ℕ)
+        × FailedPutOfWords words.now (F.files folder.old) path (F.put_faults folder.old) (F.put_faults folder.new) (F.failed folder.new)
+        × Appends (O.written out.old) (O.written out.new) (error_text (codes "11") path) }
     ensures sink { result ≡ 9 → Rose (O.faults out.old) (O.faults out.new) }
 
     // What a sink took that failed is a front of what was to be printed; where memory ran out, it took that or nothing.
-    ensures cut { result ≡ 9 → IsCut words.now (F.files folder.old) (F.faults folder.old) (F.faults folder.new) (F.failed folder.new) (O.written out.old) (O.written out.new) }
+    ensures cut { result ≡ 9 → IsCut words.now (seen (F.files folder.old) (F.faults folder.old) (F.put_faults folder.old) (F.failed folder.old)) (seen (F.files folder.new) (F.faults folder.new) (F.put_faults folder.new) (F.failed folder.new)) (O.written out.old) (O.written out.new) }
     ensures cut_or_none { result ≡ 10 → (O.written out.new ≡ O.written out.old)
-        ⊎ IsCut words.now (F.files folder.old) (F.faults folder.old) (F.faults folder.new) (F.failed folder.new) (O.written out.old) (O.written out.new) }
+        ⊎ IsCut words.now (seen (F.files folder.old) (F.faults folder.old) (F.put_faults folder.old) (F.failed folder.old)) (seen (F.files folder.new) (F.faults folder.new) (F.put_faults folder.new) (F.failed folder.new)) (O.written out.old) (O.written out.new) }
 
-    // What can be run is run, unless the folder or the sink fails or memory runs out.
+    // What can be run is run, and what can be rewritten is rewritten, unless the folder or the sink fails or memory runs out.
     ensures complete { CanRunWords words.now (F.files folder.old) → (result ≡ 0) ⊎ ((result ≡ 8) ⊎ ((result ≡ 9) ⊎ (result ≡ 10))) }
+    ensures complete_rewriting { CanRewriteWords words.now (F.files folder.old) → (result ≡ 0) ⊎ ((result ≡ 8) ⊎ ((result ≡ 9) ⊎ ((result ≡ 10) ⊎ (result ≡ 11)))) }
 
-    // The folder's files are read alone.
-    ensures files_kept { F.files folder.new ≡ F.files folder.old }
+    // The folder's files stay as they were, but for the one that a rewriting puts.
+    ensures files_kept { IsNoRewriting words.now → F.files folder.new ≡ F.files folder.old }
+    ensures refused_keeps { IsRefusal result → F.files folder.new ≡ F.files folder.old }
+    ensures put { ArePut words.now (F.files folder.old) (F.files folder.new) }
 
-    ensures statuses { (result ≡ 0) ⊎ ((result ≡ 2) ⊎ ((result ≡ 3) ⊎ ((result ≡ 4) ⊎ ((result ≡ 5) ⊎ ((result ≡ 8) ⊎ ((result ≡ 9) ⊎ ((result ≡ 10) ⊎ (result ≡ 12)))))))) }
+    ensures statuses { (result ≡ 0) ⊎ ((result ≡ 2) ⊎ ((result ≡ 3) ⊎ ((result ≡ 4) ⊎ ((result ≡ 5) ⊎ ((result ≡ 8) ⊎ ((result ≡ 9) ⊎ ((result ≡ 10) ⊎ ((result ≡ 11) ⊎ (result ≡ 12))))))))) }
 {
     let Ok(outcome) = outcome_of(alloc, words, folder) else {
         return 10;
@@ -93,27 +108,13 @@ fn outcome_of<F: Folder>(
     words: &[String],
     folder: &mut F,
 ) -> Result<Outcome, NoMemory>
-    ensures outcome { IfOk result (IsOutcome words.now (F.files folder.old) (F.faults folder.old) (F.faults folder.new) (F.failed folder.new)) }
-    ensures files_kept { F.files folder.new ≡ F.files folder.old }
+    ensures outcome { IfOk result (IsOutcome words.now (seen (F.files folder.old) (F.faults folder.old) (F.put_faults folder.old) (F.failed folder.old)) (seen (F.files folder.new) (F.faults folder.new) (F.put_faults folder.new) (F.failed folder.new))) }
+    ensures files_kept { IsNoRewriting words.now → F.files folder.new ≡ F.files folder.old }
+    ensures put { ArePut words.now (F.files folder.old) (F.files folder.new) }
 {
-    let Some(Command::Run { dir, script }) = command_of(words) else {
-        return Ok(Outcome::Usage);
-    };
-    let inputs = match read_inputs(alloc, folder, dir, script) {
-        Ok(inputs) => inputs,
-        Err(InputEnd::Outside(path)) => return Ok(Outcome::Outside(path)),
-        Err(InputEnd::NotBuilt) => return Ok(Outcome::NotBuilt),
-        Err(InputEnd::NoMemory) => return Err(NoMemory),
-    };
-    match run(alloc, inputs.class.as_slice(), inputs.script.as_slice()) {
-        Ok(text) => Ok(Outcome::Journal(text)),
-        Err(RunEnd::BadClass(refusal)) => Ok(Outcome::BadClass {
-            path: inputs.path,
-            refusal,
-        }),
-        Err(RunEnd::BadProgram(refusal)) => Ok(Outcome::BadProgram(refusal)),
-        Err(RunEnd::Untyped(refusal)) => Ok(Outcome::Untyped(refusal)),
-        Err(RunEnd::NotBuilt) => Ok(Outcome::NotBuilt),
-        Err(RunEnd::NoMemory) => Err(NoMemory),
+    match command_of(words) {
+        Some(Command::Run { dir, script }) => run_command(alloc, folder, dir, script),
+        Some(Command::Rewrite { dir, out }) => rewrite_command(alloc, folder, dir, out),
+        None => Ok(Outcome::Usage),
     }
 }

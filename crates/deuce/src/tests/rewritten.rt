@@ -1,17 +1,14 @@
-//! What the rewriting makes of Counter, against bytes that were made from docs/FORMATS.md without it.
+//! Rewritings over folders in memory. Counter's is compared with bytes that were made from docs/FORMATS.md without it.
 ghost use Rattle.std.specs.Prelude.{IfOk};
 ghost use Rattle.std.specs.List.{AllByRecursion};
 ghost use Rattle.jmodel.specs.Typing.{IsTypable};
 
-use super::COUNTER;
-use crate::run::{RunEnd, build, class_of, instrument};
-use crate::typed::type_all;
-use class_reader::read_class;
-use class_writer::write_class;
-use const_pool::ClassFile;
-use hierarchy::Program;
+use super::{COUNTER, ONE_CALL, folder_of, with_code, words_of};
+use crate::run::{RunEnd, class_of, prepare};
+use crate::top::deuce;
+use deuce_io::{Folder, MemFolder, MemSink};
 use jmodel::VType;
-use rewriter::{Rewriting, rewrite_class};
+use rewriter::Rewriting;
 use std::alloc::{AllocError, Global};
 use std::test::Fail;
 
@@ -87,21 +84,97 @@ const REWRITTEN: [u8; 1076] = [
     0x00, 0x00, 0x00, 0x00,
 ];
 
-/// All parts of a class in words, with each index and each byte.
-fn shown(alloc: Global, class: &ClassFile) -> Result<String, AllocError> {
-    format!(in alloc; "{class:?}")
+/// The words `rewrite d o`.
+fn rewrite_words(alloc: Global) -> Result<Vec<String>, AllocError> {
+    words_of(alloc, ["rewrite", "d", "o"].as_slice())
 }
+
+/// Whether a rewriting over a folder ends with this status and writes this text.
+fn ends_with(
+    alloc: Global,
+    folder: &mut MemFolder,
+    status: u8,
+    text: &str,
+) -> Result<bool, AllocError> {
+    let words = rewrite_words(alloc)?;
+    let mut out = MemSink::new(alloc, 64);
+    let found = deuce(alloc, words.as_slice(), folder, &mut out);
+    Ok(found == status && out.written.as_slice() == text.as_bytes())
+}
+
+const COUNTS: &str = "classes 1\ntaken 1\natomic 1\n";
 
 #[test]
 fn counter_is_rewritten_as_the_formats_say(rt: HostRuntime) -> Result<(), Fail> {
     let alloc = rt.alloc();
-    let class = read_class(alloc, COUNTER.as_slice())?;
-    let original = Program::build(alloc, &class)?;
-    let rewritten = rewrite_class(alloc, &class, &original)?;
-    let expected = read_class(alloc, REWRITTEN.as_slice())?;
-    assert_eq!(rt; shown(alloc, &rewritten)?, shown(alloc, &expected)?);
-    let written = write_class(alloc, &expected)?;
-    assert_eq!(rt; written.as_slice(), REWRITTEN.as_slice());
+    let mut folder = folder_of(alloc, COUNTER.as_slice(), ONE_CALL)?;
+    assert!(rt; ends_with(alloc, &mut folder, 0, COUNTS)?);
+    let new = folder.read("o/Counter.class", 2000)?;
+    assert_eq!(rt; new.as_slice(), REWRITTEN.as_slice());
+    let old = folder.read("d/Counter.class", 2000)?;
+    assert_eq!(rt; old.as_slice(), COUNTER.as_slice());
+    assert_eq!(rt; folder.files.len(), 3usize);
+    Ok(())
+}
+
+/// A class that has been rewritten has names that rewriting keeps for itself.
+#[test]
+fn a_second_rewriting_is_not_built(rt: HostRuntime) -> Result<(), Fail> {
+    let alloc = rt.alloc();
+    let mut folder = folder_of(alloc, REWRITTEN.as_slice(), ONE_CALL)?;
+    assert!(rt; ends_with(alloc, &mut folder, 12, "error 12 NotBuilt\n")?);
+    assert_eq!(rt; folder.files.len(), 2usize);
+    Ok(())
+}
+
+#[test]
+fn refused_rewritings_put_nothing(rt: HostRuntime) -> Result<(), Fail> {
+    let alloc = rt.alloc();
+    let mut folder = folder_of(alloc, &COUNTER[..20], ONE_CALL)?;
+    assert!(rt;
+        ends_with(
+            alloc,
+            &mut folder,
+            3,
+            "error 3 d/Counter.class 1 Truncated 16\n"
+        )?
+    );
+    assert_eq!(rt; folder.files.len(), 2usize);
+    let class = with_code(alloc, 1, &[0x57, 0x04, 0xac])?;
+    let mut folder = folder_of(alloc, class.as_slice(), ONE_CALL)?;
+    assert!(rt;
+        ends_with(
+            alloc,
+            &mut folder,
+            5,
+            "error 5 32 Untypable Counter.inc()I 0\n"
+        )?
+    );
+    assert_eq!(rt; folder.files.len(), 2usize);
+    Ok(())
+}
+
+#[test]
+fn a_put_that_fails_is_named(rt: HostRuntime) -> Result<(), Fail> {
+    let alloc = rt.alloc();
+    let mut folder = folder_of(alloc, COUNTER.as_slice(), ONE_CALL)?;
+    folder.fail_puts.push(3)?;
+    assert!(rt; ends_with(alloc, &mut folder, 11, "error 11 o/Counter.class\n")?);
+    Ok(())
+}
+
+#[test]
+fn a_sink_that_fails_keeps_the_file(rt: HostRuntime) -> Result<(), Fail> {
+    let alloc = rt.alloc();
+    let words = rewrite_words(alloc)?;
+    let mut folder = folder_of(alloc, COUNTER.as_slice(), ONE_CALL)?;
+    let mut out = MemSink::new(alloc, 8);
+    out.fail_writes.push(2)?;
+    let status = deuce(alloc, words.as_slice(), &mut folder, &mut out);
+    assert_eq!(rt; status, 9u8);
+    assert!(rt; out.written.as_slice() == b"classes ".as_slice());
+    let new = folder.read("o/Counter.class", 2000)?;
+    assert_eq!(rt; new.as_slice(), REWRITTEN.as_slice());
     Ok(())
 }
 
@@ -110,9 +183,7 @@ fn rewriting_of(alloc: Global, bytes: &[u8]) -> Result<Rewriting, RunEnd>
     ensures { IfOk result (λ r. AllByRecursion (IsTypable r.program) r.program.methods) }
 {
     let class = class_of(alloc, bytes)?;
-    let original = build(alloc, &class)?;
-    type_all(alloc, &class, &original)?;
-    instrument(alloc, &class, &original)
+    Ok(prepare(alloc, &class)?.rewriting)
 }
 
 /// How many places the stack has before an instruction of a method, and whether a long is topmost.

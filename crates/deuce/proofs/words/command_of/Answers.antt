@@ -10,3 +10,10 @@ returns-in-len3 c =
     let name : string_bytes c.name-item.result ≡ codes "run" =
     sym c.as_str.ensures.value ∙ (bytes_eq-Decides _ _).0 (sym c.if-eq.ensures) in
     rw (words, name, c.as_str-in-len3.ensures.value, c.as_str-in-len3-2.ensures.value) refl
+
+pub returns-in-len3-2 : goal.returns-in-len3-2
+returns-in-len3-2 c =
+    let words = three c.args.words.now c.name-item-then-words-lt4.result c.dir-item-then-words-lt4.result c.out-item.result (omega arith) c.name-item-then-words-lt4.is c.dir-item-then-words-lt4.is c.out-item.is in
+    let name : string_bytes c.name-item-then-words-lt4.result ≡ codes "rewrite" =
+    sym c.as_str-then-words-lt4.ensures.value ∙ (bytes_eq-Decides _ _).0 (sym c.if-eq-2.ensures) in
+    rw (words, name, c.as_str-in-len3-2-2.ensures.value, c.as_str-in-len3-2-3.ensures.value) refl

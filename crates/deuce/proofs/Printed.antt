@@ -1,0 +1,83 @@
+-- What was printed with a status.
+use Rattle.std.proofs.Common.{◌≡◌, ℕ, List, Option, arith}
+use Rattle.std.specs.Prelude.{String, string_bytes, codes}
+use Rattle.std.specs.declared.alloc.Global.{Global}
+use Rattle.jmodel.specs.declared.refusal.Refusal.{Refusal}
+use Rattle.jmodel.specs.Output.{◌and◌, refusal_text, error_text}
+use Rattle.deuce.specs.Command.{seen_words, run_words, rewrite_words}
+use Rattle.deuce.specs.Rewritten.{counts_text}
+use Rattle.deuce.specs.declared.outcome.Outcome.{Outcome}
+use Rattle.deuce.specs.declared.outcome.Outcome.TheVariants.{Journal, Rewritten, Usage, BadClass, BadProgram, Untyped, Outside, NotPut, NotBuilt}
+use Rattle.deuce.specs.Ending.{IsJournalOf, IsRewritingOf, IsBadProgram, IsUntypable}
+use Rattle.deuce.specs.Outcomes.{Seen, Says, IsTextOf, Appends, status_of, IsBadClassOfWords, IsOfWords}
+use Rattle.deuce.proofs.Asked.{one_run, one_rewriting, apart}
+
+module _ (words : List (String Global)) (old new : Seen) (printed : List ℕ) (before now : Option (List ℕ)) (status : ℕ) where
+  -- a run's journal, where a run was asked for
+  pub journal_printed : (o : Outcome) → Says words old new o → status ≡ status_of o → IsTextOf o printed → Appends before now printed → status ≡ 0
+      → (dir script : List ℕ) → seen_words words ≡ run_words dir script → (text : List ℕ) × IsJournalOf old.files dir script text × Appends before now text
+  journal_printed (Journal text) h s is all z = λ dir script w.
+      let same = one_run words h.0 h.1 dir script h.2 w in
+      (text, rw (same.0, same.1) at h.3, rw is at all)
+  journal_printed (Rewritten t m) h s is all z = λ dir script w. absurd (apart words dir script h.0 h.1 w h.2)
+  journal_printed Usage h s is all z = absurd (omega (arith, s, z))
+  journal_printed (BadClass path r) h s is all z = absurd (omega (arith, s, z))
+  journal_printed (BadProgram r) h s is all z = absurd (omega (arith, s, z))
+  journal_printed (Untyped r) h s is all z = absurd (omega (arith, s, z))
+  journal_printed (Outside path) h s is all z = absurd (omega (arith, s, z))
+  journal_printed (NotPut path) h s is all z = absurd (omega (arith, s, z))
+  journal_printed NotBuilt h s is all z = absurd (omega (arith, s, z))
+
+  -- counts of a rewriting, where one was asked for
+  pub rewriting_printed : (o : Outcome) → Says words old new o → status ≡ status_of o → IsTextOf o printed → Appends before now printed → status ≡ 0
+      → (dir to : List ℕ) → seen_words words ≡ rewrite_words dir to → (taken : ℕ) × (marked : ℕ) × IsRewritingOf old.files new.files dir to taken marked × Appends before now (counts_text taken marked)
+  rewriting_printed (Journal text) h s is all z = λ dir to w. absurd (apart words h.0 h.1 dir to h.2 w)
+  rewriting_printed (Rewritten t m) h s is all z = λ dir to w.
+      let same = one_rewriting words h.0 h.1 dir to h.2 w in
+      (t, m, rw (same.0, same.1) at h.3, rw is at all)
+  rewriting_printed Usage h s is all z = absurd (omega (arith, s, z))
+  rewriting_printed (BadClass path r) h s is all z = absurd (omega (arith, s, z))
+  rewriting_printed (BadProgram r) h s is all z = absurd (omega (arith, s, z))
+  rewriting_printed (Untyped r) h s is all z = absurd (omega (arith, s, z))
+  rewriting_printed (Outside path) h s is all z = absurd (omega (arith, s, z))
+  rewriting_printed (NotPut path) h s is all z = absurd (omega (arith, s, z))
+  rewriting_printed NotBuilt h s is all z = absurd (omega (arith, s, z))
+
+  -- a fault of the class file
+  pub fault_printed : (o : Outcome) → Says words old new o → status ≡ status_of o → IsTextOf o printed → Appends before now printed → status ≡ 3
+      → (path : List ℕ) × (r : Refusal) × IsBadClassOfWords words old.files path r × Appends before now (error_text (codes "3") (path and refusal_text r))
+  fault_printed (Journal text) h s is all z = absurd (omega (arith, s, z))
+  fault_printed (Rewritten t m) h s is all z = absurd (omega (arith, s, z))
+  fault_printed Usage h s is all z = absurd (omega (arith, s, z))
+  fault_printed (BadClass path r) h s is all z = (string_bytes path, r, h, rw is at all)
+  fault_printed (BadProgram r) h s is all z = absurd (omega (arith, s, z))
+  fault_printed (Untyped r) h s is all z = absurd (omega (arith, s, z))
+  fault_printed (Outside path) h s is all z = absurd (omega (arith, s, z))
+  fault_printed (NotPut path) h s is all z = absurd (omega (arith, s, z))
+  fault_printed NotBuilt h s is all z = absurd (omega (arith, s, z))
+
+  -- a fault of the class's program, or a limit
+  pub program_printed : (o : Outcome) → Says words old new o → status ≡ status_of o → IsTextOf o printed → Appends before now printed → status ≡ 4
+      → (r : Refusal) × IsOfWords words old.files IsBadProgram r × Appends before now (error_text (codes "4") (refusal_text r))
+  program_printed (Journal text) h s is all z = absurd (omega (arith, s, z))
+  program_printed (Rewritten t m) h s is all z = absurd (omega (arith, s, z))
+  program_printed Usage h s is all z = absurd (omega (arith, s, z))
+  program_printed (BadClass path r) h s is all z = absurd (omega (arith, s, z))
+  program_printed (BadProgram r) h s is all z = (r, h, rw is at all)
+  program_printed (Untyped r) h s is all z = absurd (omega (arith, s, z))
+  program_printed (Outside path) h s is all z = absurd (omega (arith, s, z))
+  program_printed (NotPut path) h s is all z = absurd (omega (arith, s, z))
+  program_printed NotBuilt h s is all z = absurd (omega (arith, s, z))
+
+  -- a method without a typing
+  pub untyped_printed : (o : Outcome) → Says words old new o → status ≡ status_of o → IsTextOf o printed → Appends before now printed → status ≡ 5
+      → (r : Refusal) × IsOfWords words old.files IsUntypable r × Appends before now (error_text (codes "5") (refusal_text r))
+  untyped_printed (Journal text) h s is all z = absurd (omega (arith, s, z))
+  untyped_printed (Rewritten t m) h s is all z = absurd (omega (arith, s, z))
+  untyped_printed Usage h s is all z = absurd (omega (arith, s, z))
+  untyped_printed (BadClass path r) h s is all z = absurd (omega (arith, s, z))
+  untyped_printed (BadProgram r) h s is all z = absurd (omega (arith, s, z))
+  untyped_printed (Untyped r) h s is all z = (r, h, rw is at all)
+  untyped_printed (Outside path) h s is all z = absurd (omega (arith, s, z))
+  untyped_printed (NotPut path) h s is all z = absurd (omega (arith, s, z))
+  untyped_printed NotBuilt h s is all z = absurd (omega (arith, s, z))

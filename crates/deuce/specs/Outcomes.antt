@@ -1,0 +1,155 @@
+-- What each outcome of a command says of the words and of the folder, and how it is printed.
+use Rattle.std.specs.Prelude.{◌≡◌, ◌⊎◌, ℕ, List, Option, Some, codes, string_bytes, String, take}
+use Rattle.std.specs.Io.KnownBytes.{append_known}
+use Rattle.std.specs.declared.alloc.Global.{Global}
+use Rattle.deuce_io.specs.Fault.{Call}
+use Rattle.deuce_io.specs.Files.{Files}
+use Rattle.jmodel.specs.declared.refusal.Refusal.{Refusal}
+use Rattle.jmodel.specs.ClassFile.{ClassFile}
+use Rattle.jmodel.specs.Output.{◌and◌, refusal_text, error_text}
+use Rattle.deuce.specs.Command.{seen_words, run_words, rewrite_words, IsNoCommand, NamesFolder}
+use Rattle.deuce.specs.Rewritten.{counts_text}
+use Rattle.deuce.specs.Ending.{IsCallOfFolder, IsCallOfRun, Failed, FailedPut, IsJournalOf, IsRewritingOf, PutsOne, IsBadClass, HasClass, HasNoOneClass, IsBadProgram, IsUntypable, IsNotRun, IsNotRewritten, CanRunIn, CanRewriteIn}
+use Rattle.deuce.specs.declared.inputs.InputEnd.{InputEnd}
+use Rattle.deuce.specs.declared.inputs.InputEnd.TheVariants as ends
+use Rattle.deuce.specs.declared.run.RunEnd.{RunEnd}
+use Rattle.deuce.specs.declared.run.RunEnd.TheVariants as run_ends
+use Rattle.deuce.specs.declared.outcome.Outcome.{Outcome}
+use Rattle.deuce.specs.declared.outcome.Outcome.TheVariants.{Journal, Rewritten, Usage, BadClass, BadProgram, Untyped, Outside, NotPut, NotBuilt}
+
+-- the text that an outcome is printed as
+abbrev pub IsTextOf : Outcome → List ℕ → Type 0
+IsTextOf (Journal text) printed = printed ≡ text
+IsTextOf (Rewritten taken marked) printed = printed ≡ counts_text taken marked
+IsTextOf Usage printed = printed ≡ error_text (codes "2") (codes "usage")
+IsTextOf (BadClass path refusal) printed = printed ≡ error_text (codes "3") (string_bytes path and refusal_text refusal)
+IsTextOf (BadProgram refusal) printed = printed ≡ error_text (codes "4") (refusal_text refusal)
+IsTextOf (Untyped refusal) printed = printed ≡ error_text (codes "5") (refusal_text refusal)
+IsTextOf (Outside path) printed = printed ≡ error_text (codes "8") (string_bytes path)
+IsTextOf (NotPut path) printed = printed ≡ error_text (codes "11") (string_bytes path)
+IsTextOf NotBuilt printed = printed ≡ error_text (codes "12") (codes "NotBuilt")
+
+-- the status of an outcome that is printed whole
+abbrev pub status_of : Outcome → ℕ
+status_of (Journal text) = 0
+status_of (Rewritten taken marked) = 0
+status_of Usage = 2
+status_of (BadClass path refusal) = 3
+status_of (BadProgram refusal) = 4
+status_of (Untyped refusal) = 5
+status_of (Outside path) = 8
+status_of (NotPut path) = 11
+status_of NotBuilt = 12
+
+-- the outcome of a command over the class file at a path that ended so
+abbrev pub IsRefusedAs : String Global → RunEnd → Outcome → Type 0
+IsRefusedAs path (run_ends.BadClass r) o = o ≡ BadClass path r
+IsRefusedAs path (run_ends.BadProgram r) o = o ≡ BadProgram r
+IsRefusedAs path (run_ends.Untyped r) o = o ≡ Untyped r
+IsRefusedAs path run_ends.NotBuilt o = o ≡ NotBuilt
+IsRefusedAs path run_ends.NoMemory o = ⊥
+
+-- the outcome of a command whose inputs weren't there
+abbrev pub IsUnreadAs : InputEnd → Outcome → Type 0
+IsUnreadAs (ends.Outside path) o = o ≡ Outside path
+IsUnreadAs ends.NotBuilt o = o ≡ NotBuilt
+IsUnreadAs ends.NoMemory o = ⊥
+
+-- in the folder that the words name, the class file at this path has this fault
+abbrev pub IsBadClassOfWords : List (String Global) → Option Files → List ℕ → Refusal → Type 0
+IsBadClassOfWords words files path r = (dir : List ℕ) × NamesFolder words dir × IsBadClass files dir path r
+
+-- in the folder that the words name stands one good class file, of which this is said
+abbrev pub IsOfWords : List (String Global) → Option Files → (Refusal → ClassFile → Type 0) → Refusal → Type 0
+IsOfWords words files Says r = (dir : List ℕ) × NamesFolder words dir × HasClass files dir (Says r)
+
+-- The words ask for a run, and its folder hasn't one class file alone, or it has, and the script can't be run on that.
+abbrev pub IsUnbuiltRun : List (String Global) → Option Files → Type 0
+IsUnbuiltRun words files = (dir : List ℕ) × (script : List ℕ) × (seen_words words ≡ run_words dir script) × (HasNoOneClass files dir ⊎ IsNotRun files dir script)
+
+-- The words ask for a rewriting, and the folder hasn't one class file alone, or it has, and that can't be rewritten.
+abbrev pub IsUnbuiltRewriting : List (String Global) → Option Files → Type 0
+IsUnbuiltRewriting words files = (dir : List ℕ) × (out : List ℕ) × (seen_words words ≡ rewrite_words dir out) × (HasNoOneClass files dir ⊎ HasClass files dir IsNotRewritten)
+
+abbrev pub IsNotBuilt : List (String Global) → Option Files → Type 0
+IsNotBuilt words files = IsUnbuiltRun words files ⊎ IsUnbuiltRewriting words files
+
+-- The text is that of the run that the words ask for.
+abbrev pub IsJournalOfWords : List (String Global) → Option Files → List ℕ → Type 0
+IsJournalOfWords words files text = (dir : List ℕ) × (script : List ℕ) × (seen_words words ≡ run_words dir script) × IsJournalOf files dir script text
+
+-- The rewriting that the words ask for was put, and these are its counts.
+abbrev pub IsRewritingOfWords : List (String Global) → Option Files → Option Files → ℕ → ℕ → Type 0
+IsRewritingOfWords words files files' taken marked =
+    (dir : List ℕ) × (out : List ℕ) × (seen_words words ≡ rewrite_words dir out) × IsRewritingOf files files' dir out taken marked
+
+-- The words ask for a run, and the folder tells files with which that can be made.
+abbrev pub CanRunWords : List (String Global) → Option Files → Type 0
+CanRunWords words files = (dir : List ℕ) × (script : List ℕ) × (told : Files) × (seen_words words ≡ run_words dir script) × (files ≡ Some told) × CanRunIn told dir script
+
+-- The words ask for a rewriting, and the folder tells a class file that can be rewritten.
+abbrev pub CanRewriteWords : List (String Global) → Option Files → Type 0
+CanRewriteWords words files = (dir : List ℕ) × (out : List ℕ) × (told : Files) × (seen_words words ≡ rewrite_words dir out) × (files ≡ Some told) × CanRewriteIn told dir
+
+-- a list or a read of the command that the words ask for failed, at this path
+abbrev pub FailedOutside : List (String Global) → List ℕ → ℕ → ℕ → Option Call → Type 0
+FailedOutside words path before now last = (dir : List ℕ) × (other : List ℕ)
+    × (((seen_words words ≡ run_words dir other) × Failed (IsCallOfRun dir other) path before now last)
+    ⊎ ((seen_words words ≡ rewrite_words dir other) × Failed (IsCallOfFolder dir) path before now last))
+
+-- the put of the rewriting that the words ask for failed, at this path
+abbrev pub FailedPutOfWords : List (String Global) → Option Files → List ℕ → ℕ → ℕ → Option Call → Type 0
+FailedPutOfWords words files path before now last =
+    (dir : List ℕ) × (out : List ℕ) × (seen_words words ≡ rewrite_words dir out) × FailedPut files dir out path before now last
+
+-- The files are as before, or the words ask for a rewriting, and so are all but the one that it puts.
+abbrev pub ArePut : List (String Global) → Option Files → Option Files → Type 0
+ArePut words files files' = (files' ≡ files) ⊎ ((dir : List ℕ) × (out : List ℕ) × (seen_words words ≡ rewrite_words dir out) × PutsOne files files' dir out)
+
+-- what a folder tells: its files, its counts of faults, and its last failed call
+pub record Seen : Type 0 where
+  pub files : Option Files
+  pub faults : ℕ
+  pub put_faults : ℕ
+  pub failed : Option Call
+
+abbrev pub seen : Option Files → ℕ → ℕ → Option Call → Seen
+seen files faults put_faults failed = record { files = files; faults = faults; put_faults = put_faults; failed = failed }
+
+-- the statuses of refusals: nothing was put before them
+abbrev pub IsRefusal : ℕ → Type 0
+IsRefusal status = (status ≡ 2) ⊎ ((status ≡ 3) ⊎ ((status ≡ 4) ⊎ ((status ≡ 5) ⊎ ((status ≡ 8) ⊎ (status ≡ 12)))))
+
+-- an outcome before which nothing is put
+abbrev pub Keeps : Outcome → Seen → Seen → Type 0
+Keeps (Rewritten taken marked) old new = Unit {0}
+Keeps (NotPut path) old new = Unit {0}
+Keeps o old new = new.files ≡ old.files
+
+-- what an outcome says of the words, and of what the folder told before and tells now
+abbrev pub Says : List (String Global) → Seen → Seen → Outcome → Type 0
+Says words old new (Journal text) = IsJournalOfWords words old.files text
+Says words old new (Rewritten taken marked) = IsRewritingOfWords words old.files new.files taken marked
+Says words old new Usage = IsNoCommand words
+Says words old new (BadClass path refusal) = IsBadClassOfWords words old.files (string_bytes path) refusal
+Says words old new (BadProgram refusal) = IsOfWords words old.files IsBadProgram refusal
+Says words old new (Untyped refusal) = IsOfWords words old.files IsUntypable refusal
+Says words old new (Outside path) = FailedOutside words (string_bytes path) old.faults new.faults new.failed
+Says words old new (NotPut path) = FailedPutOfWords words old.files (string_bytes path) old.put_faults new.put_faults new.failed
+Says words old new NotBuilt = IsNotBuilt words old.files
+
+abbrev pub IsOutcome : List (String Global) → Seen → Seen → Outcome → Type 0
+IsOutcome words old new o = Keeps o old new × Says words old new o
+
+-- bytes were appended, where they are told
+abbrev pub Appends : Option (List ℕ) → Option (List ℕ) → List ℕ → Type 0
+Appends before now text = now ≡ append_known before text
+
+-- What was written is a front of what the command that the words ask for is printed as.
+pub record IsCut (words : List (String Global)) (old new : Seen) (before now : Option (List ℕ)) : Type 0 where
+  pub outcome : Outcome
+  pub is_outcome : IsOutcome words old new outcome
+  pub text : List ℕ
+  pub is_text : IsTextOf outcome text
+  pub many : ℕ
+  pub front : Appends before now (take many text)

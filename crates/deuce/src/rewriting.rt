@@ -1,0 +1,81 @@
+//! A rewriting, from the bytes of a class file to those of the new one.
+ghost use Rattle.std.specs.Prelude.{◌≡◌, ◌≤◌, ◌↔◌, ℕ, List, length, filter, IfOk, IfErr, OnOk, IsTrue};
+ghost use Rattle.jmodel.specs.ClassRules.{IsClassFile, Spells};
+ghost use Rattle.rewriter.specs.Meaning.{AreFiled, HasFewMembers};
+ghost use Rattle.deuce.specs.Ending.{EndsCommand, EndsOnClass, IsNotRewritten};
+ghost use Rattle.deuce.specs.Rewritten.{is_marked, IsRewriting};
+
+use crate::run::{RunEnd, class_of, prepare};
+use class_writer::write_class;
+use const_pool::ClassFile;
+use hierarchy::Method;
+use jmodel::{Bytes, NoMemory};
+use std::alloc::Global;
+
+/// A rewritten class file.
+#[derive(Drop)]
+pub struct NewFile {
+    pub bytes: Bytes,
+    /// How many methods of the class are taken.
+    pub taken: usize,
+    /// How many of them are marked.
+    pub marked: usize,
+}
+
+impl From<NoMemory> for RunEnd {
+    ghost use Rattle.deuce.specs.declared.run.RunEnd.TheVariants as ends;
+    ghost use Rattle.std.specs.Prelude.{◌≡◌};
+
+    ghost from_gives = { λ _ e. e ≡ ends.NoMemory };
+
+    fn from(_: NoMemory) -> Self {
+        RunEnd::NoMemory
+    }
+}
+
+/// Rewrites a class file.
+pub fn rewrite_file(alloc: Global, class: &[u8]) -> Result<NewFile, RunEnd>
+    ensures rewriting { IfOk result (λ f. IsRewriting class.now f.bytes f.taken f.marked) }
+    ensures within { OnOk result (length class.now ≤ 1048576) }
+    ensures cause { IfErr result (EndsCommand class.now IsNotRewritten) }
+{
+    let file = class_of(alloc, class)?;
+    write_rewriting(alloc, &file)
+}
+
+/// Rewrites a class, and writes the new one.
+fn write_rewriting(alloc: Global, class: &ClassFile) -> Result<NewFile, RunEnd>
+    requires form { IsClassFile class.now }
+    requires filed { AreFiled class.now }
+    ensures rewriting { IfOk result (λ f. (bytes : List ℕ) → Spells bytes class.now → IsRewriting bytes f.bytes f.taken f.marked) }
+    ensures cause { IfErr result (EndsOnClass class.now IsNotRewritten) }
+{
+    let prepared = prepare(alloc, class)?;
+    if !has_few_members(&prepared.rewriting.class) {
+        return Err(RunEnd::NotBuilt);
+    }
+    let bytes = write_class(alloc, &prepared.rewriting.class)?;
+    let methods = prepared.original.methods();
+    Ok(NewFile {
+        bytes,
+        taken: methods.len(),
+        marked: count_marked(methods),
+    })
+}
+
+/// Whether a class has no more fields and methods than a class file counts.
+fn has_few_members(class: &ClassFile) -> bool
+    ensures { IsTrue result ↔ HasFewMembers class.now }
+{
+    class.fields.len() <= 65_535 && class.methods.len() <= 65_535
+}
+
+/// How many methods are marked.
+fn count_marked(methods: &[Method]) -> usize
+    ensures { result ≡ length (filter is_marked methods.now) }
+{
+    methods
+        .iter()
+        .filter(|method| method.retries().is_some())
+        .count()
+}
