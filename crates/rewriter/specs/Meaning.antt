@@ -1,10 +1,9 @@
 -- A rewritten class means the rewritten program.
-use Rattle.std.specs.Prelude.{◌≡◌, ℕ, ◌<◌, ◌^◌, List, length, slice_get, slice_index, Some, Ok}
+use Rattle.std.specs.Prelude.{◌≡◌, ℕ, ◌<◌, ◌^◌, List, length, slice_index, Some, Ok}
 use Rattle.std.specs.List.{AllByRecursion}
 use Rattle.jmodel.specs.ClassFile.{Attribute, Member, ClassFile}
 use Rattle.jmodel.specs.ClassRules.{IsClassFile}
-use Rattle.jmodel.specs.Program.{Method, Program}
-use Rattle.jmodel.specs.Typing.{Table, IsTyping}
+use Rattle.jmodel.specs.Program.{Program}
 use Rattle.jmodel.specs.Linking.{linked, relinked}
 use Rattle.jmodel.specs.Rewriting.{rewritten}
 use Rattle.rewriter.specs.Rewritten.{rewritten_class}
@@ -32,7 +31,3 @@ pub record HasFewMembers (c : ClassFile) : Type 0 where
 -- For a class that keeps the rules, linked to a program, what rewriting gives keeps them too, where its members can be counted.
 abbrev pub FormLaw : Type 0
 FormLaw = (c c' : ClassFile) (P : Program) → IsClassFile c → AreFiled c → linked c ≡ Some P → rewritten_class P c ≡ Ok c' → HasFewMembers c' → IsClassFile c'
-
--- a typing of a program's method by its number
-abbrev pub IsTypingOf : Program → ℕ → Table → Type 0
-IsTypingOf P m T = (k : Method) → slice_get P.methods m ≡ Some k → IsTyping P k T

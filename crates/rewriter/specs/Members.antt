@@ -19,6 +19,7 @@ use Rattle.jmodel.specs.Linking.{Coded, decoded}
 use Rattle.jmodel.specs.Reading.{◌>>=◌}
 use Rattle.jmodel.specs.Relocation.{Block, relocate}
 use Rattle.jmodel.specs.Rewriting.{moved, with_context}
+pub use Rattle.jmodel.specs.TypeOrder.{context_class}
 use Rattle.rewriter.specs.declared.accessors.Accessors.{Accessors}
 use Rattle.rewriter.specs.declared.names.Calls.{Calls}
 use Rattle.rewriter.specs.declared.wrappers.Opening.{Opening}
@@ -26,9 +27,6 @@ use Rattle.rewriter.specs.declared.wrappers.Ending.{Ending}
 use Rattle.rewriter.specs.Adding.{add_utf8, add_integer, add_long, add_class, add_field, add_method}
 
 -- ---- names
-
-abbrev pub context_class : List ℕ
-context_class = codes "org/deuce/transaction/Context"
 
 -- the descriptor of a getter and of a duplicate
 abbrev pub getter_type : List ℕ

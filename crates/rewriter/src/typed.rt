@@ -6,7 +6,8 @@ ghost use Rattle.jmodel.specs.Linking.{linked};
 ghost use Rattle.jmodel.specs.Reading.{Gives};
 ghost use Rattle.jmodel.specs.Rewriting.{rewritten};
 ghost use Rattle.jmodel.specs.Typing.{IsTypable};
-ghost use Rattle.rewriter.specs.Meaning.{AreFiled, HasFewMembers, IsTypingOf};
+ghost use Rattle.verifier.specs.Answer.{IsInferred};
+ghost use Rattle.rewriter.specs.Meaning.{AreFiled, HasFewMembers};
 ghost use Rattle.rewriter.specs.Rewritten.{rewritten_class, Keeps};
 
 use crate::rewriting::rewrite_class;
@@ -24,14 +25,14 @@ pub struct Rewriting {
 }
 
 impl Rewriting {
-    /// The typing of a method of the program, by its number: a duplicate, a wrapper, an accessor, or one that stayed as it was
+    /// The typing of a method of the program, by its number, the narrowest: a duplicate, a wrapper, an accessor, or one that stayed as it was
     /// (JVM Specification, Java SE 7, section 4.10). It is found when it is asked for, since it has the types of all locals at
     /// each instruction.
     pub fn typing(&self, alloc: Global, method: usize) -> Result<Typing, NoMemory>
         // As `rewrite` answers it.
         requires typed { AllByRecursion (IsTypable self.now.program) self.now.program.methods }
         requires number { method < length self.now.program.methods }
-        ensures { IfOk result (IsTypingOf self.now.program method) }
+        ensures { IfOk result (IsInferred self.now.program method) }
     {
         match infer(alloc, &self.program, method) {
             Ok(typing) => Ok(typing),
