@@ -1,6 +1,8 @@
 use class_reader::read_class;
+use const_pool::{ClassFile, Member, Pool};
 use jmodel::{Bytes, Halt, Refusal};
 use std::alloc::Global;
+use std::process::Abort;
 use std::test::*;
 
 // A class with a field, a method that is marked, and its code.
@@ -48,47 +50,59 @@ fn fault(alloc: Global, bytes: &[u8]) -> Option<(u8, i64)> {
 }
 
 // The member that a refusal names.
-fn blamed(alloc: Global, bytes: &[u8]) -> Option<(u8, Bytes)> {
-    match read_class(alloc, bytes) {
-        Err(Halt::Refused(Refusal::BadCode(name))) => Some((11, name)),
-        Err(Halt::Refused(Refusal::Doubled(name))) => Some((12, name)),
+fn member(refusal: &Refusal) -> Option<(u8, &[u8])> {
+    match refusal {
+        Refusal::BadCode(name) => Some((11, name.as_slice())),
+        Refusal::Doubled(name) => Some((12, name.as_slice())),
         _ => None,
     }
 }
 
-fn changed(alloc: Global, at: usize, byte: u8) -> Option<(u8, i64)> {
+// Whether the class is refused with this number, for the member of this name and descriptor.
+fn blames(alloc: Global, bytes: &[u8], number: u8, name: &[u8]) -> bool {
+    match read_class(alloc, bytes) {
+        Err(Halt::Refused(refusal)) => member(&refusal) == Some((number, name)),
+        _ => false,
+    }
+}
+
+// Counter with another byte at one place.
+fn changed(at: usize, byte: u8) -> [u8; 201] {
     let mut bytes = COUNTER;
     if let Some(b) = bytes.get_mut(at) {
         *b = byte;
     }
-    fault(alloc, &bytes)
+    bytes
 }
 
-fn changed_code(alloc: Global, at: usize, byte: u8) -> Option<(u8, Bytes)> {
-    let mut bytes = COUNTER;
-    if let Some(b) = bytes.get_mut(at) {
-        *b = byte;
-    }
-    blamed(alloc, &bytes)
+// Whether the class of this index has this name.
+fn is_named(pool: &Pool, class: u16, wanted: &[u8]) -> bool {
+    pool.class_name(class)
+        .is_some_and(|name| name.as_slice() == wanted)
 }
 
-#[test]
-fn counter(rt: HostRuntime) -> Result<(), Fail> {
-    let class = read_class(rt.alloc(), &COUNTER)?;
-    assert_eq!(rt; (class.minor, class.major), (0, 49));
-    assert_eq!(rt; class.flags, 0x21);
+// What Counter says of itself.
+fn assert_class(rt: &impl Abort, class: &ClassFile) {
+    assert_eq!(rt; (class.minor, class.major, class.flags), (0, 49, 0x21));
     assert_eq!(rt; class.pool.entries().len(), 13);
     assert!(rt; class.interfaces.is_empty());
-    let name = class.pool.class_name(class.this_class).ok_or("a name")?;
-    assert_eq!(rt; name.as_slice(), b"Counter".as_slice());
-    let name = class.pool.class_name(class.super_class).ok_or("a name")?;
-    assert_eq!(rt; name.as_slice(), b"java/lang/Object".as_slice());
-    assert_eq!(rt; class.fields.len(), 1);
-    let field = &class.fields[0];
+    assert!(rt; is_named(&class.pool, class.this_class, b"Counter"));
+    assert!(rt; is_named(&class.pool, class.super_class, b"java/lang/Object"));
+    assert!(rt; class.attributes.is_empty());
+}
+
+// Its field.
+fn assert_field(rt: &impl Abort, fields: &[Member]) {
+    assert_eq!(rt; fields.len(), 1);
+    let field = &fields[0];
     assert_eq!(rt; (field.flags, field.name, field.descriptor), (8, 5, 6));
     assert!(rt; field.attributes.is_empty());
-    assert_eq!(rt; class.methods.len(), 1);
-    let method = &class.methods[0];
+}
+
+// Its method.
+fn assert_method(rt: &impl Abort, methods: &[Member]) {
+    assert_eq!(rt; methods.len(), 1);
+    let method = &methods[0];
     assert_eq!(rt; (method.flags, method.name, method.descriptor), (9, 7, 8));
     assert_eq!(rt; method.attributes.len(), 2);
     assert_eq!(rt;
@@ -96,7 +110,14 @@ fn counter(rt: HostRuntime) -> Result<(), Fail> {
         (9, 12)
     );
     assert_eq!(rt; method.attributes[1].bytes.as_slice(), &COUNTER[193..199]);
-    assert!(rt; class.attributes.is_empty());
+}
+
+#[test]
+fn counter(rt: HostRuntime) -> Result<(), Fail> {
+    let class = read_class(rt.alloc(), &COUNTER)?;
+    assert_class(&rt, &class);
+    assert_field(&rt, &class.fields);
+    assert_method(&rt, &class.methods);
     Ok(())
 }
 
@@ -128,7 +149,7 @@ fn refuses_one_byte(rt: HostRuntime) {
         (188, 14, 3, 14),
     ] {
         assert_eq!(rt;
-            changed(rt.alloc(), at, byte),
+            fault(rt.alloc(), &changed(at, byte)),
             Some((number, place)),
             "{byte} at {at}"
         );
@@ -137,36 +158,42 @@ fn refuses_one_byte(rt: HostRuntime) {
 
 // The method is native, is abstract, has no Code, has two, or has one with a length that isn't its own.
 #[test]
-fn refuses_code(rt: HostRuntime) -> Result<(), Fail> {
+fn refuses_code(rt: HostRuntime) {
     for (at, byte) in [(151, 1), (151, 4), (160, 7), (188, 9), (172, 9)] {
-        let (number, name) = changed_code(rt.alloc(), at, byte).ok_or("a refusal")?;
-        assert_eq!(rt; number, 11, "{byte} at {at}");
-        assert_eq!(rt; name.as_slice(), b"inc()I".as_slice(), "{byte} at {at}");
+        assert!(rt;
+            blames(rt.alloc(), &changed(at, byte), 11, b"inc()I"),
+            "{byte} at {at}"
+        );
     }
-    Ok(())
 }
 
+// The twins, with these descriptors of the second field and of the second method.
+fn twins(field: u8, method: u8) -> [u8; 91] {
+    let mut bytes = TWINS;
+    bytes[68] = field;
+    bytes[86] = method;
+    bytes
+}
+
+// Fields are told before methods.
 #[test]
-fn refuses_doubled(rt: HostRuntime) -> Result<(), Fail> {
-    let alloc = rt.alloc();
-    assert!(rt; read_class(alloc, &TWINS).is_ok());
-    let mut fields = TWINS;
-    fields[68] = 3;
-    let (number, name) = blamed(alloc, &fields).ok_or("a refusal")?;
-    assert_eq!(rt; number, 12);
-    assert_eq!(rt; name.as_slice(), b"nI".as_slice());
-    let mut methods = TWINS;
-    methods[86] = 7;
-    let (number, name) = blamed(alloc, &methods).ok_or("a refusal")?;
-    assert_eq!(rt; number, 12);
-    assert_eq!(rt; name.as_slice(), b"n()V".as_slice());
-    // Fields are told before methods, and what follows the class before both.
-    fields[86] = 7;
-    let (_, name) = blamed(alloc, &fields).ok_or("a refusal")?;
-    assert_eq!(rt; name.as_slice(), b"nI".as_slice());
-    let mut longer = Bytes::from_slice(alloc, &fields)?;
+fn refuses_doubled(rt: HostRuntime) {
+    assert!(rt; read_class(rt.alloc(), &TWINS).is_ok());
+    let cases: [(u8, u8, &[u8]); 3] = [(3, 8, b"nI"), (6, 7, b"n()V"), (3, 7, b"nI")];
+    for (field, method, name) in cases {
+        assert!(rt;
+            blames(rt.alloc(), &twins(field, method), 12, name),
+            "{field} and {method}"
+        );
+    }
+}
+
+// What follows the class is told before both.
+#[test]
+fn refuses_one_byte_more_first(rt: HostRuntime) -> Result<(), Fail> {
+    let mut longer = Bytes::from_slice(rt.alloc(), &twins(3, 7))?;
     longer.push(0)?;
-    assert_eq!(rt; fault(alloc, longer.as_slice()), Some((10, 91)));
+    assert_eq!(rt; fault(rt.alloc(), longer.as_slice()), Some((10, 91)));
     Ok(())
 }
 

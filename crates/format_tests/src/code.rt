@@ -82,12 +82,19 @@ fn again(alloc: Global, code: &[u8]) -> Result<Bytes, Halt>
 }
 
 // A refusal's number and its pc.
+fn place(refusal: &Refusal) -> Option<(u8, i64)> {
+    match refusal {
+        Refusal::BadInstr(_, pc) => Some((13, *pc)),
+        Refusal::BadTarget(_, pc) => Some((14, *pc)),
+        _ => None,
+    }
+}
+
 fn fault_at(alloc: Global, code: &[u8], handlers: &[Handler]) -> Option<(u8, i64)>
     requires { length code.now ≤ 65535 }
 {
     match instructions(alloc, code, handlers) {
-        Err(Halt::Refused(Refusal::BadInstr(_, pc))) => Some((13, pc)),
-        Err(Halt::Refused(Refusal::BadTarget(_, pc))) => Some((14, pc)),
+        Err(Halt::Refused(refusal)) => place(&refusal),
         _ => None,
     }
 }

@@ -136,12 +136,19 @@ fn code_of(alloc: Global, code: &[u8], grown: (u16, u16)) -> Result<Bytes, Halt>
 }
 
 // A refusal's number and its pc.
+fn place(refusal: &Refusal) -> Option<(u8, i64)> {
+    match refusal {
+        Refusal::CodeTooLarge(_) => Some((15, 0)),
+        Refusal::BranchTooFar(_, pc) => Some((16, *pc)),
+        _ => None,
+    }
+}
+
 fn fault(alloc: Global, code: &[u8], grown: (u16, u16)) -> Option<(u8, i64)>
     requires { length code.now ≤ 65535 }
 {
     match code_of(alloc, code, grown) {
-        Err(Halt::Refused(Refusal::CodeTooLarge(_))) => Some((15, 0)),
-        Err(Halt::Refused(Refusal::BranchTooFar(_, pc))) => Some((16, pc)),
+        Err(Halt::Refused(refusal)) => place(&refusal),
         _ => None,
     }
 }

@@ -1,6 +1,8 @@
+use crate::adding::{Add, add_each, added};
 use const_pool::{Code, Constant, Descriptor, FieldType, Pool};
 use jmodel::{Bytes, Halt, Refusal};
 use std::alloc::{AllocError, Global};
+use std::process::Abort;
 use std::test::*;
 
 // A pool with entries of each kind. A Long and a Double take two indexes, so the last one is 20.
@@ -52,10 +54,8 @@ fn fault<T: Drop>(read: Result<T, Halt>) -> Option<(u8, i64)> {
     }
 }
 
-#[test]
-fn reads_entries(rt: HostRuntime) -> Result<(), Fail> {
-    let (pool, after) = Pool::read(rt.alloc(), &POOL, 0)?;
-    assert_eq!(rt; after, 113);
+// How many entries the pool has, and what names others in it.
+fn assert_entries(rt: &impl Abort, pool: &Pool) {
     assert_eq!(rt; pool.entries().len(), 20);
     assert!(rt; pool.entry(0).is_none());
     assert!(rt; matches!(pool.entry(9), Some(Constant::Field { class: 1, pair: 11 })));
@@ -68,6 +68,11 @@ fn reads_entries(rt: HostRuntime) -> Result<(), Fail> {
             })
         )
     );
+    assert!(rt; pool.entry(21).is_none());
+}
+
+// The numbers and the text at the end of the pool.
+fn assert_numbers(rt: &impl Abort, pool: &Pool) {
     assert!(rt; matches!(pool.entry(14), Some(Constant::Long(-2))));
     assert!(rt; matches!(pool.entry(15), Some(Constant::Second)));
     assert!(rt;
@@ -80,25 +85,40 @@ fn reads_entries(rt: HostRuntime) -> Result<(), Fail> {
     assert!(rt; matches!(pool.entry(18), Some(Constant::Integer(-1))));
     assert!(rt; matches!(pool.entry(19), Some(Constant::Float(0x3f80_0000))));
     assert!(rt; matches!(pool.entry(20), Some(Constant::Text(5))));
-    assert!(rt; pool.entry(21).is_none());
+}
+
+#[test]
+fn reads_entries(rt: HostRuntime) -> Result<(), Fail> {
+    let (pool, after) = Pool::read(rt.alloc(), &POOL, 0)?;
+    assert_eq!(rt; after, 113);
+    assert_entries(&rt, &pool);
+    assert_numbers(&rt, &pool);
     Ok(())
+}
+
+// Whether this is the wanted text.
+fn is_text(text: Option<&Bytes>, wanted: &[u8]) -> bool {
+    text.is_some_and(|text| text.as_slice() == wanted)
+}
+
+// Whether the entry is a member of Counter, with this name and descriptor.
+fn is_member(pool: &Pool, i: u16, wanted: (&[u8], &[u8])) -> bool {
+    pool.member(i).is_some_and(|(class, name, descriptor)| {
+        class.as_slice() == b"Counter".as_slice()
+            && (name.as_slice(), descriptor.as_slice()) == wanted
+    })
 }
 
 #[test]
 fn looks_up(rt: HostRuntime) -> Result<(), Fail> {
     let pool = pool(rt.alloc())?;
-    assert_eq!(rt; pool.utf8(7).ok_or("a text")?.as_slice(), b"inc".as_slice());
+    assert!(rt; is_text(pool.utf8(7), b"inc"));
     assert!(rt; pool.utf8(1).is_none());
-    let name = pool.class_name(3).ok_or("a class")?;
-    assert_eq!(rt; name.as_slice(), b"java/lang/Object".as_slice());
+    assert!(rt; is_text(pool.class_name(3), b"java/lang/Object"));
     assert!(rt; pool.class_name(4).is_none());
-    for i in [9, 10, 13] {
-        let (class, name, _) = pool.member(i).ok_or("a member")?;
-        assert_eq!(rt; class.as_slice(), b"Counter".as_slice());
-        assert_eq!(rt; name.len() == 1, i == 9);
-    }
-    let (_, _, descriptor) = pool.member(10).ok_or("a method")?;
-    assert_eq!(rt; descriptor.as_slice(), b"()I".as_slice());
+    assert!(rt; is_member(&pool, 9, (b"n", b"I")));
+    assert!(rt; is_member(&pool, 10, (b"inc", b"()I")));
+    assert!(rt; is_member(&pool, 13, (b"inc", b"()I")));
     assert!(rt; pool.member(12).is_none());
     Ok(())
 }
@@ -175,28 +195,22 @@ fn refuses_what_is_cut(rt: HostRuntime) {
 #[test]
 fn finds(rt: HostRuntime) -> Result<(), Fail> {
     let mut pool = pool(rt.alloc())?;
-    assert_eq!(rt; pool.add_utf8(b"Counter")?, 2);
-    assert_eq!(rt; pool.add_class(b"Counter")?, 1);
-    assert_eq!(rt; pool.add_integer(-1)?, 18);
-    assert_eq!(rt; pool.add_long(-2)?, 14);
-    assert_eq!(rt; pool.add_field(b"Counter", b"n", b"I")?, 9);
-    assert_eq!(rt; pool.add_method(b"Counter", b"inc", b"()I")?, 10);
-    assert_eq!(rt; pool.add_interface_method(b"Counter", b"inc", b"()I")?, 13);
+    let calls = [
+        (Add::Utf8(b"Counter"), 2),
+        (Add::Class(b"Counter"), 1),
+        (Add::Integer(-1), 18),
+        (Add::Long(-2), 14),
+        (Add::Field(b"Counter", b"n", b"I"), 9),
+        (Add::Method(b"Counter", b"inc", b"()I"), 10),
+        (Add::InterfaceMethod(b"Counter", b"inc", b"()I"), 13),
+    ];
+    add_each(&rt, &mut pool, &calls)?;
     assert_eq!(rt; pool.entries().len(), 20);
     Ok(())
 }
 
-// New entries stand behind the old ones, those that an entry names before it.
-#[test]
-fn adds(rt: HostRuntime) -> Result<(), Fail> {
-    let mut pool = pool(rt.alloc())?;
-    assert_eq!(rt; pool.add_utf8(b"A")?, 21);
-    assert_eq!(rt; pool.add_class(b"A")?, 22);
-    assert_eq!(rt; pool.add_integer(7)?, 23);
-    assert_eq!(rt; pool.add_long(7)?, 24);
-    assert_eq!(rt; pool.add_field(b"A", b"n", b"J")?, 28);
-    assert_eq!(rt; pool.add_method(b"A", b"inc", b"()I")?, 29);
-    assert_eq!(rt; pool.add_interface_method(b"B", b"inc", b"()I")?, 32);
+// What `adds` has put.
+fn assert_added(rt: &impl Abort, pool: &Pool) {
     assert_eq!(rt; pool.entries().len(), 32);
     assert!(rt; matches!(pool.entry(22), Some(Constant::Class(21))));
     assert!(rt; matches!(pool.entry(24), Some(Constant::Long(7))));
@@ -210,6 +224,10 @@ fn adds(rt: HostRuntime) -> Result<(), Fail> {
             })
         )
     );
+}
+
+// The members that `adds` has put.
+fn assert_added_members(rt: &impl Abort, pool: &Pool) {
     assert!(rt;
         matches!(
             pool.entry(28),
@@ -237,6 +255,24 @@ fn adds(rt: HostRuntime) -> Result<(), Fail> {
             })
         )
     );
+}
+
+// New entries stand behind the old ones, those that an entry names before it.
+#[test]
+fn adds(rt: HostRuntime) -> Result<(), Fail> {
+    let mut pool = pool(rt.alloc())?;
+    let calls = [
+        (Add::Utf8(b"A"), 21),
+        (Add::Class(b"A"), 22),
+        (Add::Integer(7), 23),
+        (Add::Long(7), 24),
+        (Add::Field(b"A", b"n", b"J"), 28),
+        (Add::Method(b"A", b"inc", b"()I"), 29),
+        (Add::InterfaceMethod(b"B", b"inc", b"()I"), 32),
+    ];
+    add_each(&rt, &mut pool, &calls)?;
+    assert_added(&rt, &pool);
+    assert_added_members(&rt, &pool);
     Ok(())
 }
 
@@ -251,24 +287,36 @@ fn zeros(alloc: Global, count: usize) -> Result<Pool, AllocError> {
     Ok(pool)
 }
 
+// Makes these calls in turn, each of which has to be refused for want of room.
+fn assert_no_room(rt: &impl Abort, pool: &mut Pool, calls: &[Add]) {
+    for (i, call) in calls.iter().enumerate() {
+        assert_eq!(rt; fault(added(pool, *call)), Some((7, -1)), "at call {i}");
+    }
+}
+
 // A call that has no room for all of its entries puts none.
 #[test]
 fn refuses_what_has_no_room(rt: HostRuntime) -> Result<(), Fail> {
     let mut pool = zeros(rt.alloc(), 65533)?;
-    assert_eq!(rt; fault(pool.add_long(1)), Some((7, -1)));
-    assert_eq!(rt; fault(pool.add_class(b"A")), Some((7, -1)));
-    assert_eq!(rt; fault(pool.add_field(b"A", b"n", b"I")), Some((7, -1)));
+    let calls = [Add::Long(1), Add::Class(b"A"), Add::Field(b"A", b"n", b"I")];
+    assert_no_room(&rt, &mut pool, &calls);
     assert_eq!(rt; pool.entries().len(), 65533);
-    assert_eq!(rt; pool.add_integer(1)?, 65534);
-    assert_eq!(rt; pool.add_integer(1)?, 65534);
-    assert_eq!(rt; fault(pool.add_utf8(b"A")), Some((7, -1)));
+    let calls = [(Add::Integer(1), 65534), (Add::Integer(1), 65534)];
+    add_each(&rt, &mut pool, &calls)?;
+    assert_no_room(&rt, &mut pool, &[Add::Utf8(b"A")]);
     assert_eq!(rt; pool.entries().len(), 65534);
+    Ok(())
+}
+
+// A text has at most 65,535 bytes.
+#[test]
+fn refuses_a_long_text(rt: HostRuntime) -> Result<(), Fail> {
     let mut pool = Pool::new(rt.alloc());
     let mut text = vec![in rt.alloc(); b'a'; 65536]?;
-    assert_eq!(rt; fault(pool.add_utf8(&text)), Some((7, -1)));
+    assert_no_room(&rt, &mut pool, &[Add::Utf8(&text)]);
     assert!(rt; pool.entries().is_empty());
     let _ = text.pop();
-    assert_eq!(rt; pool.add_utf8(&text)?, 1);
+    add_each(&rt, &mut pool, &[(Add::Utf8(&text), 1)])?;
     Ok(())
 }
 
@@ -326,32 +374,32 @@ fn longs(alloc: Global, longs: usize, ints: usize) -> Result<Bytes, AllocError> 
 }
 
 #[test]
-fn refuses_descriptors(rt: HostRuntime) -> Result<(), Fail> {
-    let alloc = rt.alloc();
-    assert_eq!(rt; fault(Descriptor::read(alloc, b"")), Some((6, 0)));
-    assert_eq!(rt; fault(Descriptor::read(alloc, b"I")), Some((6, 0)));
-    assert_eq!(rt; fault(Descriptor::read(alloc, b"()")), Some((6, 0)));
-    assert_eq!(rt; fault(Descriptor::read(alloc, b"(V)V")), Some((6, 0)));
-    assert_eq!(rt; fault(Descriptor::read(alloc, b"(L;)V")), Some((6, 0)));
-    assert_eq!(rt; fault(Descriptor::read(alloc, b"([)V")), Some((6, 0)));
-    assert_eq!(rt; fault(Descriptor::read(alloc, b"()VV")), Some((6, 0)));
-    let fits = longs(alloc, 127, 1)?;
-    assert!(rt; Descriptor::read(alloc, fits.as_slice()).is_ok());
-    let wide = longs(alloc, 128, 0)?;
+fn refuses_descriptors(rt: HostRuntime) {
+    let descriptors: [&[u8]; 7] = [b"", b"I", b"()", b"(V)V", b"(L;)V", b"([)V", b"()VV"];
+    for (i, descriptor) in descriptors.iter().enumerate() {
+        assert_eq!(rt;
+            fault(Descriptor::read(rt.alloc(), descriptor)),
+            Some((6, 0)),
+            "at descriptor {i}"
+        );
+    }
+}
+
+// Parameters may take 255 places.
+#[test]
+fn refuses_wide_descriptors(rt: HostRuntime) -> Result<(), Fail> {
+    let fits = longs(rt.alloc(), 127, 1)?;
+    assert!(rt; Descriptor::read(rt.alloc(), fits.as_slice()).is_ok());
+    let wide = longs(rt.alloc(), 128, 0)?;
     assert_eq!(rt;
-        fault(Descriptor::read(alloc, wide.as_slice())),
+        fault(Descriptor::read(rt.alloc(), wide.as_slice())),
         Some((6, 0))
     );
     Ok(())
 }
 
-#[test]
-fn reads_code(rt: HostRuntime) -> Result<(), Fail> {
-    let pool = pool(rt.alloc())?;
-    let code = Code::read(rt.alloc(), &pool, &CODE)
-        .ok_or("a Code")?
-        .ok()
-        .ok_or("memory")?;
+// The parts of the Code.
+fn assert_code(rt: &impl Abort, code: &Code) {
     assert_eq!(rt; (code.max_stack, code.max_locals), (2, 1));
     assert_eq!(rt;
         code.code.as_slice(),
@@ -363,6 +411,13 @@ fn reads_code(rt: HostRuntime) -> Result<(), Fail> {
     assert_eq!(rt; code.attributes.len(), 1);
     assert_eq!(rt; code.attributes[0].name, 5);
     assert_eq!(rt; code.attributes[0].bytes.as_slice(), b"\x00".as_slice());
+}
+
+#[test]
+fn reads_code(rt: HostRuntime) -> Result<(), Fail> {
+    let pool = pool(rt.alloc())?;
+    let code = Code::read(rt.alloc(), &pool, &CODE).ok_or("a Code")?;
+    assert_code(&rt, &code.ok().ok_or("memory")?);
     Ok(())
 }
 
