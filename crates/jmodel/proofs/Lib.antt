@@ -35,3 +35,4 @@ pub mod AccessorTypes
 pub mod WrapperTypes
 pub mod DuplicateTypes
 pub mod TypedRewriting
+pub mod Telling

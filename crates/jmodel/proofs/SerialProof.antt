@@ -5,7 +5,7 @@ use Rattle.std.specs.List.{AllByRecursion}
 use Rattle.std.proofs.lemmas.Bool.Decides.{nat_tests}
 use Rattle.jmodel.specs.Program.{Program}
 use Rattle.jmodel.specs.State.{State}
-use Rattle.jmodel.specs.History.{Entry, Words, overlaid, AreEntries, used_with}
+use Rattle.jmodel.specs.History.{Entry, Words, overlaid, AreEntries, used_with, used_after}
 use Rattle.jmodel.specs.Meaning.{Represents, Explains, ExplainsFrom}
 use Rattle.jmodel.specs.SerialLaw.{HasUsed, IsSerial}
 
@@ -20,9 +20,14 @@ used_next P size budget e words used σ x has region = go (nat_eq e.call.region 
 
 pub serial_of : (P : Program) (size budget : ℕ) (h : List Entry) (words : Words) (used : ℕ → ℕ) (σ : State) → Represents P size words σ
     → HasUsed σ used → AreEntries words used h → AllByRecursion (Explains P size budget) h → IsSerial P size budget h words σ
-serial_of P size budget [] words used σ stands has entries explained = record { after = σ; serial = refl; represents = stands }
+serial_of P size budget [] words used σ stands has entries explained = record { after = σ; serial = refl; represents = stands; used = λ region. refl }
 serial_of P size budget (e ∷ h) words used σ stands has entries explained =
     let x = explained.0 words σ stands entries.0.reads (has e.call.region ∙ sym entries.0.used_before) in
     let rest = serial_of P size budget h (overlaid e.writes words) (used_with used e) x.after x.represents
     (used_next P size budget e words used σ x has) entries.1 explained.1 in
-    record { after = rest.after; serial = (x.after, x.calls, rest.serial); represents = rest.represents }
+    record {
+      after = rest.after;
+      serial = (x.after, x.calls, rest.serial);
+      represents = rest.represents;
+      used = λ region. rest.used region ∙ ap (used_after h region) (used_next P size budget e words σ.used σ x (λ r. refl) region);
+    }

@@ -51,13 +51,25 @@ round c = if nat_eq c.region 0 then 0 else c.phase + 1
 abbrev pub first_by : ℕ → ℕ → Bool → Bool
 first_by x y later = nat_lt x y || (nat_eq x y && later)
 
+-- what is told of an entry: its stamp, its call, and what that answered
+pub record Told : Type 0 where
+  pub stamp : Stamp
+  pub call : Call
+  pub answer : Answer
+
+abbrev pub told : Entry → Told
+told e = record { stamp = e.stamp; call = e.call; answer = e.answer }
+
 -- by stamp, an update before readers of the same stamp, then by round, lane and index
-abbrev pub precedes : Entry → Entry → Bool
-precedes a b =
+abbrev pub comes_first : Told → Told → Bool
+comes_first a b =
     first_by a.stamp.at b.stamp.at (
     (a.stamp.update && not b.stamp.update)
     || ((a.stamp.update || not b.stamp.update)
     && first_by (round a.call) (round b.call) (first_by a.call.lane b.call.lane (nat_lt a.call.index b.call.index))))
+
+abbrev pub precedes : Entry → Entry → Bool
+precedes a b = comes_first (told a) (told b)
 
 -- an entry that left words of its region used
 abbrev pub leaves_words : Answer → Bool

@@ -22,6 +22,7 @@ pub mod Law
 pub mod TypingLaw
 pub mod Layout
 pub mod Serial
+pub mod Schedule
 pub mod Output
 pub mod SerialLaw
 pub mod OpeningLaw

@@ -1,7 +1,7 @@
 -- What holds of the shared words and of all books together, between any two steps.
 -- Word 0 is the clock. Words 1 to 4096 are the stripes, 2 * version where free and 2 * number + 1 where held. The heap follows.
 -- (TL2: Dice, Shalev, Shavit, DISC 2006; LSA: Riegel, Felber, Fetzer, DISC 2006, in this project's form.)
-use Rattle.std.specs.Prelude.{◌≡◌, ◌≢◌, ◌⊎◌, ℕ, zero, suc, ◌+◌, ◌-◌, ◌*◌, ◌%◌, ◌<◌, ◌≤◌, true, false, cond, ◌==◌, List, [], ◌∷◌, length, slice_index}
+use Rattle.std.specs.Prelude.{◌≡◌, ◌≢◌, ◌⊎◌, ℕ, zero, suc, ◌+◌, ◌-◌, ◌*◌, ◌%◌, ◌<◌, ◌≤◌, true, false, cond, ◌==◌, List, [], ◌∷◌, length, slice_index, AllPairs}
 use mathlib.Core.Option.{Option, none, some}
 use lib.ListN.{get_elem?}
 use Rattle.jmodel.specs.History.{Call, Entry, IsLegal, memory_after, used_after, leaves_words}
@@ -277,11 +277,16 @@ pub record Snapshot (S : Story) (b : Book) : Type 0 where
   pub reads : (a x : ℕ) → In (a, x) b.reads → memory_after history (start S) a ≡ x
   pub regions : (r : ℕ) (g : Region) → lookup b.regions r ≡ some g → used_after history r (used_at S r) ≡ g.used
 
+-- of two entries of one region, this one's call comes first
+abbrev pub IsRegionKept : Entry → Entry → Type 0
+IsRegionKept d e = d.call.region ≡ e.call.region → rises d.call e.call ≡ true
+
 -- What a pass learns that holds every number at the end: one legal history of runs, which has the entries of its book, each as
--- often as the book has it, leaves the words of the heap.
+-- often as the book has it, leaves the words of the heap. The entries of one region stand in the order of their calls.
 pub record Ends (S : Story) (b : Book) (words : List ℕ) : Type 0 where
   pub history : List Entry
   pub legal : IsLegal (start S) (used_at S) history
   pub runs : (e : Entry) → In e history → S.runs e
   pub heap : (a : ℕ) → slice_index words a ≡ memory_after history (start S) a
   pub account : (h : Entry → ℕ) → weigh h history ≡ weigh h b.entries
+  pub regions : AllPairs IsRegionKept history

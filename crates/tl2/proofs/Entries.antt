@@ -3,6 +3,7 @@ use Rattle.std.proofs.Common.{◌≡◌, ◌≢◌, ◌<◌, ◌+◌, ℕ, false
 use Rattle.std.proofs.lemmas.List.{reverse-append}
 use Rattle.std.proofs.lemmas.List.Elements.{All-nil}
 use mathlib.Core.Option.{some}
+use Rattle.atomic_table.specs.Seated.{TableId}
 use Rattle.jmodel.specs.declared.op.Access.{Access}
 use Rattle.jmodel.specs.declared.value.Answer.{Answer}
 use Rattle.jmodel.specs.declared.value.Stamp.{Stamp}
@@ -13,10 +14,13 @@ use Rattle.jmodel.specs.Book.{Map, Book, Lost, Region, lookup, pairs}
 use Rattle.jmodel.specs.Rule.{Story, Succeeds}
 use Rattle.jmodel.specs.Plays.{accesses, reader_entry, used_in, finished, region_of, Fits, Reads}
 use Rattle.tx_core.specs.Engine.{Adds}
+use Rattle.tx_table.specs.declared.shared.Pass.{Pass}
+use Rattle.tx_table.specs.Passes.{book, IsSame}
 use Rattle.tl2.specs.declared.attempt.At.{At}
 use Rattle.tl2.specs.declared.attempt.At.TheVariants.{Outside}
 use Rattle.tl2.specs.Commits.{IsAdded, IsRest, update_of}
 use Rattle.tl2.specs.Standing.{IsAt, Awaits, Stands}
+use Rattle.tl2.proofs.Keeping.{keeps_still, keeps_more}
 
 -- where a pass stands in an attempt, so does the engine
 pub inside : (words : ℕ) (at : At) (v : Book) → IsAt words at v → at ≢ Outside
@@ -68,18 +72,27 @@ reader_fits S named v c used r x on aw reads runs =
     }
 
 -- the engine stands for one entry more
-pub adds_reader : (words : ℕ) (named : Call) (rule : Entry → Type 0) (at : At) (kept : List Access) (v : Book) (h : List Entry) (n : ℕ) (r w : Log) (x : Answer)
-    → v.call ≡ named → at ≢ Outside → Stands words at kept v h n r w
-    → Adds (Awaits named v) rule (Stands words Outside [] (finished v (reader_entry v x))) h n x (record { at = v.bound; update = false }) r []
-adds_reader words named rule at kept v h n r w x on inside s c used aw may = record {
-  entries = ap (λ (e : Entry). e ∷ v.entries) (reader_made named v c used r x on aw (s.reads inside))
-      ∙ ap (λ (t : List Entry). made c x used used (record { at = v.bound; update = false }) r [] ∷ t) s.entries
-      ∙ sym (reverse-append h (made c x used used (record { at = v.bound; update = false }) r [] ∷ []));
-  lost = s.lost;
-  reads = λ q. absurd (q refl);
-  writes = refl;
-  within = All-nil (λ (l : Access). l.address < words);
-}
+pub adds_reader : (holds : ℕ → Type 0) (owns : TableId → ℕ → ℕ → Type 0) (words : ℕ) (named : Call) (rule : Entry → Type 0) (at : At) (kept : List Access)
+    (p q : Pass) (h : List Entry) (n : ℕ) (r w : Log) (x : Answer)
+    → (book p).call ≡ named → at ≢ Outside → IsSame p q → book q ≡ finished (book p) (reader_entry (book p) x)
+    → Stands holds owns words at kept p h n r w
+    → Adds (Awaits named (book p)) rule (Stands holds owns words Outside [] q) h n x (record { at = (book p).bound; update = false }) r []
+adds_reader holds owns words named rule at kept p q h n r w x on inside same e s c used aw may =
+    let entries : (book q).entries ≡ reader_entry (book p) x ∷ (book p).entries = ap (λ (b : Book). b.entries) e in
+    let numbers = ap (λ (b : Book). b.numbers) e in
+    let fresh = ap (λ (b : Book). b.fresh) e in
+    let regions = ap (λ (b : Book). b.regions) e in
+    record {
+      entries = entries
+          ∙ ap (λ (d : Entry). d ∷ (book p).entries) (reader_made named (book p) c used r x on aw (s.reads inside))
+          ∙ ap (λ (t : List Entry). made c x used used (record { at = (book p).bound; update = false }) r [] ∷ t) s.entries
+          ∙ sym (reverse-append h (made c x used used (record { at = (book p).bound; update = false }) r [] ∷ []));
+      lost = ap (λ (b : Book). length b.lost) e ∙ s.lost;
+      reads = λ z. absurd (z refl);
+      writes = refl;
+      within = All-nil (λ (l : Access). l.address < words);
+      keeps = keeps_more holds owns p q same numbers fresh (reader_entry (book p) x) regions entries s.keeps;
+    }
 
 -- the region has the awaited call as its last one
 pub reader_region : (named : Call) (v : Book) (x : Answer) (c : Call) (used : ℕ) → v.call ≡ named → Awaits named v c used
@@ -122,18 +135,21 @@ update_fits S named v c used r w x t on aw reads runs =
     }
 
 -- the engine stands for one update more
-pub adds_update : (words : ℕ) (named : Call) (rule : Entry → Type 0) (at : At) (kept : List Access) (v v' : Book) (h : List Entry) (n : ℕ) (r w : Log) (x : Answer) (s : Stamp)
-    → v.call ≡ named → at ≢ Outside → s.update ≡ true → Stands words at kept v h n r w → IsAdded (update_of v s.at w x) v v'
-    → Adds (Awaits named v) rule (Stands words Outside [] v') h n x s r w
-adds_update words named rule at kept v v' h n r w x s on inside u st a c used aw may = record {
+pub adds_update : (holds : ℕ → Type 0) (owns : TableId → ℕ → ℕ → Type 0) (words : ℕ) (named : Call) (rule : Entry → Type 0) (at : At) (kept : List Access)
+    (p q : Pass) (h : List Entry) (n : ℕ) (r w : Log) (x : Answer) (s : Stamp)
+    → (book p).call ≡ named → at ≢ Outside → s.update ≡ true → IsSame p q → IsAdded (update_of (book p) s.at w x) (book p) (book q)
+    → Stands holds owns words at kept p h n r w
+    → Adds (Awaits named (book p)) rule (Stands holds owns words Outside [] q) h n x s r w
+adds_update holds owns words named rule at kept p q h n r w x s on inside u same a st c used aw may = record {
   entries = a.entries
-      ∙ ap (λ (e : Entry). e ∷ v.entries) (update_made named v c used r w x s u on aw (st.reads inside))
+      ∙ ap (λ (e : Entry). e ∷ (book p).entries) (update_made named (book p) c used r w x s u on aw (st.reads inside))
       ∙ ap (λ (t : List Entry). made c x used used s r w ∷ t) st.entries
       ∙ sym (reverse-append h (made c x used used s r w ∷ []));
   lost = ap length a.lost ∙ st.lost;
   reads = λ q. absurd (q refl);
   writes = refl;
   within = All-nil (λ (l : Access). l.address < words);
+  keeps = keeps_more holds owns p q same a.numbers a.fresh (update_of (book p) s.at w x) a.regions a.entries st.keeps;
 }
 
 pub update_region : (named : Call) (v v' : Book) (t : ℕ) (w : Log) (x : Answer) (c : Call) (used : ℕ) → v.call ≡ named → IsAdded (update_of v t w x) v v' → Awaits named v c used
@@ -145,11 +161,15 @@ update_region named v v' t w x c used on a aw =
     a.regions ∙ it
 
 -- a conflict in a commit is counted, and the attempt leaves nothing
-pub lost_stands : (words moved n : ℕ) (at : At) (kept : List Access) (v v' : Book) (h : List Entry) (r w : Log) (l : Lost) → IsRest (l ∷ []) moved v v' → Stands words at kept v h n r w → Stands words Outside [] v' h (n + 1) [] []
-lost_stands words moved n at kept v v' h r w l k s = record {
+pub lost_stands : (holds : ℕ → Type 0) (owns : TableId → ℕ → ℕ → Type 0) (words moved n : ℕ) (at : At) (kept : List Access)
+    (p q : Pass) (h : List Entry) (r w : Log) (l : Lost)
+    → IsSame p q → IsRest (l ∷ []) moved (book p) (book q) → Stands holds owns words at kept p h n r w
+    → Stands holds owns words Outside [] q h (n + 1) [] []
+lost_stands holds owns words moved n at kept p q h r w l same k s = record {
   entries = k.entries ∙ s.entries;
-  lost = let p : length v'.lost ≡ length (l ∷ v.lost) = ap length k.lost in let q = s.lost in omega arith;
-  reads = λ q. absurd (q refl);
+  lost = let d : length (book q).lost ≡ length (l ∷ (book p).lost) = ap length k.lost in let was = s.lost in omega arith;
+  reads = λ z. absurd (z refl);
   writes = refl;
   within = All-nil (λ (l : Access). l.address < words);
+  keeps = keeps_still holds owns p q same k.numbers k.fresh k.regions k.entries s.keeps;
 }

@@ -1,3 +1,4 @@
+pub mod Keeping
 pub mod Entries
 pub mod Stripes
 pub mod Rests
@@ -5,3 +6,4 @@ pub mod Plans
 pub mod Newest
 pub mod Updating
 pub mod Trials
+pub mod Waiting

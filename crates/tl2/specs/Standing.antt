@@ -1,11 +1,14 @@
 -- What an engine over a table stands for.
 use Rattle.std.specs.Prelude.{◌≡◌, ◌≢◌, ◌<◌, ◌≤◌, ◌%◌, ℕ, true, None, List, All, length, reverse}
 use mathlib.Core.Option.{some}
+use Rattle.atomic_table.specs.Seated.{TableId}
 use Rattle.jmodel.specs.declared.op.Access.{Access}
 use Rattle.jmodel.specs.Attempt.{Log, access, written}
 use Rattle.jmodel.specs.History.{Call, Entry}
-use Rattle.jmodel.specs.Book.{Book, Region, Saw, Had, lookup, pairs, IsOfLane}
-use Rattle.jmodel.specs.Rule.{Succeeds}
+use Rattle.jmodel.specs.Book.{Book, Region, Saw, Had, lookup, pairs, rises, IsOfLane}
+use Rattle.jmodel.specs.Rule.{Succeeds, last_of, region_after}
+use Rattle.tx_table.specs.declared.shared.Pass.{Pass}
+use Rattle.tx_table.specs.Passes.{book}
 use Rattle.tl2.specs.declared.attempt.At.{At}
 use Rattle.tl2.specs.declared.attempt.At.TheVariants.{Outside, Inside, Looked, Loaded}
 
@@ -32,10 +35,25 @@ IsOpen words at c v = (v.live ≡ true) × (v.call ≡ c) × IsAt words at v
 abbrev pub Awaits : Call → Book → Call → ℕ → Type 0
 Awaits named v c used = (c ≡ named) × IsOfLane c × ((g : Region) × (lookup v.regions c.region ≡ some g) × (g.used ≡ used) × Succeeds c g.last)
 
--- The entries and conflicts of a pass, and what its attempt has read and written.
-pub record Stands (words : ℕ) (at : At) (kept : List Access) (v : Book) (h : List Entry) (n : ℕ) (r w : Log) : Type 0 where
-  pub entries : v.entries ≡ reverse h
-  pub lost : length v.lost ≡ n
-  pub reads : at ≢ Outside → v.reads ≡ pairs r
+-- An entry is before a call where, if it is of the call's region, its call comes first and it left no word there used.
+abbrev pub IsBefore : Call → Entry → Type 0
+IsBefore c e = e.call.region ≡ c.region → (rises e.call c ≡ true) × (e.used_after ≡ 0)
+
+-- An entry of the same phase and lane as a call, with a lower index, that left no word of its region used.
+abbrev pub IsEarlier : Call → Entry → Type 0
+IsEarlier c e = (e.call.phase ≡ c.phase) × (e.call.lane ≡ c.lane) × (e.call.index < c.index) × (e.used_after ≡ 0)
+
+-- What a pass keeps between calls: a held region is as it was opened, with no word used, or as its last entry left it.
+pub record Keeps (holds : ℕ → Type 0) (owns : TableId → ℕ → ℕ → Type 0) (p : Pass) : Type 0 where
+  pub regions : (r : ℕ) → holds r → lookup (book p).regions r ≡ some (region_after 0 (last_of (book p).entries r))
+  pub own : owns p.seat.table_id (book p).numbers (book p).fresh
+
+-- The entries and conflicts of a pass, what its attempt has read and written, and what the pass keeps between calls.
+pub record Stands (holds : ℕ → Type 0) (owns : TableId → ℕ → ℕ → Type 0) (words : ℕ) (at : At) (kept : List Access) (p : Pass)
+    (h : List Entry) (n : ℕ) (r w : Log) : Type 0 where
+  pub entries : (book p).entries ≡ reverse h
+  pub lost : length (book p).lost ≡ n
+  pub reads : at ≢ Outside → (book p).reads ≡ pairs r
   pub writes : reverse kept ≡ w
   pub within : All (λ (l : Access). l.address < words) w
+  pub keeps : Keeps holds owns p

@@ -21,11 +21,19 @@ pub trait Ruled: Story {
     ghost keeps: { (s : Self) (e : Entry) → rule e → (Self.story s).runs e };
 }
 
-/// Names a call, for contracts alone.
+/// Names a call, and what is known of the pass that makes it, for contracts alone.
 pub trait Calling {
+    ghost use Rattle.std.specs.Prelude.{ℕ};
+    ghost use Rattle.atomic_table.specs.Seated.{TableId};
     ghost use Rattle.jmodel.specs.History.{Call};
 
     ghost call: { Self → Call };
+
+    /// The regions of the pass that the calls take words from. Nothing is said of regions where this is left out.
+    ghost holds: { ℕ → Type 0 } = { λ _. ⊥ };
+
+    /// What is known of the pass: its table, how many numbers it holds, and how many of them were never given out.
+    ghost own: { TableId → ℕ → ℕ → Type 0 } = { λ _ _ _. Unit {0} };
 }
 
 /// Where an engine stands.
@@ -55,8 +63,8 @@ pub struct Tl2<'a, T: Ruled, C> {
     ghost logged: { IsLogged shared.now.words at reads.items (book pass) },
 }
 
-impl<'a, T: Ruled, C> Tl2<'a, T, C> {
-    ghost use Rattle.tl2.specs.Standing.{Stands};
+impl<'a, T: Ruled, C: Calling> Tl2<'a, T, C> {
+    ghost use Rattle.tl2.specs.Standing.{Keeps, Stands};
 
     /// The engine of a pass that holds no stripe. No memory.
     pub fn new(alloc: Global, shared: &'a Shared<T>, pass: Pass, call: Snapshot<C>) -> Self
@@ -64,7 +72,8 @@ impl<'a, T: Ruled, C> Tl2<'a, T, C> {
         requires free { ((book pass).face.held ≡ []) × ((book pass).face.stage ≡ Unticked) }
         ensures pass { result.pass ≡ pass }
         ensures call { result.call.value ≡ call.value }
-        ensures stands { (h : List Entry) → (book pass).entries ≡ reverse h → Stands result.shared.now.words result.at result.writes.items (book result.pass) h (length (book pass).lost) [] [] }
+        ensures stands { (h : List Entry) → (book pass).entries ≡ reverse h → Keeps C.holds C.own pass
+            → Stands C.holds C.own result.shared.now.words result.at result.writes.items result.pass h (length (book pass).lost) [] [] }
     {
         Tl2 {
             shared,
@@ -82,7 +91,8 @@ impl<'a, T: Ruled, C> Tl2<'a, T, C> {
         ensures call { self.new.call.value ≡ call.value }
         ensures pass { self.new.pass ≡ self.old.pass }
         ensures shared { self.new.shared ≡ self.old.shared }
-        ensures stands { (h : List Entry) (n : ℕ) (r w : Log) → Stands self.old.shared.now.words self.old.at self.old.writes.items (book self.old.pass) h n r w → Stands self.new.shared.now.words self.new.at self.new.writes.items (book self.new.pass) h n [] [] }
+        ensures stands { (h : List Entry) (n : ℕ) (r w : Log) → Stands C.holds C.own self.old.shared.now.words self.old.at self.old.writes.items self.old.pass h n r w
+            → Stands C.holds C.own self.new.shared.now.words self.new.at self.new.writes.items self.new.pass h n [] [] }
     {
         self.call = call;
         self.writes.clear();

@@ -112,10 +112,10 @@ fn changes<'a, T: Ruled>(
     amount: u64,
 ) -> Result<(), TxEnd>
     requires open { IsOpen tx.old.shared.now.words tx.old.at (the_call tx.old.call.value.lane tx.old.call.value.index) (book tx.old.pass) }
-    requires stands { StandsSomehow tx.old.shared.now.words tx.old.at tx.old.writes.items (book tx.old.pass) }
+    requires stands { StandsSomehow tx.old.shared.now.words tx.old.at tx.old.writes.items tx.old.pass }
     ensures open { IfOk result (λ _. IsOpen tx.new.shared.now.words tx.new.at (the_call tx.new.call.value.lane tx.new.call.value.index) (book tx.new.pass)) }
     ensures awaits { (c : Call) (used : ℕ) → Awaits (the_call tx.old.call.value.lane tx.old.call.value.index) (book tx.old.pass) c used → Awaits (the_call tx.new.call.value.lane tx.new.call.value.index) (book tx.new.pass) c used }
-    ensures stands { StandsSomehow tx.new.shared.now.words tx.new.at tx.new.writes.items (book tx.new.pass) }
+    ensures stands { StandsSomehow tx.new.shared.now.words tx.new.at tx.new.writes.items tx.new.pass }
     ensures same { IsSame tx.old.pass tx.new.pass × IsKin (book tx.old.pass) (book tx.new.pass) }
 {
     if let Err(conflict) = tx.before_read(address) {
@@ -129,10 +129,10 @@ fn changes<'a, T: Ruled>(
 /// Changes words by the amounts that are told for their addresses, one after the other.
 fn changes_all<'a, T: Ruled>(tx: &mut Tl2<'a, T, CallAt>, amounts: &[Access]) -> Result<(), TxEnd>
     requires open { IsOpen tx.old.shared.now.words tx.old.at (the_call tx.old.call.value.lane tx.old.call.value.index) (book tx.old.pass) }
-    requires stands { StandsSomehow tx.old.shared.now.words tx.old.at tx.old.writes.items (book tx.old.pass) }
+    requires stands { StandsSomehow tx.old.shared.now.words tx.old.at tx.old.writes.items tx.old.pass }
     ensures open { IfOk result (λ _. IsOpen tx.new.shared.now.words tx.new.at (the_call tx.new.call.value.lane tx.new.call.value.index) (book tx.new.pass)) }
     ensures awaits { (c : Call) (used : ℕ) → Awaits (the_call tx.old.call.value.lane tx.old.call.value.index) (book tx.old.pass) c used → Awaits (the_call tx.new.call.value.lane tx.new.call.value.index) (book tx.new.pass) c used }
-    ensures stands { StandsSomehow tx.new.shared.now.words tx.new.at tx.new.writes.items (book tx.new.pass) }
+    ensures stands { StandsSomehow tx.new.shared.now.words tx.new.at tx.new.writes.items tx.new.pass }
     ensures same { IsSame tx.old.pass tx.new.pass × IsKin (book tx.old.pass) (book tx.new.pass) }
 {
     for amount in amounts {
@@ -149,10 +149,10 @@ fn tries<'a, T: Ruled>(
     amounts: &[Access],
 ) -> Result<(), TxEnd>
     requires runs { (e : Entry) → T.rule e }
-    requires stands { StandsSomehow tx.old.shared.now.words tx.old.at tx.old.writes.items (book tx.old.pass) }
+    requires stands { StandsSomehow tx.old.shared.now.words tx.old.at tx.old.writes.items tx.old.pass }
     requires waits { IsWaiting lane index (book tx.old.pass) }
     requires ticks { (book tx.old.pass).ticks < 2 ^ 40 }
-    ensures stands { StandsSomehow tx.new.shared.now.words tx.new.at tx.new.writes.items (book tx.new.pass) }
+    ensures stands { StandsSomehow tx.new.shared.now.words tx.new.at tx.new.writes.items tx.new.pass }
     ensures waits { IsWaiting lane (index + 1) (book tx.new.pass) }
     ensures ticks { (book tx.new.pass).ticks ≤ (book tx.old.pass).ticks + 1 }
     ensures same { IsSame tx.old.pass tx.new.pass × ((book tx.new.pass).numbers ≡ (book tx.old.pass).numbers) × ((book tx.new.pass).fresh ≡ (book tx.old.pass).fresh) }
@@ -172,7 +172,7 @@ fn tries<'a, T: Ruled>(
 /// Adds one to word 3 until it was done as often as is wanted, and answers how often it was done.
 fn adds_many<'a, T: Ruled>(tx: &mut Tl2<'a, T, CallAt>, lane: u64, wanted: u64) -> u64
     requires runs { (e : Entry) → T.rule e }
-    requires stands { StandsSomehow tx.old.shared.now.words tx.old.at tx.old.writes.items (book tx.old.pass) }
+    requires stands { StandsSomehow tx.old.shared.now.words tx.old.at tx.old.writes.items tx.old.pass }
     requires waits { IsWaiting lane 0 (book tx.old.pass) }
     requires ticks { (book tx.old.pass).ticks ≡ 0 }
     ensures ticks { (book tx.new.pass).ticks ≤ 100000000 }

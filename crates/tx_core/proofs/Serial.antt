@@ -35,6 +35,7 @@ adds_reader rule first words clock kept h n r w s x c used a may =
       no_conflict = s.no_conflict;
       serial = serial_more rule h e 0 (word_in first) s.serial p ((λ q. cc), (λ q. absurd (q refl))) s.last_stamp (rw s.memory at s.reads);
       memory = s.memory ∙ sym (memory_more h e (word_in first));
+      size = s.size;
       last_stamp = sym (clock_more h e 0);
       reads = tt;
       writes = refl;
@@ -75,6 +76,7 @@ adds_update rule first words words' clock kept h n r w s q wrote x c used a may 
       no_conflict = s.no_conflict;
       serial = serial_more rule h e 0 (word_in first) s.serial p ((λ t. wrote), (λ t. refl)) (ap (λ (m : ℕ). m + 1) s.last_stamp) (rw s.memory at s.reads);
       memory = ap word_in k ∙ words_applied w words s.within ∙ ap (overlaid w) s.memory ∙ sym (memory_more h e (word_in first));
+      size = ap length k ∙ length_applied w words ∙ s.size;
       last_stamp = sym (clock_more h e 0);
       reads = tt;
       writes = refl;

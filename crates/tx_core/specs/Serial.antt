@@ -30,11 +30,12 @@ abbrev pub clock_after : ℕ → List Entry → ℕ
 clock_after clock [] = clock
 clock_after clock (e ∷ h) = clock_after e.stamp.at h
 
--- words, a clock and writes kept back stand for a serial history without conflicts, and an open attempt
+-- Words, a clock and writes kept back stand for a serial history without conflicts, and an open attempt. There are as many words as at first.
 pub record StandsFor (rule : Entry → Type 0) (first words : List ℕ) (clock : ℕ) (kept : List Access) (h : List Entry) (n : ℕ) (r w : Log) : Type 0 where
   pub no_conflict : n ≡ 0
   pub serial : IsSerial rule 0 (word_in first) h
   pub memory : word_in words ≡ memory_after h (word_in first)
+  pub size : length words ≡ length first
   pub last_stamp : clock ≡ clock_after 0 h
   pub reads : Agrees (word_in words) r
   pub writes : reverse kept ≡ w

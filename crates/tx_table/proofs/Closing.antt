@@ -16,7 +16,7 @@ use Rattle.tx_table.proofs.Values.{value_same}
 use Rattle.tx_table.proofs.Private.{face_at, two_le}
 use Rattle.tx_table.proofs.Order.{bool_or, comes}
 use Rattle.tx_table.proofs.Sorting.{insert, insert_under, insert_over, insert_nil, history, sorted_in}
-use Rattle.tx_table.proofs.Histories.{oldest, in_oldest, memory_is, is_legal}
+use Rattle.tx_table.proofs.Histories.{oldest, in_oldest, memory_is, is_legal, regions_kept}
 use Rattle.tx_table.proofs.Snapshots.{good, agree, memory_value, base_le_at}
 
 no_total : (f : Book → ℕ) (views : List Book) → ((k : ℕ) (w : Book) → get_elem? views k ≡ some w → f w ≡ 0) → total f views ≡ 0
@@ -69,4 +69,5 @@ module _ {S : Type 0} (key : Story) (s : State S Book) (r : IsKept key s) (me : 
         (λ (h : (k : ℕ) × Has (faces s.views k).left a). let d = (r.locks.grip h.0).left a h.1.0 h.1.1 in let l = (r.locks.grip h.0).listed (stripe a) d.2 in
         absurd (some-ne-none (2 * r.ver (stripe a)) (sym l ∙ ap (λ m. lookup m (stripe a)) (all_free h.0)))) (r.locks.heap a));
     account = λ h. weigh_oldest h X ∙ (weigh_history h clock r.log r.annals.stamps ∙ (r.account h ∙ total_only (λ b. weigh h b.entries) s.views me v at (λ k w n e. ap (weigh h) (others_idle k w n e).0)));
+    regions = regions_kept key X g.sorted;
   }

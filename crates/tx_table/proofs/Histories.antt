@@ -5,7 +5,7 @@ use mathlib.Core.Logic.{dite}
 use native.Mathlib.Decide.{ℕ_discrete}
 use Rattle.jmodel.specs.History.{Entry}
 use Rattle.jmodel.specs.Book.{lookup, In, pairs}
-use Rattle.jmodel.specs.Rule.{Story, used_at, start, or_old, last_of, region_after, Continues}
+use Rattle.jmodel.specs.Rule.{Story, used_at, start, or_old, last_of, region_after, Continues, IsRegionKept}
 use Rattle.std.specs.Prelude.{AllPairs, IsTrue, ◌↔◌, nat_eq, unwrap_or, option_map, find, Some}
 use Rattle.std.proofs.lemmas.List.Quantifiers.{all_pairs_push}
 use Rattle.jmodel.specs.declared.op.Access.{Access}
@@ -13,7 +13,7 @@ use Rattle.jmodel.specs.Attempt.{answered}
 use Rattle.jmodel.specs.History.{Words, overlaid, memory_after, Agrees, precedes, used_after, IsEntry, used_with, AreEntries, IsOneUpdate, IsLegal}
 use Rattle.tx_table.proofs.MapLaws.{eq_cond, ne_cond}
 use Rattle.tx_table.proofs.Order.{comes_precedes}
-use Rattle.tx_table.proofs.Sorting.{Sorted, alone_in}
+use Rattle.tx_table.proofs.Sorting.{Sorted, alone_in, region_kept}
 
 -- the same entries, the oldest first
 abbrev pub oldest : List Entry → List Entry
@@ -112,6 +112,11 @@ module _ (key : Story) where
   stamps [] h = λ i j d l m. absurd (omega arith)
   stamps (e ∷ es) h = all_pairs_push (λ a b. ¬ IsOneUpdate a b) (oldest es) e (stamps es h.2)
       (λ k d l t. alone_in key es e (get_or (oldest es) k d) h.2 h.0.fresh (in_oldest es (get_or (oldest es) k d) (in_at (oldest es) k d l)) t.0 t.1 (sym t.2))
+
+  pub regions_kept : (X : List Entry) → Sorted key X → AllPairs IsRegionKept (oldest X)
+  regions_kept [] h = λ i j d l m. absurd (omega arith)
+  regions_kept (e ∷ es) h = all_pairs_push IsRegionKept (oldest es) e (regions_kept es h.2)
+      (λ k d l. region_kept key es e (get_or (oldest es) k d) (used_at key e.call.region) h.2 h.0.call (in_oldest es (get_or (oldest es) k d) (in_at (oldest es) k d l)))
 
   pub is_legal : (X : List Entry) → Sorted key X → Agree (start key) X → IsLegal (start key) (used_at key) (oldest X)
   is_legal X h a = record { ordered = ordered X h; stamps = stamps X h; entries = are_entries X h a }

@@ -64,13 +64,15 @@ chain_by x y z a b c h p q = ⊎_elim
 less_chain : (x y z : ℕ) → nat_lt x y ≡ true → nat_lt y z ≡ true → nat_lt x z ≡ true
 less_chain x y z p q = let l = ltb-true x y p in let m = ltb-true y z q in lt-ltb x z (omega arith)
 
-pub comes_chain : (a b c : Entry) → comes a b ≡ true → comes b c ≡ true → comes a c ≡ true
-comes_chain a b c = chain_by (rank a) (rank b) (rank c) (rises a.call b.call) (rises b.call c.call) (rises a.call c.call)
-    (chain_by (round a.call) (round b.call) (round c.call) (low a b) (low b c) (low a c)
-    (chain_by a.call.lane b.call.lane c.call.lane (nat_lt a.call.index b.call.index) (nat_lt b.call.index c.call.index) (nat_lt a.call.index c.call.index) (less_chain a.call.index b.call.index c.call.index)))
+pub rises_chain : (a b c : Call) → rises a b ≡ true → rises b c ≡ true → rises a c ≡ true
+rises_chain a b c = chain_by (round a) (round b) (round c) (low a b) (low b c) (low a c)
+    (chain_by a.lane b.lane c.lane (nat_lt a.index b.index) (nat_lt b.index c.index) (nat_lt a.index c.index) (less_chain a.index b.index c.index))
   where
-    low : Entry → Entry → Bool
-    low d e = first_by d.call.lane e.call.lane (nat_lt d.call.index e.call.index)
+    low : Call → Call → Bool
+    low d e = first_by d.lane e.lane (nat_lt d.index e.index)
+
+pub comes_chain : (a b c : Entry) → comes a b ≡ true → comes b c ≡ true → comes a c ≡ true
+comes_chain a b c = chain_by (rank a) (rank b) (rank c) (rises a.call b.call) (rises b.call c.call) (rises a.call c.call) (rises_chain a.call b.call c.call)
 
 never_by : (x : ℕ) (a : Bool) → a ≡ false → first_by x x a ≡ false
 never_by x a h = first_same x x a refl ∙ h

@@ -1,21 +1,15 @@
 -- What the rule says of the words.
-use Rattle.std.proofs.Common.{◌++◌, ◌≡◌, ◌≢◌, ℕ, zero, suc, ◌+◌, ◌*◌, ◌≤◌, ◌<◌, ◌-◌, cond, List, [], ◌∷◌, get_or, sym, refl, ap, ◌∙◌, inl, inr, ⊎_elim, arith}
-use mathlib.Core.Option.{Option, none, some, some-injective, some-ne-none}
-use mathlib.Core.Logic.{dite}
-use native.Mathlib.Decide.{ℕ_discrete}
+use Rattle.std.proofs.Common.{◌≡◌, ℕ, zero, suc, ◌+◌, ◌*◌, ◌<◌, List, get_or, sym, refl, ap, ◌∙◌, ⊎_elim, arith}
+use mathlib.Core.Option.{Option, none, some, some-ne-none}
 use lib.ListN.{get_elem?}
 use Rattle.atomic_table.specs.Table.{State}
 use Rattle.jmodel.specs.History.{Entry}
-use Rattle.jmodel.specs.Book.{lookup, Has, In, Book}
-use Rattle.jmodel.specs.Rule.{Story, start, stripe, wrote, total, weigh, face_of, faces}
+use Rattle.jmodel.specs.Book.{lookup, Has, Book}
+use Rattle.jmodel.specs.Rule.{Story, start, stripe, wrote, face_of, faces}
 use Rattle.tx_table.specs.Steps.{IsKept}
-use Rattle.std.proofs.Math.Dec.{ltb}
-use Rattle.std.proofs.lemmas.Bool.{ltb-true}
-use Rattle.jmodel.specs.Rule.{Ends}
 use Rattle.tx_table.proofs.Values.{value_same}
-use Rattle.tx_table.proofs.Private.{face_at, two_le}
-use Rattle.tx_table.proofs.Order.{bool_or, comes}
-use Rattle.tx_table.proofs.Sorting.{insert, insert_under, insert_over, insert_nil, history, sorted_in}
+use Rattle.tx_table.proofs.Private.{face_at}
+use Rattle.tx_table.proofs.Sorting.{history, sorted_in}
 use Rattle.tx_table.proofs.Histories.{oldest, in_oldest, memory_is, is_legal}
 use Rattle.tx_table.proofs.Snapshots.{Good, good, agree, memory_value, base_le_at}
 use Rattle.jmodel.specs.Book.{pairs, Face}

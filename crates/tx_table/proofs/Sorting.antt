@@ -4,13 +4,13 @@ use mathlib.Core.Option.{Option, none, some, some-ne-none}
 use mathlib.Core.Logic.{dite}
 use native.Mathlib.Decide.{ℕ_discrete}
 use Rattle.jmodel.specs.History.{Entry}
-use Rattle.jmodel.specs.Book.{lookup, In, pairs}
-use Rattle.jmodel.specs.Rule.{Story, used_at, first_of, wrote, last_of, region_after, Succeeds, IsLater, Continues}
+use Rattle.jmodel.specs.Book.{lookup, In, pairs, rises}
+use Rattle.jmodel.specs.Rule.{Story, used_at, first_of, wrote, last_of, region_after, Succeeds, IsLater, Continues, IsRegionKept}
 use Rattle.std.proofs.Math.Dec.{ltb}
 use Rattle.jmodel.specs.declared.op.Access.{Access}
 use Rattle.tx_table.proofs.MapLaws.{eq_cond, ne_cond}
 use Rattle.tx_table.proofs.Values.{wrote_else, wrote_unread}
-use Rattle.tx_table.proofs.Order.{bool_or, clash, update_rank, reader_rank, comes, comes_rank, comes_chain, comes_once, comes_either}
+use Rattle.tx_table.proofs.Order.{bool_or, clash, update_rank, reader_rank, rises_chain, comes, comes_rank, comes_chain, comes_once, comes_either}
 
 -- behind all that come later
 pub insert : Entry → List Entry → List Entry
@@ -41,6 +41,16 @@ Sorted key (e ∷ es) = Continues key es e × ((p : Entry) → In p es → comes
 pub sorted_in : (key : Story) (X : List Entry) (p : Entry) → Sorted key X → In p X → (es : List Entry) × Continues key es p
 sorted_in key [] p h i = absurd i
 sorted_in key (x ∷ xs) p h i = ⊎_elim (λ k. (xs, subst (Continues key xs) (sym k) h.0)) (λ k. sorted_in key xs p h.2 k) i
+
+-- along a region calls come one after another
+pub region_kept : (key : Story) (X : List Entry) (e p : Entry) (u : ℕ) → Sorted key X → Succeeds e.call (region_after u (last_of X e.call.region)).last → In p X → IsRegionKept p e
+region_kept key [] e p u h last i same = absurd i
+region_kept key (x ∷ xs) e p u h last i same = dite (ℕ_discrete x.call.region e.call.region)
+    (λ here. let risen : rises x.call e.call ≡ true = subst (λ z. Succeeds e.call (region_after u z).last) (eq_cond x.call.region e.call.region (some x) (last_of xs e.call.region) here) last in ⊎_elim
+    (λ k. subst (λ (q : Entry). rises q.call e.call ≡ true) (sym k) risen)
+    (λ k. rises_chain p.call x.call e.call (region_kept key xs x p (used_at key x.call.region) h.2 h.0.call k (same ∙ sym here)) risen) i)
+    (λ not. ⊎_elim (λ k. absurd (not (sym (ap (λ (q : Entry). q.call.region) k) ∙ same)))
+    (λ k. region_kept key xs e p u h.2 (subst (λ z. Succeeds e.call (region_after u z).last) (ne_cond x.call.region e.call.region (some x) (last_of xs e.call.region) not) last) k same) i)
 
 -- an update is found by its stamp
 first_kept : (y z : Option ℕ) → z ≢ none → first_of y z ≢ none

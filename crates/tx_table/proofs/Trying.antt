@@ -1,14 +1,14 @@
 -- One attempt of the tests: its book from step to step.
 use Rattle.std.specs.Prelude.{nat_lt}
-use Rattle.std.proofs.Common.{◌==◌, ◌≡◌, ◌≢◌, ◌⊎◌, ℕ, zero, suc, ◌+◌, ◌%◌, ◌^◌, ◌<◌, Bool, true, false, cond, List, [], ◌∷◌, sym, refl, ap, ◌∙◌, subst, inl, inr, ⊎_elim, arith, ne_eqb}
-use mathlib.Core.Option.{Option, none, some, some-injective, some-ne-none}
+use Rattle.std.proofs.Common.{◌≡◌, ◌⊎◌, ℕ, suc, ◌+◌, ◌%◌, ◌^◌, ◌<◌, true, [], ◌∷◌, sym, refl, ap, ◌∙◌, subst, inr, ⊎_elim, arith}
+use mathlib.Core.Option.{Option, none, some, some-ne-none}
 use Rattle.jmodel.specs.History.{Call, Entry, round, first_by}
-use Rattle.jmodel.specs.Book.{Map, lookup, without, Has, In, pairs, Region, Stage, Unticked, Ticked, Decided, Book, rises}
+use Rattle.jmodel.specs.Book.{Map, lookup, without, Has, In, pairs, Ticked, Decided, Book, rises}
 use Rattle.jmodel.specs.Rule.{Story, Succeeds}
 use Rattle.jmodel.specs.Plays.{took, ticked_up, decided_up, released, accesses, update_entry, used_in, region_of, Fits, Updates}
 use Rattle.tx_table.specs.Trials.{the_call, Before, Ready, plus_one, adding}
 use Rattle.tx_table.proofs.MapLaws.{lookup_put, lookup_here}
-use Rattle.tx_table.proofs.Order.{first_less, first_same}
+use Rattle.tx_table.proofs.Order.{first_same}
 use Rattle.std.proofs.lemmas.Bool.{lt-ltb}
 
 pub pairs_back : (m : Map ℕ) → pairs (accesses m) ≡ m

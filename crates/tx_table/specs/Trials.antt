@@ -1,5 +1,5 @@
 -- Attempts of the tests, each of which adds one to a word.
-use Rattle.std.specs.Prelude.{◌≡◌, ℕ, suc, ◌+◌, ◌%◌, ◌^◌, ◌<◌, List, [], ◌∷◌}
+use Rattle.std.specs.Prelude.{◌≡◌, ℕ, suc, ◌+◌, ◌%◌, ◌^◌, ◌<◌, [], ◌∷◌}
 use mathlib.Core.Option.{Option, none, some}
 use Rattle.jmodel.specs.History.{Call, Entry}
 use Rattle.jmodel.specs.Book.{Map, lookup, Region, Unticked, Book}

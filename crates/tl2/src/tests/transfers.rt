@@ -54,7 +54,7 @@ fn account(n: u64) -> u64 {
 /// Moves one from account to account until it was done as often as is wanted, and answers how often it was done.
 fn moves_many<'a, T: Ruled>(tx: &mut Tl2<'a, T, CallAt>, lane: u64) -> u64
     requires runs { (e : Entry) → T.rule e }
-    requires stands { StandsSomehow tx.old.shared.now.words tx.old.at tx.old.writes.items (book tx.old.pass) }
+    requires stands { StandsSomehow tx.old.shared.now.words tx.old.at tx.old.writes.items tx.old.pass }
     requires waits { IsWaiting lane 0 (book tx.old.pass) }
     requires ticks { (book tx.old.pass).ticks ≡ 0 }
     ensures ticks { (book tx.new.pass).ticks ≤ 100000000 }

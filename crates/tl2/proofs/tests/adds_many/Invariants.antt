@@ -5,7 +5,7 @@ use Rattle.tl2.proofs.tests.adds_many.Given as goal
 
 abbrev pub invariant-loop-index : goal.invariant-loop-index
 invariant-loop-index g l = record {
-  stands : StandsSomehow l.tx.shared.now.words l.tx.at l.tx.writes.items (book l.tx.pass);
+  stands : StandsSomehow l.tx.shared.now.words l.tx.at l.tx.writes.items l.tx.pass;
   waits : IsWaiting l.lane l.index (book l.tx.pass);
   ticks : (book l.tx.pass).ticks ≤ l.index;
   same : IsSame l.fn.tx.pass l.tx.pass × ((book l.tx.pass).numbers ≡ (book l.fn.tx.pass).numbers) × ((book l.tx.pass).fresh ≡ (book l.fn.tx.pass).fresh);

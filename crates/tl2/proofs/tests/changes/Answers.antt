@@ -1,5 +1,4 @@
 use Rattle.std.proofs.Common.{◌+◌}
-use Rattle.tx_table.specs.Passes.{book}
 use Rattle.tl2.specs.Trials.{StandsSomehow}
 use Rattle.tl2.proofs.Trials.{either_way}
 use Rattle.tl2.proofs.tests.changes.Goals as goal
@@ -18,7 +17,7 @@ returns-clause-stands g c =
     let s = c.requires.stands in
     let raw = c.raw-raw.ensures.run s.0 s.1 s.2 s.3 (c.in_default.ensures.run s.0 s.1 s.2 s.3 s.4) in
     let read = c.in_ok-word.ensures.run s.0 s.1 s.2 s.3 raw in
-    either_way {X = StandsSomehow c.on_write.new.self.shared.now.words c.on_write.new.self.at c.on_write.new.self.writes.items (book c.on_write.new.self.pass)} c.on_write.result (c.on_write.ensures.run s.0 s.1 _ s.3 read.1) (λ a st. (s.0, s.1, _, _, st)) (λ e st. (s.0, _, _, s.3, st))
+    either_way {X = StandsSomehow c.on_write.new.self.shared.now.words c.on_write.new.self.at c.on_write.new.self.writes.items c.on_write.new.self.pass} c.on_write.result (c.on_write.ensures.run s.0 s.1 _ s.3 read.1) (λ a st. (s.0, s.1, _, _, st)) (λ e st. (s.0, _, _, s.3, st))
 
 pub returns-in_err-word-clause-awaits : goal.returns-in_err-word-clause-awaits
 returns-in_err-word-clause-awaits g c = λ k used a. c.in_err-word.ensures.awaits k used (c.raw-raw.ensures.awaits k used (c.in_default.ensures.awaits k used a))

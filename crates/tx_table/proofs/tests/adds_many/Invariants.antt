@@ -1,4 +1,4 @@
-use Rattle.std.proofs.Common.{◌≡◌, ◌+◌, ◌-◌, ◌≤◌, ◌<◌}
+use Rattle.std.proofs.Common.{◌≡◌, ◌-◌, ◌≤◌}
 use Rattle.tx_table.specs.Passes.{book, IsSame}
 use Rattle.tx_table.specs.Trials.{Ready}
 use Rattle.tx_table.proofs.tests.adds_many.Given as goal

@@ -1,4 +1,4 @@
-use Rattle.std.proofs.Common.{rules, ◌<◌, ap, ◌∙◌}
+use Rattle.std.proofs.Common.{rules, ap, ◌∙◌}
 use Rattle.jmodel.specs.Book.{Book, lookup}
 use Rattle.jmodel.specs.Plays.{ticked_up}
 use Rattle.tx_table.specs.Trials.{plus_one}

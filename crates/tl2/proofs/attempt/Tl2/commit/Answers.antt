@@ -52,7 +52,7 @@ returns-in-Ok-done-clause-run g c = λ h n r w s.
     let e : reverse c.deref-3.result.now ≡ w = ap reverse c.deref-3.ensures.value ∙ s.writes in
     let a = subst (λ (k : Log). IsAdded (update_of v stamp.at k c.args.answer.value) v (book c.update-done.new.pass)) e ok.1 in (
       ((λ t. wrote), (λ t. ok.0)),
-      rw c.clear.ensures.items (adds_update c.args.self.now.shared.now.words (g.C.Calling.call c.args.self.now.call.value) g.T.Ruled.rule c.args.self.now.at c.args.self.now.writes.items v (book c.update-done.new.pass) h n r w c.args.answer.value stamp o.1 (inside _ _ _ o.2) ok.0 s a),
+      rw c.clear.ensures.items (adds_update g.C.Calling.holds g.C.Calling.own c.args.self.now.shared.now.words (g.C.Calling.call c.args.self.now.call.value) g.T.Ruled.rule c.args.self.now.at c.args.self.now.writes.items c.args.self.now.pass c.update-done.new.pass h n r w c.args.answer.value stamp o.1 (inside _ _ _ o.2) ok.0 c.in-Ok-done.ensures.same a s),
     )
 
 pub returns-in-Err-clause-seen : goal.returns-in-Err-clause-seen

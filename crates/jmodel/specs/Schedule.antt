@@ -1,0 +1,82 @@
+-- The calls of a script by phases and lanes, and in which orders a run may print them.
+use Rattle.std.specs.Prelude.{◌≡◌, ◌<◌, ◌⊎◌, ℕ, suc, List, [], ◌∷◌, ◌++◌, map, Option, Some, None, Bool, true, false, not, ◌&&◌, is_some, nat_eq, nat_lt, AllPairs, IsPermutation}
+use Rattle.std.specs.List.{AllByRecursion}
+use Rattle.jmodel.specs.declared.value.Value.{Value}
+use Rattle.jmodel.specs.declared.value.Answer.{Answer}
+use Rattle.jmodel.specs.declared.value.Answer.TheVariants.{NoMemory}
+use Rattle.jmodel.specs.Program.{Method, Program}
+use Rattle.jmodel.specs.State.{State}
+use Rattle.jmodel.specs.History.{Call, first_by}
+use Rattle.jmodel.specs.Serial.{Serial}
+
+-- a call of a method by its number, with its arguments
+pub record Known : Type 0 where
+  pub method : ℕ
+  pub args : List Value
+
+-- whether a script may call a method with so many arguments: it is marked, and takes as many
+abbrev pub takes : Option Method → ℕ → Bool
+takes None count = false
+takes (Some k) count = is_some k.retries && nat_eq count k.params
+
+-- what each lane calls in a phase. The lanes of a phase run side by side, the phases one after another.
+abbrev pub Phase : Type 0
+Phase = List (List Known)
+
+-- a call by its place; lane k takes words from region k + 1
+abbrev pub call_at : ℕ → ℕ → ℕ → Known → Call
+call_at phase lane index c = record { phase = phase; lane = lane; index = index; method = c.method; args = c.args; region = suc lane }
+
+-- the calls of a lane, from a place on
+abbrev pub lane_calls : ℕ → ℕ → ℕ → List Known → List Call
+lane_calls phase lane index [] = []
+lane_calls phase lane index (c ∷ cs) = call_at phase lane index c ∷ lane_calls phase lane (suc index) cs
+
+-- the calls of a phase, from a lane on
+abbrev pub phase_calls : ℕ → ℕ → Phase → List Call
+phase_calls phase lane [] = []
+phase_calls phase lane (cs ∷ ls) = lane_calls phase lane 0 cs ++ phase_calls phase (suc lane) ls
+
+-- the calls of a script, from a phase on
+abbrev pub script_calls : ℕ → List Phase → List Call
+script_calls phase [] = []
+script_calls phase (ls ∷ ps) = phase_calls phase 0 ls ++ script_calls (suc phase) ps
+
+-- a call that ran out of memory has no place in the history
+abbrev pub is_memory : Answer → Bool
+is_memory NoMemory = true
+is_memory x = false
+
+-- a call that was made, and how it ended
+pub record Made : Type 0 where
+  pub call : Call
+  pub answer : Answer
+
+abbrev pub call_of : Made → Call
+call_of m = m.call
+
+abbrev pub answer_of : Made → Answer
+answer_of m = m.answer
+
+-- One call may stand before another: it is of an earlier phase, or of the same, and then it is the earlier one of their lane, where
+-- they have one.
+abbrev pub MayPrecede : Call → Call → Type 0
+MayPrecede c d = (c.phase < d.phase) ⊎ ((c.phase ≡ d.phase) × (c.lane ≡ d.lane → c.index < d.index))
+
+-- by phase, lane and index
+abbrev pub ascends : Call → Call → Bool
+ascends c d = first_by c.phase d.phase (first_by c.lane d.lane (nat_lt c.index d.index))
+
+-- Each call of a script stands once, among the placed calls or the unplaced ones. The placed ones keep the order of the phases and of
+-- each lane; the unplaced ones ran out of memory, and stand by phase, lane and index.
+pub record IsAccepted (phases : List Phase) (placed unplaced : List Made) : Type 0 where
+  pub each_once : IsPermutation (script_calls 0 phases) (map call_of (placed ++ unplaced))
+  pub placed_order : AllPairs MayPrecede (map call_of placed)
+  pub unplaced_order : AllPairs (λ c d. ascends c d ≡ true) (map call_of unplaced)
+  pub no_memory : AllByRecursion (λ m. m.answer ≡ NoMemory) unplaced
+
+-- The placed calls, each run alone by its original method from what those before it left, answer so. The unplaced ones left nothing.
+pub record IsJournal (P : Program) (budget : ℕ) (opening : State) (phases : List Phase) (placed unplaced : List Made) : Type 0 where
+  pub accepted : IsAccepted phases placed unplaced
+  pub after : State
+  pub serial : Serial P budget opening (map call_of placed) (map answer_of placed) after
