@@ -144,7 +144,7 @@ is_run_on : (c : ClassFile) (bytes : List ℕ) → CanRun c bytes → IsNotRunOn
 is_run_on c bytes can (inl none) = not_formed (linking c) can.program can.runnable.links none
 is_run_on c bytes can (inr (P, is, no_script)) =
     let same = one_program c can.program P can.runnable.links is.links in
-    no_script can.script can.calls (subst (λ (p : Program). IsScriptFor p bytes can.script can.calls) same can.script_for)
+    no_script can.script can.phases (subst (λ (p : Program). IsScriptFor p bytes can.script can.phases) same can.script_for)
 
 is_run : (told : Files) (dir script : List ℕ) → CanRunIn told dir script → IsNotRun (Some told) dir script → ⊥
 unfolding good_run

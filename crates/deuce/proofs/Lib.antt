@@ -1,8 +1,5 @@
 pub mod Lists
-pub mod FirstTry
-pub mod Calling
-pub mod Made
-pub mod Serially
+pub mod Opens
 pub mod Knowing
 pub mod Reading
 pub mod Running

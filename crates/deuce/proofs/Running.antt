@@ -1,5 +1,5 @@
 -- What the parts of a run make together.
-use Rattle.std.proofs.Common.{◌≡◌, ℕ, List, [], ◌∷◌, Some, None, Result, Ok, Err, inl, inr, refl, sym, subst}
+use Rattle.std.proofs.Common.{◌≡◌, ℕ, List, [], ◌∷◌, map, Some, None, Result, Ok, Err, inl, inr, refl, sym, ap, ◌∙◌, subst}
 use Rattle.std.specs.Prelude.{IfErr}
 use Rattle.std.specs.Result.{IsErrAnd}
 use Rattle.std.specs.List.{AllByRecursion}
@@ -20,8 +20,19 @@ use Rattle.jmodel.specs.Typing.{IsTypable}
 use Rattle.jmodel.proofs.Linked.{links}
 use Rattle.rewriter.specs.Rewritten.{rewritten_class}
 use Rattle.script.specs.Script.{Wanted, Script, IsScript}
-use Rattle.deuce.specs.Headline.{Known, known, AreCalls, IsRun, IsRunnable, IsScriptFor}
-use Rattle.deuce.specs.Rule.{IsReady}
+use Rattle.jmodel.specs.declared.journal.Line.{Line}
+use Rattle.jmodel.specs.State.{State}
+use Rattle.jmodel.specs.History.{Told}
+use Rattle.jmodel.specs.Schedule.{Phase}
+use Rattle.jmodel.specs.Output.{journal_text}
+use Rattle.session.specs.declared.record.Record.{Record}
+use Rattle.session.specs.Rule.{IsState}
+use Rattle.session.specs.Lane.{record_of}
+use Rattle.driver.specs.declared.run.Journal.{Journal}
+use Rattle.driver.specs.Runs.{HasRun, made_of}
+use Rattle.deuce.specs.Headline.{known_phase, line_of, AreCalls, IsRun, IsRunnable, IsScriptFor}
+use Rattle.deuce.specs.Lines.{line_in}
+use Rattle.session.specs.Rule.{IsReady}
 
 -- the rewriting of a typed program that a class means is ready to run
 pub ready : (c : ClassFile) (P Q : Program) → linked c ≡ Some P → AllByRecursion (IsTypable P) P.methods → Q ≡ rewritten P → IsReady P Q
@@ -30,9 +41,27 @@ ready c P Q is typed code = record { code = code; typed = record { source = (lin
 pub runnable : (c : ClassFile) (P : Program) (new : ClassFile) → linked c ≡ Some P → AllByRecursion (IsTypable P) P.methods → rewritten_class P c ≡ Ok new → IsRunnable c P
 runnable c P new is typed made = record { links = is; typed = typed; instrumented = new; rewrites = made }
 
-pub is_run : (bytes script : List ℕ) (c : ClassFile) (P : Program) (s : Script) (wanted : List Wanted) (calls seen : List Known) (text : List ℕ) → Spells bytes c → linked c ≡ Some P → AllByRecursion (IsTypable P) P.methods → IsScript script s
-    → wanted ≡ s.calls → each (known P) wanted ≡ Some calls → seen ≡ calls → AreCalls P s.budget (opening_state (c ∷ [])) seen text → IsRun bytes script text
-is_run bytes script c P s wanted calls seen text spells is typed is_script same found same_calls are = record {
+-- the lines of what is kept of calls are the lines of the calls
+lines_same : (P : Program) (ts : List Told) → map (line_in P) (map record_of ts) ≡ map (line_of P) (map made_of ts)
+lines_same P [] = refl
+lines_same P (t ∷ ts) = ap (λ (ls : List Line). line_of P (made_of t) ∷ ls) (lines_same P ts)
+
+-- the printed journal of a run is that of the calls of the original methods
+pub are_calls : (P : Program) (budget : ℕ) (phases : List Phase) (words : List ℕ) (journal : Journal) (σ : State) (text : List ℕ) → HasRun P budget phases words journal → IsState P words σ
+    → text ≡ journal_text (map (line_in P) journal.placed.items) (map (line_in P) journal.unplaced.items) → AreCalls P budget σ phases text
+are_calls P budget phases words journal σ text run stands is = record {
+  placed = map made_of run.placed;
+  unplaced = map made_of run.unplaced;
+  is_journal = run.is_journal σ stands;
+  is_text = is ∙ ap (λ (rs : List Record). journal_text (map (line_in P) rs) (map (line_in P) journal.unplaced.items)) run.placed_are
+      ∙ ap (λ (rs : List Record). journal_text (map (line_in P) (map record_of run.placed)) (map (line_in P) rs)) run.unplaced_are
+      ∙ ap (λ (ls : List Line). journal_text ls (map (line_in P) (map record_of run.unplaced))) (lines_same P run.placed)
+      ∙ ap (journal_text (map (line_of P) (map made_of run.placed))) (lines_same P run.unplaced);
+}
+
+pub is_run : (bytes script : List ℕ) (c : ClassFile) (P : Program) (s : Script) (wanted : List (List (List Wanted))) (phases seen : List Phase) (text : List ℕ) → Spells bytes c → linked c ≡ Some P → AllByRecursion (IsTypable P) P.methods → IsScript script s
+    → wanted ≡ s.phases → each (known_phase P) wanted ≡ Some phases → seen ≡ phases → AreCalls P s.budget (opening_state (c ∷ [])) seen text → IsRun bytes script text
+is_run bytes script c P s wanted phases seen text spells is typed is_script same found same_phases are = record {
   file = c;
   spells = spells;
   program = P;
@@ -40,17 +69,17 @@ is_run bytes script c P s wanted calls seen text spells is typed is_script same 
   typed = typed;
   script = s;
   is_script = is_script;
-  calls = calls;
-  known_calls = subst (λ (ws : List Wanted). each (known P) ws ≡ Some calls) same found;
-  are_calls = subst (λ (ks : List Known). AreCalls P s.budget (opening_state (c ∷ [])) ks text) same_calls are;
+  phases = phases;
+  known_calls = subst (λ (ws : List (List (List Wanted))). each (known_phase P) ws ≡ Some phases) same found;
+  are_calls = subst (λ (ks : List Phase). AreCalls P s.budget (opening_state (c ∷ [])) ks text) same_phases are;
 }
 
 -- the calls of a script for a program are known
-pub not_known : (P : Program) (bytes : List ℕ) (s t : Script) (calls : List Known) (wanted : List Wanted) → IsScript bytes s → wanted ≡ s.calls → each (known P) wanted ≡ None → IsScriptFor P bytes t calls → ⊥
-not_known P bytes s t calls wanted is same none for =
-    let one : t.calls ≡ s.calls = same_scripts bytes t s for.is_script is in
-    let found : each (known P) s.calls ≡ Some calls = subst (λ (ws : List Wanted). each (known P) ws ≡ Some calls) one for.known_calls in
-    let lost : each (known P) s.calls ≡ None = subst (λ (ws : List Wanted). each (known P) ws ≡ None) same none in
+pub not_known : (P : Program) (bytes : List ℕ) (s t : Script) (phases : List Phase) (wanted : List (List (List Wanted))) → IsScript bytes s → wanted ≡ s.phases → each (known_phase P) wanted ≡ None → IsScriptFor P bytes t phases → ⊥
+not_known P bytes s t phases wanted is same none for =
+    let one : t.phases ≡ s.phases = ap (λ (x : Script). x.phases) (same_scripts bytes t s for.is_script is) in
+    let found : each (known_phase P) s.phases ≡ Some phases = subst (λ (ws : List (List (List Wanted))). each (known_phase P) ws ≡ Some phases) one for.known_calls in
+    let lost : each (known_phase P) s.phases ≡ None = subst (λ (ws : List (List (List Wanted))). each (known_phase P) ws ≡ None) same none in
     cc
 
 -- ---- ends
@@ -62,7 +91,7 @@ err_is (Err y) e Q h q = subst Q (sym h) q
 
 -- the end of a script that isn't read, or that isn't one for the program
 pub script_end : {A : Type 0} (r : Result A RunEnd) (e : ScriptEnd) (P : Program) (bytes : List ℕ) → IsErrAnd r (IsEndOfScript e)
-    → (e ≡ script.NotBuilt → (s : Script) (calls : List Known) → IsScriptFor P bytes s calls → ⊥) → IfErr r (EndsScript P bytes)
+    → (e ≡ script.NotBuilt → (s : Script) (phases : List Phase) → IsScriptFor P bytes s phases → ⊥) → IfErr r (EndsScript P bytes)
 script_end (Ok x) e P bytes h none = tt
 script_end (Err y) script.NotBuilt P bytes h none = subst (EndsScript P bytes) (sym h) (none refl)
 script_end (Err y) script.NoMemory P bytes h none = subst (EndsScript P bytes) (sym h) tt

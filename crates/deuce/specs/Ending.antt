@@ -19,7 +19,8 @@ use Rattle.jmodel.specs.Linking.{linking, linked, pc_of}
 use Rattle.jmodel.specs.Typing.{IsTypable, IsUntypableAt}
 use Rattle.rewriter.specs.Rewritten.{rewritten_class}
 use Rattle.script.specs.Script.{Script}
-use Rattle.deuce.specs.Headline.{Known, IsRun, CanRun, IsRunnable, IsScriptFor}
+use Rattle.jmodel.specs.Schedule.{Phase}
+use Rattle.deuce.specs.Headline.{IsRun, CanRun, IsRunnable, IsScriptFor}
 use Rattle.deuce.specs.Rewritten.{IsRewriting, CanRewrite, HasManyMembers}
 use Rattle.deuce.specs.declared.inputs.ClassInput.{ClassInput}
 use Rattle.deuce.specs.declared.inputs.Inputs.{Inputs}
@@ -177,7 +178,7 @@ pub record IsUntypable (r : Refusal) (file : ClassFile) : Type 0 where
 -- A class isn't of the form that is built so far; or it is, and can be run, and the script isn't one of calls of its methods.
 abbrev pub IsNotRunOn : List ℕ → ClassFile → Type 0
 IsNotRunOn script file = (linking file ≡ Ok None)
-    ⊎ ((P : Program) × IsRunnable file P × ((s : Script) (calls : List Known) → IsScriptFor P script s calls → ⊥))
+    ⊎ ((P : Program) × IsRunnable file P × ((s : Script) (phases : List Phase) → IsScriptFor P script s phases → ⊥))
 
 -- A class isn't of the form that is built so far, or its rewriting would have too many members.
 abbrev pub IsNotRewritten : ClassFile → Type 0
@@ -276,7 +277,7 @@ IsLimit file fault end = ⊥
 
 -- why a script isn't run on a class that can be
 abbrev pub EndsScript : Program → List ℕ → RunEnd → Type 0
-EndsScript P script run_ends.NotBuilt = (s : Script) (calls : List Known) → IsScriptFor P script s calls → ⊥
+EndsScript P script run_ends.NotBuilt = (s : Script) (phases : List Phase) → IsScriptFor P script s phases → ⊥
 EndsScript P script run_ends.NoMemory = Unit {0}
 EndsScript P script end = ⊥
 

@@ -1,20 +1,16 @@
 -- What a run promises: its answers are those of the original methods, called one after another.
-use Rattle.std.specs.Prelude.{◌≡◌, ◌≤◌, Ok, ℕ, suc, List, [], ◌∷◌, length, map, filter, position, Option, Some, None, Bool, true, false, not, bytes_eq, nat_eq, option_and_then, is_some, ◌&&◌, if◌then◌else◌}
+use Rattle.std.specs.Prelude.{◌≡◌, ◌≤◌, Ok, ℕ, List, [], ◌∷◌, length, map, position, Option, Some, None, bytes_eq, option_and_then, if◌then◌else◌}
 use Rattle.std.specs.List.{AllByRecursion}
 use Rattle.jmodel.specs.declared.name.MethodName.{MethodName}
-use Rattle.jmodel.specs.declared.value.Value.{Value}
 use Rattle.jmodel.specs.declared.value.Value.TheVariants.{Int}
-use Rattle.jmodel.specs.declared.value.Answer.{Answer}
-use Rattle.jmodel.specs.declared.value.Answer.TheVariants.{NoMemory}
 use Rattle.jmodel.specs.declared.journal.Line.{Line}
 use Rattle.jmodel.specs.Name.{printed}
 use Rattle.jmodel.specs.ClassFile.{ClassFile}
 use Rattle.jmodel.specs.ClassRules.{Spells}
 use Rattle.jmodel.specs.Program.{Method, Program, method_at}
 use Rattle.jmodel.specs.State.{State}
-use Rattle.jmodel.specs.History.{Call}
 use Rattle.jmodel.specs.Layout.{opening_state}
-use Rattle.jmodel.specs.Serial.{Serial}
+use Rattle.jmodel.specs.Schedule.{Known, Phase, Made, takes, IsJournal}
 use Rattle.jmodel.specs.Decoding.{each}
 use Rattle.jmodel.specs.Linking.{linked}
 use Rattle.jmodel.specs.Typing.{IsTypable}
@@ -30,16 +26,6 @@ printed_names P = map (λ (k : Method). printed k.name) P.methods
 abbrev pub method_number : Program → List ℕ → Option ℕ
 method_number P name = position (λ text. bytes_eq text name) (printed_names P)
 
--- a call of a method by its number, with its arguments
-pub record Known : Type 0 where
-  pub method : ℕ
-  pub args : List Value
-
--- whether a script may call a method with so many arguments: it is marked, and takes as many
-abbrev pub takes : Option Method → ℕ → Bool
-takes None count = false
-takes (Some k) count = is_some k.retries && nat_eq count k.params
-
 abbrev pub with_args : Wanted → ℕ → Known
 with_args c m = record { method = m; args = map Int c.args }
 
@@ -50,6 +36,10 @@ known_as P c m = if takes (method_at P m) (length c.args) then Some (with_args c
 abbrev pub known : Program → Wanted → Option Known
 known P c = option_and_then (known_as P c) (method_number P c.name)
 
+-- the calls of a phase, where each is known
+abbrev pub known_phase : Program → List (List Wanted) → Option Phase
+known_phase P lanes = each (each (known P)) lanes
+
 abbrev pub no_name : MethodName
 no_name = record { class = []; name = []; descriptor = [] }
 
@@ -57,63 +47,22 @@ abbrev pub name_in : Option Method → MethodName
 name_in None = no_name
 name_in (Some k) = k.name
 
--- a call that was made: its place in the lane, its method, its arguments, and how it ended
-pub record Made : Type 0 where
-  pub index : ℕ
-  pub method : ℕ
-  pub args : List Value
-  pub answer : Answer
-
-abbrev pub made_of : ℕ → Known → Answer → Made
-made_of i c x = record { index = i; method = c.method; args = c.args; answer = x }
-
--- the calls of one lane, from a place on, with their answers
-abbrev pub made_from : ℕ → List Known → List Answer → List Made
-made_from i [] xs = []
-made_from i (c ∷ cs) [] = []
-made_from i (c ∷ cs) (x ∷ xs) = made_of i c x ∷ made_from (suc i) cs xs
-
--- a call that ran out of memory has no place in the history
-abbrev pub is_memory : Answer → Bool
-is_memory NoMemory = true
-is_memory x = false
-
-abbrev pub is_unplaced : Made → Bool
-is_unplaced c = is_memory c.answer
-
-abbrev pub is_placed : Made → Bool
-is_placed c = not (is_memory c.answer)
-
--- the line of a call of a method, by its place in the lane
-abbrev pub line_with : Program → ℕ → ℕ → Answer → Line
-line_with P index method answer = record { phase = 0; lane = 0; index = index; method = name_in (method_at P method); answer = answer }
-
+-- the line of a call
 abbrev pub line_of : Program → Made → Line
-line_of P c = line_with P c.index c.method c.answer
+line_of P m = record { phase = m.call.phase; lane = m.call.lane; index = m.call.index; method = name_in (method_at P m.call.method); answer = m.answer }
 
--- lane 0 takes words from region 1
-abbrev pub call_of : Made → Call
-call_of c = record { phase = 0; lane = 0; index = c.index; method = c.method; args = c.args; region = 1 }
-
--- what is printed of calls: those that stand in the history, and those that ran out of memory
-abbrev pub printed_calls : Program → List Made → List ℕ
-printed_calls P made = journal_text (map (line_of P) (filter is_placed made)) (map (line_of P) (filter is_unplaced made))
-
--- The text is that of calls whose answers are those of the original methods: each of them, run alone from what those
--- before it left, answers so. A call that ran out of memory left nothing.
-pub record AreCalls (P : Program) (budget : ℕ) (opening : State) (calls : List Known) (text : List ℕ) : Type 0 where
-  pub answers : List Answer
-  pub as_many : length answers ≡ length calls
-  pub is_text : text ≡ printed_calls P (made_from 0 calls answers)
-  pub after : State
-  pub serial : Serial P budget opening (map call_of (filter is_placed (made_from 0 calls answers)))
-      (map (λ (c : Made). c.answer) (filter is_placed (made_from 0 calls answers))) after
+-- The text is the journal of these calls of the original methods.
+pub record AreCalls (P : Program) (budget : ℕ) (opening : State) (phases : List Phase) (text : List ℕ) : Type 0 where
+  pub placed : List Made
+  pub unplaced : List Made
+  pub is_journal : IsJournal P budget opening phases placed unplaced
+  pub is_text : text ≡ journal_text (map (line_of P) placed) (map (line_of P) unplaced)
 
 -- The bytes are a script for a program: its calls are those of the program's methods.
-pub record IsScriptFor (P : Program) (bytes : List ℕ) (s : Script) (calls : List Known) : Type 0 where
+pub record IsScriptFor (P : Program) (bytes : List ℕ) (s : Script) (phases : List Phase) : Type 0 where
   pub within : length bytes ≤ 16777216
   pub is_script : IsScript bytes s
-  pub known_calls : each (known P) s.calls ≡ Some calls
+  pub known_calls : each (known_phase P) s.phases ≡ Some phases
 
 -- What a class can be run as: it means a program of which each method has a typing, and its rewriting passes no limit of a
 -- class file.
@@ -128,11 +77,11 @@ pub record CanRun (file : ClassFile) (bytes : List ℕ) : Type 0 where
   pub program : Program
   pub runnable : IsRunnable file program
   pub script : Script
-  pub calls : List Known
-  pub script_for : IsScriptFor program bytes script calls
+  pub phases : List Phase
+  pub script_for : IsScriptFor program bytes script phases
 
 -- The text is the journal of a run of a script on a class file each of whose methods has a typing: each call of the script once, in
--- the script's order.
+-- an order that keeps the phases' and each lane's.
 pub record IsRun (class bytes text : List ℕ) : Type 0 where
   pub file : ClassFile
   pub spells : Spells class file
@@ -141,6 +90,6 @@ pub record IsRun (class bytes text : List ℕ) : Type 0 where
   pub typed : AllByRecursion (IsTypable program) program.methods
   pub script : Script
   pub is_script : IsScript bytes script
-  pub calls : List Known
-  pub known_calls : each (known program) script.calls ≡ Some calls
-  pub are_calls : AreCalls program script.budget (opening_state (file ∷ [])) calls text
+  pub phases : List Phase
+  pub known_calls : each (known_phase program) script.phases ≡ Some phases
+  pub are_calls : AreCalls program script.budget (opening_state (file ∷ [])) phases text

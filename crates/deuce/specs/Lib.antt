@@ -3,4 +3,4 @@ pub mod Ending
 pub mod Headline
 pub mod Outcomes
 pub mod Rewritten
-pub mod Rule
+pub mod Lines

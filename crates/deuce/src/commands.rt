@@ -11,9 +11,11 @@ use crate::run::{RunEnd, run};
 use deuce_io::{Folder, IoEnd};
 use jmodel::NoMemory;
 use std::alloc::Global;
+use std::thread::Threads;
 
 /// Runs a script on the one class file of a folder.
-pub fn run_command<F: Folder>(
+pub fn run_command<R: Threads + Sync, F: Folder>(
+    rt: &R,
     alloc: Global,
     folder: &mut F,
     dir: &str,
@@ -28,6 +30,7 @@ pub fn run_command<F: Folder>(
         Err(end) => return unread(end),
     };
     match run(
+        rt,
         alloc,
         inputs.class.bytes.as_slice(),
         inputs.script.as_slice(),

@@ -1,48 +1,69 @@
 //! The calls of a script as calls of a program's methods.
-ghost use Rattle.std.specs.Prelude.{◌≡◌, Some, None, IfOk, map, position, bytes_eq, option_map};
+ghost use Rattle.std.specs.Prelude.{◌≡◌, Some, None, List, IfOk, map, position, bytes_eq, option_map};
 ghost use Rattle.jmodel.specs.declared.value.Value.TheVariants as value;
 ghost use Rattle.jmodel.specs.Program.{method_at};
+ghost use Rattle.jmodel.specs.Schedule.{takes as takes_them};
 ghost use Rattle.jmodel.specs.Decoding.{each};
-ghost use Rattle.deuce.specs.Headline.{known as known_in, with_args, takes as takes_them, printed_names as names_in};
+ghost use Rattle.deuce.specs.Headline.{known as known_in, known_phase as known_lanes_in, with_args, printed_names as names_in};
 
+use driver::{LaneCalls, PhaseCalls};
 use hierarchy::Program;
 use jmodel::{Bytes, Value};
 use script::{ScriptEnd, Wanted};
+use session::Known;
 use std::alloc::{AllocError, Global};
-use std::marker::Model;
 
-/// A call of a method by its number, with its arguments.
-#[derive(Drop)]
-pub struct Known {
-    pub method: usize,
-    pub args: Vec<Value>,
-}
-
-impl Model for Known {
-    ghost use Rattle.deuce.specs.Headline.{Known as Form};
-
-    ghost Value = { Form };
-
-    ghost view = { λ c. record { method = c.method; args = c.args.items } };
-}
-
-/// The calls that are asked for. Where a name isn't that of a marked method, or that takes another number of arguments, the
-/// script isn't one for the program.
-pub fn known_calls(
+/// What the phases of a script call, as calls of a program's methods. Where a call's name isn't that of a marked method, or that takes another
+/// number of arguments, the script isn't one for the program.
+pub fn known_phases(
     alloc: Global,
     program: &Program,
-    wanted: &[Wanted],
-) -> Result<Vec<Known>, ScriptEnd>
-    ensures known { IfOk result (λ v. each (known_in program.now) wanted.now ≡ Some v.items) }
-    ensures not_built { result ≡ Err ScriptEnd.NotBuilt → each (known_in program.now) wanted.now ≡ None }
+    phases: &[script::PhaseCalls],
+) -> Result<Vec<PhaseCalls>, ScriptEnd>
+    ensures known { IfOk result (λ v. each (known_lanes_in program.now) phases.now ≡ Some v.items) }
+    ensures not_built { result ≡ Err ScriptEnd.NotBuilt → each (known_lanes_in program.now) phases.now ≡ None }
 {
     let names = printed_names(alloc, program)?;
-    let mut calls = Vec::new(alloc);
-    for call in wanted {
-        let method = method_of(program, names.as_slice(), call).ok_or(ScriptEnd::NotBuilt)?;
-        calls.push(known_as(alloc, call, method)?)?;
+    let mut known = Vec::new(alloc);
+    for phase in phases {
+        known.push(known_phase(alloc, program, names.as_slice(), phase.as_slice())?)?;
     }
-    Ok(calls)
+    Ok(known)
+}
+
+fn known_phase(
+    alloc: Global,
+    program: &Program,
+    names: &[Bytes],
+    lanes: &[script::LaneCalls],
+) -> Result<PhaseCalls, ScriptEnd>
+    requires { names.now ≡ names_in program.now }
+    ensures known { IfOk result (λ p. known_lanes_in program.now lanes.now ≡ Some p) }
+    ensures not_built { result ≡ Err ScriptEnd.NotBuilt → known_lanes_in program.now lanes.now ≡ None }
+{
+    let mut known = Vec::new(alloc);
+    for lane in lanes {
+        known.push(known_lane(alloc, program, names, lane.as_slice())?)?;
+    }
+    Ok(PhaseCalls { lanes: known })
+}
+
+fn known_lane(
+    alloc: Global,
+    program: &Program,
+    names: &[Bytes],
+    calls: &[Wanted],
+) -> Result<LaneCalls, ScriptEnd>
+    requires { names.now ≡ names_in program.now }
+    ensures known { IfOk result (λ l. each (known_in program.now) calls.now ≡ Some l) }
+    ensures not_built { result ≡ Err ScriptEnd.NotBuilt → each (known_in program.now) calls.now ≡ None }
+{
+    let mut known = Vec::new(alloc);
+    for call in calls {
+        let method = method_of(program, names, call).ok_or(ScriptEnd::NotBuilt)?;
+        known.push(known_as(alloc, call, method)?)?;
+    }
+    Ok(LaneCalls { calls: known })
 }
 
 /// The call of the method of a number with the arguments that are asked for.

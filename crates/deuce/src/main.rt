@@ -1,11 +1,9 @@
 //! Deuce STM: rewrites Java class files so that `@Atomic` methods run as transactions, and runs the rewritten code.
 #![tactic(auto)]
 
-mod calls;
 mod commands;
 mod inputs;
 mod known;
-mod lane;
 mod outcome;
 mod print;
 mod refusal;
@@ -36,7 +34,7 @@ fn main(rt: HostRuntime) -> ExitCode {
     };
     let mut folder = RealFolder::new(alloc, &rt);
     let mut out = StdSink::new(&rt);
-    ExitCode::from(top::deuce(alloc, &words, &mut folder, &mut out))
+    ExitCode::from(top::deuce(&rt, alloc, &words, &mut folder, &mut out))
 }
 
 fn words_after_name<R: Env + AllocGlobal>(rt: &R) -> io::Result<Vec<String>> {

@@ -9,20 +9,22 @@ ghost use Rattle.rewriter.specs.Meaning.{AreFiled, HasFewMembers};
 ghost use Rattle.rewriter.specs.Rewritten.{rewritten_class};
 ghost use Rattle.deuce.specs.Headline.{IsRun};
 ghost use Rattle.deuce.specs.Ending.{EndsReading, EndsCommand, EndsOnClass, EndsBuild, EndsRewriting, EndsScript, IsLimit, IsNotRunOn, IsOutsideForm};
-ghost use Rattle.deuce.specs.Rule.{IsReady};
+ghost use Rattle.session.specs.Rule.{IsReady};
 
 use crate::inputs::{CLASS_LIMIT, SCRIPT_LIMIT};
-use crate::known::known_calls;
-use crate::lane::run_lane;
+use crate::known::known_phases;
+use crate::text::journal;
 use crate::typed::type_all;
 use class_reader::read_class;
 use const_pool::ClassFile;
+use driver::run_phases;
 use hierarchy::symbols::own_name;
 use hierarchy::{BuildEnd, Program, opening_words};
 use jmodel::{Bytes, Halt, Refusal};
 use rewriter::{Rewriting, rewrite};
 use script::{ScriptEnd, read_script};
 use std::alloc::{AllocError, Global};
+use std::thread::Threads;
 
 /// Why a command over a class file isn't done.
 #[derive(Drop)]
@@ -63,14 +65,19 @@ impl From<ScriptEnd> for RunEnd {
 }
 
 /// Runs a script on a class file, and gives the text of its journal.
-pub fn run(alloc: Global, class: &[u8], script: &[u8]) -> Result<Bytes, RunEnd>
+pub fn run<R: Threads + Sync>(
+    rt: &R,
+    alloc: Global,
+    class: &[u8],
+    script: &[u8],
+) -> Result<Bytes, RunEnd>
     ensures run { IfOk result (IsRun class.now script.now) }
     ensures class { OnOk result (length class.now ≤ 1048576) }
     ensures script { OnOk result (length script.now ≤ 16777216) }
     ensures cause { IfErr result (EndsCommand class.now (IsNotRunOn script.now)) }
 {
     let file = class_of(alloc, class)?;
-    run_class(alloc, &file, script)
+    run_class(rt, alloc, &file, script)
 }
 
 /// The class of a class file.
@@ -92,7 +99,12 @@ pub fn class_of(alloc: Global, bytes: &[u8]) -> Result<ClassFile, RunEnd>
 }
 
 /// Runs a script on a class.
-fn run_class(alloc: Global, class: &ClassFile, script: &[u8]) -> Result<Bytes, RunEnd>
+fn run_class<R: Threads + Sync>(
+    rt: &R,
+    alloc: Global,
+    class: &ClassFile,
+    script: &[u8],
+) -> Result<Bytes, RunEnd>
     requires form { IsClassFile class.now }
     requires filed { AreFiled class.now }
     ensures run { IfOk result (λ text. (bytes : List ℕ) → Spells bytes class.now → IsRun bytes script.now text) }
@@ -101,6 +113,7 @@ fn run_class(alloc: Global, class: &ClassFile, script: &[u8]) -> Result<Bytes, R
 {
     let prepared = prepare(alloc, class)?;
     run_script(
+        rt,
         alloc,
         class,
         &prepared.original,
@@ -181,7 +194,8 @@ fn limit(alloc: Global, class: &ClassFile, refusal: Refusal) -> RunEnd
 }
 
 /// Runs a script on a class's program by its rewriting.
-fn run_script(
+fn run_script<R: Threads + Sync>(
+    rt: &R,
     alloc: Global,
     class: &ClassFile,
     original: &Program,
@@ -198,14 +212,21 @@ fn run_script(
         return Err(RunEnd::NotBuilt);
     }
     let wanted = read_script(alloc, script)?;
-    let calls = known_calls(alloc, original, wanted.calls.as_slice())?;
+    let phases = known_phases(alloc, original, wanted.phases.as_slice())?;
     let words = opening_words(alloc, class)?;
-    Ok(run_lane(
+    let made = run_phases(
+        rt,
         alloc,
         original,
         rewritten,
         words,
         wanted.budget,
-        calls.as_slice(),
+        phases.as_slice(),
+    )?;
+    Ok(journal(
+        alloc,
+        original,
+        made.placed.as_slice(),
+        made.unplaced.as_slice(),
     )?)
 }

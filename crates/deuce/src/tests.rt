@@ -3,9 +3,11 @@ use crate::top::deuce;
 use deuce_io::{Folder, IoEnd, MemFolder, MemSink};
 use std::alloc::{AllocError, Global};
 use std::test::Fail;
+use std::thread::Threads;
 
 mod code;
 mod ints;
+mod lanes;
 mod rewritten;
 
 /// The class of the example, as a compiler wrote it.
@@ -56,22 +58,44 @@ fn folder_of(alloc: Global, class: &[u8], script: &[u8]) -> Result<MemFolder, Io
 }
 
 /// Whether a run over a folder ends with this status and writes this text.
-fn gives(alloc: Global, mut folder: MemFolder, status: u8, text: &str) -> Result<bool, AllocError> {
+fn gives<R: Threads + Sync>(
+    rt: &R,
+    alloc: Global,
+    mut folder: MemFolder,
+    status: u8,
+    text: &str,
+) -> Result<bool, AllocError> {
     let words = words_of(alloc, ["run", "d", "s"].as_slice())?;
     let mut out = MemSink::new(alloc, 64);
-    let found = deuce(alloc, words.as_slice(), &mut folder, &mut out);
+    let found = deuce(rt, alloc, words.as_slice(), &mut folder, &mut out);
     Ok(found == status && out.written.as_slice() == text.as_bytes())
 }
 
 /// Whether a run of a script on a class ends with this status and writes this text.
-fn runs(alloc: Global, class: &[u8], script: &[u8], status: u8, text: &str) -> Result<bool, IoEnd> {
+fn runs<R: Threads + Sync>(
+    rt: &R,
+    alloc: Global,
+    class: &[u8],
+    script: &[u8],
+    status: u8,
+    text: &str,
+) -> Result<bool, IoEnd> {
     let folder = folder_of(alloc, class, script)?;
-    Ok(gives(alloc, folder, status, text)?)
+    Ok(gives(rt, alloc, folder, status, text)?)
 }
 
 #[test]
 fn prints_three_answers(rt: HostRuntime) -> Result<(), Fail> {
-    assert!(rt; runs(rt.alloc(), COUNTER.as_slice(), THREE_CALLS, 0, THREE_LINES)?);
+    assert!(rt;
+        runs(
+            &rt,
+            rt.alloc(),
+            COUNTER.as_slice(),
+            THREE_CALLS,
+            0,
+            THREE_LINES
+        )?
+    );
     Ok(())
 }
 
@@ -79,6 +103,7 @@ fn prints_three_answers(rt: HostRuntime) -> Result<(), Fail> {
 fn prints_an_empty_history(rt: HostRuntime) -> Result<(), Fail> {
     assert!(rt;
         runs(
+            &rt,
             rt.alloc(),
             COUNTER.as_slice(),
             NO_PHASES,
@@ -90,23 +115,23 @@ fn prints_an_empty_history(rt: HostRuntime) -> Result<(), Fail> {
 }
 
 /// Whether these words are told to be of no form.
-fn is_usage(alloc: Global, words: &[&str]) -> Result<bool, IoEnd> {
+fn is_usage<R: Threads + Sync>(rt: &R, alloc: Global, words: &[&str]) -> Result<bool, IoEnd> {
     let words = words_of(alloc, words)?;
     let mut folder = folder_of(alloc, COUNTER.as_slice(), THREE_CALLS)?;
     let mut out = MemSink::new(alloc, 64);
-    let status = deuce(alloc, words.as_slice(), &mut folder, &mut out);
+    let status = deuce(rt, alloc, words.as_slice(), &mut folder, &mut out);
     Ok(status == 2 && out.written.as_slice() == b"error 2 usage\n".as_slice())
 }
 
 #[test]
 fn words_of_no_form(rt: HostRuntime) -> Result<(), Fail> {
     let alloc = rt.alloc();
-    assert!(rt; is_usage(alloc, [].as_slice())?);
-    assert!(rt; is_usage(alloc, ["run", "d"].as_slice())?);
-    assert!(rt; is_usage(alloc, ["walk", "d", "s"].as_slice())?);
-    assert!(rt; is_usage(alloc, ["run", "d", "s", "s"].as_slice())?);
-    assert!(rt; is_usage(alloc, ["rewrite", "d"].as_slice())?);
-    assert!(rt; is_usage(alloc, ["rewrite", "d", "o", "o"].as_slice())?);
+    assert!(rt; is_usage(&rt, alloc, [].as_slice())?);
+    assert!(rt; is_usage(&rt, alloc, ["run", "d"].as_slice())?);
+    assert!(rt; is_usage(&rt, alloc, ["walk", "d", "s"].as_slice())?);
+    assert!(rt; is_usage(&rt, alloc, ["run", "d", "s", "s"].as_slice())?);
+    assert!(rt; is_usage(&rt, alloc, ["rewrite", "d"].as_slice())?);
+    assert!(rt; is_usage(&rt, alloc, ["rewrite", "d", "o", "o"].as_slice())?);
     Ok(())
 }
 
@@ -117,7 +142,7 @@ fn a_sink_that_fails_its_second_write(rt: HostRuntime) -> Result<(), Fail> {
     let mut folder = folder_of(alloc, COUNTER.as_slice(), THREE_CALLS)?;
     let mut out = MemSink::new(alloc, 8);
     out.fail_writes.push(2)?;
-    let status = deuce(alloc, words.as_slice(), &mut folder, &mut out);
+    let status = deuce(&rt, alloc, words.as_slice(), &mut folder, &mut out);
     assert_eq!(rt; status, 9u8);
     assert!(rt; out.written.as_slice() == b"history ".as_slice());
     Ok(())
@@ -128,28 +153,33 @@ fn what_fails_outside_is_named(rt: HostRuntime) -> Result<(), Fail> {
     let alloc = rt.alloc();
     let mut folder = folder_of(alloc, COUNTER.as_slice(), THREE_CALLS)?;
     folder.fail_lists.push(1)?;
-    assert!(rt; gives(alloc, folder, 8, "error 8 d\n")?);
+    assert!(rt; gives(&rt, alloc, folder, 8, "error 8 d\n")?);
     let mut folder = folder_of(alloc, COUNTER.as_slice(), THREE_CALLS)?;
     folder.fail_reads.push(1)?;
-    assert!(rt; gives(alloc, folder, 8, "error 8 d/Counter.class\n")?);
+    assert!(rt; gives(&rt, alloc, folder, 8, "error 8 d/Counter.class\n")?);
     let mut folder = MemFolder::new(alloc);
     folder.put("d/Counter.class", COUNTER.as_slice())?;
-    assert!(rt; gives(alloc, folder, 8, "error 8 s\n")?);
+    assert!(rt; gives(&rt, alloc, folder, 8, "error 8 s\n")?);
     Ok(())
 }
 
 /// Whether a run on a class file is refused with this fault.
-fn is_fault(alloc: Global, class: &[u8], fault: &str) -> Result<bool, IoEnd> {
+fn is_fault<R: Threads + Sync>(
+    rt: &R,
+    alloc: Global,
+    class: &[u8],
+    fault: &str,
+) -> Result<bool, IoEnd> {
     let line = format!(in alloc; "error 3 d/Counter.class {fault}\n")?;
-    runs(alloc, class, ONE_CALL, 3, line.as_str())
+    runs(rt, alloc, class, ONE_CALL, 3, line.as_str())
 }
 
 /// Whether a run on a class file ends as one that has a fault.
-fn is_faulty(alloc: Global, class: &[u8]) -> Result<bool, IoEnd> {
+fn is_faulty<R: Threads + Sync>(rt: &R, alloc: Global, class: &[u8]) -> Result<bool, IoEnd> {
     let words = words_of(alloc, ["run", "d", "s"].as_slice())?;
     let mut folder = folder_of(alloc, class, ONE_CALL)?;
     let mut out = MemSink::new(alloc, 64);
-    let status = deuce(alloc, words.as_slice(), &mut folder, &mut out);
+    let status = deuce(rt, alloc, words.as_slice(), &mut folder, &mut out);
     let line = out.written.as_slice();
     Ok(status == 3 && line.starts_with(b"error 3 d/Counter.class 1 Truncated "))
 }
@@ -159,11 +189,11 @@ fn a_front_of_a_class_is_truncated(rt: HostRuntime) -> Result<(), Fail> {
     let alloc = rt.alloc();
     let class = COUNTER.as_slice();
     for len in 0..class.len() {
-        assert!(rt; is_faulty(alloc, &class[..len])?);
+        assert!(rt; is_faulty(&rt, alloc, &class[..len])?);
     }
-    assert!(rt; is_fault(alloc, &class[..3], "1 Truncated 0")?);
-    assert!(rt; is_fault(alloc, &class[..20], "1 Truncated 16")?);
-    assert!(rt; is_fault(alloc, &class[..200], "1 Truncated 199")?);
+    assert!(rt; is_fault(&rt, alloc, &class[..3], "1 Truncated 0")?);
+    assert!(rt; is_fault(&rt, alloc, &class[..20], "1 Truncated 16")?);
+    assert!(rt; is_fault(&rt, alloc, &class[..200], "1 Truncated 199")?);
     Ok(())
 }
 
@@ -172,7 +202,7 @@ fn a_byte_behind_a_class_is_told(rt: HostRuntime) -> Result<(), Fail> {
     let alloc = rt.alloc();
     let mut class = Vec::from_slice(alloc, COUNTER.as_slice())?;
     class.push(0)?;
-    assert!(rt; is_fault(alloc, class.as_slice(), "10 Trailing 201")?);
+    assert!(rt; is_fault(&rt, alloc, class.as_slice(), "10 Trailing 201")?);
     Ok(())
 }
 
@@ -182,11 +212,11 @@ fn a_second_file_or_a_folder_is_not_built(rt: HostRuntime) -> Result<(), Fail> {
     for path in ["d/Other.class", "d/e/f"].as_slice() {
         let mut folder = folder_of(alloc, COUNTER.as_slice(), ONE_CALL)?;
         folder.put(path, COUNTER.as_slice())?;
-        assert!(rt; gives(alloc, folder, 12, "error 12 NotBuilt\n")?);
+        assert!(rt; gives(&rt, alloc, folder, 12, "error 12 NotBuilt\n")?);
     }
     let mut folder = folder_of(alloc, COUNTER.as_slice(), NO_PHASES)?;
     folder.put("d/notes", b"".as_slice())?;
-    assert!(rt; gives(alloc, folder, 0, "history 0\nunplaced 0\n")?);
+    assert!(rt; gives(&rt, alloc, folder, 0, "history 0\nunplaced 0\n")?);
     Ok(())
 }
 
@@ -200,17 +230,26 @@ fn scripts_of_no_form_are_not_built(rt: HostRuntime) -> Result<(), Fail> {
         b"[[[[[[[[[[[[[[[[".as_slice(),
         OTHER_METHOD,
     ] {
-        assert!(rt; runs(alloc, COUNTER.as_slice(), script, 12, "error 12 NotBuilt\n")?);
+        assert!(rt;
+            runs(
+                &rt,
+                alloc,
+                COUNTER.as_slice(),
+                script,
+                12,
+                "error 12 NotBuilt\n"
+            )?
+        );
     }
     Ok(())
 }
 
 /// Whether a run of one call on a class ends: with its answer, with a fault of the file or of its code, or as not built.
-fn ends(alloc: Global, class: &[u8]) -> Result<bool, IoEnd> {
+fn ends<R: Threads + Sync>(rt: &R, alloc: Global, class: &[u8]) -> Result<bool, IoEnd> {
     let words = words_of(alloc, ["run", "d", "s"].as_slice())?;
     let mut folder = folder_of(alloc, class, ONE_CALL)?;
     let mut out = MemSink::new(alloc, 64);
-    let status = deuce(alloc, words.as_slice(), &mut folder, &mut out);
+    let status = deuce(rt, alloc, words.as_slice(), &mut folder, &mut out);
     let written = out.written.as_slice();
     Ok(match status {
         0 => written.starts_with(b"history 1\n"),
@@ -232,7 +271,7 @@ fn each_flip_of_a_bit_ends(rt: HostRuntime) -> Result<(), Fail> {
     for at in 0..COUNTER.len() {
         for bit in 0..8u32 {
             class[at] ^= 1u8 << bit;
-            assert!(rt; ends(alloc, class.as_slice())?);
+            assert!(rt; ends(&rt, alloc, class.as_slice())?);
             class[at] = COUNTER[at];
         }
     }
@@ -243,7 +282,7 @@ fn each_flip_of_a_bit_ends(rt: HostRuntime) -> Result<(), Fail> {
 fn a_file_over_the_limit_is_told(rt: HostRuntime) -> Result<(), Fail> {
     let alloc = rt.alloc();
     let class = vec![in alloc; 0u8; 1_048_577]?;
-    assert!(rt; is_fault(alloc, class.as_slice(), "30 OverLimit file 1048577")?);
+    assert!(rt; is_fault(&rt, alloc, class.as_slice(), "30 OverLimit file 1048577")?);
     Ok(())
 }
 
@@ -264,27 +303,32 @@ fn with_code(alloc: Global, stack: u8, code: &[u8]) -> Result<Vec<u8>, AllocErro
 }
 
 /// Whether a call of `inc` with this code on a stack of four gives this answer.
-fn answers(alloc: Global, code: &[u8], answer: &str) -> Result<bool, IoEnd> {
+fn answers<R: Threads + Sync>(
+    rt: &R,
+    alloc: Global,
+    code: &[u8],
+    answer: &str,
+) -> Result<bool, IoEnd> {
     let class = with_code(alloc, 4, code)?;
     let text = format!(in alloc; "history 1\n0 0 0 Counter.inc()I {answer}\nunplaced 0\n")?;
-    runs(alloc, class.as_slice(), ONE_CALL, 0, text.as_str())
+    runs(rt, alloc, class.as_slice(), ONE_CALL, 0, text.as_str())
 }
 
 #[test]
 fn constants_and_the_stack(rt: HostRuntime) -> Result<(), Fail> {
     let alloc = rt.alloc();
     // nop; iconst_m1, iconst_0 and iconst_5; bipush and sipush at both ends
-    assert!(rt; answers(alloc, &[0x00, 0x04, 0xac], "1")?);
-    assert!(rt; answers(alloc, &[0x02, 0xac], "-1")?);
-    assert!(rt; answers(alloc, &[0x03, 0xac], "0")?);
-    assert!(rt; answers(alloc, &[0x08, 0xac], "5")?);
-    assert!(rt; answers(alloc, &[0x10, 0x80, 0xac], "-128")?);
-    assert!(rt; answers(alloc, &[0x10, 0x7f, 0xac], "127")?);
-    assert!(rt; answers(alloc, &[0x11, 0x80, 0x00, 0xac], "-32768")?);
-    assert!(rt; answers(alloc, &[0x11, 0x7f, 0xfe, 0xac], "32766")?);
+    assert!(rt; answers(&rt, alloc, &[0x00, 0x04, 0xac], "1")?);
+    assert!(rt; answers(&rt, alloc, &[0x02, 0xac], "-1")?);
+    assert!(rt; answers(&rt, alloc, &[0x03, 0xac], "0")?);
+    assert!(rt; answers(&rt, alloc, &[0x08, 0xac], "5")?);
+    assert!(rt; answers(&rt, alloc, &[0x10, 0x80, 0xac], "-128")?);
+    assert!(rt; answers(&rt, alloc, &[0x10, 0x7f, 0xac], "127")?);
+    assert!(rt; answers(&rt, alloc, &[0x11, 0x80, 0x00, 0xac], "-32768")?);
+    assert!(rt; answers(&rt, alloc, &[0x11, 0x7f, 0xfe, 0xac], "32766")?);
     // 2, 3, pop; 3, dup, isub
-    assert!(rt; answers(alloc, &[0x05, 0x06, 0x57, 0xac], "2")?);
-    assert!(rt; answers(alloc, &[0x06, 0x59, 0x64, 0xac], "0")?);
+    assert!(rt; answers(&rt, alloc, &[0x05, 0x06, 0x57, 0xac], "2")?);
+    assert!(rt; answers(&rt, alloc, &[0x06, 0x59, 0x64, 0xac], "0")?);
     Ok(())
 }
 
@@ -292,35 +336,42 @@ fn constants_and_the_stack(rt: HostRuntime) -> Result<(), Fail> {
 fn arithmetic_wraps(rt: HostRuntime) -> Result<(), Fail> {
     let alloc = rt.alloc();
     // 3 - 5, 3 + 5, 3 * 5, -3
-    assert!(rt; answers(alloc, &[0x06, 0x08, 0x64, 0xac], "-2")?);
-    assert!(rt; answers(alloc, &[0x06, 0x08, 0x60, 0xac], "8")?);
-    assert!(rt; answers(alloc, &[0x06, 0x08, 0x68, 0xac], "15")?);
-    assert!(rt; answers(alloc, &[0x06, 0x74, 0xac], "-3")?);
+    assert!(rt; answers(&rt, alloc, &[0x06, 0x08, 0x64, 0xac], "-2")?);
+    assert!(rt; answers(&rt, alloc, &[0x06, 0x08, 0x60, 0xac], "8")?);
+    assert!(rt; answers(&rt, alloc, &[0x06, 0x08, 0x68, 0xac], "15")?);
+    assert!(rt; answers(&rt, alloc, &[0x06, 0x74, 0xac], "-3")?);
     // 16384 * 16384 * 4 is 1073741824; added to itself it is -2147483648
     let least = [0x11, 0x40, 0x00, 0x59, 0x68, 0x07, 0x68, 0x59, 0x60];
     assert!(rt;
         answers(
+            &rt,
             alloc,
             &[0x11, 0x40, 0x00, 0x59, 0x68, 0x07, 0x68, 0xac],
             "1073741824"
         )?
     );
-    assert!(rt; ends_in(alloc, least.as_slice(), &[], "-2147483648")?);
+    assert!(rt; ends_in(&rt, alloc, least.as_slice(), &[], "-2147483648")?);
     // less 1, and negated
-    assert!(rt; ends_in(alloc, least.as_slice(), &[0x04, 0x64], "2147483647")?);
-    assert!(rt; ends_in(alloc, least.as_slice(), &[0x74], "-2147483648")?);
+    assert!(rt; ends_in(&rt, alloc, least.as_slice(), &[0x04, 0x64], "2147483647")?);
+    assert!(rt; ends_in(&rt, alloc, least.as_slice(), &[0x74], "-2147483648")?);
     // (32767 + 13574) squared is 2147488281
     let square = [0x11, 0x7f, 0xff, 0x11, 0x35, 0x06, 0x60, 0x59, 0x68];
-    assert!(rt; ends_in(alloc, square.as_slice(), &[], "-2147479015")?);
+    assert!(rt; ends_in(&rt, alloc, square.as_slice(), &[], "-2147479015")?);
     Ok(())
 }
 
 /// Whether code and more of it, with a return behind both, give this answer.
-fn ends_in(alloc: Global, code: &[u8], more: &[u8], answer: &str) -> Result<bool, IoEnd> {
+fn ends_in<R: Threads + Sync>(
+    rt: &R,
+    alloc: Global,
+    code: &[u8],
+    more: &[u8],
+    answer: &str,
+) -> Result<bool, IoEnd> {
     let mut whole = Vec::from_slice(alloc, code)?;
     whole.extend_from_slice(more)?;
     whole.push(0xac)?;
-    answers(alloc, whole.as_slice(), answer)
+    answers(rt, alloc, whole.as_slice(), answer)
 }
 
 #[test]
@@ -334,7 +385,7 @@ fn a_field_is_read_and_written_twice(rt: HostRuntime) -> Result<(), Fail> {
     let class = with_code(alloc, 2, code.as_slice())?;
     let text =
         "history 3\n0 0 0 Counter.inc()I 7\n0 0 1 Counter.inc()I 21\n0 0 2 Counter.inc()I 49\nunplaced 0\n";
-    assert!(rt; runs(alloc, class.as_slice(), THREE_CALLS, 0, text)?);
+    assert!(rt; runs(&rt, alloc, class.as_slice(), THREE_CALLS, 0, text)?);
     Ok(())
 }
 
@@ -425,7 +476,7 @@ const LAST_LINES: &str =
 fn each_field_has_its_own_accessors(rt: HostRuntime) -> Result<(), Fail> {
     let alloc = rt.alloc();
     let class = many(alloc, 3)?;
-    assert!(rt; runs(alloc, class.as_slice(), MANY_CALLS, 0, MANY_LINES)?);
+    assert!(rt; runs(&rt, alloc, class.as_slice(), MANY_CALLS, 0, MANY_LINES)?);
     Ok(())
 }
 
@@ -433,10 +484,11 @@ fn each_field_has_its_own_accessors(rt: HostRuntime) -> Result<(), Fail> {
 fn a_hundred_fields_and_methods(rt: HostRuntime) -> Result<(), Fail> {
     let alloc = rt.alloc();
     let class = many(alloc, 100)?;
-    assert!(rt; runs(alloc, class.as_slice(), LAST_CALLS, 0, LAST_LINES)?);
+    assert!(rt; runs(&rt, alloc, class.as_slice(), LAST_CALLS, 0, LAST_LINES)?);
     let class = many(alloc, 101)?;
     assert!(rt;
         runs(
+            &rt,
             alloc,
             class.as_slice(),
             LAST_CALLS,

@@ -1,10 +1,16 @@
 //! What is printed.
-ghost use Rattle.std.specs.Prelude.{◌≡◌, ◌++◌, OnOk, IfOk};
+ghost use Rattle.std.specs.Prelude.{◌≡◌, ◌++◌, OnOk, IfOk, map};
 ghost use Rattle.std.specs.Fmt.{decimal, signed_decimal};
 ghost use Rattle.std.specs.List.{flat_map};
-ghost use Rattle.jmodel.specs.Output.{value_text, answer_text, place_text, line_text, journal_text};
+ghost use Rattle.jmodel.specs.Name.{printed};
+ghost use Rattle.jmodel.specs.Program.{method_at};
+ghost use Rattle.jmodel.specs.Output.{value_text, answer_text, line_text, journal_text};
+ghost use Rattle.deuce.specs.Headline.{name_in};
+ghost use Rattle.deuce.specs.Lines.{line_in, place_of};
 
-use jmodel::{Answer, Bytes, Line, Value};
+use hierarchy::Program;
+use jmodel::{Answer, Bytes, Value};
+use session::Record;
 use std::alloc::{AllocError, Global};
 
 /// A number in decimal digits, at the end.
@@ -76,47 +82,80 @@ pub fn push_answer(alloc: Global, out: &mut Bytes, answer: &Answer) -> Result<()
     }
 }
 
-fn push_place(alloc: Global, out: &mut Bytes, line: &Line) -> Result<(), AllocError>
-    ensures { OnOk result (out.new ≡ out.old ++ place_text line.now) }
+/// The place of a call in its script and a space, at the end.
+fn push_place(alloc: Global, out: &mut Bytes, call: &Record) -> Result<(), AllocError>
+    ensures { OnOk result (out.new ≡ out.old ++ place_of call.now) }
 {
-    let phase = line.phase;
-    let lane = line.lane;
-    let index = line.index;
+    let phase = call.phase;
+    let lane = call.lane;
+    let index = call.index;
     let text = format!(in alloc; "{phase} {lane} {index} ")?;
     out.extend_from_slice(text.as_bytes())
 }
 
-fn push_line(alloc: Global, out: &mut Bytes, line: &Line) -> Result<(), AllocError>
-    ensures { OnOk result (out.new ≡ out.old ++ line_text line.now) }
+/// The printed name of the method of a number, at the end; where there is no such method, its three parts are empty.
+fn push_name(
+    alloc: Global,
+    out: &mut Bytes,
+    program: &Program,
+    number: usize,
+) -> Result<(), AllocError>
+    ensures { OnOk result (out.new ≡ out.old ++ printed (name_in (method_at program.now number))) }
 {
-    push_place(alloc, out, line)?;
-    let name = line.method.printed(alloc)?;
-    out.extend_from_slice(name.as_slice())?;
+    match program.method(number) {
+        Some(method) => {
+            let name = method.name().printed(alloc)?;
+            out.extend_from_slice(name.as_slice())
+        }
+        None => out.push(b'.'),
+    }
+}
+
+fn push_line(
+    alloc: Global,
+    out: &mut Bytes,
+    program: &Program,
+    call: &Record,
+) -> Result<(), AllocError>
+    ensures { OnOk result (out.new ≡ out.old ++ line_text (line_in program.now call.now)) }
+{
+    push_place(alloc, out, call)?;
+    push_name(alloc, out, program, call.method)?;
     out.push(b' ')?;
-    push_answer(alloc, out, &line.answer)?;
+    push_answer(alloc, out, &call.answer)?;
     out.push(b'\n')
 }
 
-/// Lines, one after another, at the end.
-fn push_lines(alloc: Global, out: &mut Bytes, lines: &[Line]) -> Result<(), AllocError>
-    ensures { OnOk result (out.new ≡ out.old ++ flat_map line_text lines.now) }
+/// The lines of calls, one after another, at the end.
+fn push_lines(
+    alloc: Global,
+    out: &mut Bytes,
+    program: &Program,
+    calls: &[Record],
+) -> Result<(), AllocError>
+    ensures { OnOk result (out.new ≡ out.old ++ flat_map line_text (map (line_in program.now) calls.now)) }
 {
-    for line in lines {
-        push_line(alloc, out, line)?;
+    for call in calls {
+        push_line(alloc, out, program, call)?;
     }
     Ok(())
 }
 
-/// The journal of a run: the calls that stand in the history, in its order, and those that ran out of memory.
-pub fn journal(alloc: Global, placed: &[Line], unplaced: &[Line]) -> Result<Bytes, AllocError>
-    ensures { IfOk result (λ text. text ≡ journal_text placed.now unplaced.now) }
+/// The journal of a run of a program: the calls that stand in the history, in its order, and those that ran out of memory.
+pub fn journal(
+    alloc: Global,
+    program: &Program,
+    placed: &[Record],
+    unplaced: &[Record],
+) -> Result<Bytes, AllocError>
+    ensures { IfOk result (λ text. text ≡ journal_text (map (line_in program.now) placed.now) (map (line_in program.now) unplaced.now)) }
 {
     let mut out = Bytes::new(alloc);
     let count = placed.len();
     out.extend_from_slice(format!(in alloc; "history {count}\n")?.as_bytes())?;
-    push_lines(alloc, &mut out, placed)?;
+    push_lines(alloc, &mut out, program, placed)?;
     let count = unplaced.len();
     out.extend_from_slice(format!(in alloc; "unplaced {count}\n")?.as_bytes())?;
-    push_lines(alloc, &mut out, unplaced)?;
+    push_lines(alloc, &mut out, program, unplaced)?;
     Ok(out)
 }

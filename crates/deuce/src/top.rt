@@ -15,6 +15,7 @@ use crate::words::{Command, command_of};
 use deuce_io::{Folder, IoEnd, Sink};
 use jmodel::NoMemory;
 use std::alloc::Global;
+use std::thread::Threads;
 
 /// Does what the words ask for, over a folder and a sink, and answers the exit status.
 ///
@@ -30,7 +31,13 @@ use std::alloc::Global;
 /// | 10 | memory ran out; nothing was written, or a front of the output |
 /// | 11 | the put of the rewritten class file failed |
 /// | 12 | the folder hasn't one class file alone, or the class or the script isn't of the form that is built so far, or the rewritten class would have too many members |
-pub fn deuce<F: Folder, O: Sink>(alloc: Global, words: &[String], folder: &mut F, out: &mut O) -> u8
+pub fn deuce<R: Threads + Sync, F: Folder, O: Sink>(
+    rt: &R,
+    alloc: Global,
+    words: &[String],
+    folder: &mut F,
+    out: &mut O,
+) -> u8
     // Where the words are of no form, that is said, unless it can't be written or memory runs out.
     ensures no_form { IsNoCommand words.now → (result ≡ 2) ⊎ ((result ≡ 9) ⊎ (result ≡ 10)) }
     ensures usage { result ≡ 2 → IsNoCommand words.now }
@@ -88,7 +95,7 @@ pub fn deuce<F: Folder, O: Sink>(alloc: Global, words: &[String], folder: &mut F
 
     ensures statuses { (result ≡ 0) ⊎ ((result ≡ 2) ⊎ ((result ≡ 3) ⊎ ((result ≡ 4) ⊎ ((result ≡ 5) ⊎ ((result ≡ 8) ⊎ ((result ≡ 9) ⊎ ((result ≡ 10) ⊎ ((result ≡ 11) ⊎ (result ≡ 12))))))))) }
 {
-    let Ok(outcome) = outcome_of(alloc, words, folder) else {
+    let Ok(outcome) = outcome_of(rt, alloc, words, folder) else {
         return 10;
     };
     let status = outcome.status();
@@ -103,7 +110,8 @@ pub fn deuce<F: Folder, O: Sink>(alloc: Global, words: &[String], folder: &mut F
 }
 
 /// How the command that the words ask for ends.
-fn outcome_of<F: Folder>(
+fn outcome_of<R: Threads + Sync, F: Folder>(
+    rt: &R,
     alloc: Global,
     words: &[String],
     folder: &mut F,
@@ -113,7 +121,7 @@ fn outcome_of<F: Folder>(
     ensures put { ArePut words.now (F.files folder.old) (F.files folder.new) }
 {
     match command_of(words) {
-        Some(Command::Run { dir, script }) => run_command(alloc, folder, dir, script),
+        Some(Command::Run { dir, script }) => run_command(rt, alloc, folder, dir, script),
         Some(Command::Rewrite { dir, out }) => rewrite_command(alloc, folder, dir, out),
         None => Ok(Outcome::Usage),
     }

@@ -1,9 +1,9 @@
--- Scripts, in the form that is built so far: the JSON data of the calls of one lane, and the turns that each of them may take.
-use Rattle.std.specs.Prelude.{◌≡◌, ℕ, ◌≤◌, ℤ, pos, negsuc, List, length, Option, Some, None, codes, map, option_map, unwrap_or, FitsSigned, ◌⊎◌}
+-- Scripts: the JSON data of what each lane calls in each phase, and the turns that each call may take.
+use Rattle.std.specs.Prelude.{◌≡◌, ℕ, ◌≤◌, ℤ, pos, negsuc, List, length, sum_by, Option, Some, None, IfSome, codes, map, option_map, unwrap_or, FitsSigned}
 use Rattle.std.specs.Int.{w32}
 use Rattle.std.specs.List.{AllByRecursion}
 use Rattle.std.specs.Str.{IsUtf8}
-use Rattle.serde_json.specs.Data.{Data, number, string, array, object, unsigned, negative, Items, no_items, item, no_members, member}
+use Rattle.serde_json.specs.Data.{Data, number, string, array, object, unsigned, negative, Items, Members, no_members, member}
 use Rattle.serde_json.specs.View.{items_of}
 use Rattle.serde_json.specs.Read.{read}
 
@@ -12,23 +12,22 @@ pub record Wanted : Type 0 where
   pub name : List ℕ
   pub args : List ℤ
 
--- the turns that each call may take, and the calls
+-- the turns that each call may take, and the phases: of each its lanes, and of each lane its calls
 pub record Script : Type 0 where
   pub budget : ℕ
-  pub calls : List Wanted
+  pub phases : List (List (List Wanted))
 
--- objects of one, two, three and four members, in order of their keys
+-- objects of one and of two members, in order of their keys
 abbrev pub one : List ℕ → Data → Data
 one k x = object (member k x no_members)
 
 abbrev pub two : List ℕ → Data → List ℕ → Data → Data
 two k x l y = object (member k x (member l y no_members))
 
-abbrev pub three : List ℕ → Data → List ℕ → Data → List ℕ → Data → Data
-three k x l y m z = object (member k x (member l y (member m z no_members)))
-
-abbrev pub four : List ℕ → Data → List ℕ → Data → List ℕ → Data → List ℕ → Data → Data
-four k x l y m z n w = object (member k x (member l y (member m z (member n w no_members))))
+-- members, before which one more may stand
+abbrev pub may_have : List ℕ → Option Data → Members → Members
+may_have k None ms = ms
+may_have k (Some x) ms = member k x ms
 
 -- a whole number
 abbrev pub whole : ℤ → Data
@@ -42,45 +41,68 @@ whole_list ns = array (items_of (map whole ns))
 abbrev pub call_data : Wanted → Data
 call_data c = two (codes "args") (whole_list c.args) (codes "call") (string c.name)
 
--- a phase whose one lane makes these calls
-abbrev pub phase_with : Items → Data
-phase_with calls = one (codes "lanes") (array (item (array calls) no_items))
+-- what a lane calls
+abbrev pub lane_data : List Wanted → Data
+lane_data calls = array (items_of (map call_data calls))
 
--- an object of a script's members, of which the first may be left out
-abbrev pub members_with : Option Data → Data → Data → Data → Data
-members_with None form lanes phases = three (codes "form") form (codes "lanes") lanes (codes "phases") phases
-members_with (Some budget) form lanes phases = four (codes "budget") budget (codes "form") form (codes "lanes") lanes (codes "phases") phases
+-- what the lanes of a phase call
+abbrev pub phase_data : List (List Wanted) → Data
+phase_data lanes = one (codes "lanes") (array (items_of (map lane_data lanes)))
 
 abbrev pub counted : ℕ → Data
 counted n = number (unsigned n)
 
--- a script of these phases, which may name a budget
-abbrev pub script_with : Option ℕ → Data → Data
-script_with budget phases = members_with (option_map counted budget) (counted 1) (counted 1) phases
+-- an object of a script's members, of which the first two may be left out
+abbrev pub members_with : Option Data → Option Data → Data → Data → Data → Data
+members_with budget engine form lanes phases =
+    object (may_have (codes "budget") budget (may_have (codes "engine") engine
+    (member (codes "form") form (member (codes "lanes") lanes (member (codes "phases") phases no_members)))))
 
--- no phases, or one phase of these calls
-abbrev pub HasPhases : Data → Items → Type 0
-HasPhases d calls = ((d ≡ array no_items) × (calls ≡ no_items)) ⊎ (d ≡ array (item (phase_with calls) no_items))
+-- what a script says beside its phases: a budget and an engine, where it names them, and the number of lanes
+pub record Head : Type 0 where
+  pub named : Option ℕ
+  pub engine : Option Data
+  pub lanes : ℕ
 
-abbrev pub HasCalls : Data → Option ℕ → Items → Type 0
-HasCalls d budget calls = (phases : Data) × (d ≡ script_with budget phases) × HasPhases phases calls
+-- the turns that each call may take
+abbrev pub budget_of : Head → ℕ
+budget_of h = unwrap_or h.named 100000
 
-pub record IsBudget (n : ℕ) : Type 0 where
-  pub some : 1 ≤ n
-  pub most : n ≤ 1000000
+-- there is one engine to be named
+pub record IsHead (h : Head) : Type 0 where
+  pub some_turns : 1 ≤ budget_of h
+  pub most_turns : budget_of h ≤ 1000000
+  pub engine : IfSome h.engine (λ e. e ≡ string (codes "tl2"))
+  pub some_lanes : 1 ≤ h.lanes
+  pub most_lanes : h.lanes ≤ 16
+
+abbrev pub script_data : Head → Items → Data
+script_data h phases = members_with (option_map counted h.named) h.engine (counted 1) (counted h.lanes) (array phases)
 
 -- each argument is an int
 abbrev pub HasInts : Wanted → Type 0
 HasInts c = AllByRecursion (FitsSigned w32) c.args
 
--- The bytes are a script of this budget, 100000 where it names none, and of these calls, at most 100000.
+-- a phase has at most so many lanes, which call with ints
+pub record IsPhase (lanes : ℕ) (phase : List (List Wanted)) : Type 0 where
+  pub few_lanes : length phase ≤ lanes
+  pub ints : AllByRecursion (AllByRecursion HasInts) phase
+
+-- how many calls a phase has
+abbrev pub calls_of : List (List Wanted) → ℕ
+calls_of phase = sum_by length phase
+
+-- there are at most 10000 phases, with at most 100000 calls in all
+pub record ArePhases (lanes : ℕ) (phases : List (List (List Wanted))) : Type 0 where
+  pub each : AllByRecursion (IsPhase lanes) phases
+  pub few_phases : length phases ≤ 10000
+  pub few_calls : sum_by calls_of phases ≤ 100000
+
+-- The bytes are a script of this budget and of these phases.
 pub record IsScript (bytes : List ℕ) (s : Script) : Type 0 where
-  pub script : Data
   pub text : IsUtf8 bytes
-  pub script_is : read bytes ≡ Some script
-  pub named : Option ℕ
-  pub budget : s.budget ≡ unwrap_or named 100000
-  pub allowed : IsBudget s.budget
-  pub calls : HasCalls script named (items_of (map call_data s.calls))
-  pub ints : AllByRecursion HasInts s.calls
-  pub few : length s.calls ≤ 100000
+  pub head : Head
+  pub head_is : IsHead head
+  pub budget : s.budget ≡ budget_of head
+  pub phases : ArePhases head.lanes s.phases
+  pub data_is : read bytes ≡ Some (script_data head (items_of (map phase_data s.phases)))

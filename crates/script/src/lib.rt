@@ -1,10 +1,12 @@
 //! Scripts: which calls a run makes.
 #![tactic(auto)]
 
+mod calls;
 mod members;
 mod reading;
 
-pub use reading::{Script, ScriptEnd, Wanted, read_script};
+pub use calls::{LaneCalls, PhaseCalls, Wanted};
+pub use reading::{Script, ScriptEnd, read_script};
 
 #[cfg(test)]
 mod tests;

@@ -1,20 +1,14 @@
-//! Scripts, in the form that is built so far: one lane, and at most one phase.
-use crate::members::{
-    count_of, four_members, int_of, is_one, list_of, one_member, only_item, three_members,
-    two_members,
-};
-use jmodel::Bytes;
+//! Scripts.
+use crate::calls::{PhaseCalls, phases_of};
+use crate::members::{Walk, count_of, is_one, list_of};
 use serde_json::{Error, Value};
 use std::alloc::{AllocError, AllocFailed, Global};
 use std::marker::Model;
 
-/// The most calls that a script may have.
-const MOST_CALLS: usize = 100_000;
-
 /// Why there is no script.
 #[derive(Clone, Copy, Debug)]
 pub enum ScriptEnd {
-    /// The bytes are no script of the form that is built.
+    /// The bytes are no script.
     NotBuilt,
     NoMemory,
 }
@@ -57,34 +51,17 @@ impl From<Error> for ScriptEnd {
     }
 }
 
-ghost use Rattle.std.specs.Prelude.{◌≡◌, ℕ, ℤ, List, Option, unwrap_or, option_map, FitsSigned, IfOk, MatchOption, codes, map};
-ghost use Rattle.std.specs.Int.{w32};
-ghost use Rattle.std.specs.List.{AllByRecursion};
-ghost use Rattle.serde_json.specs.Data.{Data, Items, array, string};
+ghost use Rattle.std.specs.Prelude.{◌≡◌, ◌≤◌, ◌↔◌, ℕ, Option, unwrap_or, option_map, IfOk, IfSome, IsTrue, MatchOption, codes};
+ghost use Rattle.serde_json.specs.Data.{Data, Items, string};
 ghost use Rattle.serde_json.specs.View.{view, items_view};
 ghost use Rattle.script.specs.Found.{set_data};
-ghost use Rattle.script.specs.Script.{Script as ScriptForm, Wanted as Form, IsScript, IsBudget, HasInts, HasCalls, HasPhases, two, members_with, counted, whole, call_data, phase_with};
+ghost use Rattle.script.specs.Script.{Script as ScriptForm, Head, IsHead, IsScript, budget_of, members_with, script_data, counted};
 
-/// A call that a script asks for: the printed name of its method, and its arguments.
-#[derive(Debug, Drop)]
-pub struct Wanted {
-    pub name: Bytes,
-    pub args: Vec<i32>,
-}
-
-impl Model for Wanted {
-    ghost use Rattle.script.specs.Script.{Wanted as Form};
-
-    ghost Value = { Form };
-
-    ghost view = { λ c. record { name = c.name; args = c.args.items } };
-}
-
-/// A script: the turns that each call may take, and the calls.
+/// A script: the turns that each call may take, and the phases, each with its lanes and these with their calls.
 #[derive(Debug, Drop)]
 pub struct Script {
     pub budget: u64,
-    pub calls: Vec<Wanted>,
+    pub phases: Vec<PhaseCalls>,
 }
 
 impl Model for Script {
@@ -92,87 +69,43 @@ impl Model for Script {
 
     ghost Value = { Form };
 
-    ghost view = { λ s. record { budget = s.budget; calls = s.calls.items } };
+    ghost view = { λ s. record { budget = s.budget; phases = s.phases.items } };
 }
 
-/// The script that bytes are. It is JSON: an object of exactly `form` 1, `lanes` 1 and `phases`, which is empty or one object
-/// of exactly `lanes`, a list of one list of at most 100,000 calls; and it may have `budget`, from 1 to 1,000,000, else that is
-/// 100,000. A call is an object of exactly `call`, a text, and `args`, a list of ints.
+/// The script that bytes are. It is JSON: an object of exactly `form` 1, `lanes` from 1 to 16 and `phases`; and it may have
+/// `budget`, from 1 to 1,000,000, else that is 100,000, and `engine`, which is the text `tl2`. `phases` is a list of at most 10,000
+/// objects of exactly `lanes`, a list of at most as many lists of calls as there are lanes, one for each lane from the first. There are
+/// at most 100,000 calls in all. A call is an object of exactly `call`, a text, and `args`, a list of ints.
 pub fn read_script(alloc: Global, bytes: &[u8]) -> Result<Script, ScriptEnd>
     ensures script { IfOk result (IsScript bytes.now) }
     ensures not_built { result ≡ Err ScriptEnd.NotBuilt → (s : ScriptForm) → IsScript bytes.now s → ⊥ }
 {
     let script = Value::from_slice(alloc, bytes)?;
-    let (budget, calls) = parts_of(&script).ok_or(ScriptEnd::NotBuilt)?;
-    if calls.len() > MOST_CALLS {
-        return Err(ScriptEnd::NotBuilt);
-    }
-    let calls = wanted_of(alloc, calls)?;
-    Ok(Script { budget, calls })
+    let (budget, lanes, phases) = parts_of(&script).ok_or(ScriptEnd::NotBuilt)?;
+    let phases = phases_of(alloc, lanes, phases)?;
+    Ok(Script { budget, phases })
 }
 
-fn wanted_of(alloc: Global, calls: &[Value]) -> Result<Vec<Wanted>, ScriptEnd>
-    ensures calls { IfOk result (λ cs. map view calls.now ≡ map call_data cs.items) }
-    ensures ints { IfOk result (λ cs. AllByRecursion HasInts cs.items) }
-    ensures not_built { result ≡ Err ScriptEnd.NotBuilt → (cs : List Form) → AllByRecursion HasInts cs → map view calls.now ≡ map call_data cs → ⊥ }
+/// The budget, the number of lanes and the phases of a script, or None where it is not in the form.
+fn parts_of(script: &Value) -> Option<(u64, usize, &[Value])>
+    ensures { MatchOption result ((h : Head) (phases : Items) → IsHead h → view script.now ≡ script_data h phases → ⊥)
+        (λ p. (h : Head) × IsHead h × (p.0 ≡ budget_of h) × (p.1 ≡ h.lanes) × (view script.now ≡ script_data h (items_view p.2.now))) }
 {
-    let mut wanted = Vec::new(alloc);
-    for call in calls {
-        wanted.push(call_of(alloc, call)?)?;
-    }
-    Ok(wanted)
-}
-
-/// The call that a value is.
-fn call_of(alloc: Global, call: &Value) -> Result<Wanted, ScriptEnd>
-    ensures call { IfOk result (λ c. view call.now ≡ call_data c) }
-    ensures ints { IfOk result HasInts }
-    ensures not_built { result ≡ Err ScriptEnd.NotBuilt → (c : Form) → HasInts c → view call.now ≡ call_data c → ⊥ }
-{
-    let (list, name) = parts_of_call(call).ok_or(ScriptEnd::NotBuilt)?;
-    let args = ints_of(alloc, list)?;
-    let name = Bytes::from_slice(alloc, name.as_bytes())?;
-    Ok(Wanted { name, args })
-}
-
-/// The arguments and the name of a call.
-fn parts_of_call(call: &Value) -> Option<(&[Value], &str)>
-    ensures { MatchOption result ((ds : Items) (name : List ℕ) → view call.now ≡ two (codes "args") (array ds) (codes "call") (string name) → ⊥)
-        (λ p. view call.now ≡ two (codes "args") (array (items_view p.0.now)) (codes "call") (string p.1.now)) }
-{
-    let (args, name) = two_members(call, "args", "call")?;
-    Some((list_of(args)?, name.as_str()?))
-}
-
-/// The ints of a list.
-fn ints_of(alloc: Global, list: &[Value]) -> Result<Vec<i32>, ScriptEnd>
-    ensures whole { IfOk result (λ v. map view list.now ≡ map whole v.items) }
-    ensures ints { IfOk result (λ v. AllByRecursion (FitsSigned w32) v.items) }
-    ensures not_built { result ≡ Err ScriptEnd.NotBuilt → (ns : List ℤ) → AllByRecursion (FitsSigned w32) ns → map view list.now ≡ map whole ns → ⊥ }
-{
-    let mut ints = Vec::new(alloc);
-    for value in list {
-        ints.push(int_of(value).ok_or(ScriptEnd::NotBuilt)?)?;
-    }
-    Ok(ints)
-}
-
-/// The budget and the calls of a script, or None where it is not in the form.
-fn parts_of(script: &Value) -> Option<(u64, &[Value])>
-    ensures { MatchOption result ((named : Option ℕ) (calls : Items) → IsBudget (unwrap_or named 100000) → HasCalls (view script.now) named calls → ⊥)
-        (λ p. IsBudget p.0 × (named : Option ℕ) × (p.0 ≡ unwrap_or named 100000) × HasCalls (view script.now) named (items_view p.1.now)) }
-{
-    let (budget, form, lanes, phases) = members_of(script)?;
-    if !is_one(form) || !is_one(lanes) {
+    let values = values_of(script)?;
+    if !is_one(values.form) || !may_be_named(values.engine) {
         return None;
     }
-    Some((budget_of(budget)?, calls_of(phases)?))
+    Some((
+        budget_of(values.budget)?,
+        lanes_of(values.lanes)?,
+        list_of(values.phases)?,
+    ))
 }
 
 /// The budget that a script names, or 100,000 where it names none.
 fn budget_of(named: Option<&Value>) -> Option<u64>
-    ensures { MatchOption result ((n : Option ℕ) → IsBudget (unwrap_or n 100000) → set_data named.entry ≡ option_map counted n → ⊥)
-        (λ b. IsBudget b × (n : Option ℕ) × (b ≡ unwrap_or n 100000) × (set_data named.entry ≡ option_map counted n)) }
+    ensures { MatchOption result ((n : Option ℕ) → 1 ≤ unwrap_or n 100000 → unwrap_or n 100000 ≤ 1000000 → set_data named.entry ≡ option_map counted n → ⊥)
+        (λ b. (1 ≤ b) × (b ≤ 1000000) × (n : Option ℕ) × (b ≡ unwrap_or n 100000) × (set_data named.entry ≡ option_map counted n)) }
 {
     let budget = match named {
         Some(value) => count_of(value)?,
@@ -185,37 +118,49 @@ fn budget_of(named: Option<&Value>) -> Option<u64>
     }
 }
 
-/// The calls of a script's phases, of which there is at most one.
-fn calls_of(phases: &Value) -> Option<&[Value]>
-    ensures { MatchOption result ((calls : Items) → HasPhases (view phases.now) calls → ⊥) (λ calls. HasPhases (view phases.now) (items_view calls.now)) }
+/// Whether a script may name this engine, where it names one.
+fn may_be_named(engine: Option<&Value>) -> bool
+    ensures { IsTrue result ↔ IfSome (set_data engine.entry) (λ e. e ≡ string (codes "tl2")) }
 {
-    let phases = list_of(phases)?;
-    if phases.is_empty() {
-        Some(&[])
+    match engine {
+        Some(value) => value.as_str() == Some("tl2"),
+        None => true,
+    }
+}
+
+/// The number of lanes of a script.
+fn lanes_of(lanes: &Value) -> Option<usize>
+    ensures { MatchOption result ((n : ℕ) → 1 ≤ n → n ≤ 16 → view lanes.now ≡ counted n → ⊥) (λ n. (1 ≤ n) × (n ≤ 16) × (view lanes.now ≡ counted n)) }
+{
+    let lanes = count_of(lanes)?;
+    if lanes >= 1 && lanes <= 16 {
+        Some(lanes as usize)
     } else {
-        calls_of_phase(only_item(phases)?)
+        None
     }
 }
 
-fn calls_of_phase(phase: &Value) -> Option<&[Value]>
-    ensures { MatchOption result ((calls : Items) → view phase.now ≡ phase_with calls → ⊥) (λ calls. view phase.now ≡ phase_with (items_view calls.now)) }
-{
-    let lanes = list_of(one_member(phase, "lanes")?)?;
-    list_of(only_item(lanes)?)
+/// The values of a script's members.
+#[derive(Clone, Copy)]
+struct Values<'a> {
+    budget: Option<&'a Value>,
+    engine: Option<&'a Value>,
+    form: &'a Value,
+    lanes: &'a Value,
+    phases: &'a Value,
 }
 
-/// The values of a script's members: that of `budget`, where it is there, and those of `form`, `lanes` and `phases`.
-fn members_of(script: &Value) -> Option<(Option<&Value>, &Value, &Value, &Value)>
-    ensures { MatchOption result ((b : Option Data) (f l p : Data) → view script.now ≡ members_with b f l p → ⊥)
-        (λ x. view script.now ≡ members_with (set_data x.0) (view x.1.now) (view x.2.now) (view x.3.now)) }
+fn values_of(script: &Value) -> Option<Values<'_>>
+    ensures { MatchOption result ((b e : Option Data) (f l p : Data) → view script.now ≡ members_with b e f l p → ⊥)
+        (λ v. view script.now ≡ members_with (set_data v.budget) (set_data v.engine) (view v.form.now) (view v.lanes.now) (view v.phases.now)) }
 {
-    match three_members(script, "form", "lanes", "phases") {
-        Some((form, lanes, phases)) => Some((None, form, lanes, phases)),
-        None => {
-            let (budget, form, lanes, phases) = four_members(
-                script, "budget", "form", "lanes", "phases",
-            )?;
-            Some((Some(budget), form, lanes, phases))
-        }
-    }
+    let mut walk = Walk::of(script)?;
+    let values = Values {
+        budget: walk.take("budget"),
+        engine: walk.take("engine"),
+        form: walk.take("form")?,
+        lanes: walk.take("lanes")?,
+        phases: walk.take("phases")?,
+    };
+    if walk.is_done() { Some(values) } else { None }
 }

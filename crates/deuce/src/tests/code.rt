@@ -3,6 +3,7 @@ use super::{COUNTER, ONE_CALL, answers, push_pair, push_size, runs, with_code, w
 use deuce_io::IoEnd;
 use std::alloc::{AllocError, Global};
 use std::test::Fail;
+use std::thread::Threads;
 
 /// A class whose `loop` adds 1 to a field, jumps back one time less than its argument says, and gives the field.
 const LOOP: [u8; 206] = [
@@ -82,21 +83,27 @@ const BRANCH_CALL: &[u8] =
 #[test]
 fn turns_and_frames_are_counted(rt: HostRuntime) -> Result<(), Fail> {
     let alloc = rt.alloc();
-    assert!(rt; runs(alloc, LOOP.as_slice(), LOOP_CALLS, 0, LOOP_LINES)?);
+    assert!(rt; runs(&rt, alloc, LOOP.as_slice(), LOOP_CALLS, 0, LOOP_LINES)?);
     let text = "history 1\n0 0 0 D.d()V refused depth\nunplaced 0\n";
-    assert!(rt; runs(alloc, RECURSION.as_slice(), RECURSION_CALL, 0, text)?);
+    assert!(rt; runs(&rt, alloc, RECURSION.as_slice(), RECURSION_CALL, 0, text)?);
     // n = n + 1, until n isn't below 5: the jump leads to pc 0
     let code = [
         0xb2, 0, 10, 0x04, 0x60, 0x59, 0xb3, 0, 10, 0x08, 0xa1, 0xff, 0xf6, 0xb2, 0, 10, 0xac,
     ];
-    assert!(rt; answers(alloc, code.as_slice(), "5")?);
+    assert!(rt; answers(&rt, alloc, code.as_slice(), "5")?);
     Ok(())
 }
 
 /// Whether a call of `inc` of a class like Counter is refused with this status and fault.
-fn is_refused(alloc: Global, class: &[u8], status: u8, fault: &str) -> Result<bool, IoEnd> {
+fn is_refused<R: Threads + Sync>(
+    rt: &R,
+    alloc: Global,
+    class: &[u8],
+    status: u8,
+    fault: &str,
+) -> Result<bool, IoEnd> {
     let line = format!(in alloc; "error {status} {fault}\n")?;
-    runs(alloc, class, ONE_CALL, status, line.as_str())
+    runs(rt, alloc, class, ONE_CALL, status, line.as_str())
 }
 
 #[test]
@@ -105,18 +112,50 @@ fn faults_of_code_are_told(rt: HostRuntime) -> Result<(), Fail> {
     // an opcode that isn't taken, and a pop in place of the return
     let mut class = COUNTER;
     class[176] = 0xba;
-    assert!(rt; is_refused(alloc, class.as_slice(), 4, "13 BadInstr Counter.inc()I 3")?);
+    assert!(rt;
+        is_refused(
+            &rt,
+            alloc,
+            class.as_slice(),
+            4,
+            "13 BadInstr Counter.inc()I 3"
+        )?
+    );
     let mut class = COUNTER;
     class[182] = 0x57;
-    assert!(rt; is_refused(alloc, class.as_slice(), 5, "32 Untypable Counter.inc()I 9")?);
+    assert!(rt;
+        is_refused(
+            &rt,
+            alloc,
+            class.as_slice(),
+            5,
+            "32 Untypable Counter.inc()I 9"
+        )?
+    );
     // a jump into itself, behind a nop
     let class = with_code(alloc, 1, &[0x00, 0xa7, 0x00, 0x01, 0x04, 0xac])?;
-    assert!(rt; is_refused(alloc, class.as_slice(), 4, "14 BadTarget Counter.inc()I 1")?);
+    assert!(rt;
+        is_refused(
+            &rt,
+            alloc,
+            class.as_slice(),
+            4,
+            "14 BadTarget Counter.inc()I 1"
+        )?
+    );
     // two values on a stack of one
     let class = with_code(alloc, 1, &[0x04, 0x05, 0x60, 0xac])?;
-    assert!(rt; is_refused(alloc, class.as_slice(), 5, "32 Untypable Counter.inc()I 1")?);
+    assert!(rt;
+        is_refused(
+            &rt,
+            alloc,
+            class.as_slice(),
+            5,
+            "32 Untypable Counter.inc()I 1"
+        )?
+    );
     let line = "error 5 32 Untypable V.v()V 0\n";
-    assert!(rt; runs(alloc, POP.as_slice(), POP_CALL, 5, line)?);
+    assert!(rt; runs(&rt, alloc, POP.as_slice(), POP_CALL, 5, line)?);
     Ok(())
 }
 
@@ -140,10 +179,10 @@ fn a_branch_that_becomes_too_far_is_told(rt: HostRuntime) -> Result<(), Fail> {
     let alloc = rt.alloc();
     let class = branching(alloc, 32_760)?;
     let line = "error 4 16 BranchTooFar W.b(I)V 1\n";
-    assert!(rt; runs(alloc, class.as_slice(), BRANCH_CALL, 4, line)?);
+    assert!(rt; runs(&rt, alloc, class.as_slice(), BRANCH_CALL, 4, line)?);
     let class = branching(alloc, 32_759)?;
     let text = "history 1\n0 0 0 W.b(I)V void\nunplaced 0\n";
-    assert!(rt; runs(alloc, class.as_slice(), BRANCH_CALL, 0, text)?);
+    assert!(rt; runs(&rt, alloc, class.as_slice(), BRANCH_CALL, 0, text)?);
     Ok(())
 }
 
@@ -154,11 +193,11 @@ fn many_locals_and_long_code(rt: HostRuntime) -> Result<(), Fail> {
     let code = [0x08, 0x36, 0xc7, 0x15, 0xc7, 0xac];
     let class = with_locals(alloc, 1, 200, code.as_slice())?;
     let text = "history 1\n0 0 0 Counter.inc()I 5\nunplaced 0\n";
-    assert!(rt; runs(alloc, class.as_slice(), ONE_CALL, 0, text)?);
+    assert!(rt; runs(&rt, alloc, class.as_slice(), ONE_CALL, 0, text)?);
     let class = with_locals(alloc, 1, 201, code.as_slice())?;
-    assert!(rt; is_refused(alloc, class.as_slice(), 12, "NotBuilt")?);
+    assert!(rt; is_refused(&rt, alloc, class.as_slice(), 12, "NotBuilt")?);
     let mut code = vec![in alloc; 0u8; 65_000]?;
     code.extend_from_slice(&[0x08, 0xac])?;
-    assert!(rt; answers(alloc, code.as_slice(), "5")?);
+    assert!(rt; answers(&rt, alloc, code.as_slice(), "5")?);
     Ok(())
 }

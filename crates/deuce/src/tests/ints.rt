@@ -72,6 +72,6 @@ const TEXT: &str =
 
 #[test]
 fn answers_as_a_java_machine_does(rt: HostRuntime) -> Result<(), Fail> {
-    assert!(rt; runs(rt.alloc(), INTS.as_slice(), SCRIPT.as_bytes(), 0, TEXT)?);
+    assert!(rt; runs(&rt, rt.alloc(), INTS.as_slice(), SCRIPT.as_bytes(), 0, TEXT)?);
     Ok(())
 }

@@ -11,6 +11,7 @@ use jmodel::VType;
 use rewriter::Rewriting;
 use std::alloc::{AllocError, Global};
 use std::test::Fail;
+use std::thread::Threads;
 
 /// Counter rewritten, as an assembler of class files spells the members that docs/FORMATS.md lists.
 const REWRITTEN: [u8; 1076] = [
@@ -90,7 +91,8 @@ fn rewrite_words(alloc: Global) -> Result<Vec<String>, AllocError> {
 }
 
 /// Whether a rewriting over a folder ends with this status and writes this text.
-fn ends_with(
+fn ends_with<R: Threads + Sync>(
+    rt: &R,
     alloc: Global,
     folder: &mut MemFolder,
     status: u8,
@@ -98,7 +100,7 @@ fn ends_with(
 ) -> Result<bool, AllocError> {
     let words = rewrite_words(alloc)?;
     let mut out = MemSink::new(alloc, 64);
-    let found = deuce(alloc, words.as_slice(), folder, &mut out);
+    let found = deuce(rt, alloc, words.as_slice(), folder, &mut out);
     Ok(found == status && out.written.as_slice() == text.as_bytes())
 }
 
@@ -108,7 +110,7 @@ const COUNTS: &str = "classes 1\ntaken 1\natomic 1\n";
 fn counter_is_rewritten_as_the_formats_say(rt: HostRuntime) -> Result<(), Fail> {
     let alloc = rt.alloc();
     let mut folder = folder_of(alloc, COUNTER.as_slice(), ONE_CALL)?;
-    assert!(rt; ends_with(alloc, &mut folder, 0, COUNTS)?);
+    assert!(rt; ends_with(&rt, alloc, &mut folder, 0, COUNTS)?);
     let new = folder.read("o/Counter.class", 2000)?;
     assert_eq!(rt; new.as_slice(), REWRITTEN.as_slice());
     let old = folder.read("d/Counter.class", 2000)?;
@@ -122,7 +124,7 @@ fn counter_is_rewritten_as_the_formats_say(rt: HostRuntime) -> Result<(), Fail> 
 fn a_second_rewriting_is_not_built(rt: HostRuntime) -> Result<(), Fail> {
     let alloc = rt.alloc();
     let mut folder = folder_of(alloc, REWRITTEN.as_slice(), ONE_CALL)?;
-    assert!(rt; ends_with(alloc, &mut folder, 12, "error 12 NotBuilt\n")?);
+    assert!(rt; ends_with(&rt, alloc, &mut folder, 12, "error 12 NotBuilt\n")?);
     assert_eq!(rt; folder.files.len(), 2usize);
     Ok(())
 }
@@ -133,6 +135,7 @@ fn refused_rewritings_put_nothing(rt: HostRuntime) -> Result<(), Fail> {
     let mut folder = folder_of(alloc, &COUNTER[..20], ONE_CALL)?;
     assert!(rt;
         ends_with(
+            &rt,
             alloc,
             &mut folder,
             3,
@@ -144,6 +147,7 @@ fn refused_rewritings_put_nothing(rt: HostRuntime) -> Result<(), Fail> {
     let mut folder = folder_of(alloc, class.as_slice(), ONE_CALL)?;
     assert!(rt;
         ends_with(
+            &rt,
             alloc,
             &mut folder,
             5,
@@ -159,7 +163,7 @@ fn a_put_that_fails_is_named(rt: HostRuntime) -> Result<(), Fail> {
     let alloc = rt.alloc();
     let mut folder = folder_of(alloc, COUNTER.as_slice(), ONE_CALL)?;
     folder.fail_puts.push(3)?;
-    assert!(rt; ends_with(alloc, &mut folder, 11, "error 11 o/Counter.class\n")?);
+    assert!(rt; ends_with(&rt, alloc, &mut folder, 11, "error 11 o/Counter.class\n")?);
     Ok(())
 }
 
@@ -170,7 +174,7 @@ fn a_sink_that_fails_keeps_the_file(rt: HostRuntime) -> Result<(), Fail> {
     let mut folder = folder_of(alloc, COUNTER.as_slice(), ONE_CALL)?;
     let mut out = MemSink::new(alloc, 8);
     out.fail_writes.push(2)?;
-    let status = deuce(alloc, words.as_slice(), &mut folder, &mut out);
+    let status = deuce(&rt, alloc, words.as_slice(), &mut folder, &mut out);
     assert_eq!(rt; status, 9u8);
     assert!(rt; out.written.as_slice() == b"classes ".as_slice());
     let new = folder.read("o/Counter.class", 2000)?;

@@ -4,16 +4,16 @@ use Rattle.deuce.proofs.Running.{ready, runnable, err_is, on_err, of_preparing, 
 use Rattle.deuce.proofs.run.run_class.Goals as goal
 
 pub run_script-requires-clause-ready : goal.run_script-requires-clause-ready
-run_script-requires-clause-ready c =
+run_script-requires-clause-ready g c = λ κs lives.
     ready c.args.class.now c.in_ok-prepared.prepared.original c.in_ok-prepared.prepared.rewriting.program c.in_ok-prepared.ensures.links c.in_ok-prepared.ensures.typed c.in_ok-prepared.ensures.rewritten.0
 
 pub returns-in_err-prepared-clause-cause : goal.returns-in_err-prepared-clause-cause
-returns-in_err-prepared-clause-cause c =
+returns-in_err-prepared-clause-cause g c =
     err_is c.from_residual.result c.in_err-prepared.field-0.0 (EndsOnClass c.args.class.now (IsNotRunOn c.args.script.now)) c.from_residual.ensures.1
     (of_preparing c.args.class.now (IsNotRunOn c.args.script.now) c.in_err-prepared.field-0.0 (λ none. inl none) c.in_err-prepared.ensures.cause)
 
 pub returns-clause-cause : goal.returns-clause-cause
-returns-clause-cause c =
+returns-clause-cause g c =
     let P = c.in_ok-prepared.prepared.original in
     let made = c.in_ok-prepared.ensures.rewritten in
     on_err c.run_script.result (EndsScript P c.args.script.now) (EndsOnClass c.args.class.now (IsNotRunOn c.args.script.now))

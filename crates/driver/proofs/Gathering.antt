@@ -1,0 +1,101 @@
+-- The lanes of a phase, gathered one after another.
+use Rattle.std.proofs.Common.{◌≡◌, ℕ, suc, ◌+◌, List, [], ◌∷◌, ◌++◌, length, map, reverse, true, false, cond, refl, sym, ap, ◌∙◌, subst, arith}
+use Rattle.std.specs.Prelude.{IsPermutation, filter, take, drop}
+use Rattle.std.specs.List.{flat_map, AllByRecursion, All}
+use Rattle.std.proofs.lemmas.List.{map-append, flat_map_more}
+use Rattle.std.proofs.lemmas.List.Elements.{All-from_recursion}
+use Rattle.std.proofs.lemmas.List.Sorted.{IsPermutation-refl, IsPermutation-sym, IsPermutation-reverse, IsPermutation-map, IsPermutation-append}
+use Rattle.jmodel.specs.History.{Call, Entry, Told, told}
+use Rattle.jmodel.specs.Schedule.{Known, Phase, lane_calls}
+use Rattle.session.specs.declared.record.Record.{Record}
+use Rattle.session.specs.declared.record.Lane.{Lane}
+use Rattle.session.specs.Rule.{calls_of}
+use Rattle.session.specs.Lane.{is_placed, record_of, HasMade}
+use Rattle.driver.specs.declared.side.Part.{Part}
+use Rattle.driver.specs.Sides.{IsPart, AreParts, none_made}
+use Rattle.driver.specs.Gathering.{IsGathered}
+
+-- one lane more
+parts_push : (phase lane : ℕ) (ls : Phase) (ts : List (List Told)) (rs : List Part) (cs : List Known) (t : List Told) (r : Part)
+    → AreParts phase lane ls (none_made ls) ts rs → IsPart phase (lane + length ls) 0 cs t r
+    → AreParts phase lane (ls ++ cs ∷ []) (none_made (ls ++ cs ∷ [])) (ts ++ t ∷ []) (rs ++ r ∷ [])
+parts_push phase lane [] [] [] cs t r a p = let here : lane + 0 ≡ lane = omega arith in (subst (λ (n : ℕ). IsPart phase n 0 cs t r) here p, tt)
+parts_push phase lane (l ∷ ls) (u ∷ us) (q ∷ rs) cs t r a p =
+    let next : lane + length (l ∷ ls) ≡ suc lane + length ls = omega arith in
+    (a.0, parts_push phase (suc lane) ls us rs cs t r a.1 (subst (λ (n : ℕ). IsPart phase n 0 cs t r) next p))
+parts_push phase lane [] [] (q ∷ rs) cs t r a p = absurd a
+parts_push phase lane [] (u ∷ us) [] cs t r a p = absurd a
+parts_push phase lane [] (u ∷ us) (q ∷ rs) cs t r a p = absurd a
+parts_push phase lane (l ∷ ls) [] [] cs t r a p = absurd a
+parts_push phase lane (l ∷ ls) [] (q ∷ rs) cs t r a p = absurd a
+parts_push phase lane (l ∷ ls) (u ∷ us) [] cs t r a p = absurd a
+
+-- no lane
+pub gathered_none : (phase : ℕ) → IsGathered phase [] [] [] []
+gathered_none phase = record { tolds = []; parts_are = tt; history = IsPermutation-refl []; placed_are = refl }
+
+abbrev pub part_of : Lane → Part
+part_of l = record { made = l.made; unplaced = l.unplaced }
+
+-- one lane more, whose pass has its entries from the last on
+pub gathered_more : (phase : ℕ) (ls : Phase) (es : List Entry) (placed : List Record) (parts : List Part) (cs : List Known) (h : List Entry) (l : Lane)
+    → IsGathered phase ls es placed parts → HasMade (record { phase = phase; lane = length ls; first = 0 }) cs h l
+    → IsGathered phase (ls ++ cs ∷ []) (es ++ reverse h) (placed ++ l.placed.items) (parts ++ part_of l ∷ [])
+gathered_more phase ls es placed parts cs h l g made =
+    let ts = made.tolds in
+    let all : flat_map (filter is_placed) g.tolds ++ filter is_placed ts ≡ flat_map (filter is_placed) (g.tolds ++ ts ∷ []) =
+    flat_map_more (filter is_placed) [] g.tolds ts in
+    let mine : IsPermutation (map told (reverse h)) (filter is_placed ts) =
+    subst (IsPermutation (map told (reverse h))) made.history (IsPermutation-map told (reverse h) h (IsPermutation-sym h (reverse h) (IsPermutation-reverse h))) in
+    record {
+      tolds = g.tolds ++ ts ∷ [];
+      parts_are = parts_push phase 0 ls g.tolds parts cs ts (part_of l) g.parts_are
+          (subst (λ (n : ℕ). IsPart phase n 0 cs ts (part_of l)) (omega arith) (record {
+            within = omega (arith, made.within);
+            calls_are = made.calls_are;
+            unplaced_are = made.unplaced_are;
+          }));
+      history = subst (IsPermutation (map told (es ++ reverse h))) all
+          (subst (λ (xs : List Told). IsPermutation xs (flat_map (filter is_placed) g.tolds ++ filter is_placed ts)) (sym (map-append told es (reverse h)))
+          (IsPermutation-append (map told es) (flat_map (filter is_placed) g.tolds) (map told (reverse h)) (filter is_placed ts) g.history mine));
+      placed_are = ap (λ (xs : List Record). xs ++ l.placed.items) g.placed_are
+          ∙ ap (λ (xs : List Record). map record_of (flat_map (filter is_placed) g.tolds) ++ xs) made.placed_are
+          ∙ sym (map-append record_of (flat_map (filter is_placed) g.tolds) (filter is_placed ts)) ∙ ap (map record_of) all;
+    }
+
+-- a call of a phase, whose lane takes words from its own region
+abbrev pub IsOfPhase : ℕ → Call → Type 0
+IsOfPhase phase c = (c.region ≡ suc c.lane) × (c.phase ≡ phase)
+
+abbrev pub IsToldOf : ℕ → Told → Type 0
+IsToldOf phase t = IsOfPhase phase t.call
+
+module _ (phase : ℕ) where
+  lane_calls_are : (lane index : ℕ) (cs : List Known) → AllByRecursion (IsOfPhase phase) (lane_calls phase lane index cs)
+  lane_calls_are lane index [] = tt
+  lane_calls_are lane index (c ∷ cs) = ((refl, refl), lane_calls_are lane (suc index) cs)
+
+  placed_too : (ts : List Told) → AllByRecursion (IsOfPhase phase) (calls_of ts) → AllByRecursion (IsToldOf phase) (filter is_placed ts)
+  placed_too [] a = tt
+  placed_too (t ∷ ts) a =
+      let rest : AllByRecursion (IsToldOf phase) (filter is_placed ts) = placed_too ts a.1 in
+      elim (is_placed t) as (λ b. AllByRecursion (IsToldOf phase) (cond b (t ∷ filter is_placed ts) (filter is_placed ts))) [ true ↦ (a.0, rest) | false ↦ rest ]
+
+  both_lists : (xs ys : List Told) → AllByRecursion (IsToldOf phase) xs → AllByRecursion (IsToldOf phase) ys → AllByRecursion (IsToldOf phase) (xs ++ ys)
+  both_lists [] ys a b = b
+  both_lists (x ∷ xs) ys a b = (a.0, both_lists xs ys a.1 b)
+
+  placed_all : (lane : ℕ) (ls : Phase) (ts : List (List Told)) (rs : List Part) → AreParts phase lane ls (none_made ls) ts rs
+      → AllByRecursion (IsToldOf phase) (flat_map (filter is_placed) ts)
+  placed_all lane ls [] rs a = tt
+  placed_all lane (cs ∷ ls) (t ∷ ts) (r ∷ rs) a =
+      let calls = subst (AllByRecursion (IsOfPhase phase)) (sym a.0.calls_are) (lane_calls_are lane 0 (take r.made (drop 0 cs))) in
+      both_lists (filter is_placed t) (flat_map (filter is_placed) ts) (placed_too t calls) (placed_all (suc lane) ls ts rs a.1)
+  placed_all lane [] (t ∷ ts) [] a = absurd a
+  placed_all lane [] (t ∷ ts) (r ∷ rs) a = absurd a
+  placed_all lane (cs ∷ ls) (t ∷ ts) [] a = absurd a
+
+  -- each placed call of the lanes is of the phase
+  pub placed_of_phase : (ls : Phase) (ts : List (List Told)) (rs : List Part) → AreParts phase 0 ls (none_made ls) ts rs
+      → All (IsToldOf phase) (flat_map (filter is_placed) ts)
+  placed_of_phase ls ts rs a = All-from_recursion (IsToldOf phase) (flat_map (filter is_placed) ts) (placed_all 0 ls ts rs a)

@@ -1,0 +1,28 @@
+-- What a run of a script's calls leaves.
+use Rattle.std.specs.Prelude.{◌≡◌, ◌≤◌, ℕ, List, length, map}
+use Rattle.std.specs.List.{AllByRecursion}
+use Rattle.jmodel.specs.Program.{Program}
+use Rattle.jmodel.specs.State.{State}
+use Rattle.jmodel.specs.History.{Told}
+use Rattle.jmodel.specs.Schedule.{Phase, Made, IsJournal, script_calls}
+use Rattle.session.specs.Rule.{IsCallOf, IsState}
+use Rattle.session.specs.Lane.{record_of}
+use Rattle.driver.specs.declared.run.Journal.{Journal}
+
+abbrev pub made_of : Told → Made
+made_of t = record { call = t.call; answer = t.answer }
+
+-- the calls of a script for a program, of which there aren't too many
+pub record AreScripted (P : Program) (phases : List Phase) : Type 0 where
+  pub calls : AllByRecursion (AllByRecursion (AllByRecursion (IsCallOf P))) phases
+  pub lanes : AllByRecursion (λ (ls : Phase). length ls ≤ 16) phases
+  pub few_phases : length phases ≤ 10000
+  pub few_calls : length (script_calls 0 phases) ≤ 100000
+
+-- The journal of the calls of a script, from words on.
+pub record HasRun (P : Program) (budget : ℕ) (phases : List Phase) (words : List ℕ) (journal : Journal) : Type 0 where
+  pub placed : List Told
+  pub unplaced : List Told
+  pub placed_are : journal.placed.items ≡ map record_of placed
+  pub unplaced_are : journal.unplaced.items ≡ map record_of unplaced
+  pub is_journal : (σ : State) → IsState P words σ → IsJournal P budget σ phases (map made_of placed) (map made_of unplaced)

@@ -1,0 +1,190 @@
+//! A run of a script's calls.
+ghost use Rattle.std.specs.Prelude.{◌≡◌, ◌≤◌, ◌<◌, ◌+◌, ◌++◌, ◌^◌, ℕ, List, [], length, IfOk, OnOk, count_by, nat_lt};
+ghost use Rattle.std.specs.List.{AllByRecursion};
+ghost use Rattle.jmodel.specs.Schedule.{Known as Form};
+ghost use Rattle.jmodel.specs.Program.{Program as Meant};
+ghost use Rattle.session.specs.Rule.{IsReady, IsCallOf};
+ghost use Rattle.driver.specs.Sides.{IsSide, AreWhole, none_made};
+ghost use Rattle.driver.specs.Runs.{AreScripted, HasRun};
+ghost use Rattle.driver.specs.Phases.{AddsPhase, made_counts, unplaced_of, joined};
+
+use crate::calls::{LaneCalls, PhaseCalls};
+use crate::rest::one_after_another;
+use crate::side::{Part, Side};
+use crate::side_by_side::side_by_side;
+use hierarchy::Program;
+use session::Record;
+use std::alloc::{AllocError, Global};
+use std::thread::Threads;
+
+/// The calls of a run.
+#[derive(Drop)]
+pub struct Journal {
+    /// Those that have a place in the history, in its order.
+    pub placed: Vec<Record>,
+    /// Those that ran out of memory, by phase, lane and index.
+    pub unplaced: Vec<Record>,
+}
+
+impl Journal {
+    /// No calls.
+    fn new(alloc: Global) -> Self
+        ensures placed { result.placed.items ≡ [] }
+        ensures unplaced { result.unplaced.items ≡ [] }
+    {
+        Journal {
+            placed: Vec::new(alloc),
+            unplaced: Vec::new(alloc),
+        }
+    }
+
+    /// Adds the calls of a phase: those that were made first, and the rest behind them.
+    fn add_phase(
+        &mut self,
+        mut first: Vec<Record>,
+        first_parts: Vec<Part>,
+        mut rest: Vec<Record>,
+        rest_parts: Vec<Part>,
+    ) -> Result<(), AllocError>
+        ensures placed { OnOk result (self.new.placed.items ≡ self.old.placed.items ++ (first.items ++ rest.items)) }
+        ensures unplaced { OnOk result (self.new.unplaced.items ≡ self.old.unplaced.items ++ joined (unplaced_of first_parts.items) (unplaced_of rest_parts.items)) }
+    {
+        self.placed.append(&mut first)?;
+        self.placed.append(&mut rest)?;
+        for (mut one, mut other) in first_parts.into_iter().zip(rest_parts) {
+            self.unplaced.append(&mut one.unplaced)?;
+            self.unplaced.append(&mut other.unplaced)?;
+        }
+        Ok(())
+    }
+}
+
+/// Makes the calls of a script, from the words that memory begins with. The phases come one after another. The lanes of a phase run side by
+/// side, where more than one has calls; what a lane leaves, of which a call used up its attempts, is made behind them, one lane after
+/// another. Each call may take `budget` turns. The rewritten program is what runs.
+pub fn run_phases<R: Threads + Sync>(
+    rt: &R,
+    alloc: Global,
+    original: &Program,
+    rewritten: &Program,
+    words: Vec<u64>,
+    budget: u64,
+    phases: &[PhaseCalls],
+) -> Result<Journal, AllocError>
+    requires ready { IsReady original.now rewritten.now }
+    requires scripted { AreScripted original.now phases.now }
+    requires size { length words.items + 4097 < 2 ^ 32 }
+    ensures { IfOk result (HasRun original.now budget phases.now words.items) }
+{
+    let mut journal = Journal::new(alloc);
+    let mut words = words;
+    for (number, phase) in phases.iter().enumerate() {
+        words = run_phase(
+            rt,
+            alloc,
+            original,
+            rewritten,
+            words,
+            budget,
+            number as u32,
+            &phase.lanes,
+            &mut journal,
+        )?;
+    }
+    Ok(journal)
+}
+
+/// Makes the calls of a phase and adds them to the journal. Gives the words that they left.
+fn run_phase<R: Threads + Sync>(
+    rt: &R,
+    alloc: Global,
+    original: &Program,
+    rewritten: &Program,
+    words: Vec<u64>,
+    budget: u64,
+    phase: u32,
+    lanes: &[LaneCalls],
+    journal: &mut Journal,
+) -> Result<Vec<u64>, AllocError>
+    requires ready { IsReady original.now rewritten.now }
+    requires calls { AllByRecursion (AllByRecursion (IsCallOf original.now)) lanes.now }
+    requires few { AllByRecursion (λ (cs : List Form). length cs ≤ 100000) lanes.now }
+    requires lanes { length lanes.now ≤ 16 }
+    requires size { length words.items + 4097 < 2 ^ 32 }
+    ensures phase { IfOk result (λ left. AddsPhase original.now budget phase lanes.now words.items left.items journal.old journal.new) }
+    ensures size { IfOk result (λ left. length left.items ≡ length words.items) }
+{
+    let first = first_side(rt, alloc, original, rewritten, words, budget, phase, lanes)?;
+    let firsts = made_counts(alloc, &first.parts)?;
+    let rest = one_after_another(
+        alloc,
+        original,
+        rewritten,
+        first.words,
+        budget,
+        phase,
+        lanes,
+        &firsts,
+    )?;
+    journal.add_phase(first.placed, first.parts, rest.placed, rest.parts)?;
+    Ok(rest.words)
+}
+
+/// Makes the calls of a phase side by side, where more than one lane has calls, and otherwise none of them.
+fn first_side<R: Threads + Sync>(
+    rt: &R,
+    alloc: Global,
+    original: &Program,
+    rewritten: &Program,
+    words: Vec<u64>,
+    budget: u64,
+    phase: u32,
+    lanes: &[LaneCalls],
+) -> Result<Side, AllocError>
+    requires ready { IsReady original.now rewritten.now }
+    requires calls { AllByRecursion (AllByRecursion (IsCallOf original.now)) lanes.now }
+    requires few { AllByRecursion (λ (cs : List Form). length cs ≤ 100000) lanes.now }
+    requires lanes { length lanes.now ≤ 16 }
+    requires size { length words.items + 4097 < 2 ^ 32 }
+    ensures side { IfOk result (IsSide original.now budget phase lanes.now (none_made lanes.now) words.items) }
+    ensures size { IfOk result (λ side. length side.words.items ≡ length words.items) }
+{
+    if has_several(lanes) {
+        side_by_side(rt, alloc, original, rewritten, words, budget, phase, lanes)
+    } else {
+        untouched(alloc, words, lanes)
+    }
+}
+
+/// Whether more than one lane has calls.
+fn has_several(lanes: &[LaneCalls]) -> bool
+    ensures { result ≡ nat_lt 1 (count_by (λ (cs : List Form). nat_lt 0 (length cs)) lanes.now) }
+{
+    lanes.iter().filter(|lane| !lane.calls.is_empty()).count() > 1
+}
+
+/// No calls of a phase.
+fn untouched(alloc: Global, words: Vec<u64>, lanes: &[LaneCalls]) -> Result<Side, AllocError>
+    ensures side { (P : Meant) (budget phase : ℕ) → IfOk result (IsSide P budget phase lanes.now (none_made lanes.now) words.items) }
+    ensures size { IfOk result (λ side. length side.words.items ≡ length words.items) }
+{
+    let mut parts = Vec::new(alloc);
+    for _lane in lanes {
+        parts.push(Part {
+            made: 0,
+            unplaced: Vec::new(alloc),
+        })?;
+    }
+    Ok(Side {
+        placed: Vec::new(alloc),
+        parts,
+        words,
+    })
+}
+
+/// How many calls of each lane were made.
+fn made_counts(alloc: Global, parts: &[Part]) -> Result<Vec<usize>, AllocError>
+    ensures { IfOk result (λ counts. counts.items ≡ made_counts parts.now) }
+{
+    parts.iter().map(|part| part.made).collect(alloc)
+}

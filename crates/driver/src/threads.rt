@@ -1,0 +1,121 @@
+//! The lanes of a phase on threads, over one table.
+ghost use Rattle.std.specs.Prelude.{◌≡◌, ◌≤◌, ◌<◌, ◌+◌, ℕ, List, [], All, length, slice_index_or, IfOk, OnOk};
+ghost use Rattle.std.specs.List.{AllByRecursion};
+ghost use Rattle.jmodel.specs.History.{Entry};
+ghost use Rattle.jmodel.specs.Schedule.{Known as Form, Phase};
+ghost use Rattle.tx_table.specs.Passes.{book};
+ghost use Rattle.session.specs.Rule.{IsRuled, IsReady, IsCallOf};
+ghost use Rattle.session.specs.Passes.{IsStarting};
+ghost use Rattle.driver.specs.Gathering.{IsGathered};
+ghost use Rattle.driver.specs.Tables.{IsSplit, AreStarting, HasEnded, HaveEnded, IsBack, IsWhole};
+
+use crate::calls::LaneCalls;
+use crate::side::Part;
+use crate::table::{Keeping, Opening, Start};
+use hierarchy::Program;
+use session::{Lane, Place, Record, make_shared};
+use std::alloc::{AllocError, Global};
+use std::thread::{Threads, map_vec};
+use tx_table::{Pass, Shared};
+
+/// How a lane's thread ends: what is kept of its calls, and its pass.
+pub(crate) type End = Result<(Lane, Pass), AllocError>;
+
+/// What a lane's thread does: it makes the lane's calls over the lane's pass.
+fn run_lane<K: Keeping>(
+    alloc: Global,
+    original: &Program,
+    rewritten: &Program,
+    shared: &Shared<Opening<K>>,
+    budget: u64,
+    phase: u32,
+    lanes: &[LaneCalls],
+    start: Start,
+) -> End
+    requires ready { IsReady original.now rewritten.now }
+    requires calls { AllByRecursion (AllByRecursion (IsCallOf original.now)) lanes.now }
+    requires few { AllByRecursion (λ (cs : List Form). length cs ≤ 100000) lanes.now }
+    requires rule { (e : Entry) → IsRuled original.now budget e → K.rule e }
+    requires lane { start.lane < length lanes.now }
+    requires pass { IsStarting shared.now.table.shared.table_id start.lane start.pass }
+    ensures { IfOk result (HasEnded shared.now.table.shared.table_id phase start.lane (slice_index_or lanes.now start.lane [])) }
+{
+    let Start { lane, pass } = start;
+    let at = Place {
+        phase,
+        lane,
+        first: 0,
+    };
+    let calls = &lanes[usize::from(lane)];
+    make_shared(
+        alloc,
+        original,
+        rewritten,
+        shared,
+        pass,
+        budget,
+        at,
+        calls.calls.as_slice(),
+    )
+}
+
+/// Runs each lane on a thread of its own.
+pub(crate) fn run_all<R: Threads + Sync, K: Keeping + Sync>(
+    rt: &R,
+    alloc: Global,
+    original: &Program,
+    rewritten: &Program,
+    shared: &Shared<Opening<K>>,
+    budget: u64,
+    phase: u32,
+    lanes: &[LaneCalls],
+    starts: Vec<Start>,
+) -> Result<Vec<End>, AllocError>
+    requires ready { IsReady original.now rewritten.now }
+    requires calls { AllByRecursion (AllByRecursion (IsCallOf original.now)) lanes.now }
+    requires few { AllByRecursion (λ (cs : List Form). length cs ≤ 100000) lanes.now }
+    requires rule { (e : Entry) → IsRuled original.now budget e → K.rule e }
+    requires len { length starts.items ≡ length lanes.now }
+    requires starts { AreStarting shared.now.table.shared.table_id starts.items }
+    ensures { IfOk result (λ ends. HaveEnded shared.now.table.shared.table_id phase lanes.now ends.items) }
+{
+    map_vec(
+        rt,
+        starts,
+        &|start| {
+            run_lane(
+                alloc, original, rewritten, shared, budget, phase, lanes, start,
+            )
+        },
+    )
+}
+
+/// Joins the passes of lanes that have ended, and gathers what is kept of their calls, lane by lane.
+pub(crate) fn gather<K: Keeping>(
+    alloc: Global,
+    shared: &Shared<Opening<K>>,
+    pass: &mut Pass,
+    ends: Vec<End>,
+) -> Result<(Vec<Record>, Vec<Part>), AllocError>
+    requires few { length ends.items ≤ 16 }
+    requires pass { IsSplit shared.now.table.shared.table_id (length ends.items) pass.old }
+    requires ends { All (λ end. IfOk end (IsBack shared.now.table.shared.table_id)) ends.items }
+    ensures pass { OnOk result (IsWhole shared.now.table.shared.table_id pass.new) }
+    ensures gathered { (phase : ℕ) (lanes : Phase) → HaveEnded shared.now.table.shared.table_id phase lanes ends.items
+        → IfOk result (λ r. IsGathered phase lanes (book pass.new).entries r.0.items r.1.items) }
+{
+    let mut placed = Vec::new(alloc);
+    let mut parts = Vec::new(alloc);
+    for end in ends {
+        let (lane, other) = end?;
+        pass.join(shared, other);
+        let Lane {
+            placed: mut more,
+            unplaced,
+            made,
+        } = lane;
+        placed.append(&mut more)?;
+        parts.push(Part { made, unplaced })?;
+    }
+    Ok((placed, parts))
+}

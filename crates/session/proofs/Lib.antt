@@ -1,0 +1,6 @@
+pub mod FirstTry
+pub mod Calling
+pub mod Elements
+pub mod Lanes
+pub mod Stood
+pub mod Idle

@@ -1,0 +1,52 @@
+//! Calls over an engine that meets no conflict.
+ghost use Rattle.std.specs.Prelude.{◌≡◌, ◌≤◌, ◌+◌, ◌*◌, ◌^◌, ◌++◌, ℕ, List, [], length, IfOk};
+ghost use Rattle.std.specs.List.{AllByRecursion};
+ghost use Rattle.jmodel.specs.Attempt.{Log};
+ghost use Rattle.jmodel.specs.History.{Call, Entry};
+ghost use Rattle.session.specs.Rule.{IsRuled, IsReady, IsCallOf};
+ghost use Rattle.session.specs.Lane.{HasMade};
+
+use crate::call::make_next;
+use crate::record::{Known, Lane, Place};
+use hierarchy::Program;
+use std::alloc::{AllocError, Global};
+use tx_core::Engine;
+
+/// Makes the calls of a lane from a place on, one after another, over an engine that meets no conflict, so that each of them is made. Each
+/// call may take `budget` turns. The rewritten program is what runs.
+pub fn make_alone<E: Engine>(
+    alloc: Global,
+    original: &Program,
+    rewritten: &Program,
+    engine: &mut E,
+    budget: u64,
+    at: Place,
+    calls: &[Known],
+) -> Result<Lane, AllocError>
+    requires ready { IsReady original.now rewritten.now }
+    requires calls { AllByRecursion (IsCallOf original.now) calls.now }
+    requires few { at.first + length calls.now ≤ 100000 }
+    requires alone { (s : E) (h : List Entry) (n : ℕ) (r w : Log) → E.stands s h n r w → n ≡ 0 }
+    requires awaits { (s : E) (c : Call) (used : ℕ) → E.awaits s c used }
+    requires rule { (e : Entry) → IsRuled original.now budget e → E.allows e }
+    requires clock { E.clock engine.old + length calls.now * 1000000 ≤ 2 ^ 40 }
+    requires stands { (h : List Entry) × E.stands engine.old h 0 [] [] }
+    ensures made { (before : List Entry) → E.stands engine.old before 0 [] [] → IfOk result (λ lane. (h : List Entry) × E.stands engine.new (before ++ h) 0 [] [] × HasMade at calls.now h lane) }
+    ensures all { IfOk result (λ lane. lane.made ≡ length calls.now) }
+    ensures clock { E.clock engine.new ≤ E.clock engine.old + length calls.now * 1000000 }
+{
+    let mut lane = Lane::new(alloc);
+    for (index, call) in calls.iter().enumerate() {
+        let one = make_next(
+            alloc,
+            original,
+            rewritten,
+            engine,
+            budget,
+            at.onward(index),
+            call,
+        );
+        lane.add(one)?;
+    }
+    Ok(lane)
+}

@@ -1,0 +1,14 @@
+//! The calls of one lane, each as a transaction over an engine.
+#![tactic(auto)]
+
+mod alone;
+mod call;
+mod record;
+mod shared;
+
+pub use alone::make_alone;
+pub use record::{Known, Lane, Place, Record};
+pub use shared::make_shared;
+
+#[cfg(test)]
+mod tests;

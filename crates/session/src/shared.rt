@@ -1,0 +1,128 @@
+//! Calls over a table of shared words, by TL2.
+ghost use Rattle.std.specs.Prelude.{◌≡◌, ◌≢◌, ◌≤◌, ◌+◌, ℕ, List, [], length, IfOk};
+ghost use Rattle.std.specs.List.{AllByRecursion};
+ghost use Rattle.atomic_table.specs.Seated.{TableId};
+ghost use Rattle.jmodel.specs.History.{Entry};
+ghost use Rattle.session.specs.Rule.{IsRuled, IsReady, IsCallOf};
+ghost use Rattle.session.specs.Lane.{HasMade};
+ghost use Rattle.session.specs.Passes.{IsStarting, IsEnding, HasLost};
+
+use crate::call::make_next;
+use crate::record::{Known, Lane, Place};
+use hierarchy::Program;
+use std::alloc::{AllocError, Global};
+use std::marker::{Brand, PhantomData};
+use std::snapshot::Snapshot;
+use tl2::{Calling, Ruled, Tl2};
+use tx_table::{Pass, Shared};
+
+/// Makes the calls of a lane from a place on, one after another, over a pass of a table that others share, up to the first whose attempts are used
+/// up by conflicts. Each call may take `budget` turns and 1,000,000 attempts. The rewritten program is what runs. Gives the pass back.
+pub fn make_shared<T: Ruled>(
+    alloc: Global,
+    original: &Program,
+    rewritten: &Program,
+    shared: &Shared<T>,
+    pass: Pass,
+    budget: u64,
+    at: Place,
+    calls: &[Known],
+) -> Result<(Lane, Pass), AllocError>
+    requires ready { IsReady original.now rewritten.now }
+    requires calls { AllByRecursion (IsCallOf original.now) calls.now }
+    requires few { at.first + length calls.now ≤ 100000 }
+    requires rule { (e : Entry) → IsRuled original.now budget e → T.rule e }
+    requires pass { IsStarting shared.now.table.shared.table_id at.lane pass }
+    ensures made { IfOk result (λ r. (h : List Entry) × IsEnding shared.now.table.shared.table_id h r.1 × HasMade at calls.now h r.0) }
+    ensures stopped { IfOk result (λ r. r.0.made ≢ length calls.now → HasLost r.1) }
+{
+    make_over::<Brand, T>(alloc, original, rewritten, shared, pass, budget, at, calls)
+}
+
+/// Which lane a pass is for, and of which table it is. A caller picks both for its proof.
+trait OfLane {
+    ghost use Rattle.std.specs.Prelude.{ℕ};
+    ghost use Rattle.atomic_table.specs.Seated.{TableId};
+
+    ghost lane: { ℕ };
+
+    ghost is_table: { TableId → Type 0 };
+}
+
+impl OfLane for Brand {
+    ghost lane = { 0 };
+
+    ghost is_table = { λ _. Unit {0} };
+}
+
+/// Names the call at a place, for contracts alone.
+#[derive(Drop)]
+struct Named<'a, K> {
+    at: Place,
+    call: &'a Known,
+    of: PhantomData<K>,
+}
+
+impl<'a, K: OfLane> Calling for Named<'a, K> {
+    ghost use Rattle.std.specs.Prelude.{◌≡◌, suc};
+    ghost use Rattle.session.specs.Adds.{call_of};
+
+    ghost call = { λ n. call_of n.at n.call.now };
+
+    ghost holds = { λ r. r ≡ suc K.lane };
+
+    ghost own = { λ t numbers fresh. K.is_table t × (numbers ≡ 1) × (fresh ≡ 0) };
+}
+
+impl<'a, K> Named<'a, K> {
+    ghost use Rattle.std.specs.Prelude.{◌≡◌};
+
+    fn of(at: Place, call: &'a Known) -> Snapshot<Self>
+        ensures at { result.value.at ≡ at }
+        ensures call { result.value.call.now ≡ call.now }
+    {
+        Snapshot::of(&Named {
+            at,
+            call,
+            of: PhantomData,
+        })
+    }
+}
+
+fn make_over<K: OfLane, T: Ruled>(
+    alloc: Global,
+    original: &Program,
+    rewritten: &Program,
+    shared: &Shared<T>,
+    pass: Pass,
+    budget: u64,
+    at: Place,
+    calls: &[Known],
+) -> Result<(Lane, Pass), AllocError>
+    requires ready { IsReady original.now rewritten.now }
+    requires calls { AllByRecursion (IsCallOf original.now) calls.now }
+    requires few { at.first + length calls.now ≤ 100000 }
+    requires rule { (e : Entry) → IsRuled original.now budget e → T.rule e }
+    requires pass { IsStarting shared.now.table.shared.table_id at.lane pass }
+    requires lane { K.lane ≡ at.lane }
+    requires table { K.is_table shared.now.table.shared.table_id }
+    requires is_table { (t : TableId) → K.is_table t → t ≡ shared.now.table.shared.table_id }
+    ensures made { IfOk result (λ r. (h : List Entry) × IsEnding shared.now.table.shared.table_id h r.1 × HasMade at calls.now h r.0) }
+    ensures stopped { IfOk result (λ r. r.0.made ≢ length calls.now → HasLost r.1) }
+{
+    let mut lane = Lane::new(alloc);
+    let Some(first) = calls.first() else {
+        return Ok((lane, pass));
+    };
+    let mut engine = Tl2::new(alloc, shared, pass, Named::<K>::of(at, first));
+    for (index, call) in calls.iter().enumerate() {
+        let here = at.onward(index);
+        engine.set_call(Named::of(here, call));
+        let one = make_next(alloc, original, rewritten, &mut engine, budget, here, call);
+        if one.is_spent() {
+            break;
+        }
+        lane.add(one)?;
+    }
+    Ok((lane, engine.into_pass()))
+}
