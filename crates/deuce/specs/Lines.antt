@@ -1,5 +1,5 @@
 -- The lines of what is kept of calls.
-use Rattle.std.specs.Prelude.{ℕ, List, ◌++◌, []}
+use Rattle.std.specs.Prelude.{ℕ, List, []}
 use Rattle.std.specs.Fmt.{decimal}
 use Rattle.jmodel.specs.declared.journal.Line.{Line}
 use Rattle.jmodel.specs.Program.{Program, method_at}

@@ -5,7 +5,7 @@ use Rattle.jmodel.specs.Output.{journal_text}
 use Rattle.jmodel.specs.Schedule.{Phase}
 use Rattle.session.specs.declared.record.Record.{Record}
 use Rattle.script.specs.Script.{Script, Wanted, ArePhases}
-use Rattle.driver.specs.Runs.{AreScripted, HasRun}
+use Rattle.driver.specs.Runs.{AreScripted}
 use Rattle.deuce.specs.Headline.{AreCalls}
 use Rattle.deuce.specs.Lines.{line_in}
 use Rattle.deuce.proofs.Knowing.{scripted}
