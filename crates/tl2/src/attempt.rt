@@ -9,6 +9,7 @@ ghost use Rattle.tl2.specs.Logs.{IsLogged};
 use jmodel::op::Access;
 use std::alloc::Global;
 use std::snapshot::Snapshot;
+use tx_core::WriteLog;
 use tx_table::{Pass, Shared, Story};
 
 /// A story whose rule for entries is the same for all of its values.
@@ -54,7 +55,7 @@ pub struct Tl2<'a, T: Ruled, C> {
     pub(crate) shared: &'a Shared<T>,
     pub(crate) pass: Pass,
     pub(crate) call: Snapshot<C>,
-    pub(crate) writes: Vec<Access>,
+    pub(crate) writes: WriteLog,
     /// The addresses that the attempt read and hadn't written, the oldest first.
     pub(crate) reads: Vec<u64>,
     pub(crate) at: At,
@@ -79,7 +80,7 @@ impl<'a, T: Ruled, C: Calling> Tl2<'a, T, C> {
             shared,
             pass,
             call,
-            writes: Vec::new(alloc),
+            writes: WriteLog::new(alloc),
             reads: Vec::new(alloc),
             at: At::Outside,
             alloc,

@@ -39,7 +39,7 @@ impl<'a, T: Ruled, C: Calling> Tl2<'a, T, C> {
         if self.writes.is_empty() {
             return Ok(self.finish_refused(answer));
         }
-        let Ok(plan) = Plan::of(self.alloc, &self.writes, &self.reads) else {
+        let Ok(plan) = Plan::of(self.alloc, self.writes.as_slice(), &self.reads) else {
             self.rollback();
             return Err(TxEnd::NoMemory);
         };
@@ -47,7 +47,7 @@ impl<'a, T: Ruled, C: Calling> Tl2<'a, T, C> {
             &mut self.pass,
             self.shared,
             plan,
-            &self.writes,
+            self.writes.as_slice(),
             &self.reads,
             answer,
         );

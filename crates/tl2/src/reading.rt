@@ -44,17 +44,6 @@ fn finish_with<T: Story>(pass: &mut Pass, shared: &Shared<T>, _answer: Snapshot<
 }
 
 impl<'a, T: Ruled, C: Calling> Tl2<'a, T, C> {
-    /// The attempt's last write of an address. Looks through the attempt's writes from the last.
-    fn written(&self, address: u64) -> Option<u64>
-        ensures { result ≡ written (reverse self.now.writes.items) address }
-    {
-        self.writes
-            .iter()
-            .rev()
-            .find(|l| l.address == address)
-            .map(|l| l.word)
-    }
-
     /// Begins an attempt. No memory.
     pub fn begin(&mut self)
         ensures run { (h : List Entry) (n : ℕ) → Stands C.holds C.own self.old.shared.now.words self.old.at self.old.writes.items self.old.pass h n [] []
@@ -85,7 +74,7 @@ impl<'a, T: Ruled, C: Calling> Tl2<'a, T, C> {
         ensures same { IsSame self.old.pass self.new.pass × IsKin (book self.old.pass) (book self.new.pass) }
         ensures looked { IfOk result (λ _. IsLooked self.new.shared.now.words self.new.at self.new.writes.items address) }
     {
-        if address >= self.shared.words || self.written(address).is_some() {
+        if address >= self.shared.words || self.writes.written(address).is_some() {
             return Ok(());
         }
         match self.pass.look(self.shared, address, false) {
@@ -112,7 +101,7 @@ impl<'a, T: Ruled, C: Calling> Tl2<'a, T, C> {
         ensures same { IsSame self.old.pass self.new.pass × IsKin (book self.old.pass) (book self.new.pass) }
         ensures loaded { IsLooked self.old.shared.now.words self.old.at self.old.writes.items address → IsLoaded self.new.shared.now.words self.new.at self.new.writes.items address result }
     {
-        if let Some(word) = self.written(address) {
+        if let Some(word) = self.writes.written(address) {
             return word;
         }
         let At::Looked(looked) = self.at else {
@@ -142,7 +131,7 @@ impl<'a, T: Ruled, C: Calling> Tl2<'a, T, C> {
         ensures seen { (e : Conflict) → result ≡ Err (TxEnd.Conflict e) → (e.address ≡ address) × Meets (book self.old.pass) (book self.new.pass) e }
         ensures sole { (book self.old.pass).numbers ≡ 2 ^ 20 → IfErr result (λ end. end ≡ TxEnd.NoMemory) }
     {
-        if let Some(word) = self.written(address) {
+        if let Some(word) = self.writes.written(address) {
             return Ok(word);
         }
         let At::Loaded(loaded) = self.at else {

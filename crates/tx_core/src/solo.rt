@@ -3,6 +3,7 @@ ghost use Rattle.std.specs.Prelude.{List, [], ℕ, ◌≡◌};
 ghost use Rattle.jmodel.specs.History.{Entry};
 
 use crate::engine::{Conflict, Engine, TxEnd};
+use crate::write_log::WriteLog;
 use jmodel::op::Access;
 use jmodel::value::{Answer, Stamp};
 use std::alloc::Global;
@@ -28,7 +29,7 @@ pub struct Solo<K> {
     words: Vec<u64>,
     /// How many updates were committed.
     clock: u64,
-    writes: Vec<Access>,
+    writes: WriteLog,
     of: PhantomData<K>,
 }
 
@@ -65,7 +66,7 @@ impl<K: Origin> Engine for Solo<K> {
     }
 
     fn on_read(&mut self, address: u64, _raw: u64) -> Result<u64, TxEnd> {
-        Ok(match self.written(address) {
+        Ok(match self.writes.written(address) {
             Some(word) => word,
             None => self.word(address),
         })
@@ -88,7 +89,7 @@ impl<K: Origin> Engine for Solo<K> {
                 update: false,
             });
         }
-        write_all(&mut self.words, &self.writes);
+        write_all(&mut self.words, self.writes.as_slice());
         self.writes.clear();
         self.clock += 1;
         Ok(Stamp {
@@ -115,19 +116,7 @@ impl<K: Origin> Engine for Solo<K> {
 }
 
 impl<K> Solo<K> {
-    ghost use Rattle.std.specs.Prelude.{reverse, slice_index};
-    ghost use Rattle.jmodel.specs.Attempt.{written};
-
-    /// The attempt's last write of an address. Looks through the attempt's writes from the last.
-    fn written(&self, address: u64) -> Option<u64>
-        ensures { result ≡ written (reverse self.now.writes.items) address }
-    {
-        self.writes
-            .iter()
-            .rev()
-            .find(|l| l.address == address)
-            .map(|l| l.word)
-    }
+    ghost use Rattle.std.specs.Prelude.{slice_index};
 
     /// The word at an address, 0 beyond the end.
     fn word(&self, address: u64) -> u64
@@ -156,7 +145,7 @@ impl<K: Origin> Solo<K> {
         Solo {
             words,
             clock: 0,
-            writes: Vec::new(alloc),
+            writes: WriteLog::new(alloc),
             of: PhantomData,
         }
     }

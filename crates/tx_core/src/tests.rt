@@ -1,6 +1,7 @@
 ghost use Rattle.std.specs.Prelude.{◌≡◌};
 
-use crate::{Engine, Solo, TxEnd};
+use crate::{Engine, Solo, TxEnd, WriteLog};
+use jmodel::op::Access;
 use jmodel::value::Answer;
 use std::alloc::Global;
 use std::marker::Brand;
@@ -59,5 +60,18 @@ fn what_does_not_commit_leaves_nothing(rt: HostRuntime) -> Result<(), Fail> {
     engine.rollback();
     assert_eq!(rt; engine.ticks(), 0);
     assert!(rt; engine.into_words().as_slice() == [5, 5, 5].as_slice());
+    Ok(())
+}
+
+#[test]
+fn a_log_knows_the_last_word_of_each_address(rt: HostRuntime) -> Result<(), Fail> {
+    let mut log = WriteLog::new(rt.alloc());
+    for (address, word) in [(4, 1), (9, 2), (4, 3)] {
+        log.push(Access { address, word })?;
+    }
+    assert!(rt; log.written(4) == Some(3) && log.written(9) == Some(2) && log.written(5) == None);
+    assert_eq!(rt; log.as_slice().len(), 3);
+    log.clear();
+    assert!(rt; log.is_empty() && log.written(4) == None);
     Ok(())
 }

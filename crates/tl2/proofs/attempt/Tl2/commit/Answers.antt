@@ -28,7 +28,7 @@ of-requires g c =
     let most = size.2 in
     let small : words < 2 ^ 32 = omega arith in
     let below : All (λ (l : Access). l.address < words) (reverse c.args.self.now.writes.items) = subst (λ (k : Log). All (λ (l : Access). l.address < words) k) (sym m.writes) m.within in
-    rw c.deref.ensures.value (All-weaker (λ (l : Access). l.address < words) (λ (l : Access). l.address < 2 ^ 32) (λ l p. omega arith) c.args.self.now.writes.items (all_reversed (λ (l : Access). l.address < words) c.args.self.now.writes.items below))
+    rw c.as_slice.ensures.value (All-weaker (λ (l : Access). l.address < words) (λ (l : Access). l.address < 2 ^ 32) (λ l p. omega arith) c.args.self.now.writes.items (all_reversed (λ (l : Access). l.address < words) c.args.self.now.writes.items below))
 
 pub update-done-requires-clause-entry : goal.update-done-requires-clause-entry
 update-done-requires-clause-entry g c = λ t.
@@ -37,7 +37,7 @@ update-done-requires-clause-entry g c = λ t.
     let o = c.requires.open in
     let value = c.args.self.now.shared.now.table.shared.key.story.value in
     let runs = g.met.T.Ruled.keeps value _ (m.allowed (record { at = t; update = true })) in
-    rw (c.deref-3.ensures.value, m.stands.writes) (update_fits (g.T.Story.story value) (g.C.Calling.call c.args.self.now.call.value) v m.call m.used m.reads m.writes c.args.answer.value t o.1 m.awaits (m.stands.reads (inside _ _ _ o.2)) runs)
+    rw (c.as_slice-2.ensures.value, m.stands.writes) (update_fits (g.T.Story.story value) (g.C.Calling.call c.args.self.now.call.value) v m.call m.used m.reads m.writes c.args.answer.value t o.1 m.awaits (m.stands.reads (inside _ _ _ o.2)) runs)
 
 pub returns-in-Ok-done-clause-run : goal.returns-in-Ok-done-clause-run
 returns-in-Ok-done-clause-run g c = λ h n r w s.
@@ -49,7 +49,7 @@ returns-in-Ok-done-clause-run g c = λ h n r w s.
     let z : length (reverse c.args.self.now.writes.items) ≡ 0 = ap length (s.writes ∙ q) in
     let y : length c.args.self.now.writes.items ≡ 0 = rw length-reverse at z in
     grind (arith, common_steps) in
-    let e : reverse c.deref-3.result.now ≡ w = ap reverse c.deref-3.ensures.value ∙ s.writes in
+    let e : reverse c.as_slice-2.result.now ≡ w = ap reverse c.as_slice-2.ensures.value ∙ s.writes in
     let a = subst (λ (k : Log). IsAdded (update_of v stamp.at k c.args.answer.value) v (book c.update-done.new.pass)) e ok.1 in (
       ((λ t. wrote), (λ t. ok.0)),
       rw c.clear.ensures.items (adds_update g.C.Calling.holds g.C.Calling.own c.args.self.now.shared.now.words (g.C.Calling.call c.args.self.now.call.value) g.T.Ruled.rule c.args.self.now.at c.args.self.now.writes.items c.args.self.now.pass c.update-done.new.pass h n r w c.args.answer.value stamp o.1 (inside _ _ _ o.2) ok.0 c.in-Ok-done.ensures.same a s),
@@ -60,9 +60,9 @@ returns-in-Err-clause-seen g c = λ e q.
     let k = c.in-Err.ensures.conflict in
     let rest = c.in-Err.ensures.err in
     let same : c.in-Err.conflict ≡ e = cc in
-    let at = ap (λ (ws : Log). pairs (reverse ws)) c.deref-3.ensures.value in
+    let at = ap (λ (ws : Log). pairs (reverse ws)) c.as_slice-2.ensures.value in
     subst (λ (d : Conflict). Meets (book c.args.self.now.pass) (book c.update-done.new.pass) d × (Has (pairs (reverse c.args.self.now.writes.items)) d.address ⊎ In d.address c.args.self.now.reads.items)) same (
       record { upto = k.0; past = k.1; other = c.in-Err.ensures.other; kept = rest.2.lost },
-      ⊎_elim (λ (h : Has (pairs (reverse c.deref-3.result.now)) c.in-Err.conflict.address). inl (subst (λ (m : Map ℕ). Has m c.in-Err.conflict.address) at h))
-          (λ (i : In c.in-Err.conflict.address c.deref-4.result.now). inr (subst (λ (rs : List ℕ). In c.in-Err.conflict.address rs) c.deref-4.ensures.value i)) k.2,
+      ⊎_elim (λ (h : Has (pairs (reverse c.as_slice-2.result.now)) c.in-Err.conflict.address). inl (subst (λ (m : Map ℕ). Has m c.in-Err.conflict.address) at h))
+          (λ (i : In c.in-Err.conflict.address c.deref-2.result.now). inr (subst (λ (rs : List ℕ). In c.in-Err.conflict.address rs) c.deref-2.ensures.value i)) k.2,
     )
