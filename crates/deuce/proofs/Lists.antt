@@ -17,12 +17,6 @@ pub on_ok : {A E : Type 0} (r : Result A E) (P Q : A → Type 0) → ((x : A) �
 on_ok (Ok x) P Q f h = f x h
 on_ok (Err e) P Q f h = tt
 
--- what holds of each holds of the one at a place
-pub all_here : {A : Type 0} (P : A → Type 0) (xs : List A) (i : ℕ) (x : A) → AllByRecursion P xs → i < length xs → x ≡ get_or xs i x → P x
-all_here P [] i x all h is = absurd (omega (arith, h))
-all_here P (y ∷ xs) zero x all h is = subst P (sym is) all.0
-all_here P (y ∷ xs) (suc i) x all h is = all_here P xs i x all.1 (omega (arith, h)) is
-
 -- what holds of each up to a place, and there, holds of each up to the next
 pub all_more : {A : Type 0} (P : A → Type 0) (xs : List A) (n : ℕ) → AllByRecursion P (take n xs) → ((x : A) → slice_get xs n ≡ Some x → P x) → AllByRecursion P (take (n + 1) xs)
 all_more P xs n so_far next = rw add-one (go P xs n so_far next)

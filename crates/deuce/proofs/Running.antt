@@ -20,11 +20,10 @@ use Rattle.jmodel.specs.Typing.{IsTypable}
 use Rattle.jmodel.proofs.Linked.{links}
 use Rattle.rewriter.specs.Rewritten.{rewritten_class}
 use Rattle.script.specs.Script.{Wanted, Script, IsScript}
-use Rattle.jmodel.specs.declared.journal.Line.{Line}
 use Rattle.jmodel.specs.State.{State}
 use Rattle.jmodel.specs.History.{Told}
 use Rattle.jmodel.specs.Schedule.{Phase}
-use Rattle.jmodel.specs.Output.{journal_text}
+use Rattle.jmodel.specs.Output.{Line, journal_text}
 use Rattle.session.specs.declared.record.Record.{Record}
 use Rattle.session.specs.Rule.{IsState}
 use Rattle.session.specs.Lane.{record_of}

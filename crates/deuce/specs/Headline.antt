@@ -3,7 +3,6 @@ use Rattle.std.specs.Prelude.{◌≡◌, ◌≤◌, Ok, ℕ, List, [], ◌∷◌
 use Rattle.std.specs.List.{AllByRecursion}
 use Rattle.jmodel.specs.declared.name.MethodName.{MethodName}
 use Rattle.jmodel.specs.declared.value.Value.TheVariants.{Int}
-use Rattle.jmodel.specs.declared.journal.Line.{Line}
 use Rattle.jmodel.specs.Name.{printed}
 use Rattle.jmodel.specs.ClassFile.{ClassFile}
 use Rattle.jmodel.specs.ClassRules.{Spells}
@@ -14,7 +13,7 @@ use Rattle.jmodel.specs.Schedule.{Known, Phase, Made, takes, IsJournal}
 use Rattle.jmodel.specs.Decoding.{each}
 use Rattle.jmodel.specs.Linking.{linked}
 use Rattle.jmodel.specs.Typing.{IsTypable}
-use Rattle.jmodel.specs.Output.{journal_text}
+use Rattle.jmodel.specs.Output.{Line, journal_text}
 use Rattle.rewriter.specs.Rewritten.{rewritten_class}
 use Rattle.script.specs.Script.{Wanted, Script, IsScript}
 

@@ -1,9 +1,8 @@
 -- The lines of what is kept of calls.
 use Rattle.std.specs.Prelude.{ℕ, List, []}
 use Rattle.std.specs.Fmt.{decimal}
-use Rattle.jmodel.specs.declared.journal.Line.{Line}
 use Rattle.jmodel.specs.Program.{Program, method_at}
-use Rattle.jmodel.specs.Output.{◌and◌}
+use Rattle.jmodel.specs.Output.{Line, ◌and◌}
 use Rattle.session.specs.declared.record.Record.{Record}
 use Rattle.deuce.specs.Headline.{name_in}
 

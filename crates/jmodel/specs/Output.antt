@@ -8,7 +8,7 @@ use Rattle.jmodel.specs.declared.value.Answer.{Answer}
 use Rattle.jmodel.specs.declared.value.Answer.TheVariants.{Returned, Threw, Budget, Depth, Heap, Spent, NoMemory}
 use Rattle.jmodel.specs.declared.refusal.Refusal.{Refusal}
 use Rattle.jmodel.specs.declared.refusal.Refusal.TheVariants.{Truncated, BadTag, BadIndex, WrongKind, BadUtf8, BadDescriptor, PoolFull, BadMagic, BadVersion, Trailing, BadCode, Doubled, BadInstr, BadTarget, CodeTooLarge, BranchTooFar, DoubledClass, UnknownClass, Circular, Construct, ReservedName, BadAnnotation, BadRetries, TooManyPlaces, NotJson, BadShape, UnknownMethod, NotAtomic, BadArgs, OverLimit, BadSuper, Untypable}
-use Rattle.jmodel.specs.declared.journal.Line.{Line}
+use Rattle.jmodel.specs.declared.name.MethodName.{MethodName}
 use Rattle.jmodel.specs.Name.{printed}
 use Rattle.jmodel.specs.Refusal.{number_of}
 
@@ -40,7 +40,14 @@ answer_text (Heap used wanted size) = codes "refused heap" and decimal used and 
 answer_text Spent = codes "spent"
 answer_text NoMemory = codes "nomemory"
 
--- a call with its answer
+-- a call of the script, by its place there, with the name of its method and its answer
+pub record Line : Type 0 where
+  pub phase : ℕ
+  pub lane : ℕ
+  pub index : ℕ
+  pub method : MethodName
+  pub answer : Answer
+
 -- the place of a call in the script, and a space
 abbrev pub place_text : Line → List ℕ
 place_text l = decimal l.phase and decimal l.lane and decimal l.index and []

@@ -4,7 +4,6 @@
 pub mod bytes;
 pub mod class_file;
 pub mod instruction;
-pub mod journal;
 pub mod laws;
 pub mod name;
 pub mod op;
@@ -16,7 +15,6 @@ pub mod value;
 pub use bytes::Bytes;
 pub use class_file::{Constant, FieldType, Handler};
 pub use instruction::{EntryKind, Form, Instr, Operands, Pairs, Targets};
-pub use journal::Line;
 pub use name::MethodName;
 pub use refusal::{Halt, NoMemory, Refusal};
 pub use typing::{TypeEntry, Typing, VType};
