@@ -9,26 +9,28 @@ ghost use Rattle.session.specs.Lane.{HasMade};
 use crate::call::make_next;
 use crate::record::{Known, Lane, Place};
 use hierarchy::Program;
+use machine::Limits;
 use std::alloc::{AllocError, Global};
 use tx_core::Engine;
 
 /// Makes the calls of a lane from a place on, one after another, over an engine that meets no conflict, so that each of them is made. Each
-/// call may take `budget` turns. The rewritten program is what runs.
+/// call may take the turns and the attempts of `limits`. The rewritten program is what runs.
 pub fn make_alone<E: Engine>(
     alloc: Global,
     original: &Program,
     rewritten: &Program,
     engine: &mut E,
-    budget: u64,
+    limits: Limits,
     at: Place,
     calls: &[Known],
 ) -> Result<Lane, AllocError>
     requires ready { IsReady original.now rewritten.now }
     requires calls { AllByRecursion (IsCallOf original.now) calls.now }
     requires few { at.first + length calls.now ≤ 100000 }
+    requires attempts { (1 ≤ limits.attempts) × (limits.attempts ≤ 1000000) }
     requires alone { (s : E) (h : List Entry) (n : ℕ) (r w : Log) → E.stands s h n r w → n ≡ 0 }
     requires awaits { (s : E) (c : Call) (used : ℕ) → E.awaits s c used }
-    requires rule { (e : Entry) → IsRuled original.now budget e → E.allows e }
+    requires rule { (e : Entry) → IsRuled original.now limits.budget e → E.allows e }
     requires clock { E.clock engine.old + length calls.now * 1000000 ≤ 2 ^ 40 }
     requires stands { (h : List Entry) × E.stands engine.old h 0 [] [] }
     ensures made { (before : List Entry) → E.stands engine.old before 0 [] [] → IfOk result (λ lane. (h : List Entry) × E.stands engine.new (before ++ h) 0 [] [] × HasMade at calls.now h lane) }
@@ -42,7 +44,7 @@ pub fn make_alone<E: Engine>(
             original,
             rewritten,
             engine,
-            budget,
+            limits,
             at.onward(index),
             call,
         );

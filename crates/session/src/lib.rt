@@ -7,6 +7,7 @@ mod record;
 mod shared;
 
 pub use alone::make_alone;
+pub use machine::Limits;
 pub use record::{Known, Lane, Place, Record};
 pub use shared::make_shared;
 

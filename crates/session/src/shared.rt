@@ -10,6 +10,7 @@ ghost use Rattle.session.specs.Passes.{IsStarting, IsEnding, HasLost};
 use crate::call::make_next;
 use crate::record::{Known, Lane, Place};
 use hierarchy::Program;
+use machine::Limits;
 use std::alloc::{AllocError, Global};
 use std::marker::{Brand, PhantomData};
 use std::snapshot::Snapshot;
@@ -17,26 +18,27 @@ use tl2::{Calling, Ruled, Tl2};
 use tx_table::{Pass, Shared};
 
 /// Makes the calls of a lane from a place on, one after another, over a pass of a table that others share, up to the first whose attempts are used
-/// up by conflicts. Each call may take `budget` turns and 1,000,000 attempts. The rewritten program is what runs. Gives the pass back.
+/// up by conflicts. Each call may take the turns and the attempts of `limits`. The rewritten program is what runs. Gives the pass back.
 pub fn make_shared<T: Ruled>(
     alloc: Global,
     original: &Program,
     rewritten: &Program,
     shared: &Shared<T>,
     pass: Pass,
-    budget: u64,
+    limits: Limits,
     at: Place,
     calls: &[Known],
 ) -> Result<(Lane, Pass), AllocError>
     requires ready { IsReady original.now rewritten.now }
     requires calls { AllByRecursion (IsCallOf original.now) calls.now }
     requires few { at.first + length calls.now ≤ 100000 }
-    requires rule { (e : Entry) → IsRuled original.now budget e → T.rule e }
+    requires attempts { (1 ≤ limits.attempts) × (limits.attempts ≤ 1000000) }
+    requires rule { (e : Entry) → IsRuled original.now limits.budget e → T.rule e }
     requires pass { IsStarting shared.now.table.shared.table_id at.lane pass }
     ensures made { IfOk result (λ r. (h : List Entry) × IsEnding shared.now.table.shared.table_id h r.1 × HasMade at calls.now h r.0) }
     ensures stopped { IfOk result (λ r. r.0.made ≢ length calls.now → HasLost r.1) }
 {
-    make_over::<Brand, T>(alloc, original, rewritten, shared, pass, budget, at, calls)
+    make_over::<Brand, T>(alloc, original, rewritten, shared, pass, limits, at, calls)
 }
 
 /// Which lane a pass is for, and of which table it is. A caller picks both for its proof.
@@ -95,14 +97,15 @@ fn make_over<K: OfLane, T: Ruled>(
     rewritten: &Program,
     shared: &Shared<T>,
     pass: Pass,
-    budget: u64,
+    limits: Limits,
     at: Place,
     calls: &[Known],
 ) -> Result<(Lane, Pass), AllocError>
     requires ready { IsReady original.now rewritten.now }
     requires calls { AllByRecursion (IsCallOf original.now) calls.now }
     requires few { at.first + length calls.now ≤ 100000 }
-    requires rule { (e : Entry) → IsRuled original.now budget e → T.rule e }
+    requires attempts { (1 ≤ limits.attempts) × (limits.attempts ≤ 1000000) }
+    requires rule { (e : Entry) → IsRuled original.now limits.budget e → T.rule e }
     requires pass { IsStarting shared.now.table.shared.table_id at.lane pass }
     requires lane { K.lane ≡ at.lane }
     requires table { K.is_table shared.now.table.shared.table_id }
@@ -118,7 +121,7 @@ fn make_over<K: OfLane, T: Ruled>(
     for (index, call) in calls.iter().enumerate() {
         let here = at.onward(index);
         engine.set_call(Named::of(here, call));
-        let one = make_next(alloc, original, rewritten, &mut engine, budget, here, call);
+        let one = make_next(alloc, original, rewritten, &mut engine, limits, here, call);
         if one.is_spent() {
             break;
         }

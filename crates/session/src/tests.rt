@@ -4,7 +4,7 @@ ghost use Rattle.jmodel.specs.Rewriting.{rewritten, duplicate_method, wrapper_me
 ghost use Rattle.session.specs.Rule.{IsReady};
 ghost use Rattle.session.specs.Trials.{idle, idle_program, two_calls};
 
-use crate::{Known, Lane, Place, make_alone, make_shared};
+use crate::{Known, Lane, Limits, Place, make_alone, make_shared};
 use hierarchy::Program;
 use hierarchy::program::Method;
 use jmodel::bytes::Bytes;
@@ -171,6 +171,12 @@ const FIRST: Place = Place {
     first: 0,
 };
 
+/// One attempt is enough where nothing conflicts.
+const LIMITS: Limits = Limits {
+    budget: 1_000,
+    attempts: 1,
+};
+
 /// Whether both calls were made, and gave nothing.
 fn are_done(lane: &Lane) -> bool {
     lane.made == 2
@@ -194,7 +200,7 @@ fn two_calls_alone(rt: HostRuntime) -> Result<(), NoMemory> {
         &original,
         &rewritten,
         &mut engine,
-        1_000,
+        LIMITS,
         FIRST,
         calls.as_slice(),
     )?;
@@ -234,7 +240,7 @@ fn two_calls_over_a_table(rt: HostRuntime) -> Result<(), NoMemory> {
         &rewritten,
         &shared,
         other,
-        1_000,
+        LIMITS,
         FIRST,
         calls.as_slice(),
     )?;

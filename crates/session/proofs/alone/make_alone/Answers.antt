@@ -25,5 +25,5 @@ loop-index-preserved g c = record {
       c.onward.ensures c.loop-index.invariant.count c.loop-index-test.true c.index-calls-index.is c.make_next-one.ensures.tells c.in_ok-add.ensures
       (c.requires.alone c.make_next-one.new.engine) before so_far.0 so_far.2 (c.make_next-one.ensures.adds _ _ so_far.1);
   count = omega (arith, c.in_ok-add.ensures.made, c.loop-index.invariant.count);
-  clock = omega (arith, c.make_next-one.ensures.clock, c.loop-index.invariant.clock);
+  clock = omega (arith, c.make_next-one.ensures.clock, c.requires.attempts.1, c.loop-index.invariant.clock);
 }

@@ -69,6 +69,7 @@ loop-index-preserved g c =
         arith,
         same,
         c.make_next-one.ensures.clock,
+        c.requires.attempts.1,
         c.loop-index.invariant.ticks,
       );
     }
@@ -91,7 +92,7 @@ returns-clause-made g c =
           let e = w.make_next-one.new.engine in
           let same : c.into_pass.result ≡ e.pass = cc (c.into_pass.ensures.pass) in
           let before = ap (λ (p : Pass). (book p).ticks) w.set_call.ensures.pass in
-          let within : (book e.pass).ticks ≤ 100000 * 1000000 = omega (arith, before, w.make_next-one.ensures.clock, c.loop-index.invariant.ticks) in
+          let within : (book e.pass).ticks ≤ 100000 * 1000000 = omega (arith, before, w.make_next-one.ensures.clock, c.requires.attempts.1, c.loop-index.invariant.ticks) in
           let adds = w.make_next-one.ensures.adds so.history so.conflicts (w.set_call.ensures.stands so.history so.conflicts [] [] so.stands) in
           let still = stands_still (Stands (IsRegion g.K.OfLane.lane) (owns g.K.OfLane.is_table) e.shared.now.words e.at e.writes.items e.pass) so.history
           so.conflicts
