@@ -12,3 +12,4 @@ mod threads;
 
 pub use calls::{LaneCalls, PhaseCalls};
 pub use run::{Journal, run_phases};
+pub use session::Limits;

@@ -10,7 +10,7 @@ ghost use Rattle.driver.specs.Phases.{HasMadeAll};
 use crate::calls::LaneCalls;
 use crate::side::{Part, Side};
 use hierarchy::Program;
-use session::{Known, Lane, Place, make_alone};
+use session::{Known, Lane, Limits, Place, make_alone};
 use std::alloc::{AllocError, Global};
 use std::marker::Brand;
 use tx_core::{Origin, Solo};
@@ -21,7 +21,7 @@ pub(crate) fn one_after_another(
     original: &Program,
     rewritten: &Program,
     words: Vec<u64>,
-    budget: u64,
+    limits: Limits,
     phase: u32,
     lanes: &[LaneCalls],
     firsts: &[usize],
@@ -30,9 +30,10 @@ pub(crate) fn one_after_another(
     requires calls { AllByRecursion (AllByRecursion (IsCallOf original.now)) lanes.now }
     requires few { AllByRecursion (λ (cs : List Form). length cs ≤ 100000) lanes.now }
     requires lanes { length lanes.now ≤ 16 }
+    requires attempts { (1 ≤ limits.attempts) × (limits.attempts ≤ 1000000) }
     requires firsts { length firsts.now ≡ length lanes.now }
     requires within { AllZip (λ (cs : List Form) (first : ℕ). first ≤ length cs) lanes.now firsts.now }
-    ensures side { IfOk result (IsSide original.now budget phase lanes.now firsts.now words.items) }
+    ensures side { IfOk result (IsSide original.now limits.budget phase lanes.now firsts.now words.items) }
     ensures whole { IfOk result (λ side. AreWhole lanes.now firsts.now side.parts.items) }
     ensures size { IfOk result (λ side. length side.words.items ≡ length words.items) }
 {
@@ -51,7 +52,7 @@ pub(crate) fn one_after_another(
             original,
             rewritten,
             words,
-            budget,
+            limits,
             at,
             &lane.calls,
         )?;
@@ -75,18 +76,19 @@ fn make_rest(
     original: &Program,
     rewritten: &Program,
     words: Vec<u64>,
-    budget: u64,
+    limits: Limits,
     at: Place,
     calls: &[Known],
 ) -> Result<(Lane, Vec<u64>), AllocError>
     requires ready { IsReady original.now rewritten.now }
     requires calls { AllByRecursion (IsCallOf original.now) calls.now }
     requires few { length calls.now ≤ 100000 }
+    requires attempts { (1 ≤ limits.attempts) × (limits.attempts ≤ 1000000) }
     requires within { at.first ≤ length calls.now }
-    ensures { IfOk result (λ r. HasMadeAll original.now budget at (drop at.first calls.now) words.items r.1.items r.0) }
+    ensures { IfOk result (λ r. HasMadeAll original.now limits.budget at (drop at.first calls.now) words.items r.1.items r.0) }
 {
     let rest = &calls[at.first as usize..];
-    make_all::<Brand>(alloc, original, rewritten, words, budget, at, rest)
+    make_all::<Brand>(alloc, original, rewritten, words, limits, at, rest)
 }
 
 /// Makes calls of a lane over an engine on these words.
@@ -95,19 +97,20 @@ fn make_all<K: Origin>(
     original: &Program,
     rewritten: &Program,
     words: Vec<u64>,
-    budget: u64,
+    limits: Limits,
     at: Place,
     calls: &[Known],
 ) -> Result<(Lane, Vec<u64>), AllocError>
     requires ready { IsReady original.now rewritten.now }
     requires calls { AllByRecursion (IsCallOf original.now) calls.now }
     requires few { at.first + length calls.now ≤ 100000 }
+    requires attempts { (1 ≤ limits.attempts) × (limits.attempts ≤ 1000000) }
     requires first { words.items ≡ K.first }
-    requires rule { (e : Entry) → IsRuled original.now budget e → K.rule e }
-    requires ruled { (e : Entry) → K.rule e → IsRuled original.now budget e }
-    ensures { IfOk result (λ r. HasMadeAll original.now budget at calls.now words.items r.1.items r.0) }
+    requires rule { (e : Entry) → IsRuled original.now limits.budget e → K.rule e }
+    requires ruled { (e : Entry) → K.rule e → IsRuled original.now limits.budget e }
+    ensures { IfOk result (λ r. HasMadeAll original.now limits.budget at calls.now words.items r.1.items r.0) }
 {
     let mut engine = Solo::<K>::new(alloc, words);
-    let lane = make_alone(alloc, original, rewritten, &mut engine, budget, at, calls)?;
+    let lane = make_alone(alloc, original, rewritten, &mut engine, limits, at, calls)?;
     Ok((lane, engine.into_words()))
 }

@@ -13,7 +13,7 @@ use crate::rest::one_after_another;
 use crate::side::{Part, Side};
 use crate::side_by_side::side_by_side;
 use hierarchy::Program;
-use session::Record;
+use session::{Limits, Record};
 use std::alloc::{AllocError, Global};
 use std::thread::Threads;
 
@@ -61,20 +61,21 @@ impl Journal {
 
 /// Makes the calls of a script, from the words that memory begins with. The phases come one after another. The lanes of a phase run side by
 /// side, where more than one has calls; what a lane leaves, of which a call used up its attempts, is made behind them, one lane after
-/// another. Each call may take `budget` turns. The rewritten program is what runs.
+/// another. Each call may take the turns and the attempts of `limits`. The rewritten program is what runs.
 pub fn run_phases<R: Threads + Sync>(
     rt: &R,
     alloc: Global,
     original: &Program,
     rewritten: &Program,
     words: Vec<u64>,
-    budget: u64,
+    limits: Limits,
     phases: &[PhaseCalls],
 ) -> Result<Journal, AllocError>
     requires ready { IsReady original.now rewritten.now }
     requires scripted { AreScripted original.now phases.now }
+    requires attempts { (1 ≤ limits.attempts) × (limits.attempts ≤ 1000000) }
     requires size { length words.items + 4097 < 2 ^ 32 }
-    ensures { IfOk result (HasRun original.now budget phases.now words.items) }
+    ensures { IfOk result (HasRun original.now limits.budget phases.now words.items) }
 {
     let mut journal = Journal::new(alloc);
     let mut words = words;
@@ -85,7 +86,7 @@ pub fn run_phases<R: Threads + Sync>(
             original,
             rewritten,
             words,
-            budget,
+            limits,
             number as u32,
             &phase.lanes,
             &mut journal,
@@ -101,7 +102,7 @@ fn run_phase<R: Threads + Sync>(
     original: &Program,
     rewritten: &Program,
     words: Vec<u64>,
-    budget: u64,
+    limits: Limits,
     phase: u32,
     lanes: &[LaneCalls],
     journal: &mut Journal,
@@ -110,18 +111,19 @@ fn run_phase<R: Threads + Sync>(
     requires calls { AllByRecursion (AllByRecursion (IsCallOf original.now)) lanes.now }
     requires few { AllByRecursion (λ (cs : List Form). length cs ≤ 100000) lanes.now }
     requires lanes { length lanes.now ≤ 16 }
+    requires attempts { (1 ≤ limits.attempts) × (limits.attempts ≤ 1000000) }
     requires size { length words.items + 4097 < 2 ^ 32 }
-    ensures phase { IfOk result (λ left. AddsPhase original.now budget phase lanes.now words.items left.items journal.old journal.new) }
+    ensures phase { IfOk result (λ left. AddsPhase original.now limits.budget phase lanes.now words.items left.items journal.old journal.new) }
     ensures size { IfOk result (λ left. length left.items ≡ length words.items) }
 {
-    let first = first_side(rt, alloc, original, rewritten, words, budget, phase, lanes)?;
+    let first = first_side(rt, alloc, original, rewritten, words, limits, phase, lanes)?;
     let firsts = made_counts(alloc, &first.parts)?;
     let rest = one_after_another(
         alloc,
         original,
         rewritten,
         first.words,
-        budget,
+        limits,
         phase,
         lanes,
         &firsts,
@@ -137,7 +139,7 @@ fn first_side<R: Threads + Sync>(
     original: &Program,
     rewritten: &Program,
     words: Vec<u64>,
-    budget: u64,
+    limits: Limits,
     phase: u32,
     lanes: &[LaneCalls],
 ) -> Result<Side, AllocError>
@@ -145,12 +147,13 @@ fn first_side<R: Threads + Sync>(
     requires calls { AllByRecursion (AllByRecursion (IsCallOf original.now)) lanes.now }
     requires few { AllByRecursion (λ (cs : List Form). length cs ≤ 100000) lanes.now }
     requires lanes { length lanes.now ≤ 16 }
+    requires attempts { (1 ≤ limits.attempts) × (limits.attempts ≤ 1000000) }
     requires size { length words.items + 4097 < 2 ^ 32 }
-    ensures side { IfOk result (IsSide original.now budget phase lanes.now (none_made lanes.now) words.items) }
+    ensures side { IfOk result (IsSide original.now limits.budget phase lanes.now (none_made lanes.now) words.items) }
     ensures size { IfOk result (λ side. length side.words.items ≡ length words.items) }
 {
     if has_several(lanes) {
-        side_by_side(rt, alloc, original, rewritten, words, budget, phase, lanes)
+        side_by_side(rt, alloc, original, rewritten, words, limits, phase, lanes)
     } else {
         untouched(alloc, words, lanes)
     }

@@ -12,6 +12,7 @@ use crate::side::Side;
 use crate::table::{Keeping, open_table, start_lanes};
 use crate::threads::{gather, run_all};
 use hierarchy::Program;
+use session::Limits;
 use std::alloc::{AllocError, Global};
 use std::marker::Brand;
 use std::thread::Threads;
@@ -25,7 +26,7 @@ pub(crate) fn side_by_side<R: Threads + Sync>(
     original: &Program,
     rewritten: &Program,
     words: Vec<u64>,
-    budget: u64,
+    limits: Limits,
     phase: u32,
     lanes: &[LaneCalls],
 ) -> Result<Side, AllocError>
@@ -33,11 +34,12 @@ pub(crate) fn side_by_side<R: Threads + Sync>(
     requires calls { AllByRecursion (AllByRecursion (IsCallOf original.now)) lanes.now }
     requires few { AllByRecursion (λ (cs : List Form). length cs ≤ 100000) lanes.now }
     requires lanes { length lanes.now ≤ 16 }
+    requires attempts { (1 ≤ limits.attempts) × (limits.attempts ≤ 1000000) }
     requires size { length words.items + 4097 < 2 ^ 32 }
-    ensures side { IfOk result (IsSide original.now budget phase lanes.now (none_made lanes.now) words.items) }
+    ensures side { IfOk result (IsSide original.now limits.budget phase lanes.now (none_made lanes.now) words.items) }
     ensures size { IfOk result (λ side. length side.words.items ≡ length words.items) }
 {
-    run_over::<R, Brand>(rt, alloc, original, rewritten, words, budget, phase, lanes)
+    run_over::<R, Brand>(rt, alloc, original, rewritten, words, limits, phase, lanes)
 }
 
 fn run_over<R: Threads + Sync, K: Keeping + Sync>(
@@ -46,7 +48,7 @@ fn run_over<R: Threads + Sync, K: Keeping + Sync>(
     original: &Program,
     rewritten: &Program,
     words: Vec<u64>,
-    budget: u64,
+    limits: Limits,
     phase: u32,
     lanes: &[LaneCalls],
 ) -> Result<Side, AllocError>
@@ -54,16 +56,17 @@ fn run_over<R: Threads + Sync, K: Keeping + Sync>(
     requires calls { AllByRecursion (AllByRecursion (IsCallOf original.now)) lanes.now }
     requires few { AllByRecursion (λ (cs : List Form). length cs ≤ 100000) lanes.now }
     requires lanes { length lanes.now ≤ 16 }
+    requires attempts { (1 ≤ limits.attempts) × (limits.attempts ≤ 1000000) }
     requires size { length words.items + 4097 < 2 ^ 32 }
-    requires rule { (e : Entry) → IsRuled original.now budget e → K.rule e }
-    requires ruled { (e : Entry) → K.rule e → IsRuled original.now budget e }
-    ensures side { IfOk result (IsSide original.now budget phase lanes.now (none_made lanes.now) words.items) }
+    requires rule { (e : Entry) → IsRuled original.now limits.budget e → K.rule e }
+    requires ruled { (e : Entry) → K.rule e → IsRuled original.now limits.budget e }
+    ensures side { IfOk result (IsSide original.now limits.budget phase lanes.now (none_made lanes.now) words.items) }
     ensures size { IfOk result (λ side. length side.words.items ≡ length words.items) }
 {
     let (shared, mut pass) = open_table::<K>(alloc, words)?;
     let starts = start_lanes(alloc, &shared, &mut pass, lanes.len() as u8)?;
     let ends = run_all(
-        rt, alloc, original, rewritten, &shared, budget, phase, lanes, starts,
+        rt, alloc, original, rewritten, &shared, limits, phase, lanes, starts,
     )?;
     let (mut placed, parts) = gather(alloc, &shared, &mut pass, ends)?;
     sort_placed(&mut placed)?;

@@ -13,7 +13,7 @@ use crate::calls::LaneCalls;
 use crate::side::Part;
 use crate::table::{Keeping, Opening, Start};
 use hierarchy::Program;
-use session::{Lane, Place, Record, make_shared};
+use session::{Lane, Limits, Place, Record, make_shared};
 use std::alloc::{AllocError, Global};
 use std::thread::{Threads, map_vec};
 use tx_table::{Pass, Shared};
@@ -27,7 +27,7 @@ fn run_lane<K: Keeping>(
     original: &Program,
     rewritten: &Program,
     shared: &Shared<Opening<K>>,
-    budget: u64,
+    limits: Limits,
     phase: u32,
     lanes: &[LaneCalls],
     start: Start,
@@ -35,7 +35,8 @@ fn run_lane<K: Keeping>(
     requires ready { IsReady original.now rewritten.now }
     requires calls { AllByRecursion (AllByRecursion (IsCallOf original.now)) lanes.now }
     requires few { AllByRecursion (λ (cs : List Form). length cs ≤ 100000) lanes.now }
-    requires rule { (e : Entry) → IsRuled original.now budget e → K.rule e }
+    requires attempts { (1 ≤ limits.attempts) × (limits.attempts ≤ 1000000) }
+    requires rule { (e : Entry) → IsRuled original.now limits.budget e → K.rule e }
     requires lane { start.lane < length lanes.now }
     requires pass { IsStarting shared.now.table.shared.table_id start.lane start.pass }
     ensures { IfOk result (HasEnded shared.now.table.shared.table_id phase start.lane (slice_index_or lanes.now start.lane [])) }
@@ -53,7 +54,7 @@ fn run_lane<K: Keeping>(
         rewritten,
         shared,
         pass,
-        budget,
+        limits,
         at,
         calls.calls.as_slice(),
     )
@@ -66,7 +67,7 @@ pub(crate) fn run_all<R: Threads + Sync, K: Keeping + Sync>(
     original: &Program,
     rewritten: &Program,
     shared: &Shared<Opening<K>>,
-    budget: u64,
+    limits: Limits,
     phase: u32,
     lanes: &[LaneCalls],
     starts: Vec<Start>,
@@ -74,7 +75,8 @@ pub(crate) fn run_all<R: Threads + Sync, K: Keeping + Sync>(
     requires ready { IsReady original.now rewritten.now }
     requires calls { AllByRecursion (AllByRecursion (IsCallOf original.now)) lanes.now }
     requires few { AllByRecursion (λ (cs : List Form). length cs ≤ 100000) lanes.now }
-    requires rule { (e : Entry) → IsRuled original.now budget e → K.rule e }
+    requires attempts { (1 ≤ limits.attempts) × (limits.attempts ≤ 1000000) }
+    requires rule { (e : Entry) → IsRuled original.now limits.budget e → K.rule e }
     requires len { length starts.items ≡ length lanes.now }
     requires starts { AreStarting shared.now.table.shared.table_id starts.items }
     ensures { IfOk result (λ ends. HaveEnded shared.now.table.shared.table_id phase lanes.now ends.items) }
@@ -84,7 +86,7 @@ pub(crate) fn run_all<R: Threads + Sync, K: Keeping + Sync>(
         starts,
         &|start| {
             run_lane(
-                alloc, original, rewritten, shared, budget, phase, lanes, start,
+                alloc, original, rewritten, shared, limits, phase, lanes, start,
             )
         },
     )

@@ -14,7 +14,7 @@ use Rattle.driver.proofs.rest.one_after_another.Goals as goal
 
 pub loop-number-init : goal.loop-number-init
 loop-number-init c = record {
-  side = untouched_side c.args.original.now c.args.budget c.args.phase [] c.args.words.items
+  side = untouched_side c.args.original.now c.args.limits.budget c.args.phase [] c.args.words.items
       (record { placed = c.new-placed.result; parts = c.new-parts.result; words = c.args.words })
       c.new-placed.ensures.items (ap length c.new-parts.ensures.items) (subst (λ l. All IsNone l) (sym c.new-parts.ensures.items) (All-nil IsNone)) refl;
   whole = subst (AreWhole [] []) (sym c.new-parts.ensures.items) tt;
@@ -52,15 +52,15 @@ loop-number-preserved c =
     c.index-lanes-number.is in
     let long : length (take i lanes) ≡ i = length-take-le i lanes (omega (arith, c.loop-number-test.true)) in
     let firsts_long : length (take i firsts) ≡ i = length-take-le i firsts (omega (arith, c.requires.firsts, c.loop-number-test.true)) in
-    let side = side_more c.args.original.now c.args.budget at cs (take i lanes)
+    let side = side_more c.args.original.now c.args.limits.budget at cs (take i lanes)
     (take i firsts) c.args.words.items c.in_ok-made.made old new c.loop-number.invariant.side made (sym long) (firsts_long ∙ sym long) within
     part refl refl c.in_ok-append.ensures.items c.in_ok-push.ensures.items in
     let whole = whole_more first cs part (take i lanes) (take i firsts) old.parts.items c.loop-number.invariant.whole
-    (whole_lane c.args.original.now c.args.budget at cs old.words.items new.words.items c.in_ok-made.made made within) in
+    (whole_lane c.args.original.now c.args.limits.budget at cs old.words.items new.words.items c.in_ok-made.made made within) in
     let all = lanes_more lanes i cs c.loop-number-test.true c.index-lanes-number.is in
     let firsts_all : take i firsts ++ first ∷ [] ≡ take (i + 1) firsts = sym (take_more firsts i 0 (omega (arith, c.requires.firsts, c.loop-number-test.true))) in
-    let Lanes : Phase → Type 0 = λ l. IsSide c.args.original.now c.args.budget c.args.phase l (take i firsts ++ first ∷ []) c.args.words.items new in
-    let Firsts : List ℕ → Type 0 = λ n. IsSide c.args.original.now c.args.budget c.args.phase (take (i + 1) lanes) n c.args.words.items new in
+    let Lanes : Phase → Type 0 = λ l. IsSide c.args.original.now c.args.limits.budget c.args.phase l (take i firsts ++ first ∷ []) c.args.words.items new in
+    let Firsts : List ℕ → Type 0 = λ n. IsSide c.args.original.now c.args.limits.budget c.args.phase (take (i + 1) lanes) n c.args.words.items new in
     let WholeLanes : Phase → Type 0 = λ l. AreWhole l (take i firsts ++ first ∷ []) new.parts.items in
     let WholeFirsts : List ℕ → Type 0 = λ n. AreWhole (take (i + 1) lanes) n new.parts.items in
     let WholeParts : List Part → Type 0 = λ r. AreWhole (take i lanes ++ cs ∷ []) (take i firsts ++ first ∷ []) r in

@@ -30,8 +30,8 @@ returns-clause-phase g c =
     let first = c.in_ok-first.first in
     let rest = c.in_ok-rest.rest in
     let counts : c.deref-2.result.now ≡ made_counts first.parts.items = c.deref-2.ensures.value ∙ c.in_ok-firsts.ensures ∙ ap made_counts c.deref.ensures.value in
-    let Counts : List ℕ → Type 0 = λ n. IsSide P c.args.budget c.args.phase lanes n first.words.items rest in
+    let Counts : List ℕ → Type 0 = λ n. IsSide P c.args.limits.budget c.args.phase lanes n first.words.items rest in
     let Whole : List ℕ → Type 0 = λ n. AreWhole lanes n rest.parts.items in
-    adds_phase P c.args.budget c.args.phase lanes c.args.words.items first rest c.in_ok-first.ensures.side (subst Counts counts c.in_ok-rest.ensures.side)
+    adds_phase P c.args.limits.budget c.args.phase lanes c.args.words.items first rest c.in_ok-first.ensures.side (subst Counts counts c.in_ok-rest.ensures.side)
     (subst Whole counts c.in_ok-rest.ensures.whole)
     c.args.journal.now c.add_phase.new.self c.in_ok-add_phase.ensures.placed c.in_ok-add_phase.ensures.unplaced

@@ -12,7 +12,7 @@ use Rattle.driver.proofs.run.run_phases.Goals as goal
 
 pub loop-number-init : goal.loop-number-init
 loop-number-init g c = record {
-  run = run_none c.args.original.now c.args.budget c.args.words.items c.new-journal.result c.new-journal.ensures.placed c.new-journal.ensures.unplaced;
+  run = run_none c.args.original.now c.args.limits.budget c.args.words.items c.new-journal.result c.new-journal.ensures.placed c.new-journal.ensures.unplaced;
   size = refl;
 }
 
@@ -43,11 +43,11 @@ loop-number-preserved g c =
     let left = c.in_ok-words.words.items in
     let adds = rw (c.deref.ensures.value ∙ c.phase.view_is) at c.in_ok-words.ensures.phase in
     let long : length (take n phases) ≡ n = length-take-le n phases (omega (arith, c.loop-number-test.true)) in
-    let Adds : ℕ → Type 0 = λ i. AddsPhase P c.args.budget i lanes c.loop-number.words.items left c.loop-number.journal c.run_phase.new.journal in
-    let Run : List Phase → Type 0 = λ ps. HasRunTo P c.args.budget ps c.args.words.items left c.run_phase.new.journal in
+    let Adds : ℕ → Type 0 = λ i. AddsPhase P c.args.limits.budget i lanes c.loop-number.words.items left c.loop-number.journal c.run_phase.new.journal in
+    let Run : List Phase → Type 0 = λ ps. HasRunTo P c.args.limits.budget ps c.args.words.items left c.run_phase.new.journal in
     record {
       run = subst Run (lanes_more phases n lanes c.loop-number-test.true c.index-phases-number.is)
-          (run_more P c.args.budget (take n phases) lanes c.args.words.items c.loop-number.words.items left c.loop-number.journal c.run_phase.new.journal
+          (run_more P c.args.limits.budget (take n phases) lanes c.args.words.items c.loop-number.words.items left c.loop-number.journal c.run_phase.new.journal
           c.loop-number.invariant.run (subst Adds (sym long) adds));
       size = c.in_ok-words.ensures.size ∙ c.loop-number.invariant.size;
     }
@@ -58,5 +58,5 @@ returns g c =
     let phases = c.args.phases.now in
     let n = c.loop-number.number in
     let all : take n phases ≡ phases = take_all n phases (omega (arith, c.loop-number-test.false)) in
-    let Run : List Phase → Type 0 = λ ps. HasRunTo P c.args.budget ps c.args.words.items c.loop-number.words.items c.loop-number.journal in
-    run_all P c.args.budget phases c.args.words.items c.loop-number.words.items c.loop-number.journal (subst Run all c.loop-number.invariant.run)
+    let Run : List Phase → Type 0 = λ ps. HasRunTo P c.args.limits.budget ps c.args.words.items c.loop-number.words.items c.loop-number.journal in
+    run_all P c.args.limits.budget phases c.args.words.items c.loop-number.words.items c.loop-number.journal (subst Run all c.loop-number.invariant.run)

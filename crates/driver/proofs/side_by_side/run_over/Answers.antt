@@ -11,6 +11,6 @@ returns-clause-side g c =
     let known = book c.gather.new.pass in
     let left = c.in-Ok.words.items in
     let ends = subst (λ (words : List ℕ). Ends (story_of rule words) known left) c.in_ok-shared.ensures.words c.in-Ok.ensures.ok in
-    is_side c.args.original.now c.args.budget c.args.phase c.args.lanes.now c.args.words.items rule c.requires.ruled known c.in_ok-placed.placed.items
+    is_side c.args.original.now c.args.limits.budget c.args.phase c.args.lanes.now c.args.words.items rule c.requires.ruled known c.in_ok-placed.placed.items
     (record { placed = c.sort_placed.new.placed; parts = c.in_ok-placed.parts; words = c.in-Ok.words })
     (c.in_ok-placed.ensures.gathered c.args.phase c.args.lanes.now c.in_ok-ends.ensures) c.in_ok-sort_placed.ensures.moved c.in_ok-sort_placed.ensures.sorted ends
