@@ -17,7 +17,7 @@ use crate::text::journal;
 use crate::typed::type_all;
 use class_reader::read_class;
 use const_pool::ClassFile;
-use driver::run_phases;
+use driver::{Limits, run_phases};
 use hierarchy::symbols::own_name;
 use hierarchy::{BuildEnd, Program, opening_words};
 use jmodel::{Bytes, Halt, Refusal};
@@ -214,13 +214,17 @@ fn run_script<R: Threads + Sync>(
     let wanted = read_script(alloc, script)?;
     let phases = known_phases(alloc, original, wanted.phases.as_slice())?;
     let words = opening_words(alloc, class)?;
+    let limits = Limits {
+        budget: wanted.budget,
+        attempts: 1_000_000,
+    };
     let made = run_phases(
         rt,
         alloc,
         original,
         rewritten,
         words,
-        wanted.budget,
+        limits,
         phases.as_slice(),
     )?;
     Ok(journal(
