@@ -15,12 +15,13 @@ use Rattle.class_reader.proofs.ClassLaws.{class_again}
 use Rattle.rewriter.specs.Meaning.{HasFewMembers}
 use Rattle.rewriter.specs.Rewritten.{rewritten_class}
 use Rattle.deuce.specs.Command.{NamesFolder}
-use Rattle.deuce.specs.Headline.{CanRun, IsRunnable, IsScriptFor}
+use Rattle.script.specs.Script.{IsScript}
+use Rattle.deuce.specs.Headline.{IsRunnable}
 use Rattle.deuce.specs.Rewritten.{CanRewrite}
 use Rattle.deuce.specs.declared.outcome.Outcome.{Outcome}
-use Rattle.deuce.specs.declared.outcome.Outcome.TheVariants.{Journal, Rewritten, Usage, BadClass, BadProgram, Untyped, Outside, NotPut, NotBuilt}
-use Rattle.deuce.specs.Ending.{HasNoOneClass, IsOneClass, HasClass, IsBadClass, IsBadProgram, IsUntypable, IsNotRunOn, IsNotRun, IsNotRewritten, CanRunIn, CanRewriteIn}
-use Rattle.deuce.specs.Outcomes.{Seen, Says, IsOfWords, IsNotBuilt, IsBadClassOfWords, CanRunWords, CanRewriteWords, status_of}
+use Rattle.deuce.specs.declared.outcome.Outcome.TheVariants.{Journal, Rewritten, Usage, BadClass, BadProgram, Untyped, BadScript, Outside, NotPut, NotBuilt}
+use Rattle.deuce.specs.Ending.{HasNoOneClass, IsOneClass, HasClass, IsBadClass, IsBadProgram, IsUntypable, IsBadScript, HasBadScript, IsOutsideForm, IsNotRewritten, CanRunIn, CanRewriteIn}
+use Rattle.deuce.specs.Outcomes.{Seen, Says, IsOfWords, IsNotBuilt, IsBadClassOfWords, IsBadScriptOfWords, CanRunWords, CanRewriteWords, status_of}
 use Rattle.deuce.proofs.Asked.{one_run, one_rewriting, apart, run_folder, rewriting_folder}
 
 -- bytes spell one class
@@ -139,27 +140,30 @@ module _ (words : List (String Global)) (told : Files) (dir : List ℕ) (can : G
 
 -- ---- runs
 
--- a script that can be run is run
-is_run_on : (c : ClassFile) (bytes : List ℕ) → CanRun c bytes → IsNotRunOn bytes c → ⊥
-is_run_on c bytes can (inl none) = not_formed (linking c) can.program can.runnable.links none
-is_run_on c bytes can (inr (P, is, no_script)) =
-    let same = one_program c can.program P can.runnable.links is.links in
-    no_script can.script can.phases (subst (λ (p : Program). IsScriptFor p bytes can.script can.phases) same can.script_for)
-
-is_run : (told : Files) (dir script : List ℕ) → CanRunIn told dir script → IsNotRun (Some told) dir script → ⊥
+-- a script that can be run is none that is refused
+good_script : (told : Files) (dir script : List ℕ) (r : Refusal) → CanRunIn told dir script → HasBadScript (Some told) dir script r → ⊥
 unfolding good_run
-is_run told dir script can no_run =
-    let front : no_run.script_bytes ≡ can.script_bytes = front_is (told script) 16777217 can.script_bytes no_run.script_bytes can.script_holds (no_run.script_front told refl) (let few = can.can.script_for.within in omega arith) in
-    is_run_on can.file can.script_bytes can.can (subst (λ (b : List ℕ). IsNotRunOn b can.file) front (held told dir (IsNotRunOn no_run.script_bytes) (good_run told dir script can) no_run.of_class))
+good_script told dir script r can bad =
+    let is = can.can.is_script in
+    let front : bad.script_bytes ≡ can.script_bytes = front_is (told script) 16777217 can.script_bytes bad.script_bytes can.script_holds (bad.script_front told refl) (let few = is.fits in omega arith) in
+    let of_class : IsBadScript can.script_bytes r can.file = subst (λ (b : List ℕ). IsBadScript b r can.file) front (held told dir (IsBadScript bad.script_bytes r) (good_run told dir script can) bad.of_class) in
+    let same = one_program can.file can.can.program of_class.0 can.can.runnable.links of_class.1.links in
+    of_class.2.none can.can.script (subst (λ (p : Program). IsScript can.file p can.script_bytes can.can.script) same is)
 
-unbuilt_run : (told : Files) (dir script : List ℕ) → CanRunIn told dir script → HasNoOneClass (Some told) dir ⊎ IsNotRun (Some told) dir script → ⊥
+good_script_of_words : (words : List (String Global)) (files : Option Files) (r : Refusal) → IsBadScriptOfWords words files r → CanRunWords words files → ⊥
+good_script_of_words words files r h can =
+    let same = one_run words h.0 h.1 can.0 can.1 h.2 can.3 in
+    good_script can.2 can.0 can.1 r can.5 (rw (can.4, same.0, same.1) at h.3)
+
+unbuilt_run : (told : Files) (dir script : List ℕ) → CanRunIn told dir script → HasNoOneClass (Some told) dir ⊎ HasClass (Some told) dir IsOutsideForm → ⊥
+unfolding good_run
 unbuilt_run told dir script can (inl none) = none told refl can.name can.class_file
-unbuilt_run told dir script can (inr no_run) = is_run told dir script can no_run
+unbuilt_run told dir script can (inr h) = not_formed (linking can.file) can.can.program can.can.runnable.links (held told dir IsOutsideForm (good_run told dir script can) h)
 
 built_run : (words : List (String Global)) (files : Option Files) → IsNotBuilt words files → CanRunWords words files → ⊥
 built_run words files (inl h) can =
     let same = one_run words h.0 h.1 can.0 can.1 h.2 can.3 in
-    unbuilt_run can.2 can.0 can.1 can.5 (rw (can.4, same.0, same.1) at h.3)
+    unbuilt_run can.2 can.0 can.1 can.5 (rw (can.4, same.0) at h.3)
 built_run words files (inr h) can = absurd (apart words can.0 can.1 h.0 h.1 can.3 h.2)
 
 -- no other status than these
@@ -174,6 +178,7 @@ complete words old new (BadProgram r) status h s can =
     absurd (no_program_fault words can.2 can.0 (good_run can.2 can.0 can.1 can.5) (λ d n. run_folder words d can.0 can.1 n can.3) old.files r can.4 h)
 complete words old new (Untyped r) status h s can =
     absurd (none_untyped words can.2 can.0 (good_run can.2 can.0 can.1 can.5) (λ d n. run_folder words d can.0 can.1 n can.3) old.files r can.4 h)
+complete words old new (BadScript r) status h s can = absurd (good_script_of_words words old.files r h can)
 complete words old new (Outside path) status h s can = inr (inl s)
 complete words old new (NotPut path) status h s can = absurd (apart words can.0 can.1 h.0 h.1 can.3 h.2)
 complete words old new NotBuilt status h s can = absurd (built_run words old.files h can)
@@ -211,6 +216,7 @@ complete_rewriting words old new (BadProgram r) status h s can =
     absurd (no_program_fault words can.2 can.0 (good_rewriting can.2 can.0 can.5) (λ d n. rewriting_folder words d can.0 can.1 n can.3) old.files r can.4 h)
 complete_rewriting words old new (Untyped r) status h s can =
     absurd (none_untyped words can.2 can.0 (good_rewriting can.2 can.0 can.5) (λ d n. rewriting_folder words d can.0 can.1 n can.3) old.files r can.4 h)
+complete_rewriting words old new (BadScript r) status h s can = absurd (apart words h.0 h.1 can.0 can.1 h.2 can.3)
 complete_rewriting words old new (Outside path) status h s can = inr (inl s)
 complete_rewriting words old new (NotPut path) status h s can = inr (inr (inr (inr s)))
 complete_rewriting words old new NotBuilt status h s can = absurd (built_rewriting words old.files h can)

@@ -1,6 +1,6 @@
 pub mod Lists
 pub mod Opens
-pub mod Knowing
+pub mod Scripted
 pub mod Reading
 pub mod Running
 pub mod Folders

@@ -3,6 +3,7 @@ use Rattle.std.proofs.Common.{◌≡◌, ℕ, List}
 use Rattle.std.specs.Prelude.{String, string_bytes}
 use Rattle.std.specs.declared.alloc.Global.{Global}
 use Rattle.deuce_io.specs.Fault.{Call}
+use Rattle.jmodel.specs.declared.refusal.Refusal.{Refusal}
 use Rattle.jmodel.specs.ClassFile.{ClassFile}
 use Rattle.deuce.specs.Command.{NamesFolder}
 use Rattle.deuce.specs.declared.inputs.ClassInput.{ClassInput}
@@ -11,8 +12,9 @@ use Rattle.deuce.specs.declared.inputs.InputEnd.TheVariants as ends
 use Rattle.deuce.specs.declared.run.RunEnd.{RunEnd}
 use Rattle.deuce.specs.declared.run.RunEnd.TheVariants as run_ends
 use Rattle.deuce.specs.declared.outcome.Outcome.{Outcome}
+use Rattle.deuce.specs.declared.outcome.Outcome.TheVariants as outcomes
 use Rattle.deuce.specs.Ending.{Failed, HasNoOneClass, HasClass, IsClassInput, EndsInputs, EndsCommand, IsBadProgram, IsUntypable}
-use Rattle.deuce.specs.Outcomes.{Seen, IsUnreadAs, IsRefusedAs, IsOutcome, IsNotBuilt, FailedOutside}
+use Rattle.deuce.specs.Outcomes.{Seen, Says, IsUnreadAs, IsRefusedAs, IsOutcome, IsNotBuilt, FailedOutside}
 use Rattle.deuce.proofs.Reading.{bad_class, has_class}
 
 module _ (words : List (String Global)) (old new : Seen) (dir : List ℕ) (kept : new.files ≡ old.files) where
@@ -24,10 +26,12 @@ module _ (words : List (String Global)) (old new : Seen) (dir : List ℕ) (kept 
   unread Asks ends.NoMemory o fails unbuilt h is = absurd is
 
   -- of a command over the class file that was read
-  pub refused : (input : ClassInput) (Unbuilt : ClassFile → Type 0) (end : RunEnd) (o : Outcome) → NamesFolder words dir → IsClassInput old.files dir input
-      → (HasClass old.files dir Unbuilt → IsNotBuilt words old.files) → EndsCommand input.bytes Unbuilt end → IsRefusedAs input.path end o → IsOutcome words old new o
-  refused input Unbuilt (run_ends.BadClass r) o names a unbuilt h is = rw is (kept, (dir, names, bad_class old.files dir input r a h))
-  refused input Unbuilt (run_ends.BadProgram r) o names a unbuilt h is = rw is (kept, (dir, names, has_class old.files dir input (IsBadProgram r) a h))
-  refused input Unbuilt (run_ends.Untyped r) o names a unbuilt h is = rw is (kept, (dir, names, has_class old.files dir input (IsUntypable r) a h))
-  refused input Unbuilt run_ends.NotBuilt o names a unbuilt h is = rw is (kept, unbuilt (has_class old.files dir input Unbuilt a h))
-  refused input Unbuilt run_ends.NoMemory o names a unbuilt h is = absurd is
+  pub refused : (input : ClassInput) (Bad : Refusal → ClassFile → Type 0) (Unbuilt : ClassFile → Type 0) (end : RunEnd) (o : Outcome) → NamesFolder words dir → IsClassInput old.files dir input
+      → ((r : Refusal) → HasClass old.files dir (Bad r) → Says words old new (outcomes.BadScript r)) → (HasClass old.files dir Unbuilt → IsNotBuilt words old.files)
+      → EndsCommand input.bytes Bad Unbuilt end → IsRefusedAs input.path end o → IsOutcome words old new o
+  refused input Bad Unbuilt (run_ends.BadClass r) o names a bad unbuilt h is = rw is (kept, (dir, names, bad_class old.files dir input r a h))
+  refused input Bad Unbuilt (run_ends.BadProgram r) o names a bad unbuilt h is = rw is (kept, (dir, names, has_class old.files dir input (IsBadProgram r) a h))
+  refused input Bad Unbuilt (run_ends.Untyped r) o names a bad unbuilt h is = rw is (kept, (dir, names, has_class old.files dir input (IsUntypable r) a h))
+  refused input Bad Unbuilt (run_ends.BadScript r) o names a bad unbuilt h is = rw is (kept, bad r (has_class old.files dir input (Bad r) a h))
+  refused input Bad Unbuilt run_ends.NotBuilt o names a bad unbuilt h is = rw is (kept, unbuilt (has_class old.files dir input Unbuilt a h))
+  refused input Bad Unbuilt run_ends.NoMemory o names a bad unbuilt h is = absurd is

@@ -7,9 +7,9 @@ use Rattle.jmodel.specs.Output.{◌and◌, refusal_text, error_text}
 use Rattle.deuce.specs.Command.{seen_words, run_words, rewrite_words}
 use Rattle.deuce.specs.Rewritten.{counts_text}
 use Rattle.deuce.specs.declared.outcome.Outcome.{Outcome}
-use Rattle.deuce.specs.declared.outcome.Outcome.TheVariants.{Journal, Rewritten, Usage, BadClass, BadProgram, Untyped, Outside, NotPut, NotBuilt}
+use Rattle.deuce.specs.declared.outcome.Outcome.TheVariants.{Journal, Rewritten, Usage, BadClass, BadProgram, Untyped, BadScript, Outside, NotPut, NotBuilt}
 use Rattle.deuce.specs.Ending.{IsJournalOf, IsRewritingOf, IsBadProgram, IsUntypable}
-use Rattle.deuce.specs.Outcomes.{Seen, Says, IsTextOf, Appends, status_of, IsBadClassOfWords, IsOfWords}
+use Rattle.deuce.specs.Outcomes.{Seen, Says, IsTextOf, Appends, status_of, IsBadClassOfWords, IsOfWords, IsBadScriptOfWords}
 use Rattle.deuce.proofs.Asked.{one_run, one_rewriting, apart}
 
 module _ (words : List (String Global)) (old new : Seen) (printed : List ℕ) (before now : Option (List ℕ)) (status : ℕ) where
@@ -24,6 +24,7 @@ module _ (words : List (String Global)) (old new : Seen) (printed : List ℕ) (b
   journal_printed (BadClass path r) h s is all z = absurd (omega (arith, s, z))
   journal_printed (BadProgram r) h s is all z = absurd (omega (arith, s, z))
   journal_printed (Untyped r) h s is all z = absurd (omega (arith, s, z))
+  journal_printed (BadScript r) h s is all z = absurd (omega (arith, s, z))
   journal_printed (Outside path) h s is all z = absurd (omega (arith, s, z))
   journal_printed (NotPut path) h s is all z = absurd (omega (arith, s, z))
   journal_printed NotBuilt h s is all z = absurd (omega (arith, s, z))
@@ -39,6 +40,7 @@ module _ (words : List (String Global)) (old new : Seen) (printed : List ℕ) (b
   rewriting_printed (BadClass path r) h s is all z = absurd (omega (arith, s, z))
   rewriting_printed (BadProgram r) h s is all z = absurd (omega (arith, s, z))
   rewriting_printed (Untyped r) h s is all z = absurd (omega (arith, s, z))
+  rewriting_printed (BadScript r) h s is all z = absurd (omega (arith, s, z))
   rewriting_printed (Outside path) h s is all z = absurd (omega (arith, s, z))
   rewriting_printed (NotPut path) h s is all z = absurd (omega (arith, s, z))
   rewriting_printed NotBuilt h s is all z = absurd (omega (arith, s, z))
@@ -52,6 +54,7 @@ module _ (words : List (String Global)) (old new : Seen) (printed : List ℕ) (b
   fault_printed (BadClass path r) h s is all z = (string_bytes path, r, h, rw is at all)
   fault_printed (BadProgram r) h s is all z = absurd (omega (arith, s, z))
   fault_printed (Untyped r) h s is all z = absurd (omega (arith, s, z))
+  fault_printed (BadScript r) h s is all z = absurd (omega (arith, s, z))
   fault_printed (Outside path) h s is all z = absurd (omega (arith, s, z))
   fault_printed (NotPut path) h s is all z = absurd (omega (arith, s, z))
   fault_printed NotBuilt h s is all z = absurd (omega (arith, s, z))
@@ -65,6 +68,7 @@ module _ (words : List (String Global)) (old new : Seen) (printed : List ℕ) (b
   program_printed (BadClass path r) h s is all z = absurd (omega (arith, s, z))
   program_printed (BadProgram r) h s is all z = (r, h, rw is at all)
   program_printed (Untyped r) h s is all z = absurd (omega (arith, s, z))
+  program_printed (BadScript r) h s is all z = absurd (omega (arith, s, z))
   program_printed (Outside path) h s is all z = absurd (omega (arith, s, z))
   program_printed (NotPut path) h s is all z = absurd (omega (arith, s, z))
   program_printed NotBuilt h s is all z = absurd (omega (arith, s, z))
@@ -78,6 +82,21 @@ module _ (words : List (String Global)) (old new : Seen) (printed : List ℕ) (b
   untyped_printed (BadClass path r) h s is all z = absurd (omega (arith, s, z))
   untyped_printed (BadProgram r) h s is all z = absurd (omega (arith, s, z))
   untyped_printed (Untyped r) h s is all z = (r, h, rw is at all)
+  untyped_printed (BadScript r) h s is all z = absurd (omega (arith, s, z))
   untyped_printed (Outside path) h s is all z = absurd (omega (arith, s, z))
   untyped_printed (NotPut path) h s is all z = absurd (omega (arith, s, z))
   untyped_printed NotBuilt h s is all z = absurd (omega (arith, s, z))
+
+  -- a script that is none
+  pub script_printed : (o : Outcome) → Says words old new o → status ≡ status_of o → IsTextOf o printed → Appends before now printed → status ≡ 6
+      → (r : Refusal) × IsBadScriptOfWords words old.files r × Appends before now (error_text (codes "6") (refusal_text r))
+  script_printed (Journal text) h s is all z = absurd (omega (arith, s, z))
+  script_printed (Rewritten t m) h s is all z = absurd (omega (arith, s, z))
+  script_printed Usage h s is all z = absurd (omega (arith, s, z))
+  script_printed (BadClass path r) h s is all z = absurd (omega (arith, s, z))
+  script_printed (BadProgram r) h s is all z = absurd (omega (arith, s, z))
+  script_printed (Untyped r) h s is all z = absurd (omega (arith, s, z))
+  script_printed (BadScript r) h s is all z = (r, h, rw is at all)
+  script_printed (Outside path) h s is all z = absurd (omega (arith, s, z))
+  script_printed (NotPut path) h s is all z = absurd (omega (arith, s, z))
+  script_printed NotBuilt h s is all z = absurd (omega (arith, s, z))

@@ -23,15 +23,15 @@ pub holds : (files : Option Files) (path : List ℕ) (most limit : ℕ) (bytes :
 holds files path most limit bytes m front le = λ told is. whole most limit (told path) bytes m (front told is) le
 
 -- a run of what was read whole
-pub journal_of : (files : Option Files) (dir script : List ℕ) (inputs : Inputs) (text : List ℕ) → AreInputs files dir script inputs → length inputs.class.bytes ≤ 1048576 → length inputs.script ≤ 16777216
+pub journal_of : (files : Option Files) (dir script : List ℕ) (inputs : Inputs) (text : List ℕ) → AreInputs files dir script inputs → length inputs.class.bytes ≤ 1048576
     → IsRun inputs.class.bytes inputs.script text → IsJournalOf files dir script text
-journal_of files dir script inputs text a c s run = record {
+journal_of files dir script inputs text a c run = record {
   name = string_bytes inputs.class.name;
   class_file = a.of_class.class_file;
   class_bytes = inputs.class.bytes;
   class = holds files (inside dir (string_bytes inputs.class.name)) 1048577 1048576 inputs.class.bytes refl a.of_class.class c;
   script_bytes = inputs.script;
-  script_holds = holds files script 16777217 16777216 inputs.script refl a.script_bytes s;
+  script_holds = holds files script 16777217 16777216 inputs.script refl a.script_bytes run.is_script.fits;
   run = run;
 }
 

@@ -1,37 +1,33 @@
 -- What the parts of a run make together.
-use Rattle.std.proofs.Common.{◌≡◌, ℕ, List, [], ◌∷◌, map, Some, None, Result, Ok, Err, inl, inr, refl, sym, ap, ◌∙◌, subst}
+use Rattle.std.proofs.Common.{◌≡◌, ℕ, List, [], ◌∷◌, map, Some, Result, Ok, Err, inl, inr, refl, sym, ap, ◌∙◌, subst}
 use Rattle.std.specs.Prelude.{IfErr}
 use Rattle.std.specs.Result.{IsErrAnd}
 use Rattle.std.specs.List.{AllByRecursion}
-use Rattle.deuce.specs.declared.run.RunEnd.{RunEnd}
-use Rattle.deuce.specs.declared.run.RunEnd.TheVariants as run_ends
-use Rattle.script.specs.declared.reading.ScriptEnd.{ScriptEnd}
-use Rattle.script.specs.declared.reading.ScriptEnd.TheVariants as script
-use Rattle.deuce.specs.Ending.{IsEndOfScript, IsOutsideForm, IsNotRunOn, EndsOnClass, EndsBuild, EndsTyping, EndsRewriting, EndsScript}
-use Rattle.script.proofs.Items.{same_scripts}
+use Rattle.jmodel.specs.declared.refusal.Refusal.{Refusal}
 use Rattle.jmodel.specs.ClassFile.{ClassFile}
 use Rattle.jmodel.specs.ClassRules.{Spells}
 use Rattle.jmodel.specs.Program.{Program}
 use Rattle.jmodel.specs.Layout.{opening_state}
-use Rattle.jmodel.specs.Decoding.{each}
 use Rattle.jmodel.specs.Linking.{linked}
 use Rattle.jmodel.specs.Rewriting.{rewritten}
 use Rattle.jmodel.specs.Typing.{IsTypable}
 use Rattle.jmodel.proofs.Linked.{links}
-use Rattle.rewriter.specs.Rewritten.{rewritten_class}
-use Rattle.script.specs.Script.{Wanted, Script, IsScript}
 use Rattle.jmodel.specs.State.{State}
 use Rattle.jmodel.specs.History.{Told}
 use Rattle.jmodel.specs.Schedule.{Phase}
 use Rattle.jmodel.specs.Output.{Line, journal_text}
+use Rattle.rewriter.specs.Rewritten.{rewritten_class}
+use Rattle.script.specs.Script.{Script, IsScript}
 use Rattle.session.specs.declared.record.Record.{Record}
-use Rattle.session.specs.Rule.{IsState}
+use Rattle.session.specs.Rule.{IsReady, IsState}
 use Rattle.session.specs.Lane.{record_of}
 use Rattle.driver.specs.declared.run.Journal.{Journal}
 use Rattle.driver.specs.Runs.{HasRun, made_of}
-use Rattle.deuce.specs.Headline.{known_phase, line_of, AreCalls, IsRun, IsRunnable, IsScriptFor}
+use Rattle.deuce.specs.declared.run.RunEnd.{RunEnd}
+use Rattle.deuce.specs.declared.run.RunEnd.TheVariants as run_ends
+use Rattle.deuce.specs.Headline.{line_of, AreCalls, IsRun, IsRunnable}
 use Rattle.deuce.specs.Lines.{line_in}
-use Rattle.session.specs.Rule.{IsReady}
+use Rattle.deuce.specs.Ending.{IsOutsideForm, IsBadScript, NoScript, EndsOnClass, EndsBuild, EndsTyping, EndsRewriting, EndsScript}
 
 -- the rewriting of a typed program that a class means is ready to run
 pub ready : (c : ClassFile) (P Q : Program) → linked c ≡ Some P → AllByRecursion (IsTypable P) P.methods → Q ≡ rewritten P → IsReady P Q
@@ -58,9 +54,9 @@ are_calls P budget phases words journal σ text run stands is = record {
       ∙ ap (journal_text (map (line_of P) (map made_of run.placed))) (lines_same P run.unplaced);
 }
 
-pub is_run : (bytes script : List ℕ) (c : ClassFile) (P : Program) (s : Script) (wanted : List (List (List Wanted))) (phases seen : List Phase) (text : List ℕ) → Spells bytes c → linked c ≡ Some P → AllByRecursion (IsTypable P) P.methods → IsScript script s
-    → wanted ≡ s.phases → each (known_phase P) wanted ≡ Some phases → seen ≡ phases → AreCalls P s.budget (opening_state (c ∷ [])) seen text → IsRun bytes script text
-is_run bytes script c P s wanted phases seen text spells is typed is_script same found same_phases are = record {
+pub is_run : (bytes script : List ℕ) (c : ClassFile) (P : Program) (s : Script) (seen : List Phase) (text : List ℕ) → Spells bytes c → linked c ≡ Some P → AllByRecursion (IsTypable P) P.methods
+    → IsScript c P script s → seen ≡ s.phases → AreCalls P s.budget (opening_state (c ∷ [])) seen text → IsRun bytes script text
+is_run bytes script c P s seen text spells is typed is_script same are = record {
   file = c;
   spells = spells;
   program = P;
@@ -68,18 +64,8 @@ is_run bytes script c P s wanted phases seen text spells is typed is_script same
   typed = typed;
   script = s;
   is_script = is_script;
-  phases = phases;
-  known_calls = subst (λ (ws : List (List (List Wanted))). each (known_phase P) ws ≡ Some phases) same found;
-  are_calls = subst (λ (ks : List Phase). AreCalls P s.budget (opening_state (c ∷ [])) ks text) same_phases are;
+  are_calls = subst (λ (ks : List Phase). AreCalls P s.budget (opening_state (c ∷ [])) ks text) same are;
 }
-
--- the calls of a script for a program are known
-pub not_known : (P : Program) (bytes : List ℕ) (s t : Script) (phases : List Phase) (wanted : List (List (List Wanted))) → IsScript bytes s → wanted ≡ s.phases → each (known_phase P) wanted ≡ None → IsScriptFor P bytes t phases → ⊥
-not_known P bytes s t phases wanted is same none for =
-    let one : t.phases ≡ s.phases = ap (λ (x : Script). x.phases) (same_scripts bytes t s for.is_script is) in
-    let found : each (known_phase P) s.phases ≡ Some phases = subst (λ (ws : List (List (List Wanted))). each (known_phase P) ws ≡ Some phases) one for.known_calls in
-    let lost : each (known_phase P) s.phases ≡ None = subst (λ (ws : List (List (List Wanted))). each (known_phase P) ws ≡ None) same none in
-    cc
 
 -- ---- ends
 
@@ -88,49 +74,47 @@ pub err_is : {A : Type 0} (r : Result A RunEnd) (e : RunEnd) (Q : RunEnd → Typ
 err_is (Ok x) e Q h q = tt
 err_is (Err y) e Q h q = subst Q (sym h) q
 
--- the end of a script that isn't read, or that isn't one for the program
-pub script_end : {A : Type 0} (r : Result A RunEnd) (e : ScriptEnd) (P : Program) (bytes : List ℕ) → IsErrAnd r (IsEndOfScript e)
-    → (e ≡ script.NotBuilt → (s : Script) (phases : List Phase) → IsScriptFor P bytes s phases → ⊥) → IfErr r (EndsScript P bytes)
-script_end (Ok x) e P bytes h none = tt
-script_end (Err y) script.NotBuilt P bytes h none = subst (EndsScript P bytes) (sym h) (none refl)
-script_end (Err y) script.NoMemory P bytes h none = subst (EndsScript P bytes) (sym h) tt
-
 pub on_err : {A : Type 0} (r : Result A RunEnd) (P Q : RunEnd → Type 0) → ((e : RunEnd) → P e → Q e) → IfErr r P → IfErr r Q
 on_err (Ok x) P Q f h = tt
 on_err (Err e) P Q f h = f e h
 
-pub of_build : (c : ClassFile) (e : RunEnd) → EndsBuild c e → EndsOnClass c IsOutsideForm e
+pub of_build : (c : ClassFile) (e : RunEnd) → EndsBuild c e → EndsOnClass c NoScript IsOutsideForm e
 of_build c (run_ends.BadClass r) h = absurd h
 of_build c (run_ends.BadProgram r) h = inl h
+of_build c (run_ends.BadScript r) h = absurd h
 of_build c (run_ends.Untyped r) h = absurd h
 of_build c run_ends.NotBuilt h = h
 of_build c run_ends.NoMemory h = tt
 
-pub of_typing : (c : ClassFile) (e : RunEnd) → EndsTyping c e → EndsOnClass c IsOutsideForm e
+pub of_typing : (c : ClassFile) (e : RunEnd) → EndsTyping c e → EndsOnClass c NoScript IsOutsideForm e
 of_typing c (run_ends.BadClass r) h = absurd h
 of_typing c (run_ends.BadProgram r) h = absurd h
+of_typing c (run_ends.BadScript r) h = absurd h
 of_typing c (run_ends.Untyped r) h = h
 of_typing c run_ends.NotBuilt h = absurd h
 of_typing c run_ends.NoMemory h = tt
 
-pub of_rewriting : (P : Program) (c : ClassFile) (e : RunEnd) → linked c ≡ Some P → AllByRecursion (IsTypable P) P.methods → EndsRewriting P c e → EndsOnClass c IsOutsideForm e
+pub of_rewriting : (P : Program) (c : ClassFile) (e : RunEnd) → linked c ≡ Some P → AllByRecursion (IsTypable P) P.methods → EndsRewriting P c e → EndsOnClass c NoScript IsOutsideForm e
 of_rewriting P c (run_ends.BadClass r) is typed h = absurd h
 of_rewriting P c (run_ends.BadProgram r) is typed h = inr (P, is, typed, h)
 of_rewriting P c (run_ends.Untyped r) is typed h = absurd h
+of_rewriting P c (run_ends.BadScript r) is typed h = absurd h
 of_rewriting P c run_ends.NotBuilt is typed h = absurd h
 of_rewriting P c run_ends.NoMemory is typed h = tt
 
-pub of_script : (P : Program) (c : ClassFile) (bytes : List ℕ) (e : RunEnd) → IsRunnable c P → EndsScript P bytes e → EndsOnClass c (IsNotRunOn bytes) e
+pub of_script : (P : Program) (c : ClassFile) (bytes : List ℕ) (e : RunEnd) → IsRunnable c P → EndsScript c P bytes e → EndsOnClass c (IsBadScript bytes) IsOutsideForm e
 of_script P c bytes (run_ends.BadClass r) is h = absurd h
 of_script P c bytes (run_ends.BadProgram r) is h = absurd h
 of_script P c bytes (run_ends.Untyped r) is h = absurd h
-of_script P c bytes run_ends.NotBuilt is h = inr (P, is, h)
+of_script P c bytes (run_ends.BadScript r) is h = (P, is, h)
+of_script P c bytes run_ends.NotBuilt is h = absurd h
 of_script P c bytes run_ends.NoMemory is h = tt
 
 -- what isn't of the form isn't built for a command
-pub of_preparing : (c : ClassFile) (Unbuilt : ClassFile → Type 0) (e : RunEnd) → (IsOutsideForm c → Unbuilt c) → EndsOnClass c IsOutsideForm e → EndsOnClass c Unbuilt e
-of_preparing c Unbuilt (run_ends.BadClass r) f h = absurd h
-of_preparing c Unbuilt (run_ends.BadProgram r) f h = h
-of_preparing c Unbuilt (run_ends.Untyped r) f h = h
-of_preparing c Unbuilt run_ends.NotBuilt f h = f h
-of_preparing c Unbuilt run_ends.NoMemory f h = tt
+pub of_preparing : (c : ClassFile) (Bad : Refusal → ClassFile → Type 0) (Unbuilt : ClassFile → Type 0) (e : RunEnd) → (IsOutsideForm c → Unbuilt c) → EndsOnClass c NoScript IsOutsideForm e → EndsOnClass c Bad Unbuilt e
+of_preparing c Bad Unbuilt (run_ends.BadClass r) f h = absurd h
+of_preparing c Bad Unbuilt (run_ends.BadProgram r) f h = h
+of_preparing c Bad Unbuilt (run_ends.Untyped r) f h = h
+of_preparing c Bad Unbuilt (run_ends.BadScript r) f h = absurd h
+of_preparing c Bad Unbuilt run_ends.NotBuilt f h = f h
+of_preparing c Bad Unbuilt run_ends.NoMemory f h = tt

@@ -18,16 +18,13 @@ use Rattle.jmodel.specs.Decoding.{own_name}
 use Rattle.jmodel.specs.Linking.{linking, linked, pc_of}
 use Rattle.jmodel.specs.Typing.{IsTypable, IsUntypableAt}
 use Rattle.rewriter.specs.Rewritten.{rewritten_class}
-use Rattle.script.specs.Script.{Script}
-use Rattle.jmodel.specs.Schedule.{Phase}
-use Rattle.deuce.specs.Headline.{IsRun, CanRun, IsRunnable, IsScriptFor}
+use Rattle.script.specs.Script.{Script, IsScript, IsFault}
+use Rattle.deuce.specs.Headline.{IsRun, CanRun, IsRunnable}
 use Rattle.deuce.specs.Rewritten.{IsRewriting, CanRewrite, HasManyMembers}
 use Rattle.deuce.specs.declared.inputs.ClassInput.{ClassInput}
 use Rattle.deuce.specs.declared.inputs.Inputs.{Inputs}
 use Rattle.deuce.specs.declared.inputs.InputEnd.{InputEnd}
 use Rattle.deuce.specs.declared.inputs.InputEnd.TheVariants as ends
-use Rattle.script.specs.declared.reading.ScriptEnd.{ScriptEnd}
-use Rattle.script.specs.declared.reading.ScriptEnd.TheVariants as script
 use Rattle.deuce.specs.declared.run.RunEnd.{RunEnd}
 use Rattle.deuce.specs.declared.run.RunEnd.TheVariants as run_ends
 
@@ -175,20 +172,28 @@ pub record IsUntypable (r : Refusal) (file : ClassFile) : Type 0 where
   pub pc_is : pc_of file number place ≡ Some pc
   pub refusal : r ≡ Untypable (printed method.name) (pos pc)
 
--- A class isn't of the form that is built so far; or it is, and can be run, and the script isn't one of calls of its methods.
-abbrev pub IsNotRunOn : List ℕ → ClassFile → Type 0
-IsNotRunOn script file = (linking file ≡ Ok None)
-    ⊎ ((P : Program) × IsRunnable file P × ((s : Script) (phases : List Phase) → IsScriptFor P script s phases → ⊥))
+-- Bytes are no script for a program and its class file: there is none that they are, and this is the first rule that they break.
+pub record IsNoScript (file : ClassFile) (P : Program) (bytes : List ℕ) (r : Refusal) : Type 0 where
+  pub fault : IsFault file P bytes r
+  pub none : (s : Script) → IsScript file P bytes s → ⊥
+
+-- Why a script is refused: the class can be run, and the bytes are no script for it.
+abbrev pub IsBadScript : List ℕ → Refusal → ClassFile → Type 0
+IsBadScript bytes r file = (P : Program) × IsRunnable file P × IsNoScript file P bytes r
+
+-- the class isn't of the form that is built so far
+abbrev pub IsOutsideForm : ClassFile → Type 0
+IsOutsideForm file = linking file ≡ Ok None
 
 -- A class isn't of the form that is built so far, or its rewriting would have too many members.
 abbrev pub IsNotRewritten : ClassFile → Type 0
-IsNotRewritten file = (linking file ≡ Ok None) ⊎ HasManyMembers file
+IsNotRewritten file = IsOutsideForm file ⊎ HasManyMembers file
 
--- A folder has one good class file, on which the script, of which at most one byte over the limit is looked at, can't be run.
-pub record IsNotRun (files : Option Files) (dir script : List ℕ) : Type 0 where
+-- A folder has one good class file, for which the script, of which at most one byte over the limit is looked at, has this fault.
+pub record HasBadScript (files : Option Files) (dir script : List ℕ) (r : Refusal) : Type 0 where
   pub script_bytes : List ℕ
   pub script_front : IsFrontOf files script 16777217 script_bytes
-  pub of_class : HasClass files dir (IsNotRunOn script_bytes)
+  pub of_class : HasClass files dir (IsBadScript script_bytes r)
 
 -- The files of a folder, as it tells them, let the script at a path be run on the folder's one class file.
 pub record CanRunIn (told : Files) (dir script : List ℕ) : Type 0 where
@@ -224,13 +229,18 @@ EndsInputs Asks files dir before now last ends.NoMemory = Unit {0}
 abbrev pub IsOfClass : List ℕ → (ClassFile → Type 0) → Type 0
 IsOfClass class Holding = (length class ≤ 1048576) × (file : ClassFile) × Spells class file × Holding file
 
--- why a command over the bytes of a class file isn't done; what isn't built is said of the class
-abbrev pub EndsCommand : List ℕ → (ClassFile → Type 0) → RunEnd → Type 0
-EndsCommand class Unbuilt (run_ends.BadClass r) = IsFileFault class r
-EndsCommand class Unbuilt (run_ends.BadProgram r) = IsOfClass class (IsBadProgram r)
-EndsCommand class Unbuilt (run_ends.Untyped r) = IsOfClass class (IsUntypable r)
-EndsCommand class Unbuilt run_ends.NotBuilt = IsOfClass class Unbuilt
-EndsCommand class Unbuilt run_ends.NoMemory = Unit {0}
+-- a command without a script has none that is refused
+abbrev pub NoScript : Refusal → ClassFile → Type 0
+NoScript r file = ⊥
+
+-- why a command over the bytes of a class file isn't done; what a script is refused for, and what isn't built, is said of the class
+abbrev pub EndsCommand : List ℕ → (Refusal → ClassFile → Type 0) → (ClassFile → Type 0) → RunEnd → Type 0
+EndsCommand class Bad Unbuilt (run_ends.BadClass r) = IsFileFault class r
+EndsCommand class Bad Unbuilt (run_ends.BadProgram r) = IsOfClass class (IsBadProgram r)
+EndsCommand class Bad Unbuilt (run_ends.Untyped r) = IsOfClass class (IsUntypable r)
+EndsCommand class Bad Unbuilt (run_ends.BadScript r) = IsOfClass class (Bad r)
+EndsCommand class Bad Unbuilt run_ends.NotBuilt = IsOfClass class Unbuilt
+EndsCommand class Bad Unbuilt run_ends.NoMemory = Unit {0}
 
 -- why there is no class of these bytes
 abbrev pub EndsReading : List ℕ → RunEnd → Type 0
@@ -239,21 +249,18 @@ EndsReading class run_ends.NoMemory = Unit {0}
 EndsReading class end = ⊥
 
 -- why a command over a class isn't done
-abbrev pub EndsOnClass : ClassFile → (ClassFile → Type 0) → RunEnd → Type 0
-EndsOnClass file Unbuilt (run_ends.BadClass r) = ⊥
-EndsOnClass file Unbuilt (run_ends.BadProgram r) = IsBadProgram r file
-EndsOnClass file Unbuilt (run_ends.Untyped r) = IsUntypable r file
-EndsOnClass file Unbuilt run_ends.NotBuilt = Unbuilt file
-EndsOnClass file Unbuilt run_ends.NoMemory = Unit {0}
-
--- the class isn't of the form that is built so far
-abbrev pub IsOutsideForm : ClassFile → Type 0
-IsOutsideForm file = linking file ≡ Ok None
+abbrev pub EndsOnClass : ClassFile → (Refusal → ClassFile → Type 0) → (ClassFile → Type 0) → RunEnd → Type 0
+EndsOnClass file Bad Unbuilt (run_ends.BadClass r) = ⊥
+EndsOnClass file Bad Unbuilt (run_ends.BadProgram r) = IsBadProgram r file
+EndsOnClass file Bad Unbuilt (run_ends.Untyped r) = IsUntypable r file
+EndsOnClass file Bad Unbuilt (run_ends.BadScript r) = Bad r file
+EndsOnClass file Bad Unbuilt run_ends.NotBuilt = Unbuilt file
+EndsOnClass file Bad Unbuilt run_ends.NoMemory = Unit {0}
 
 -- why a class has no program
 abbrev pub EndsBuild : ClassFile → RunEnd → Type 0
 EndsBuild file (run_ends.BadProgram r) = linking file ≡ Err r
-EndsBuild file run_ends.NotBuilt = linking file ≡ Ok None
+EndsBuild file run_ends.NotBuilt = IsOutsideForm file
 EndsBuild file run_ends.NoMemory = Unit {0}
 EndsBuild file end = ⊥
 
@@ -276,15 +283,10 @@ IsLimit file fault run_ends.NoMemory = Unit {0}
 IsLimit file fault end = ⊥
 
 -- why a script isn't run on a class that can be
-abbrev pub EndsScript : Program → List ℕ → RunEnd → Type 0
-EndsScript P script run_ends.NotBuilt = (s : Script) (phases : List Phase) → IsScriptFor P script s phases → ⊥
-EndsScript P script run_ends.NoMemory = Unit {0}
-EndsScript P script end = ⊥
-
--- the end of a run whose script isn't read
-abbrev pub IsEndOfScript : ScriptEnd → RunEnd → Type 0
-IsEndOfScript script.NotBuilt end = end ≡ run_ends.NotBuilt
-IsEndOfScript script.NoMemory end = end ≡ run_ends.NoMemory
+abbrev pub EndsScript : ClassFile → Program → List ℕ → RunEnd → Type 0
+EndsScript file P bytes (run_ends.BadScript r) = IsNoScript file P bytes r
+EndsScript file P bytes run_ends.NoMemory = Unit {0}
+EndsScript file P bytes end = ⊥
 
 -- the end of a run whose call of the folder ended so at a path
 abbrev pub IsOutsideAt : IoEnd → List ℕ → InputEnd → Type 0

@@ -91,6 +91,7 @@ fn refused(path: String, end: RunEnd) -> Result<Outcome, NoMemory>
         RunEnd::BadClass(refusal) => Ok(Outcome::BadClass { path, refusal }),
         RunEnd::BadProgram(refusal) => Ok(Outcome::BadProgram(refusal)),
         RunEnd::Untyped(refusal) => Ok(Outcome::Untyped(refusal)),
+        RunEnd::BadScript(refusal) => Ok(Outcome::BadScript(refusal)),
         RunEnd::NotBuilt => Ok(Outcome::NotBuilt),
         RunEnd::NoMemory => Err(NoMemory),
     }

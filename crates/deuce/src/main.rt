@@ -3,7 +3,6 @@
 
 mod commands;
 mod inputs;
-mod known;
 mod outcome;
 mod print;
 mod refusal;

@@ -23,12 +23,13 @@ pub enum Outcome {
     BadProgram(Refusal),
     /// A method of the class has no typing.
     Untyped(Refusal),
+    /// The script is none for the class, with the first rule that it breaks.
+    BadScript(Refusal),
     /// A list or a read of the folder failed at this path.
     Outside(String),
     /// The put at this path failed.
     NotPut(String),
-    /// The folder, the class or the script isn't of the form that is built so far, or the rewritten class would have too many
-    /// members.
+    /// The folder or the class isn't of the form that is built so far, or the rewritten class would have too many members.
     NotBuilt,
 }
 
@@ -82,6 +83,7 @@ pub fn text_of(alloc: Global, outcome: Outcome) -> Result<Bytes, AllocError>
         Outcome::BadClass { path, refusal } => bad_class_line(alloc, path.as_str(), &refusal),
         Outcome::BadProgram(refusal) => refusal_line(alloc, b"error 4 ", &refusal),
         Outcome::Untyped(refusal) => refusal_line(alloc, b"error 5 ", &refusal),
+        Outcome::BadScript(refusal) => refusal_line(alloc, b"error 6 ", &refusal),
         Outcome::Outside(path) => path_line(alloc, b"error 8 ", path.as_str()),
         Outcome::NotPut(path) => path_line(alloc, b"error 11 ", path.as_str()),
         Outcome::NotBuilt => Bytes::from_slice(alloc, b"error 12 NotBuilt\n"),
@@ -102,6 +104,7 @@ impl Outcome {
             Outcome::BadClass { .. } => 3,
             Outcome::BadProgram(_) => 4,
             Outcome::Untyped(_) => 5,
+            Outcome::BadScript(_) => 6,
             Outcome::Outside(_) => 8,
             Outcome::NotPut(_) => 11,
             Outcome::NotBuilt => 12,

@@ -2,7 +2,7 @@
 ghost use Rattle.std.specs.Prelude.{◌≡◌, ◌≤◌, ◌↔◌, ℕ, List, length, filter, IfOk, IfErr, OnOk, IsTrue};
 ghost use Rattle.jmodel.specs.ClassRules.{IsClassFile, Spells};
 ghost use Rattle.rewriter.specs.Meaning.{AreFiled, HasFewMembers};
-ghost use Rattle.deuce.specs.Ending.{EndsCommand, EndsOnClass, IsNotRewritten};
+ghost use Rattle.deuce.specs.Ending.{EndsCommand, EndsOnClass, NoScript, IsNotRewritten};
 ghost use Rattle.deuce.specs.Rewritten.{is_marked, IsRewriting};
 
 use crate::run::{RunEnd, class_of, prepare};
@@ -37,7 +37,7 @@ impl From<NoMemory> for RunEnd {
 pub fn rewrite_file(alloc: Global, class: &[u8]) -> Result<NewFile, RunEnd>
     ensures rewriting { IfOk result (λ f. IsRewriting class.now f.bytes f.taken f.marked) }
     ensures within { OnOk result (length class.now ≤ 1048576) }
-    ensures cause { IfErr result (EndsCommand class.now IsNotRewritten) }
+    ensures cause { IfErr result (EndsCommand class.now NoScript IsNotRewritten) }
 {
     let file = class_of(alloc, class)?;
     write_rewriting(alloc, &file)
@@ -48,7 +48,7 @@ fn write_rewriting(alloc: Global, class: &ClassFile) -> Result<NewFile, RunEnd>
     requires form { IsClassFile class.now }
     requires filed { AreFiled class.now }
     ensures rewriting { IfOk result (λ f. (bytes : List ℕ) → Spells bytes class.now → IsRewriting bytes f.bytes f.taken f.marked) }
-    ensures cause { IfErr result (EndsOnClass class.now IsNotRewritten) }
+    ensures cause { IfErr result (EndsOnClass class.now NoScript IsNotRewritten) }
 {
     let prepared = prepare(alloc, class)?;
     if !has_few_members(&prepared.rewriting.class) {

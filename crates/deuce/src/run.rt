@@ -8,11 +8,11 @@ ghost use Rattle.std.specs.List.{AllByRecursion};
 ghost use Rattle.rewriter.specs.Meaning.{AreFiled, HasFewMembers};
 ghost use Rattle.rewriter.specs.Rewritten.{rewritten_class};
 ghost use Rattle.deuce.specs.Headline.{IsRun};
-ghost use Rattle.deuce.specs.Ending.{EndsReading, EndsCommand, EndsOnClass, EndsBuild, EndsRewriting, EndsScript, IsLimit, IsNotRunOn, IsOutsideForm};
+ghost use Rattle.deuce.specs.Ending.{EndsReading, EndsCommand, EndsOnClass, EndsBuild, EndsRewriting, EndsScript, IsLimit, IsBadScript, NoScript, IsOutsideForm};
+ghost use Rattle.script.specs.Script.{IsScript};
 ghost use Rattle.session.specs.Rule.{IsReady};
 
-use crate::inputs::{CLASS_LIMIT, SCRIPT_LIMIT};
-use crate::known::known_phases;
+use crate::inputs::CLASS_LIMIT;
 use crate::text::journal;
 use crate::typed::type_all;
 use class_reader::read_class;
@@ -22,7 +22,7 @@ use hierarchy::symbols::own_name;
 use hierarchy::{BuildEnd, Program, opening_words};
 use jmodel::{Bytes, Halt, Refusal};
 use rewriter::{Rewriting, rewrite};
-use script::{ScriptEnd, read_script};
+use script::{Script, read_script};
 use std::alloc::{AllocError, Global};
 use std::thread::Threads;
 
@@ -35,7 +35,9 @@ pub enum RunEnd {
     BadProgram(Refusal),
     /// A method has no typing.
     Untyped(Refusal),
-    /// The class or the script isn't of the form that is built so far, or the rewritten class would have too many members.
+    /// The script is none for the class, with the first rule that it breaks.
+    BadScript(Refusal),
+    /// The class isn't of the form that is built so far, or the rewritten class would have too many members.
     NotBuilt,
     NoMemory,
 }
@@ -51,19 +53,6 @@ impl From<AllocError> for RunEnd {
     }
 }
 
-impl From<ScriptEnd> for RunEnd {
-    ghost use Rattle.deuce.specs.Ending.{IsEndOfScript};
-
-    ghost from_gives = { λ e end. IsEndOfScript e end };
-
-    fn from(end: ScriptEnd) -> Self {
-        match end {
-            ScriptEnd::NotBuilt => RunEnd::NotBuilt,
-            ScriptEnd::NoMemory => RunEnd::NoMemory,
-        }
-    }
-}
-
 /// Runs a script on a class file, and gives the text of its journal.
 pub fn run<R: Threads + Sync>(
     rt: &R,
@@ -73,8 +62,7 @@ pub fn run<R: Threads + Sync>(
 ) -> Result<Bytes, RunEnd>
     ensures run { IfOk result (IsRun class.now script.now) }
     ensures class { OnOk result (length class.now ≤ 1048576) }
-    ensures script { OnOk result (length script.now ≤ 16777216) }
-    ensures cause { IfErr result (EndsCommand class.now (IsNotRunOn script.now)) }
+    ensures cause { IfErr result (EndsCommand class.now (IsBadScript script.now) IsOutsideForm) }
 {
     let file = class_of(alloc, class)?;
     run_class(rt, alloc, &file, script)
@@ -108,8 +96,7 @@ fn run_class<R: Threads + Sync>(
     requires form { IsClassFile class.now }
     requires filed { AreFiled class.now }
     ensures run { IfOk result (λ text. (bytes : List ℕ) → Spells bytes class.now → IsRun bytes script.now text) }
-    ensures script { OnOk result (length script.now ≤ 16777216) }
-    ensures cause { IfErr result (EndsOnClass class.now (IsNotRunOn script.now)) }
+    ensures cause { IfErr result (EndsOnClass class.now (IsBadScript script.now) IsOutsideForm) }
 {
     let prepared = prepare(alloc, class)?;
     run_script(
@@ -138,7 +125,7 @@ pub fn prepare(alloc: Global, class: &ClassFile) -> Result<Prepared, RunEnd>
     ensures rewritten { IfOk result (λ p. (p.rewriting.program ≡ rewritten_program p.original) × (rewritten_class p.original class.now ≡ Ok p.rewriting.class)) }
     ensures stays_typed { IfOk result (λ p. AllByRecursion (IsTypable p.rewriting.program) p.rewriting.program.methods) }
     ensures rules { IfOk result (λ p. HasFewMembers p.rewriting.class → IsClassFile p.rewriting.class) }
-    ensures cause { IfErr result (EndsOnClass class.now IsOutsideForm) }
+    ensures cause { IfErr result (EndsOnClass class.now NoScript IsOutsideForm) }
 {
     let original = build(alloc, class)?;
     type_all(alloc, class, &original)?;
@@ -193,6 +180,23 @@ fn limit(alloc: Global, class: &ClassFile, refusal: Refusal) -> RunEnd
     }
 }
 
+/// The script that bytes are for a class and its program.
+fn script_of(
+    alloc: Global,
+    class: &ClassFile,
+    program: &Program,
+    bytes: &[u8],
+) -> Result<Script, RunEnd>
+    ensures script { IfOk result (IsScript class.now program.now bytes.now) }
+    ensures cause { IfErr result (EndsScript class.now program.now bytes.now) }
+{
+    match read_script(alloc, class, program, bytes) {
+        Ok(script) => Ok(script),
+        Err(Halt::Refused(refusal)) => Err(RunEnd::BadScript(refusal)),
+        Err(Halt::NoMemory) => Err(RunEnd::NoMemory),
+    }
+}
+
 /// Runs a script on a class's program by its rewriting.
 fn run_script<R: Threads + Sync>(
     rt: &R,
@@ -205,18 +209,13 @@ fn run_script<R: Threads + Sync>(
     requires links { linked class.now ≡ Some original.now }
     requires ready { IsReady original.now rewritten.now }
     ensures run { IfOk result (λ text. (bytes : List ℕ) → Spells bytes class.now → IsRun bytes script.now text) }
-    ensures script { OnOk result (length script.now ≤ 16777216) }
-    ensures cause { IfErr result (EndsScript original.now script.now) }
+    ensures cause { IfErr result (EndsScript class.now original.now script.now) }
 {
-    if script.len() > SCRIPT_LIMIT {
-        return Err(RunEnd::NotBuilt);
-    }
-    let wanted = read_script(alloc, script)?;
-    let phases = known_phases(alloc, original, wanted.phases.as_slice())?;
+    let wanted = script_of(alloc, class, original, script)?;
     let words = opening_words(alloc, class)?;
     let limits = Limits {
         budget: wanted.budget,
-        attempts: 1_000_000,
+        attempts: wanted.attempts,
     };
     let made = run_phases(
         rt,
@@ -225,7 +224,7 @@ fn run_script<R: Threads + Sync>(
         rewritten,
         words,
         limits,
-        phases.as_slice(),
+        wanted.phases.as_slice(),
     )?;
     Ok(journal(
         alloc,

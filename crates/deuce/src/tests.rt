@@ -9,6 +9,7 @@ mod code;
 mod ints;
 mod lanes;
 mod rewritten;
+mod scripts;
 
 /// The class of the example, as a compiler wrote it.
 const COUNTER: [u8; 201] = [
@@ -34,9 +35,6 @@ const THREE_CALLS: &[u8] =
 
 const ONE_CALL: &[u8] =
     b"{\"form\":1,\"lanes\":1,\"phases\":[{\"lanes\":[[{\"call\":\"Counter.inc()I\",\"args\":[]}]]}]}";
-
-const OTHER_METHOD: &[u8] =
-    b"{\"form\":1,\"lanes\":1,\"phases\":[{\"lanes\":[[{\"call\":\"Counter.dec()I\",\"args\":[]}]]}]}";
 
 const THREE_LINES: &str =
     "history 3\n0 0 0 Counter.inc()I 1\n0 0 1 Counter.inc()I 2\n0 0 2 Counter.inc()I 3\nunplaced 0\n";
@@ -220,31 +218,8 @@ fn a_second_file_or_a_folder_is_not_built(rt: HostRuntime) -> Result<(), Fail> {
     Ok(())
 }
 
-#[test]
-fn scripts_of_no_form_are_not_built(rt: HostRuntime) -> Result<(), Fail> {
-    let alloc = rt.alloc();
-    for script in [
-        b"".as_slice(),
-        b"history".as_slice(),
-        b"{\"form\":2,\"lanes\":1,\"phases\":[]}".as_slice(),
-        b"[[[[[[[[[[[[[[[[".as_slice(),
-        OTHER_METHOD,
-    ] {
-        assert!(rt;
-            runs(
-                &rt,
-                alloc,
-                COUNTER.as_slice(),
-                script,
-                12,
-                "error 12 NotBuilt\n"
-            )?
-        );
-    }
-    Ok(())
-}
-
-/// Whether a run of one call on a class ends: with its answer, with a fault of the file or of its code, or as not built.
+/// Whether a run of one call on a class ends: with its answer, with a fault of the file or of its code, with a call of no marked method, or as
+/// not built.
 fn ends<R: Threads + Sync>(rt: &R, alloc: Global, class: &[u8]) -> Result<bool, IoEnd> {
     let words = words_of(alloc, ["run", "d", "s"].as_slice())?;
     let mut folder = folder_of(alloc, class, ONE_CALL)?;
@@ -259,6 +234,10 @@ fn ends<R: Threads + Sync>(rt: &R, alloc: Global, class: &[u8]) -> Result<bool, 
                 || written.starts_with(b"error 4 14 BadTarget Counter.inc()I ")
         }
         5 => written.starts_with(b"error 5 32 Untypable Counter.inc()I "),
+        6 => {
+            written == b"error 6 27 UnknownMethod /phases/0/lanes/0/0/call\n".as_slice()
+                || written == b"error 6 28 NotAtomic /phases/0/lanes/0/0/call\n".as_slice()
+        }
         12 => written == b"error 12 NotBuilt\n".as_slice(),
         _ => false,
     })

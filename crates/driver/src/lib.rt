@@ -1,7 +1,6 @@
 //! The calls of a script, phase by phase: the lanes of a phase side by side on threads, over one table of shared words.
 #![tactic(auto)]
 
-mod calls;
 mod order;
 mod rest;
 mod run;
@@ -10,6 +9,5 @@ mod side_by_side;
 mod table;
 mod threads;
 
-pub use calls::{LaneCalls, PhaseCalls};
 pub use run::{Journal, run_phases};
 pub use session::Limits;

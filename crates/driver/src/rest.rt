@@ -7,10 +7,10 @@ ghost use Rattle.session.specs.Rule.{IsRuled, IsReady, IsCallOf};
 ghost use Rattle.driver.specs.Sides.{IsSide, AreWhole};
 ghost use Rattle.driver.specs.Phases.{HasMadeAll};
 
-use crate::calls::LaneCalls;
 use crate::side::{Part, Side};
 use hierarchy::Program;
-use session::{Known, Lane, Limits, Place, make_alone};
+use script::{Known, LaneCalls};
+use session::{Lane, Limits, Place, make_alone};
 use std::alloc::{AllocError, Global};
 use std::marker::Brand;
 use tx_core::{Origin, Solo};

@@ -8,11 +8,11 @@ ghost use Rattle.driver.specs.Sides.{IsSide, AreWhole, none_made};
 ghost use Rattle.driver.specs.Runs.{AreScripted, HasRun};
 ghost use Rattle.driver.specs.Phases.{AddsPhase, made_counts, unplaced_of, joined};
 
-use crate::calls::{LaneCalls, PhaseCalls};
 use crate::rest::one_after_another;
 use crate::side::{Part, Side};
 use crate::side_by_side::side_by_side;
 use hierarchy::Program;
+use script::{LaneCalls, PhaseCalls};
 use session::{Limits, Record};
 use std::alloc::{AllocError, Global};
 use std::thread::Threads;

@@ -6,12 +6,12 @@ ghost use Rattle.jmodel.specs.History.{Entry};
 ghost use Rattle.session.specs.Rule.{IsRuled, IsReady, IsCallOf};
 ghost use Rattle.driver.specs.Sides.{IsSide, none_made};
 
-use crate::calls::LaneCalls;
 use crate::order::sort_placed;
 use crate::side::Side;
 use crate::table::{Keeping, open_table, start_lanes};
 use crate::threads::{gather, run_all};
 use hierarchy::Program;
+use script::LaneCalls;
 use session::Limits;
 use std::alloc::{AllocError, Global};
 use std::marker::Brand;

@@ -9,10 +9,10 @@ ghost use Rattle.session.specs.Passes.{IsStarting};
 ghost use Rattle.driver.specs.Gathering.{IsGathered};
 ghost use Rattle.driver.specs.Tables.{IsSplit, AreStarting, HasEnded, HaveEnded, IsBack, IsWhole};
 
-use crate::calls::LaneCalls;
 use crate::side::Part;
 use crate::table::{Keeping, Opening, Start};
 use hierarchy::Program;
+use script::LaneCalls;
 use session::{Lane, Limits, Place, Record, make_shared};
 use std::alloc::{AllocError, Global};
 use std::thread::{Threads, map_vec};

@@ -1,108 +1,191 @@
--- Scripts: the JSON data of what each lane calls in each phase, and the turns that each call may take.
-use Rattle.std.specs.Prelude.{◌≡◌, ℕ, ◌≤◌, ℤ, pos, negsuc, List, length, sum_by, Option, Some, None, IfSome, codes, map, option_map, unwrap_or, FitsSigned}
-use Rattle.std.specs.Int.{w32}
-use Rattle.std.specs.List.{AllByRecursion}
+-- Which JSON is a script for a program: what each lane calls in each phase, and the turns and attempts that each call may take. A script
+-- that is none is refused, with the first of the rules below that it breaks, in their order.
+use Rattle.std.specs.Prelude.{◌≡◌, ◌⊎◌, ◌<◌, ◌≤◌, ℕ, ℤ, pos, negsuc, List, [], ◌∷◌, ◌++◌, length, map, sum_by, Option, Some, None, Result, Ok, Err, Bool, not, ◌&&◌, ◌==◌, nat_le, int_le, unsigned_abs, if◌then◌else◌, bytes_eq, codes, position, option_and_then, is_some}
+use Rattle.std.specs.List.{list_any}
 use Rattle.std.specs.Str.{IsUtf8}
-use Rattle.serde_json.specs.Data.{Data, number, string, array, object, unsigned, negative, Items, Members, no_members, member}
-use Rattle.serde_json.specs.View.{items_of}
+use Rattle.serde_json.specs.Data.{Data}
+use Rattle.serde_json.specs.Find.{as_str}
 use Rattle.serde_json.specs.Read.{read}
+use Rattle.jmodel.specs.declared.name.MethodName.{MethodName}
+use Rattle.jmodel.specs.declared.refusal.Refusal.{Refusal}
+use Rattle.jmodel.specs.declared.refusal.Refusal.TheVariants.{NotJson, UnknownMethod, NotAtomic, BadArgs, OverLimit}
+use Rattle.jmodel.specs.declared.value.Value.{Value}
+use Rattle.jmodel.specs.declared.value.Value.TheVariants.{Int}
+use Rattle.jmodel.specs.Name.{printed}
+use Rattle.jmodel.specs.ClassFile.{ClassFile}
+use Rattle.jmodel.specs.ClassRules.{same_text}
+use Rattle.jmodel.specs.Program.{Method, Program, method_at}
+use Rattle.jmodel.specs.Decoding.{name_of}
+use Rattle.jmodel.specs.Layout.{opening_words}
+use Rattle.jmodel.specs.Schedule.{Known, Phase, takes}
+use Rattle.jmodel.specs.Reading.{◌>>=◌}
+use Rattle.script.specs.declared.head.Head.{Head}
+use Rattle.script.specs.declared.head.EngineKind.{EngineKind}
+use Rattle.script.specs.declared.head.EngineKind.TheVariants.{Tl2}
+use Rattle.script.specs.Json.{under, at, bad_shape, must, or_refused, each_from, as_list, as_whole, is_object_of, wanted, may_be}
 
--- a call that is asked for: the printed name of its method, and its arguments
-pub record Wanted : Type 0 where
-  pub name : List ℕ
-  pub args : List ℤ
+-- ---- the shape of a script
 
--- the turns that each call may take, and the phases: of each its lanes, and of each lane its calls
+abbrev pub script_keys : List (List ℕ)
+script_keys = codes "form" ∷ codes "engine" ∷ codes "lanes" ∷ codes "budget" ∷ codes "attempts" ∷ codes "region" ∷ codes "phases" ∷ []
+
+-- a script names the form 1
+abbrev pub as_form : Data → Option ℤ
+as_form d = option_and_then (λ n. if int_le n (pos 1) && int_le (pos 1) n then Some n else None) (as_whole d)
+
+-- and may name its engine
+abbrev pub as_engine : Data → Option EngineKind
+as_engine d = option_and_then (λ name. if bytes_eq name (codes "tl2") then Some Tl2 else None) (as_str d)
+
+-- a number within its limits
+abbrev pub within : {A : Type 0} → List ℕ → ℤ → ℤ → ℤ → Result A Refusal → Result A Refusal
+within name low high n x = must (int_le low n && int_le n high) (OverLimit name n) x
+
+-- the lists of calls of the phase of a number, one for each of its lanes: at most as many as the script has lanes
+abbrev pub lanes_path : ℕ → List ℕ
+lanes_path p = under (at (codes "/phases") p) (codes "lanes")
+
+abbrev pub list_in : List ℕ → ℕ → Data → Result (List Data) Refusal
+list_in path l d = or_refused (bad_shape (at path l)) (as_list d)
+
+abbrev pub lists_of_lanes : ℤ → List ℕ → List Data → Result (List (List Data)) Refusal
+lists_of_lanes lanes path ls = must (int_le (pos (length ls)) lanes) (bad_shape path) (each_from (list_in path) 0 ls)
+
+-- of the phase at a path
+abbrev pub lists_at : ℤ → List ℕ → Data → Result (List (List Data)) Refusal
+lists_at lanes path d = must (is_object_of (codes "lanes" ∷ []) d) (bad_shape path)
+    (wanted as_list path (codes "lanes") d >>= lists_of_lanes lanes (under path (codes "lanes")))
+
+abbrev pub lists_of_phase : ℤ → ℕ → Data → Result (List (List Data)) Refusal
+lists_of_phase lanes p d = lists_at lanes (at (codes "/phases") p) d
+
+-- what a script is, as far as its calls: its head, and the lists of calls, by phase and lane
+abbrev pub head_of : Data → Result Head Refusal
+head_of d = do
+  form ← wanted as_form [] (codes "form") d
+  engine ← may_be as_engine Tl2 [] (codes "engine") d
+  lanes ← wanted as_whole [] (codes "lanes") d
+  budget ← may_be as_whole (pos 100000) [] (codes "budget") d
+  attempts ← may_be as_whole (pos 1000000) [] (codes "attempts") d
+  region ← may_be as_whole (pos 65536) [] (codes "region") d
+  Ok (record { engine = engine; lanes = lanes; budget = budget; attempts = attempts; region = region })
+
+abbrev pub lists_of : ℤ → Data → Result (List (List (List Data))) Refusal
+lists_of lanes d = wanted as_list [] (codes "phases") d >>= each_from (lists_of_phase lanes) 0
+
+-- ---- limits: 1 to 16 lanes, at most 10000 phases, and for each call 1 to 1000000 turns and as many attempts; a region has room for
+-- the words that a run begins with, and at most 1048576 words
+
+abbrev pub numbers_within : Head → Result Head Refusal
+numbers_within h =
+    within (codes "lanes") (pos 1) (pos 16) h.lanes
+    (within (codes "budget") (pos 1) (pos 1000000) h.budget
+    (within (codes "attempts") (pos 1) (pos 1000000) h.attempts (Ok h)))
+
+abbrev pub is_within : ClassFile → Head → ℕ → Result Head Refusal
+is_within file head phases = numbers_within head >>= λ h.
+    within (codes "region") (pos (length (opening_words (file ∷ [])))) (pos 1048576) h.region
+    (within (codes "phases") (pos 0) (pos 10000) (pos phases) (Ok h))
+
+-- ---- calls
+
+-- A text names a method by its printed name, CLASS.NAMEDESCRIPTOR: the descriptor begins at the first `(`, and the name behind the last
+-- dot before it. So a method can't be named whose class or name has a `(`, or whose name has a dot. 40 and 46 are these two.
+abbrev pub can_be_named : MethodName → Bool
+can_be_named k = not (list_any (λ c. c == 40) (k.class ++ k.name)) && not (list_any (λ c. c == 46) k.name)
+
+abbrev pub is_called : List ℕ → MethodName → Bool
+is_called text k = can_be_named k && bytes_eq (printed k) text
+
+-- the text that names a method which a script may call: a marked one
+abbrev pub call_text : Method → Option (List ℕ)
+call_text k = if is_some k.retries && can_be_named k.name then Some (printed k.name) else None
+
+-- the number of the method that a text names
+abbrev pub number_named : Program → List ℕ → Option ℕ
+number_named P text = position (λ o. same_text o text) (map call_text P.methods)
+
+-- whether a text names a method of a class, marked or not
+abbrev pub names_method : ClassFile → List ℕ → Bool
+names_method file text = list_any (λ m. is_called text (name_of file m)) file.methods
+
+abbrev pub not_callable : ClassFile → List ℕ → List ℕ → Refusal
+not_callable file path text = if names_method file text then NotAtomic path else UnknownMethod path
+
+-- an int, as the methods take them
+abbrev pub as_int : Data → Option Value
+as_int d = option_and_then (λ n. if int_le (negsuc 2147483647) n && int_le n (pos 2147483647) then Some (Int n) else None) (as_whole d)
+
+abbrev pub int_in : List ℕ → ℕ → Data → Result Value Refusal
+int_in path i d = or_refused (BadArgs (at path i)) (as_int d)
+
+abbrev pub ints_of : List ℕ → List Data → Result (List Value) Refusal
+ints_of path args = each_from (int_in path) 0 args
+
+-- the call that stands at a path: a method of the program, with as many ints as it takes
+abbrev pub known_at : ClassFile → Program → List ℕ → Data → Result Known Refusal
+known_at file P path d = must (is_object_of (codes "call" ∷ codes "args" ∷ []) d) (bad_shape path) (do
+  text ← wanted as_str path (codes "call") d
+  args ← wanted as_list path (codes "args") d
+  m ← or_refused (not_callable file (under path (codes "call")) text) (number_named P text)
+  must (takes (method_at P m) (length args)) (BadArgs (under path (codes "args"))) (do
+    values ← ints_of (under path (codes "args")) args
+    Ok (record { method = m; args = values })))
+
+-- a call of the lane at a path
+abbrev pub call_in : ClassFile → Program → List ℕ → ℕ → Data → Result Known Refusal
+call_in file P path i d = known_at file P (at path i) d
+
+-- a lane of the phase whose lanes stand at a path
+abbrev pub lane_in : ClassFile → Program → List ℕ → ℕ → List Data → Result (List Known) Refusal
+lane_in file P path l calls = each_from (call_in file P (at path l)) 0 calls
+
+abbrev pub phase_of : ClassFile → Program → ℕ → List (List Data) → Result Phase Refusal
+phase_of file P p lanes = each_from (lane_in file P (lanes_path p)) 0 lanes
+
+-- ---- scripts
+
+-- the turns and the attempts that each call may take, and what each lane calls in each phase
 pub record Script : Type 0 where
   pub budget : ℕ
-  pub phases : List (List (List Wanted))
-
--- objects of one and of two members, in order of their keys
-abbrev pub one : List ℕ → Data → Data
-one k x = object (member k x no_members)
-
-abbrev pub two : List ℕ → Data → List ℕ → Data → Data
-two k x l y = object (member k x (member l y no_members))
-
--- members, before which one more may stand
-abbrev pub may_have : List ℕ → Option Data → Members → Members
-may_have k None ms = ms
-may_have k (Some x) ms = member k x ms
-
--- a whole number
-abbrev pub whole : ℤ → Data
-whole (pos n) = number (unsigned n)
-whole (negsuc n) = number (negative (negsuc n))
-
-abbrev pub whole_list : List ℤ → Data
-whole_list ns = array (items_of (map whole ns))
-
--- a call of a method by its printed name
-abbrev pub call_data : Wanted → Data
-call_data c = two (codes "args") (whole_list c.args) (codes "call") (string c.name)
-
--- what a lane calls
-abbrev pub lane_data : List Wanted → Data
-lane_data calls = array (items_of (map call_data calls))
-
--- what the lanes of a phase call
-abbrev pub phase_data : List (List Wanted) → Data
-phase_data lanes = one (codes "lanes") (array (items_of (map lane_data lanes)))
-
-abbrev pub counted : ℕ → Data
-counted n = number (unsigned n)
-
--- an object of a script's members, of which the first two may be left out
-abbrev pub members_with : Option Data → Option Data → Data → Data → Data → Data
-members_with budget engine form lanes phases =
-    object (may_have (codes "budget") budget (may_have (codes "engine") engine
-    (member (codes "form") form (member (codes "lanes") lanes (member (codes "phases") phases no_members)))))
-
--- what a script says beside its phases: a budget and an engine, where it names them, and the number of lanes
-pub record Head : Type 0 where
-  pub named : Option ℕ
-  pub engine : Option Data
-  pub lanes : ℕ
-
--- the turns that each call may take
-abbrev pub budget_of : Head → ℕ
-budget_of h = unwrap_or h.named 100000
-
--- there is one engine to be named
-pub record IsHead (h : Head) : Type 0 where
-  pub some_turns : 1 ≤ budget_of h
-  pub most_turns : budget_of h ≤ 1000000
-  pub engine : IfSome h.engine (λ e. e ≡ string (codes "tl2"))
-  pub some_lanes : 1 ≤ h.lanes
-  pub most_lanes : h.lanes ≤ 16
-
-abbrev pub script_data : Head → Items → Data
-script_data h phases = members_with (option_map counted h.named) h.engine (counted 1) (counted h.lanes) (array phases)
-
--- each argument is an int
-abbrev pub HasInts : Wanted → Type 0
-HasInts c = AllByRecursion (FitsSigned w32) c.args
-
--- a phase has at most so many lanes, which call with ints
-pub record IsPhase (lanes : ℕ) (phase : List (List Wanted)) : Type 0 where
-  pub few_lanes : length phase ≤ lanes
-  pub ints : AllByRecursion (AllByRecursion HasInts) phase
+  pub attempts : ℕ
+  pub phases : List Phase
 
 -- how many calls a phase has
-abbrev pub calls_of : List (List Wanted) → ℕ
+abbrev pub calls_of : Phase → ℕ
 calls_of phase = sum_by length phase
 
--- there are at most 10000 phases, with at most 100000 calls in all
-pub record ArePhases (lanes : ℕ) (phases : List (List (List Wanted))) : Type 0 where
-  pub each : AllByRecursion (IsPhase lanes) phases
-  pub few_phases : length phases ≤ 10000
-  pub few_calls : sum_by calls_of phases ≤ 100000
+-- with at most 100000 calls in all
+abbrev pub script_with : Head → List Phase → Result Script Refusal
+script_with h phases =
+    must (nat_le (sum_by calls_of phases) 100000) (OverLimit (codes "calls") (pos (sum_by calls_of phases)))
+    (Ok (record { budget = unsigned_abs h.budget; attempts = unsigned_abs h.attempts; phases = phases }))
 
--- The bytes are a script of this budget and of these phases.
-pub record IsScript (bytes : List ℕ) (s : Script) : Type 0 where
+-- the script of a head and of the lists of its calls
+abbrev pub script_of : ClassFile → Program → Head → List (List (List Data)) → Result Script Refusal
+script_of file P head lists = do
+  h ← is_within file head (length lists)
+  phases ← each_from (phase_of file P) 0 lists
+  script_with h phases
+
+-- the script that data are for a program and its class file
+abbrev pub script_in : ClassFile → Program → Data → Result Script Refusal
+script_in file P d = must (is_object_of script_keys d) (bad_shape []) (do
+  head ← head_of d
+  lists ← lists_of head.lanes d
+  script_of file P head lists)
+
+-- The bytes are a script for a program and its class file.
+pub record IsScript (file : ClassFile) (P : Program) (bytes : List ℕ) (s : Script) : Type 0 where
+  pub fits : length bytes ≤ 16777216
   pub text : IsUtf8 bytes
-  pub head : Head
-  pub head_is : IsHead head
-  pub budget : s.budget ≡ budget_of head
-  pub phases : ArePhases head.lanes s.phases
-  pub data_is : read bytes ≡ Some (script_data head (items_of (map phase_data s.phases)))
+  pub value : Data
+  pub value_is : read bytes ≡ Some value
+  pub script : script_in file P value ≡ Ok s
+
+-- Why they are none: there are too many, or they are no JSON, or a rule is broken, of which this is the first.
+abbrev pub IsFault : ClassFile → Program → List ℕ → Refusal → Type 0
+IsFault file P bytes r =
+    ((16777216 < length bytes) × (r ≡ OverLimit (codes "script") (pos (length bytes))))
+    ⊎ ((length bytes ≤ 16777216) × (((IsUtf8 bytes → read bytes ≡ None) × (r ≡ NotJson))
+    ⊎ ((d : Data) × (read bytes ≡ Some d) × (script_in file P d ≡ Err r))))

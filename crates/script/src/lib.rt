@@ -2,11 +2,15 @@
 #![tactic(auto)]
 
 mod calls;
-mod members;
+mod head;
+mod json;
+mod lists;
 mod reading;
+mod refusals;
 
-pub use calls::{LaneCalls, PhaseCalls, Wanted};
-pub use reading::{Script, ScriptEnd, read_script};
+pub use calls::{Known, LaneCalls, PhaseCalls};
+pub use head::EngineKind;
+pub use reading::{Script, read_script};
 
 #[cfg(test)]
 mod tests;

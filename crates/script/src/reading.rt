@@ -1,66 +1,40 @@
 //! Scripts.
-use crate::calls::{PhaseCalls, phases_of};
-use crate::members::{Walk, count_of, is_one, list_of};
-use serde_json::{Error, Value};
-use std::alloc::{AllocError, AllocFailed, Global};
+ghost use Rattle.std.specs.Prelude.{◌≡◌, Err, IfOk, IfSome, map, pos, sum_by};
+ghost use Rattle.serde_json.specs.View.{view};
+ghost use Rattle.jmodel.specs.declared.refusal.Halt.TheVariants as halts;
+ghost use Rattle.jmodel.specs.declared.refusal.Refusal.{Refusal as Why};
+ghost use Rattle.jmodel.specs.Reading.{Gives};
+ghost use Rattle.script.specs.Script.{Script as Form, calls_of as calls_in, script_in, script_of as script_made_of, script_with as script_made_with, IsScript, IsFault};
+ghost use Rattle.script.specs.Seen.{lists as seen_lists};
+
+use crate::calls::{Methods, PhaseCalls, call_texts};
+use crate::head::{Head, head_of, limits_of};
+use crate::json::object_at;
+use crate::lists::{PhaseLists, lists_of};
+use crate::refusals::over_limit;
+use const_pool::ClassFile;
+use hierarchy::Program;
+use jmodel::{Halt, Refusal};
+use serde_json::Value;
+use std::alloc::Global;
 use std::marker::Model;
 
-/// Why there is no script.
-#[derive(Clone, Copy, Debug)]
-pub enum ScriptEnd {
-    /// The bytes are no script.
-    NotBuilt,
-    NoMemory,
-}
+/// The most bytes of a script.
+const MOST_BYTES: usize = 16_777_216;
 
-impl From<AllocError> for ScriptEnd {
-    ghost use Rattle.script.specs.declared.reading.ScriptEnd.TheVariants.{NoMemory};
-    ghost use Rattle.std.specs.Prelude.{◌≡◌};
+/// The most calls that a script may have.
+const MOST_CALLS: i64 = 100_000;
 
-    ghost from_gives = { λ _ e. e ≡ NoMemory };
+/// The keys that a script may have.
+const KEYS: [&str; 7] = [
+    "form", "engine", "lanes", "budget", "attempts", "region", "phases",
+];
 
-    fn from(_: AllocError) -> Self {
-        ScriptEnd::NoMemory
-    }
-}
-
-impl<T: Drop> From<AllocFailed<T>> for ScriptEnd {
-    ghost use Rattle.script.specs.declared.reading.ScriptEnd.TheVariants.{NoMemory};
-    ghost use Rattle.std.specs.Prelude.{◌≡◌};
-
-    ghost from_gives = { λ _ e. e ≡ NoMemory };
-
-    fn from(_: AllocFailed<T>) -> Self {
-        ScriptEnd::NoMemory
-    }
-}
-
-impl From<Error> for ScriptEnd {
-    ghost use Rattle.script.specs.declared.reading.ScriptEnd.TheVariants.{NotBuilt};
-    ghost use Rattle.std.specs.Prelude.{◌≡◌};
-    ghost use Rattle.serde_json.specs.Errors.{IsMemory};
-
-    ghost from_gives = { λ e end. end ≡ NotBuilt → ¬ IsMemory e };
-
-    fn from(error: Error) -> Self {
-        if error.is_memory() {
-            ScriptEnd::NoMemory
-        } else {
-            ScriptEnd::NotBuilt
-        }
-    }
-}
-
-ghost use Rattle.std.specs.Prelude.{◌≡◌, ◌≤◌, ◌↔◌, ℕ, Option, unwrap_or, option_map, IfOk, IfSome, IsTrue, MatchOption, codes};
-ghost use Rattle.serde_json.specs.Data.{Data, Items, string};
-ghost use Rattle.serde_json.specs.View.{view, items_view};
-ghost use Rattle.script.specs.Found.{set_data};
-ghost use Rattle.script.specs.Script.{Script as ScriptForm, Head, IsHead, IsScript, budget_of, members_with, script_data, counted};
-
-/// A script: the turns that each call may take, and the phases, each with its lanes and these with their calls.
+/// A script: the turns and the attempts that each call may take, and what each lane calls in each phase.
 #[derive(Debug, Drop)]
 pub struct Script {
     pub budget: u64,
+    pub attempts: u64,
     pub phases: Vec<PhaseCalls>,
 }
 
@@ -69,98 +43,104 @@ impl Model for Script {
 
     ghost Value = { Form };
 
-    ghost view = { λ s. record { budget = s.budget; phases = s.phases.items } };
+    ghost view = { λ s. record { budget = s.budget; attempts = s.attempts; phases = s.phases.items } };
 }
 
-/// The script that bytes are. It is JSON: an object of exactly `form` 1, `lanes` from 1 to 16 and `phases`; and it may have
-/// `budget`, from 1 to 1,000,000, else that is 100,000, and `engine`, which is the text `tl2`. `phases` is a list of at most 10,000
-/// objects of exactly `lanes`, a list of at most as many lists of calls as there are lanes, one for each lane from the first. There are
-/// at most 100,000 calls in all. A call is an object of exactly `call`, a text, and `args`, a list of ints.
-pub fn read_script(alloc: Global, bytes: &[u8]) -> Result<Script, ScriptEnd>
-    ensures script { IfOk result (IsScript bytes.now) }
-    ensures not_built { result ≡ Err ScriptEnd.NotBuilt → (s : ScriptForm) → IsScript bytes.now s → ⊥ }
+/// How many calls a phase has, or None where a number doesn't hold as many.
+fn calls_in_phase(phase: &PhaseCalls) -> Option<i64>
+    ensures { IfSome result (λ n. n ≡ pos (calls_in phase.now)) }
 {
-    let script = Value::from_slice(alloc, bytes)?;
-    let (budget, lanes, phases) = parts_of(&script).ok_or(ScriptEnd::NotBuilt)?;
-    let phases = phases_of(alloc, lanes, phases)?;
-    Ok(Script { budget, phases })
-}
-
-/// The budget, the number of lanes and the phases of a script, or None where it is not in the form.
-fn parts_of(script: &Value) -> Option<(u64, usize, &[Value])>
-    ensures { MatchOption result ((h : Head) (phases : Items) → IsHead h → view script.now ≡ script_data h phases → ⊥)
-        (λ p. (h : Head) × IsHead h × (p.0 ≡ budget_of h) × (p.1 ≡ h.lanes) × (view script.now ≡ script_data h (items_view p.2.now))) }
-{
-    let values = values_of(script)?;
-    if !is_one(values.form) || !may_be_named(values.engine) {
-        return None;
+    let mut count = 0;
+    for lane in &phase.lanes {
+        let calls = i64::try_from(lane.calls.len()).ok()?;
+        count = i64::checked_add(count, calls)?;
     }
-    Some((
-        budget_of(values.budget)?,
-        lanes_of(values.lanes)?,
-        list_of(values.phases)?,
-    ))
+    Some(count)
 }
 
-/// The budget that a script names, or 100,000 where it names none.
-fn budget_of(named: Option<&Value>) -> Option<u64>
-    ensures { MatchOption result ((n : Option ℕ) → 1 ≤ unwrap_or n 100000 → unwrap_or n 100000 ≤ 1000000 → set_data named.entry ≡ option_map counted n → ⊥)
-        (λ b. (1 ≤ b) × (b ≤ 1000000) × (n : Option ℕ) × (b ≡ unwrap_or n 100000) × (set_data named.entry ≡ option_map counted n)) }
+/// How many calls there are in all, or None where a number doesn't hold as many.
+fn count_of(phases: &[PhaseCalls]) -> Option<i64>
+    ensures { IfSome result (λ n. n ≡ pos (sum_by calls_in phases.now)) }
 {
-    let budget = match named {
-        Some(value) => count_of(value)?,
-        None => 100_000,
+    let mut count = 0;
+    for phase in phases {
+        count = i64::checked_add(count, calls_in_phase(phase)?)?;
+    }
+    Some(count)
+}
+
+/// The script of a head and of phases, which has at most 100,000 calls.
+fn script_with(alloc: Global, head: Head, phases: Vec<PhaseCalls>) -> Result<Script, Halt>
+    ensures { Gives (λ s. s) result (script_made_with head phases.items) }
+{
+    let Some(count) = count_of(phases.as_slice()) else {
+        return Err(Halt::NoMemory);
     };
-    if budget >= 1 && budget <= 1_000_000 {
-        Some(budget)
-    } else {
-        None
+    if count > MOST_CALLS {
+        return Err(over_limit(alloc, "calls", count));
     }
+    Ok(Script {
+        budget: head.budget.unsigned_abs(),
+        attempts: head.attempts.unsigned_abs(),
+        phases,
+    })
 }
 
-/// Whether a script may name this engine, where it names one.
-fn may_be_named(engine: Option<&Value>) -> bool
-    ensures { IsTrue result ↔ IfSome (set_data engine.entry) (λ e. e ≡ string (codes "tl2")) }
+/// The script of a head and of the lists of its calls, for a program and its class file.
+fn script_of(
+    alloc: Global,
+    class: &ClassFile,
+    program: &Program,
+    head: Head,
+    lists: &[PhaseLists<'_>],
+) -> Result<Script, Halt>
+    ensures { Gives (λ s. s) result (script_made_of class.now program.now head (map seen_lists lists.now)) }
 {
-    match engine {
-        Some(value) => value.as_str() == Some("tl2"),
-        None => true,
-    }
-}
-
-/// The number of lanes of a script.
-fn lanes_of(lanes: &Value) -> Option<usize>
-    ensures { MatchOption result ((n : ℕ) → 1 ≤ n → n ≤ 16 → view lanes.now ≡ counted n → ⊥) (λ n. (1 ≤ n) × (n ≤ 16) × (view lanes.now ≡ counted n)) }
-{
-    let lanes = count_of(lanes)?;
-    if lanes >= 1 && lanes <= 16 {
-        Some(lanes as usize)
-    } else {
-        None
-    }
-}
-
-/// The values of a script's members.
-#[derive(Clone, Copy)]
-struct Values<'a> {
-    budget: Option<&'a Value>,
-    engine: Option<&'a Value>,
-    form: &'a Value,
-    lanes: &'a Value,
-    phases: &'a Value,
-}
-
-fn values_of(script: &Value) -> Option<Values<'_>>
-    ensures { MatchOption result ((b e : Option Data) (f l p : Data) → view script.now ≡ members_with b e f l p → ⊥)
-        (λ v. view script.now ≡ members_with (set_data v.budget) (set_data v.engine) (view v.form.now) (view v.lanes.now) (view v.phases.now)) }
-{
-    let mut walk = Walk::of(script)?;
-    let values = Values {
-        budget: walk.take("budget"),
-        engine: walk.take("engine"),
-        form: walk.take("form")?,
-        lanes: walk.take("lanes")?,
-        phases: walk.take("phases")?,
+    limits_of(alloc, class, head, lists.len())?;
+    let names = call_texts(alloc, program)?;
+    let methods = Methods {
+        class,
+        program,
+        names: names.as_slice(),
     };
-    if walk.is_done() { Some(values) } else { None }
+    let phases = methods.phases_of(alloc, lists)?;
+    script_with(alloc, head, phases)
+}
+
+/// The script that a value is for a program and its class file.
+fn script_from(
+    alloc: Global,
+    class: &ClassFile,
+    program: &Program,
+    value: &Value,
+) -> Result<Script, Halt>
+    ensures { Gives (λ s. s) result (script_in class.now program.now (view value.now)) }
+{
+    object_at(alloc, b"", value, &KEYS)?;
+    let head = head_of(alloc, value)?;
+    let lists = lists_of(alloc, head, value)?;
+    script_of(alloc, class, program, head, lists.as_slice())
+}
+
+/// The script that bytes are for a program and its class file. Refusals, the first in this order: `OverLimit` with `script` for more than
+/// 16,777,216 bytes; `NotJson`; `BadShape` with the path of what isn't as a script has it; `OverLimit` with what passes its limit; then, call by
+/// call, `BadShape`, `UnknownMethod`, `NotAtomic` for a method without the mark, and `BadArgs`; and `OverLimit` with `calls`.
+pub fn read_script(
+    alloc: Global,
+    class: &ClassFile,
+    program: &Program,
+    bytes: &[u8],
+) -> Result<Script, Halt>
+    ensures script { IfOk result (IsScript class.now program.now bytes.now) }
+    ensures fault { (r : Why) → result ≡ Err (halts.Refused r) → IsFault class.now program.now bytes.now r }
+    ensures refused { (r : Why) (s : Form) → result ≡ Err (halts.Refused r) → IsScript class.now program.now bytes.now s → ⊥ }
+{
+    if bytes.len() > MOST_BYTES {
+        return Err(over_limit(alloc, "script", bytes.len() as i64));
+    }
+    match Value::from_slice(alloc, bytes) {
+        Ok(value) => script_from(alloc, class, program, &value),
+        Err(error) if error.is_memory() => Err(Halt::NoMemory),
+        Err(_) => Err(Halt::Refused(Refusal::NotJson)),
+    }
 }

@@ -1,162 +1,293 @@
 use super::*;
+use const_pool::{ClassFile, Constant, Member, Pool};
+use hierarchy::Program;
+use hierarchy::program::Method;
+use jmodel::value::Value;
+use jmodel::{Bytes, Halt, MethodName, NoMemory, Refusal, VType};
 use std::alloc::{AllocError, Global};
 use std::test::*;
 
-// A budget and three calls, with the greatest and the least int.
-const THREE_CALLS: &[u8] = b"{\"form\":1,\"lanes\":1,\"budget\":1000000,\"phases\":[{\"lanes\":[[\
-    {\"call\":\"A.f(II)I\",\"args\":[2147483647,-2147483648]},\
-    {\"call\":\"A.g()V\",\"args\":[]},\
-    {\"call\":\"B.h(I)I\",\"args\":[0]}]]}]}";
+// The texts of the pool: the class A under Object, and its methods f, which takes an int and gives one, g and h, which take and give
+// nothing. f and g are marked.
+const TEXTS: [&str; 7] = ["A", "java/lang/Object", "f", "(I)I", "g", "()V", "h"];
 
-// The same, with its keys in other orders, and with blanks.
-const OTHER_ORDER: &[u8] = b"{ \"phases\": [ { \"lanes\": [ [\
-    { \"args\": [ 2147483647, -2147483648 ], \"call\": \"A.f(II)I\" },\
-    { \"args\": [], \"call\": \"A.g()V\" },\
-    { \"call\": \"B.h(I)I\", \"args\": [ 0 ] } ] ] } ],\
-    \"budget\": 1000000, \"lanes\": 1, \"form\": 1 }\n";
-
-// Three phases: of three lanes, of none, and of two.
-const THREE_PHASES: &[u8] = b"{\"engine\":\"tl2\",\"form\":1,\"lanes\":3,\"phases\":[\
-    {\"lanes\":[\
-        [{\"call\":\"A.f(I)I\",\"args\":[1]},{\"call\":\"A.f(I)I\",\"args\":[2]}],\
-        [],\
-        [{\"call\":\"A.f(I)I\",\"args\":[3]}]]},\
-    {\"lanes\":[]},\
-    {\"lanes\":[\
-        [{\"call\":\"A.f(I)I\",\"args\":[4]}],\
-        [{\"call\":\"A.f(I)I\",\"args\":[5]}]]}]}";
-
-fn is_call(call: &Wanted, name: &[u8], args: &[i32]) -> bool {
-    call.name.as_slice() == name && call.args.as_slice() == args
+fn pool(alloc: Global) -> Result<Pool, AllocError> {
+    let mut pool = Pool::new(alloc);
+    pool.push(Constant::Class(3))?;
+    pool.push(Constant::Class(4))?;
+    for text in &TEXTS {
+        if pool.entries().len() < 65534 {
+            pool.push(Constant::Utf8(Bytes::from_slice(alloc, text.as_bytes())?))?;
+        }
+    }
+    Ok(pool)
 }
 
-/// What a lane calls in a phase; nothing where there is no such phase or lane.
-fn calls_at(script: &Script, phase: usize, lane: usize) -> &[Wanted] {
-    match script.phases.as_slice().get(phase) {
-        Some(lanes) => match lanes.as_slice().get(lane) {
-            Some(calls) => calls.as_slice(),
-            None => &[],
+fn member(alloc: Global, name: u16, descriptor: u16) -> Member {
+    Member {
+        flags: 9,
+        name,
+        descriptor,
+        attributes: Vec::new(alloc),
+    }
+}
+
+fn class(alloc: Global) -> Result<ClassFile, AllocError> {
+    let methods = vec![in alloc;
+        member(alloc, 5, 6),
+        member(alloc, 7, 8),
+        member(alloc, 9, 8),
+    ]?;
+    Ok(ClassFile {
+        minor: 0,
+        major: 49,
+        pool: pool(alloc)?,
+        flags: 0x21,
+        this_class: 1,
+        super_class: 2,
+        interfaces: Vec::new(alloc),
+        fields: Vec::new(alloc),
+        methods,
+        attributes: Vec::new(alloc),
+    })
+}
+
+fn method(
+    alloc: Global,
+    name: &str,
+    descriptor: &str,
+    takes: Vec<VType>,
+) -> Result<Method, AllocError> {
+    let name = MethodName {
+        class: Bytes::from_slice(alloc, b"A")?,
+        name: Bytes::from_slice(alloc, name.as_bytes())?,
+        descriptor: Bytes::from_slice(alloc, descriptor.as_bytes())?,
+    };
+    let params = takes.len();
+    Ok(Method::new(
+        name,
+        takes,
+        params,
+        1,
+        1,
+        params > 0,
+        true,
+        Some(i32::MAX),
+        Vec::new(alloc),
+        Vec::new(alloc),
+    ))
+}
+
+fn program(alloc: Global) -> Result<Program, AllocError> {
+    let f = method(alloc, "f", "(I)I", vec![in alloc; VType::Int]?)?;
+    let g = method(alloc, "g", "()V", Vec::new(alloc))?;
+    Ok(Program::new(Vec::new(alloc), vec![in alloc; f, g]?))
+}
+
+fn read(alloc: Global, text: &[u8]) -> Result<Script, Halt> {
+    read_script(alloc, &class(alloc)?, &program(alloc)?, text)
+}
+
+// Two phases: of two lanes, with the greatest and the least int, and of none.
+const TWO_PHASES: &[u8] = b"{ \"phases\": [ {\"lanes\":[\
+    [{\"args\":[2147483647],\"call\":\"A.f(I)I\"},{\"call\":\"A.f(I)I\",\"args\":[-2147483648]}],\
+    [{\"call\":\"A.g()V\",\"args\":[]}]]},\
+    {\"lanes\":[]} ],\
+    \"region\":2,\"attempts\":7,\"budget\":1000000,\"lanes\":2,\"engine\":\"tl2\",\"form\":1 }\n";
+
+fn is_call(call: &Known, method: usize, args: &[i32]) -> bool {
+    call.method == method
+        && call.args.len() == args.len()
+        && call.args.iter().zip(args).all(|(
+            value,
+            arg,
+        )| matches!(value, Value::Int(n) if *n == *arg))
+}
+
+fn is_first_phase(phase: &PhaseCalls) -> bool {
+    match phase.lanes.as_slice() {
+        [first, second] => match (first.calls.as_slice(), second.calls.as_slice()) {
+            ([greatest, least], [none]) => {
+                is_call(greatest, 0, &[i32::MAX])
+                    && is_call(least, 0, &[i32::MIN])
+                    && is_call(none, 1, &[])
+            }
+            _ => false,
         },
-        None => &[],
+        _ => false,
     }
 }
 
-/// Whether a lane calls f with each of these arguments, in order.
-fn calls_f(script: &Script, phase: usize, lane: usize, args: &[i32]) -> bool {
-    let calls = calls_at(script, phase, lane);
-    calls.len() == args.len()
-        && calls
-            .iter()
-            .zip(args)
-            .all(|(call, arg)| is_call(call, b"A.f(I)I", &[*arg]))
+#[test]
+fn each_call_has_its_phase_and_lane(rt: HostRuntime) -> Result<(), Fail> {
+    let script = read(rt.alloc(), TWO_PHASES)?;
+    assert_eq!(rt; script.budget, 1_000_000);
+    assert_eq!(rt; script.attempts, 7);
+    match script.phases.as_slice() {
+        [first, second] => assert!(rt; is_first_phase(first) && second.lanes.is_empty()),
+        _ => assert!(rt; false),
+    }
+    Ok(())
 }
 
-/// How many lanes a phase has.
-fn lanes_in(script: &Script, phase: usize) -> usize {
-    match script.phases.as_slice().get(phase) {
-        Some(lanes) => lanes.as_slice().len(),
-        None => 0,
+#[test]
+fn what_is_left_out(rt: HostRuntime) -> Result<(), Fail> {
+    let script = read(rt.alloc(), b"{\"form\":1,\"lanes\":16,\"phases\":[]}")?;
+    assert_eq!(rt; script.budget, 100_000);
+    assert_eq!(rt; script.attempts, 1_000_000);
+    Ok(())
+}
+
+/// The name and the place or the number that a refusal tells.
+fn told(refusal: &Refusal) -> (&[u8], i64) {
+    match refusal {
+        Refusal::BadShape(place)
+        | Refusal::UnknownMethod(place)
+        | Refusal::NotAtomic(place)
+        | Refusal::BadArgs(place) => (place.as_slice(), 0),
+        Refusal::OverLimit(name, number) => (name.as_slice(), *number),
+        _ => (b"", 0),
     }
 }
 
-/// Whether this is the script of three calls.
-fn is_three_calls(script: &Script) -> bool {
-    match calls_at(script, 0, 0) {
-        [f, g, h] => {
-            script.budget == 1_000_000
-                && script.phases.len() == 1
-                && lanes_in(script, 0) == 1
-                && is_call(f, b"A.f(II)I", &[i32::MAX, i32::MIN])
-                && is_call(g, b"A.g()V", &[])
-                && is_call(h, b"B.h(I)I", &[0])
+fn is_refused(alloc: Global, text: &[u8], number: u8, place: &str, count: i64) -> bool {
+    match read(alloc, text) {
+        Err(Halt::Refused(refusal)) => {
+            let (name, found) = told(&refusal);
+            refusal.number() == number && name == place.as_bytes() && found == count
         }
         _ => false,
     }
 }
 
 #[test]
-fn reads_a_budget_and_calls(rt: HostRuntime) -> Result<(), Fail> {
-    assert!(rt; is_three_calls(&read_script(rt.alloc(), THREE_CALLS)?));
-    Ok(())
-}
-
-#[test]
-fn keys_have_no_order(rt: HostRuntime) -> Result<(), Fail> {
-    assert!(rt; is_three_calls(&read_script(rt.alloc(), OTHER_ORDER)?));
-    Ok(())
-}
-
-/// Whether this is the script of three phases.
-fn is_three_phases(script: &Script) -> bool {
-    script.budget == 100_000
-        && script.phases.len() == 3
-        && lanes_in(script, 0) == 3
-        && calls_f(script, 0, 0, &[1, 2])
-        && calls_f(script, 0, 1, &[])
-        && calls_f(script, 0, 2, &[3])
-        && lanes_in(script, 1) == 0
-        && lanes_in(script, 2) == 2
-        && calls_f(script, 2, 0, &[4])
-        && calls_f(script, 2, 1, &[5])
-}
-
-#[test]
-fn each_call_has_its_phase_and_lane(rt: HostRuntime) -> Result<(), Fail> {
-    assert!(rt; is_three_phases(&read_script(rt.alloc(), THREE_PHASES)?));
-    Ok(())
-}
-
-#[test]
-fn no_budget_and_no_phases(rt: HostRuntime) -> Result<(), Fail> {
-    let script = read_script(rt.alloc(), b"{\"form\":1,\"lanes\":16,\"phases\":[]}")?;
-    assert_eq!(rt; script.budget, 100_000);
-    assert!(rt; script.phases.is_empty());
-    Ok(())
-}
-
-#[test]
-fn least_budget(rt: HostRuntime) -> Result<(), Fail> {
-    let script = read_script(
-        rt.alloc(),
-        b"{\"form\":1,\"lanes\":1,\"budget\":1,\"phases\":[{\"lanes\":[[]]}]}",
-    )?;
-    assert_eq!(rt; script.budget, 1);
-    assert!(rt; calls_at(&script, 0, 0).is_empty());
-    Ok(())
-}
-
-fn is_refused(alloc: Global, text: &[u8]) -> bool {
-    matches!(read_script(alloc, text), Err(ScriptEnd::NotBuilt))
-}
-
-#[test]
-fn refuses_other_forms(rt: HostRuntime) -> Result<(), Fail> {
-    let texts: [&[u8]; 22] = [
-        b"{\"form\":1,\"lanes\":1,\"budget\":0,\"phases\":[]}",
-        b"{\"form\":1,\"lanes\":1,\"budget\":1000001,\"phases\":[]}",
-        b"{\"form\":1,\"lanes\":0,\"phases\":[]}",
-        b"{\"form\":1,\"lanes\":17,\"phases\":[]}",
-        b"{\"form\":1,\"lanes\":1,\"phases\":[],\"engine\":\"tl1\"}",
-        b"{\"form\":1,\"lanes\":1,\"phases\":[],\"engine\":2}",
-        b"{\"form\":1,\"lanes\":1,\"phases\":[{\"lanes\":[[{\"call\":\"A.f(I)I\",\"args\":[2147483648]}]]}]}",
-        b"{\"form\":1,\"lanes\":1,\"phases\":[{\"lanes\":[[{\"call\":\"A.f(I)I\",\"args\":[-2147483649]}]]}]}",
-        b"{\"form\":1,\"lanes\":1,\"phases\":[{\"lanes\":[[{\"call\":\"A.f(I)I\",\"args\":[1.0]}]]}]}",
-        b"{\"form\":1,\"lanes\":1,\"phases\":[{\"lanes\":[[{\"call\":\"A.f(I)I\",\"args\":[\"1\"]}]]}]}",
-        b"{\"form\":1,\"lanes\":1,\"phases\":[],\"turns\":5}",
-        b"{\"form\":1,\"lanes\":1,\"phases\":[{\"lanes\":[[{\"call\":\"A.f()I\",\"args\":[],\"at\":1}]]}]}",
-        b"{\"form\":1,\"lanes\":1,\"phases\":[{\"lanes\":[[]],\"name\":\"a\"}]}",
-        b"{\"form\":1,\"lanes\":2,\"phases\":[{\"lanes\":[[],[]]},{\"lanes\":[[],[],[]]}]}",
-        b"{\"form\":1,\"lanes\":1,\"phases\":[{\"lanes\":[{}]}]}",
-        b"{\"form\":1,\"lanes\":1,\"phases\":[[[]]]}",
-        b"{\"form\":2,\"lanes\":1,\"phases\":[]}",
-        b"{\"form\":1,\"phases\":[]}",
-        b"{\"form\":1,\"lanes\":1,\"phases\":[{\"lanes\":[[{\"call\":\"A.f()I\"}]]}]}",
-        b"{\"form\":1,\"lanes\":1,\"phases\":[]}}",
-        b"{",
-        b"",
+fn refuses_the_shape(rt: HostRuntime) -> Result<(), Fail> {
+    let cases: [(&[u8], u8, &str); 14] = [
+        (b"", 25, ""),
+        (b"{", 25, ""),
+        (b"[]", 26, "/"),
+        (b"{}", 26, "/form"),
+        (
+            b"{\"form\":1,\"lanes\":1,\"phases\":[],\"turns\":5}",
+            26,
+            "/",
+        ),
+        (b"{\"form\":3}", 26, "/form"),
+        (b"{\"form\":1,\"engine\":\"tl1\"}", 26, "/engine"),
+        (b"{\"form\":1}", 26, "/lanes"),
+        (b"{\"form\":1,\"lanes\":1,\"budget\":1.0}", 26, "/budget"),
+        (b"{\"form\":1,\"lanes\":1}", 26, "/phases"),
+        (
+            b"{\"form\":1,\"lanes\":1,\"phases\":[{\"lanes\":[]},{\"bag\":[]}]}",
+            26,
+            "/phases/1",
+        ),
+        (
+            b"{\"form\":1,\"lanes\":1,\"phases\":[{}]}",
+            26,
+            "/phases/0/lanes",
+        ),
+        (
+            b"{\"form\":1,\"lanes\":0,\"phases\":[{\"lanes\":[[]]}]}",
+            26,
+            "/phases/0/lanes",
+        ),
+        (
+            b"{\"form\":1,\"lanes\":17,\"phases\":[{\"lanes\":[[],5]}]}",
+            26,
+            "/phases/0/lanes/1",
+        ),
     ];
-    for (index, text) in texts.iter().enumerate() {
-        assert!(rt; is_refused(rt.alloc(), text), "at {index}");
+    for (index, (text, number, place)) in cases.iter().enumerate() {
+        assert!(rt;
+            is_refused(rt.alloc(), text, *number, place, 0),
+            "at {index}"
+        );
+    }
+    Ok(())
+}
+
+#[test]
+fn refuses_numbers_past_their_limits(rt: HostRuntime) -> Result<(), Fail> {
+    let cases: [(&[u8], &str, i64); 4] = [
+        (
+            b"{\"form\":1,\"lanes\":17,\"budget\":0,\"phases\":[]}",
+            "lanes",
+            17,
+        ),
+        (
+            b"{\"form\":1,\"lanes\":1,\"budget\":1000001,\"phases\":[]}",
+            "budget",
+            1_000_001,
+        ),
+        (
+            b"{\"form\":1,\"lanes\":1,\"attempts\":-1,\"phases\":[]}",
+            "attempts",
+            -1,
+        ),
+        (
+            b"{\"form\":1,\"lanes\":1,\"region\":1,\"phases\":[]}",
+            "region",
+            1,
+        ),
+    ];
+    for (index, (text, name, number)) in cases.iter().enumerate() {
+        assert!(rt;
+            is_refused(rt.alloc(), text, 30, name, *number),
+            "at {index}"
+        );
+    }
+    Ok(())
+}
+
+/// A script with one call.
+fn with_call(alloc: Global, call: &str) -> Result<String, AllocError> {
+    format!(in alloc; "{{\"form\":1,\"lanes\":1,\"phases\":[{{\"lanes\":[[{call}]]}}]}}")
+}
+
+#[test]
+fn refuses_calls(rt: HostRuntime) -> Result<(), Fail> {
+    let cases: [(&str, u8, &str); 9] = [
+        ("5", 26, "/phases/0/lanes/0/0"),
+        (
+            "{\"call\":\"A.f(I)I\",\"args\":[1],\"at\":1}",
+            26,
+            "/phases/0/lanes/0/0",
+        ),
+        ("{\"args\":[]}", 26, "/phases/0/lanes/0/0/call"),
+        ("{\"call\":\"A.x()V\"}", 26, "/phases/0/lanes/0/0/args"),
+        (
+            "{\"call\":\"A.x()V\",\"args\":[]}",
+            27,
+            "/phases/0/lanes/0/0/call",
+        ),
+        (
+            "{\"call\":\"A.h()V\",\"args\":[]}",
+            28,
+            "/phases/0/lanes/0/0/call",
+        ),
+        (
+            "{\"call\":\"A.f(I)I\",\"args\":[]}",
+            29,
+            "/phases/0/lanes/0/0/args",
+        ),
+        (
+            "{\"call\":\"A.f(I)I\",\"args\":[2147483648]}",
+            29,
+            "/phases/0/lanes/0/0/args/0",
+        ),
+        (
+            "{\"call\":\"A.f(I)I\",\"args\":[true]}",
+            29,
+            "/phases/0/lanes/0/0/args/0",
+        ),
+    ];
+    for (index, (call, number, place)) in cases.iter().enumerate() {
+        let text = with_call(rt.alloc(), call)?;
+        assert!(rt;
+            is_refused(rt.alloc(), text.as_bytes(), *number, place, 0),
+            "at {index}"
+        );
     }
     Ok(())
 }
@@ -186,21 +317,21 @@ fn repeated(
 fn at_most_10_000_phases(rt: HostRuntime) -> Result<(), Fail> {
     let alloc = rt.alloc();
     let most = repeated(alloc, BEGIN, b"{\"lanes\":[]}", 10_000, b"]}")?;
-    assert_eq!(rt; read_script(alloc, most.as_slice())?.phases.len(), 10_000);
+    assert_eq!(rt; read(alloc, most.as_slice())?.phases.len(), 10_000);
     let more = repeated(alloc, BEGIN, b"{\"lanes\":[]}", 10_001, b"]}")?;
-    assert!(rt; is_refused(alloc, more.as_slice()));
+    assert!(rt; is_refused(alloc, more.as_slice(), 30, "phases", 10_001));
     Ok(())
 }
 
 #[test]
 fn at_most_100_000_calls(rt: HostRuntime) -> Result<(), Fail> {
     let alloc = rt.alloc();
-    let call = b"{\"call\":\"A.f()V\",\"args\":[]}";
+    let call = b"{\"call\":\"A.g()V\",\"args\":[]}";
     let phase = repeated(alloc, b"{\"lanes\":[[", call, 1_000, b"]]}")?;
     let most = repeated(alloc, BEGIN, phase.as_slice(), 100, b"]}")?;
-    assert_eq!(rt; read_script(alloc, most.as_slice())?.phases.len(), 100);
-    let one_more = b",{\"lanes\":[[],[{\"call\":\"A.f()V\",\"args\":[]}]]}]}";
+    assert_eq!(rt; read(alloc, most.as_slice())?.phases.len(), 100);
+    let one_more = b",{\"lanes\":[[],[{\"call\":\"A.g()V\",\"args\":[]}]]}]}";
     let more = repeated(alloc, BEGIN, phase.as_slice(), 100, one_more)?;
-    assert!(rt; is_refused(alloc, more.as_slice()));
+    assert!(rt; is_refused(alloc, more.as_slice(), 30, "calls", 100_001));
     Ok(())
 }

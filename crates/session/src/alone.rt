@@ -7,9 +7,10 @@ ghost use Rattle.session.specs.Rule.{IsRuled, IsReady, IsCallOf};
 ghost use Rattle.session.specs.Lane.{HasMade};
 
 use crate::call::make_next;
-use crate::record::{Known, Lane, Place};
+use crate::record::{Lane, Place};
 use hierarchy::Program;
 use machine::Limits;
+use script::Known;
 use std::alloc::{AllocError, Global};
 use tx_core::Engine;
 

@@ -5,9 +5,10 @@ ghost use Rattle.session.specs.Rule.{IsRuled, IsReady, IsCallOf};
 ghost use Rattle.session.specs.Lane.{record_of};
 ghost use Rattle.session.specs.Adds.{call_of, told_by, AddsCall};
 
-use crate::record::{Known, Place, Record};
+use crate::record::{Place, Record};
 use hierarchy::Program;
 use machine::{Limits, Machine};
+use script::Known;
 use std::alloc::Global;
 use tx_core::Engine;
 

@@ -8,7 +8,7 @@ mod shared;
 
 pub use alone::make_alone;
 pub use machine::Limits;
-pub use record::{Known, Lane, Place, Record};
+pub use record::{Lane, Place, Record};
 pub use shared::make_shared;
 
 #[cfg(test)]

@@ -1,22 +1,7 @@
 //! What a lane is asked for, and what is kept of its calls.
-use jmodel::{Answer, Stamp, Value};
+use jmodel::{Answer, Stamp};
 use std::alloc::{AllocError, Global};
 use std::marker::Model;
-
-/// A call of a method by its number, with its arguments.
-#[derive(Drop)]
-pub struct Known {
-    pub method: usize,
-    pub args: Vec<Value>,
-}
-
-impl Model for Known {
-    ghost use Rattle.jmodel.specs.Schedule.{Known as Form};
-
-    ghost Value = { Form };
-
-    ghost view = { λ c. record { method = c.method; args = c.args.items } };
-}
 
 /// Where calls stand in a script: their phase, their lane, and the place of the first of them in that lane.
 #[derive(Clone, Copy, Debug)]

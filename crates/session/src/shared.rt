@@ -8,9 +8,10 @@ ghost use Rattle.session.specs.Lane.{HasMade};
 ghost use Rattle.session.specs.Passes.{IsStarting, IsEnding, HasLost};
 
 use crate::call::make_next;
-use crate::record::{Known, Lane, Place};
+use crate::record::{Lane, Place};
 use hierarchy::Program;
 use machine::Limits;
+use script::Known;
 use std::alloc::{AllocError, Global};
 use std::marker::{Brand, PhantomData};
 use std::snapshot::Snapshot;

@@ -4,7 +4,7 @@ ghost use Rattle.jmodel.specs.Rewriting.{rewritten, duplicate_method, wrapper_me
 ghost use Rattle.session.specs.Rule.{IsReady};
 ghost use Rattle.session.specs.Trials.{idle, idle_program, two_calls};
 
-use crate::{Known, Lane, Limits, Place, make_alone, make_shared};
+use crate::{Lane, Limits, Place, make_alone, make_shared};
 use hierarchy::Program;
 use hierarchy::program::Method;
 use jmodel::bytes::Bytes;
@@ -12,6 +12,7 @@ use jmodel::name::MethodName;
 use jmodel::op::{Catch, Catches, ContextCall, Op, Rearrange, Test};
 use jmodel::value::{Answer, Value};
 use jmodel::{NoMemory, VType};
+use script::Known;
 use std::alloc::{AllocError, Global};
 use std::marker::Brand;
 use std::snapshot::Snapshot;

@@ -1,5 +1,6 @@
+use Rattle.std.proofs.Common.{Err, ap}
 use Rattle.deuce.specs.Outcomes.{seen}
-use Rattle.deuce.proofs.Printed.{journal_printed, rewriting_printed, fault_printed, program_printed, untyped_printed}
+use Rattle.deuce.proofs.Printed.{journal_printed, rewriting_printed, fault_printed, program_printed, untyped_printed, script_printed}
 use Rattle.deuce.proofs.Complete.{complete, complete_rewriting}
 use Rattle.deuce.proofs.top.deuce.Goals as goal
 
@@ -28,8 +29,16 @@ returns-in-Ok-print-clause-untypable g c = λ five.
     untyped_printed c.args.words.now (seen (g.F.Folder.files c.args.folder.now) (g.F.Folder.faults c.args.folder.now) (g.F.Folder.put_faults c.args.folder.now) (g.F.Folder.failed c.args.folder.now)) (seen (g.F.Folder.files c.outcome_of.new.folder) (g.F.Folder.faults c.outcome_of.new.folder) (g.F.Folder.put_faults c.outcome_of.new.folder) (g.F.Folder.failed c.outcome_of.new.folder)) c.in-Ok-text_of.text _ _ c.status-status.result c.in-Ok.outcome
     c.in-Ok.ensures.outcome.1 c.status-status.ensures c.in-Ok-text_of.ensures (rw c.as_slice.ensures at c.in-Ok-print.ensures.written) five
 
+pub returns-in-Ok-print-clause-bad_script : goal.returns-in-Ok-print-clause-bad_script
+returns-in-Ok-print-clause-bad_script g c = λ six.
+    script_printed c.args.words.now (seen (g.F.Folder.files c.args.folder.now) (g.F.Folder.faults c.args.folder.now) (g.F.Folder.put_faults c.args.folder.now) (g.F.Folder.failed c.args.folder.now)) (seen (g.F.Folder.files c.outcome_of.new.folder) (g.F.Folder.faults c.outcome_of.new.folder) (g.F.Folder.put_faults c.outcome_of.new.folder) (g.F.Folder.failed c.outcome_of.new.folder)) c.in-Ok-text_of.text _ _ c.status-status.result c.in-Ok.outcome
+    c.in-Ok.ensures.outcome.1 c.status-status.ensures c.in-Ok-text_of.ensures (rw c.as_slice.ensures at c.in-Ok-print.ensures.written) six
+
 pub returns-in-Ok-print-clause-complete : goal.returns-in-Ok-print-clause-complete
 returns-in-Ok-print-clause-complete g c = complete c.args.words.now (seen (g.F.Folder.files c.args.folder.now) (g.F.Folder.faults c.args.folder.now) (g.F.Folder.put_faults c.args.folder.now) (g.F.Folder.failed c.args.folder.now)) (seen (g.F.Folder.files c.outcome_of.new.folder) (g.F.Folder.faults c.outcome_of.new.folder) (g.F.Folder.put_faults c.outcome_of.new.folder) (g.F.Folder.failed c.outcome_of.new.folder)) c.in-Ok.outcome c.status-status.result c.in-Ok.ensures.outcome.1 c.status-status.ensures
 
 pub returns-in-Ok-print-clause-complete_rewriting : goal.returns-in-Ok-print-clause-complete_rewriting
 returns-in-Ok-print-clause-complete_rewriting g c = complete_rewriting c.args.words.now (seen (g.F.Folder.files c.args.folder.now) (g.F.Folder.faults c.args.folder.now) (g.F.Folder.put_faults c.args.folder.now) (g.F.Folder.failed c.args.folder.now)) (seen (g.F.Folder.files c.outcome_of.new.folder) (g.F.Folder.faults c.outcome_of.new.folder) (g.F.Folder.put_faults c.outcome_of.new.folder) (g.F.Folder.failed c.outcome_of.new.folder)) c.in-Ok.outcome c.status-status.result c.in-Ok.ensures.outcome.1 c.status-status.ensures
+
+pub returns-in-Err-Failed-clause-sink : goal.returns-in-Err-Failed-clause-sink
+returns-in-Err-Failed-clause-sink g c = λ nine. c.in-Err-Failed.ensures.failed (ap Err c.in-Err-Failed.field-0-is)

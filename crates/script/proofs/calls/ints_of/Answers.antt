@@ -1,10 +1,16 @@
-use Rattle.std.specs.Prelude.{FitsSigned}
-use Rattle.std.specs.Int.{w32}
-use Rattle.script.specs.Script.{whole}
-use Rattle.script.proofs.Items.{data_at}
+use Rattle.std.proofs.lemmas.Result.{err_from_is_err_and}
+use Rattle.serde_json.specs.View.{view}
+use Rattle.script.specs.Script.{int_in}
+use Rattle.script.proofs.Each.{next, fails}
 use Rattle.script.proofs.calls.ints_of.Goals as goal
 
-pub returns-in_err-ok_or-clause-not_built : goal.returns-in_err-ok_or-clause-not_built
-returns-in_err-ok_or-clause-not_built c = λ is ns fits h.
-    let found = data_at whole (FitsSigned w32) c.args.list.now ns c.loop-value.value-index c.value-item.result fits c.loop-value-test.true c.value-item.is h in
-    (rw c.in_err-ok_or.ensures.ok_part at c.int_of.ensures.int) found.0 found.1 found.2
+pub returns-in_err-argument_at : goal.returns-in_err-argument_at
+returns-in_err-argument_at c =
+    let p = err_from_is_err_and c.from_residual.result c.from_residual.ensures.1 in
+    rw (p.1, p.2) (fails (int_in c.args.path.now) view c.args.values.now c.loop-index.index c.index-values-index.result c.in_err-argument_at.field-0.0 c.loop-index.ints.items _
+    c.loop-index-test.true c.index-values-index.is c.in_err-argument_at.ensures c.loop-index.invariant)
+
+pub loop-index-preserved : goal.loop-index-preserved
+loop-index-preserved c =
+    next (int_in c.args.path.now) view c.args.values.now c.loop-index.index c.index-values-index.result c.loop-index.ints.items c.push.new.self.items c.in_ok-argument_at.field-0 _
+    c.loop-index-test.true c.index-values-index.is c.in_ok-argument_at.ensures c.in_ok-push.ensures.items c.loop-index.invariant

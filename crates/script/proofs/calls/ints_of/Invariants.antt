@@ -1,14 +1,10 @@
-use Rattle.std.proofs.Common.{◌≡◌, map, take}
-use Rattle.std.specs.Prelude.{FitsSigned}
-use Rattle.std.specs.Int.{w32}
-use Rattle.std.specs.List.{AllByRecursion}
+use Rattle.std.proofs.Common.{◌≡◌, map, drop}
 use Rattle.serde_json.specs.View.{view}
-use Rattle.script.specs.Script.{whole}
+use Rattle.script.specs.Json.{each_from}
+use Rattle.script.specs.Script.{int_in}
+use Rattle.script.proofs.Each.{with_front}
 use Rattle.script.proofs.calls.ints_of.Given as goal
 
--- the ints so far
-abbrev pub invariant-loop-value : goal.invariant-loop-value
-invariant-loop-value l = record {
-  whole : map view (take l.value-index l.list) ≡ map whole l.ints.items;
-  ints : AllByRecursion (FitsSigned w32) l.ints.items;
-}
+-- what was collected, and what is still collected
+abbrev pub invariant-loop-index : goal.invariant-loop-index
+invariant-loop-index l = with_front l.ints.items (each_from (int_in l.path) l.index (drop l.index (map view l.values))) ≡ each_from (int_in l.path) 0 (map view l.values)

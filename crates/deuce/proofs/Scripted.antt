@@ -1,0 +1,251 @@
+-- The calls of a script are those of a run.
+use Rattle.std.proofs.Common.{◌≡◌, ◌≤◌, ℕ, ℤ, pos, negsuc, suc, List, [], ◌∷◌, length, Bool, true, false, ◌&&◌, Option, Some, None, Result, Ok, Err, refl, sym, ap, ◌∙◌, subst, arith, length-append}
+use Rattle.std.specs.Prelude.{sum_by, option_and_then, if◌then◌else◌, FitsSigned, int_le, nat_le, unsigned_abs, codes}
+use Rattle.std.specs.Int.{w32}
+use Rattle.std.specs.List.{AllByRecursion}
+use Rattle.std.proofs.lemmas.Int.{ints}
+use Rattle.std.proofs.lemmas.Bool.Decides.{nat_tests}
+use Rattle.std.proofs.lemmas.List.Sums.{sum_by-cons}
+use Rattle.serde_json.specs.Data.{Data}
+use Rattle.serde_json.specs.Find.{as_str}
+use Rattle.jmodel.specs.declared.refusal.Refusal.{Refusal}
+use Rattle.jmodel.specs.declared.refusal.Refusal.TheVariants.{OverLimit, BadArgs}
+use Rattle.jmodel.specs.declared.value.Value.{Value}
+use Rattle.jmodel.specs.declared.value.Value.TheVariants as value
+use Rattle.jmodel.specs.declared.op.WordType.TheVariants as word
+use Rattle.jmodel.specs.Value.{IsOfType}
+use Rattle.jmodel.specs.ClassFile.{ClassFile}
+use Rattle.jmodel.specs.Program.{Program, method_at}
+use Rattle.jmodel.specs.Layout.{opening_words}
+use Rattle.jmodel.specs.Reading.{◌>>=◌}
+use Rattle.jmodel.specs.Schedule.{Known, Phase, takes, lane_calls, phase_calls, script_calls}
+use Rattle.script.specs.declared.head.Head.{Head}
+use Rattle.script.specs.Json.{under, at, bad_shape, must, or_refused, each_from, as_list, as_whole, is_object_of, wanted}
+use Rattle.script.specs.Script.{script_keys, within, lanes_path, list_in, lists_of_lanes, lists_of_phase, head_of, lists_of, numbers_within, is_within, number_named, not_callable, as_int, int_in, ints_of, known_at, call_in, lane_in, phase_of, calls_of, Script, script_with, script_of, script_in, IsScript}
+use Rattle.session.specs.Rule.{IsCallOf}
+use Rattle.driver.specs.Runs.{AreScripted}
+
+-- ---- what was given without a refusal
+
+bound : {A B : Type 0} (x : Result A Refusal) (f : A → Result B Refusal) (y : B) → (x >>= f) ≡ Ok y → (a : A) × (x ≡ Ok a) × (f a ≡ Ok y)
+bound (Ok a) f y h = (a, refl, h)
+bound (Err r) f y h = cc
+
+passed : {A : Type 0} (b : Bool) (r : Refusal) (x : Result A Refusal) (y : A) → must b r x ≡ Ok y → (b ≡ true) × (x ≡ Ok y)
+passed true r x y h = (refl, h)
+passed false r x y h = cc
+
+there : {A : Type 0} (r : Refusal) (o : Option A) (x : A) → or_refused r o ≡ Ok x → o ≡ Some x
+there r None x h = cc
+there r (Some y) x h = cc
+
+-- one result for each item
+each_length : {A B : Type 0} (f : ℕ → A → Result B Refusal) (i : ℕ) (xs : List A) (ys : List B) → each_from f i xs ≡ Ok ys → length ys ≡ length xs
+each_length f i [] ys h = let same : ys ≡ [] = cc in ap length same
+each_length f i (x ∷ xs) ys h =
+    let one = bound (f i x) (λ y. each_from f (suc i) xs >>= λ rest. Ok (y ∷ rest)) ys h in
+    let more = bound (each_from f (suc i) xs) (λ rest. Ok (one.0 ∷ rest)) ys one.2 in
+    let same : ys ≡ one.0 ∷ more.0 = let is = more.2 in cc in
+    ap length same ∙ ap suc (each_length f (suc i) xs more.0 more.1)
+
+-- what holds of each result, where something holds of each item
+each_all : {A B : Type 0} (f : ℕ → A → Result B Refusal) (Q : A → Type 0) (R : B → Type 0) → ((i : ℕ) (x : A) (y : B) → Q x → f i x ≡ Ok y → R y)
+    → (i : ℕ) (xs : List A) (ys : List B) → AllByRecursion Q xs → each_from f i xs ≡ Ok ys → AllByRecursion R ys
+each_all f Q R gives i [] ys all h = let same : ys ≡ [] = cc in rw same tt
+each_all f Q R gives i (x ∷ xs) ys all h =
+    let one = bound (f i x) (λ y. each_from f (suc i) xs >>= λ rest. Ok (y ∷ rest)) ys h in
+    let more = bound (each_from f (suc i) xs) (λ rest. Ok (one.0 ∷ rest)) ys one.2 in
+    let same : ys ≡ one.0 ∷ more.0 = let is = more.2 in cc in
+    rw same (gives i x one.0 all.0 one.1, each_all f Q R gives (suc i) xs more.0 all.1 more.1)
+
+nothing_asked : {A : Type 0} (xs : List A) → AllByRecursion (λ (x : A). Unit {0}) xs
+nothing_asked [] = tt
+nothing_asked (x ∷ xs) = (tt, nothing_asked xs)
+
+each_gives : {A B : Type 0} (f : ℕ → A → Result B Refusal) (R : B → Type 0) → ((i : ℕ) (x : A) (y : B) → f i x ≡ Ok y → R y)
+    → (i : ℕ) (xs : List A) (ys : List B) → each_from f i xs ≡ Ok ys → AllByRecursion R ys
+each_gives {A} f R gives i xs ys h = each_all f (λ (x : A). Unit {0}) R (λ j x y q is. gives j x y is) i xs ys (nothing_asked xs) h
+
+-- ---- numbers within their limits
+
+fits : (n : ℤ) → (int_le (negsuc 2147483647) n && int_le n (pos 2147483647)) ≡ true → FitsSigned w32 n
+fits n h = grind (arith, ints, nat_tests)
+
+some : (n : ℤ) → (int_le (pos 1) n && int_le n (pos 1000000)) ≡ true → 1 ≤ unsigned_abs n
+some n h = grind (arith, ints, nat_tests)
+
+few : (n : ℤ) → (int_le (pos 1) n && int_le n (pos 1000000)) ≡ true → unsigned_abs n ≤ 1000000
+few n h = grind (arith, ints, nat_tests)
+
+few_lanes : (m : ℕ) (n : ℤ) → int_le (pos m) n ≡ true → (int_le (pos 1) n && int_le n (pos 16)) ≡ true → m ≤ 16
+few_lanes m n h k = grind (arith, ints, nat_tests)
+
+few_phases : (n : ℕ) → (int_le (pos 0) (pos n) && int_le (pos n) (pos 10000)) ≡ true → n ≤ 10000
+few_phases n h = grind (arith, ints, nat_tests)
+
+few_calls : (n : ℕ) → nat_le n 100000 ≡ true → n ≤ 100000
+few_calls n h = grind (arith, nat_tests)
+
+inside : {A : Type 0} (name : List ℕ) (low high n : ℤ) (x : Result A Refusal) (y : A) → within name low high n x ≡ Ok y → ((int_le low n && int_le n high) ≡ true) × (x ≡ Ok y)
+inside name low high n x y h = passed (int_le low n && int_le n high) (OverLimit name n) x y h
+
+-- ---- calls
+
+is_int : (d : Data) (v : Value) → as_int d ≡ Some v → IsOfType word.Int v
+is_int d v h = go (as_whole d) h
+  where
+    choose : (n : ℤ) (b : Bool) → (int_le (negsuc 2147483647) n && int_le n (pos 2147483647)) ≡ b → (if b then Some (value.Int n) else None) ≡ Some v → IsOfType word.Int v
+    choose n true e h = let same : v ≡ value.Int n = cc in rw same (fits n e)
+    choose n false e h = cc
+
+    go : (o : Option ℤ) → option_and_then (λ (n : ℤ). if int_le (negsuc 2147483647) n && int_le n (pos 2147483647) then Some (value.Int n) else None) o ≡ Some v → IsOfType word.Int v
+    go (Some n) h = choose n (int_le (negsuc 2147483647) n && int_le n (pos 2147483647)) refl h
+    go None h = cc
+
+are_ints : (path : List ℕ) (args : List Data) (vs : List Value) → ints_of path args ≡ Ok vs → AllByRecursion (IsOfType word.Int) vs
+are_ints path args vs h = each_gives (int_in path) (IsOfType word.Int) (λ i d v is. is_int d v (there (BadArgs (at path i)) (as_int d) v is)) 0 args vs h
+
+module _ (file : ClassFile) (P : Program) where
+  -- a call of a method with as many ints as that takes
+  call_made : (m many : ℕ) (vs : List Value) (k : Known) → takes (method_at P m) many ≡ true → length vs ≡ many → AllByRecursion (IsOfType word.Int) vs → ◌≡◌ {A = Result Known Refusal} (Ok (record { method = m; args = vs })) (Ok k) → IsCallOf P k
+  call_made m many vs k taken count all h =
+      let same : k ≡ record { method = m; args = vs } = cc in
+      rw same (record { takes_them = ap (takes (method_at P m)) count ∙ taken; ints = all })
+
+  is_call : (path : List ℕ) (d : Data) (k : Known) → known_at file P path d ≡ Ok k → IsCallOf P k
+  is_call path d k h =
+      let place = under path (codes "args") in
+      let made : ℕ → List Value → Result Known Refusal = λ m vs. Ok (record { method = m; args = vs }) in
+      let taken : List Data → ℕ → Result Known Refusal = λ args m. must (takes (method_at P m) (length args)) (BadArgs place) (ints_of place args >>= made m) in
+      let named : List ℕ → List Data → Result Known Refusal = λ text args. or_refused (not_callable file (under path (codes "call")) text) (number_named P text) >>= taken args in
+      let a = passed (is_object_of (codes "call" ∷ codes "args" ∷ []) d) (bad_shape path) (wanted as_str path (codes "call") d >>= λ text. wanted as_list path (codes "args") d >>= named text) k h in
+      let b = bound (wanted as_str path (codes "call") d) (λ text. wanted as_list path (codes "args") d >>= named text) k a.1 in
+      let c = bound (wanted as_list path (codes "args") d) (named b.0) k b.2 in
+      let m = bound (or_refused (not_callable file (under path (codes "call")) b.0) (number_named P b.0)) (taken c.0) k c.2 in
+      let e = passed (takes (method_at P m.0) (length c.0)) (BadArgs place) (ints_of place c.0 >>= made m.0) k m.2 in
+      let v = bound (ints_of place c.0) (made m.0) k e.1 in
+      call_made m.0 (length c.0) v.0 k e.0 (each_length (int_in place) 0 c.0 v.0 v.1) (are_ints place c.0 v.0 v.1) v.2
+
+  lane_calls_are : (path : List ℕ) (l : ℕ) (ds : List Data) (ks : List Known) → lane_in file P path l ds ≡ Ok ks → AllByRecursion (IsCallOf P) ks
+  lane_calls_are path l = each_gives (call_in file P (at path l)) (IsCallOf P) (λ i d k is. is_call (at (at path l) i) d k is) 0
+
+  phase_calls_are : (p : ℕ) (ls : List (List Data)) (phase : Phase) → phase_of file P p ls ≡ Ok phase → AllByRecursion (AllByRecursion (IsCallOf P)) phase
+  phase_calls_are p = each_gives (lane_in file P (lanes_path p)) (AllByRecursion (IsCallOf P)) (lane_calls_are (lanes_path p)) 0
+
+  calls_are : (lists : List (List (List Data))) (phases : List Phase) → each_from (phase_of file P) 0 lists ≡ Ok phases → AllByRecursion (AllByRecursion (AllByRecursion (IsCallOf P))) phases
+  calls_are = each_gives (phase_of file P) (AllByRecursion (AllByRecursion (IsCallOf P))) phase_calls_are 0
+
+  -- a phase has as many lanes as there are lists of calls
+  lanes_are : (most : ℕ) (lists : List (List (List Data))) (phases : List Phase) → AllByRecursion (λ (ls : List (List Data)). length ls ≤ most) lists → each_from (phase_of file P) 0 lists ≡ Ok phases
+      → AllByRecursion (λ (ls : Phase). length ls ≤ most) phases
+  lanes_are most lists phases few h =
+      each_all (phase_of file P) (λ (ls : List (List Data)). length ls ≤ most) (λ (ls : Phase). length ls ≤ most)
+      (λ p ls phase le is. let same = each_length (lane_in file P (lanes_path p)) 0 ls phase is in omega (arith, le, same)) 0 lists phases few h
+
+-- ---- how many lanes and calls there are
+
+lists_within : (lanes : ℤ) (p : ℕ) (d : Data) (ls : List (List Data)) → lists_of_phase lanes p d ≡ Ok ls → int_le (pos (length ls)) lanes ≡ true
+lists_within lanes p d ls h =
+    let path = at (codes "/phases") p in
+    let a = passed (is_object_of (codes "lanes" ∷ []) d) (bad_shape path) (wanted as_list path (codes "lanes") d >>= lists_of_lanes lanes (lanes_path p)) ls h in
+    let b = bound (wanted as_list path (codes "lanes") d) (lists_of_lanes lanes (lanes_path p)) ls a.1 in
+    let c = passed (int_le (pos (length b.0)) lanes) (bad_shape (lanes_path p)) (each_from (list_in (lanes_path p)) 0 b.0) ls b.2 in
+    let same = each_length (list_in (lanes_path p)) 0 b.0 ls c.1 in
+    ap (λ (n : ℕ). int_le (pos n) lanes) same ∙ c.0
+
+few_lists : (lanes : ℤ) (d : Data) (lists : List (List (List Data))) → (int_le (pos 1) lanes && int_le lanes (pos 16)) ≡ true → lists_of lanes d ≡ Ok lists
+    → AllByRecursion (λ (ls : List (List Data)). length ls ≤ 16) lists
+few_lists lanes d lists most h =
+    let a = bound (wanted as_list [] (codes "phases") d) (each_from (lists_of_phase lanes) 0) lists h in
+    each_gives (lists_of_phase lanes) (λ (ls : List (List Data)). length ls ≤ 16) (λ p x ls is. few_lanes (length ls) lanes (lists_within lanes p x ls is) most) 0 a.0 lists a.2
+
+many_in_lane : (phase lane index : ℕ) (cs : List Known) → length (lane_calls phase lane index cs) ≡ length cs
+many_in_lane phase lane index [] = refl
+many_in_lane phase lane index (c ∷ cs) = ap suc (many_in_lane phase lane (suc index) cs)
+
+many_in_phase : (phase lane : ℕ) (ls : Phase) → length (phase_calls phase lane ls) ≡ calls_of ls
+many_in_phase phase lane [] = refl
+many_in_phase phase lane (cs ∷ ls) =
+    let first = many_in_lane phase lane 0 cs in
+    let rest = many_in_phase phase (suc lane) ls in
+    length-append (lane_calls phase lane 0 cs) (phase_calls phase (suc lane) ls) ∙ omega (arith, first, rest, sum_by-cons length cs ls)
+
+many_in_script : (phase : ℕ) (ps : List Phase) → length (script_calls phase ps) ≡ sum_by calls_of ps
+many_in_script phase [] = refl
+many_in_script phase (ls ∷ ps) =
+    let first = many_in_phase phase 0 ls in
+    let rest = many_in_script (suc phase) ps in
+    length-append (phase_calls phase 0 ls) (script_calls (suc phase) ps) ∙ omega (arith, first, rest, sum_by-cons calls_of ls ps)
+
+-- ---- scripts
+
+-- the parts of a script
+record HasParts (file : ClassFile) (P : Program) (s : Script) : Type 0 where
+  head : Head
+  lists : List (List (List Data))
+  lanes : (int_le (pos 1) head.lanes && int_le head.lanes (pos 16)) ≡ true
+  attempts : (int_le (pos 1) head.attempts && int_le head.attempts (pos 1000000)) ≡ true
+  many : (int_le (pos 0) (pos (length lists)) && int_le (pos (length lists)) (pos 10000)) ≡ true
+  few : AllByRecursion (λ (ls : List (List Data)). length ls ≤ 16) lists
+  phases : each_from (phase_of file P) 0 lists ≡ Ok s.phases
+  calls : nat_le (sum_by calls_of s.phases) 100000 ≡ true
+  attempts_are : s.attempts ≡ unsigned_abs head.attempts
+
+module _ (file : ClassFile) (P : Program) (s : Script) where
+  parts_of : (d : Data) (head : Head) (lists : List (List (List Data))) → lists_of head.lanes d ≡ Ok lists → script_of file P head lists ≡ Ok s → HasParts file P s
+  parts_of d head lists are h =
+      let ended : Head → Result Script Refusal = λ k. each_from (phase_of file P) 0 lists >>= script_with k in
+      let region : Head → Result Head Refusal = λ k. within (codes "region") (pos (length (opening_words (file ∷ [])))) (pos 1048576) k.region (within (codes "phases") (pos 0) (pos 10000) (pos (length lists)) (Ok k)) in
+      let a = bound (is_within file head (length lists)) ended s h in
+      let b = bound (numbers_within head) region a.0 a.1 in
+      let lanes = inside (codes "lanes") (pos 1) (pos 16) head.lanes (within (codes "budget") (pos 1) (pos 1000000) head.budget (within (codes "attempts") (pos 1) (pos 1000000) head.attempts (Ok head))) b.0 b.1 in
+      let budget = inside (codes "budget") (pos 1) (pos 1000000) head.budget (within (codes "attempts") (pos 1) (pos 1000000) head.attempts (Ok head)) b.0 lanes.1 in
+      let attempts = inside (codes "attempts") (pos 1) (pos 1000000) head.attempts (Ok head) b.0 budget.1 in
+      let words = inside (codes "region") (pos (length (opening_words (file ∷ [])))) (pos 1048576) b.0.region (within (codes "phases") (pos 0) (pos 10000) (pos (length lists)) (Ok b.0)) a.0 b.2 in
+      let many = inside (codes "phases") (pos 0) (pos 10000) (pos (length lists)) (Ok b.0) a.0 words.1 in
+      let kept : head ≡ a.0 = let x = attempts.1 in let y = many.1 in cc in
+      let c = bound (each_from (phase_of file P) 0 lists) (script_with a.0) s a.2 in
+      let e = passed (nat_le (sum_by calls_of c.0) 100000) (OverLimit (codes "calls") (pos (sum_by calls_of c.0))) (Ok (record { budget = unsigned_abs a.0.budget; attempts = unsigned_abs a.0.attempts; phases = c.0 })) s c.2 in
+      let is : s ≡ record { budget = unsigned_abs a.0.budget; attempts = unsigned_abs a.0.attempts; phases = c.0 } = let x = e.1 in cc in
+      let phases : s.phases ≡ c.0 = ap (λ (t : Script). t.phases) is in
+      record {
+        head = head;
+        lists = lists;
+        lanes = lanes.0;
+        attempts = attempts.0;
+        many = many.0;
+        few = few_lists head.lanes d lists lanes.0 are;
+        phases = c.1 ∙ ap (λ (ps : List Phase). Ok ps) (sym phases);
+        calls = ap (λ (ps : List Phase). nat_le (sum_by calls_of ps) 100000) phases ∙ e.0;
+        attempts_are = ap (λ (t : Script). t.attempts) is ∙ ap (λ (k : Head). unsigned_abs k.attempts) (sym kept);
+      }
+
+  parts : (bytes : List ℕ) → IsScript file P bytes s → HasParts file P s
+  parts bytes is =
+      let d = is.value in
+      let of_head : Head → Result Script Refusal = λ head. lists_of head.lanes d >>= script_of file P head in
+      let a = passed (is_object_of script_keys d) (bad_shape []) (head_of d >>= of_head) s is.script in
+      let b = bound (head_of d) of_head s a.1 in
+      let c = bound (lists_of b.0.lanes d) (script_of file P b.0) s b.2 in
+      parts_of d b.0 c.0 c.1 c.2
+
+  -- the calls of a script are as a run asks
+  pub scripted : (bytes : List ℕ) → IsScript file P bytes s → AreScripted P s.phases
+  scripted bytes is =
+      let p = parts bytes is in
+      let same = each_length (phase_of file P) 0 p.lists s.phases p.phases in
+      let many = few_phases (length p.lists) p.many in
+      let calls = few_calls (sum_by calls_of s.phases) p.calls in
+      let all = many_in_script 0 s.phases in
+      record {
+        calls = calls_are file P p.lists s.phases p.phases;
+        lanes = lanes_are file P 16 p.lists s.phases p.few p.phases;
+        few_phases = omega (arith, same, many);
+        few_calls = omega (arith, all, calls);
+      }
+
+  -- and so are its attempts
+  pub few_attempts : (bytes : List ℕ) → IsScript file P bytes s → (1 ≤ s.attempts) × (s.attempts ≤ 1000000)
+  few_attempts bytes is =
+      let p = parts bytes is in
+      rw p.attempts_are (some p.head.attempts p.attempts, few p.head.attempts p.attempts)
