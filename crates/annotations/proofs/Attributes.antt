@@ -5,7 +5,7 @@ use Rattle.std.proofs.Math.Seq.{drop-cons}
 use Rattle.std.proofs.lemmas.List.{drop_all}
 use Rattle.jmodel.specs.ClassFile.{Pool, Attribute}
 use Rattle.jmodel.specs.ClassRules.{is_named, named_attributes}
-use Rattle.annotations.specs.Reading.{◌>>=◌}
+use Rattle.jmodel.specs.AnnotationReading.{◌>>=◌}
 use Rattle.annotations.specs.Walk.{attribute_end, attributes_end, next_end}
 
 module _ (pool : Pool) (value : List ℕ → ℕ → Result ℕ ℕ) where

@@ -7,8 +7,8 @@ use Rattle.std.proofs.lemmas.List.{take_at, drop-drop, take-append-drop, length-
 use Rattle.jmodel.specs.ClassFile.{Pool, u2}
 use Rattle.jmodel.specs.Pool.{utf8}
 use Rattle.const_pool.proofs.Takes.{IsBytes, IsBytes-part, IsWide, wide16, Takes}
-use Rattle.annotations.specs.Rules.{IsText}
-use Rattle.annotations.specs.Reading.{◌>>=◌, run_at, u1_at, u2_at, text_at}
+use Rattle.jmodel.specs.AnnotationRules.{IsText}
+use Rattle.jmodel.specs.AnnotationReading.{◌>>=◌, run_at, u1_at, u2_at, text_at}
 
 -- ---- steps that may fail
 

@@ -6,3 +6,4 @@ pub mod FieldLaws
 pub mod Items
 pub mod ValueLaws
 pub mod MarkLaws
+pub mod Kept

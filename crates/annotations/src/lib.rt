@@ -7,7 +7,7 @@ mod mark;
 mod retries;
 mod values;
 
-pub use mark::{AnnotationFault, Atomic, atomic_of};
+pub use mark::atomic_of;
 
 #[cfg(test)]
 mod tests;

@@ -2,29 +2,14 @@
 ghost use Rattle.std.specs.Prelude.{◌≡◌, pos, ◌≤ℤ◌, IfOk, IfSome};
 ghost use Rattle.jmodel.specs.ClassRules.{named_attributes};
 ghost use Rattle.annotations.specs.Walk.{top_end, tops_end, attribute_end, next_end, attributes_end, value_end};
-ghost use Rattle.annotations.specs.Mark.{retries_in, granted as granted_with, mark_of};
+ghost use Rattle.jmodel.specs.Mark.{retries_in, granted as granted_with, mark_of};
 
 use crate::DEEPEST;
 use crate::fields::{is_text, text_at, u2_at};
 use crate::retries::mark_at;
 use crate::values::pairs_at;
 use const_pool::{Attribute, Member, Pool};
-
-/// What the mark says.
-#[derive(Clone, Copy, Debug, PartialEq, Eq)]
-pub struct Atomic {
-    /// How many attempts a call may make, at least 1; 2147483647 where the mark names no number.
-    pub retries: i32,
-}
-
-/// Why a method's annotations are refused.
-#[derive(Clone, Copy, Debug, PartialEq, Eq)]
-pub enum AnnotationFault {
-    /// They break their form at this offset in the bytes of an attribute.
-    Bad(usize),
-    /// The mark asks for this number of attempts.
-    Retries(i32),
-}
+use jmodel::{AnnotationFault, Atomic};
 
 // The next annotation at the top, with what the first mark grants.
 #[tactic(auto, unfolding(crate::specs::Walk::top_end))]

@@ -1,6 +1,6 @@
-use crate::{AnnotationFault, Atomic, atomic_of};
+use crate::atomic_of;
 use const_pool::{Attribute, Constant, Member, Pool};
-use jmodel::Bytes;
+use jmodel::{AnnotationFault, Atomic, Bytes};
 use std::alloc::{AllocError, Global};
 use std::test::*;
 

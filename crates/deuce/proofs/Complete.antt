@@ -6,7 +6,12 @@ use Rattle.std.specs.List.{AllByRecursion}
 use Rattle.std.proofs.lemmas.List.{take_all}
 use Rattle.deuce_io.specs.Files.{Files, inside, StandsIn}
 use Rattle.jmodel.specs.declared.refusal.Refusal.{Refusal}
+use Rattle.serde_json.specs.Data.{Data}
+use Rattle.jmodel.specs.declared.value.Answer.{Answer}
 use Rattle.jmodel.specs.ClassFile.{ClassFile}
+use Rattle.jmodel.specs.Layout.{opening_state}
+use Rattle.jmodel.specs.Opening.{initialisers, Opening}
+use Rattle.jmodel.proofs.Returns.{returns}
 use Rattle.jmodel.specs.ClassRules.{Spells}
 use Rattle.jmodel.specs.Program.{Program}
 use Rattle.jmodel.specs.Linking.{linking, linked, program_in}
@@ -15,13 +20,13 @@ use Rattle.class_reader.proofs.ClassLaws.{class_again}
 use Rattle.rewriter.specs.Meaning.{HasFewMembers}
 use Rattle.rewriter.specs.Rewritten.{rewritten_class}
 use Rattle.deuce.specs.Command.{NamesFolder}
-use Rattle.script.specs.Script.{IsScript}
+use Rattle.script.specs.Script.{Script, script_in, IsScript}
 use Rattle.deuce.specs.Headline.{IsRunnable}
 use Rattle.deuce.specs.Rewritten.{CanRewrite}
 use Rattle.deuce.specs.declared.outcome.Outcome.{Outcome}
-use Rattle.deuce.specs.declared.outcome.Outcome.TheVariants.{Journal, Rewritten, Usage, BadClass, BadProgram, Untyped, BadScript, Outside, NotPut, NotBuilt}
-use Rattle.deuce.specs.Ending.{HasNoOneClass, IsOneClass, HasClass, IsBadClass, IsBadProgram, IsUntypable, IsBadScript, HasBadScript, IsOutsideForm, IsNotRewritten, CanRunIn, CanRewriteIn}
-use Rattle.deuce.specs.Outcomes.{Seen, Says, IsOfWords, IsNotBuilt, IsBadClassOfWords, IsBadScriptOfWords, CanRunWords, CanRewriteWords, status_of}
+use Rattle.deuce.specs.declared.outcome.Outcome.TheVariants.{Journal, Rewritten, Usage, BadClass, BadProgram, Untyped, BadScript, Unopened, Outside, NotPut, NotBuilt}
+use Rattle.deuce.specs.Ending.{HasNoOneClass, IsOneClass, HasClass, IsBadClass, IsBadProgram, IsUntypable, IsBadScript, HasBadScript, IsUnopened, HasUnopened, IsOutsideForm, IsNotRewritten, CanRunIn, CanRewriteIn}
+use Rattle.deuce.specs.Outcomes.{Seen, Says, IsOfWords, IsNotBuilt, IsBadClassOfWords, IsBadScriptOfWords, IsUnopenedOfWords, CanRunWords, CanRewriteWords, status_of}
 use Rattle.deuce.proofs.Asked.{one_run, one_rewriting, apart, run_folder, rewriting_folder}
 
 -- bytes spell one class
@@ -155,6 +160,35 @@ good_script_of_words words files r h can =
     let same = one_run words h.0 h.1 can.0 can.1 h.2 can.3 in
     good_script can.2 can.0 can.1 r can.5 (rw (can.4, same.0, same.1) at h.3)
 
+-- bytes are one script
+one_script : (c : ClassFile) (P : Program) (bytes : List ℕ) (s t : Script) → IsScript c P bytes s → IsScript c P bytes t → s ≡ t
+one_script c P bytes s t p q =
+    let both : Some p.value ≡ Some q.value = sym p.value_is ∙ q.value_is in
+    let value : p.value ≡ q.value = cc (both) in
+    let done : script_in c P p.value ≡ Ok t = subst (λ (d : Data). script_in c P d ≡ Ok t) (sym value) q.script in
+    let first = p.script in
+    cc (first, done)
+
+-- and a static initialiser that returns doesn't fail
+opens : (told : Files) (dir script class : List ℕ) (x : Answer) → CanRunIn told dir script → HasUnopened (Some told) dir script class x → ⊥
+unfolding good_run
+opens told dir script class x can bad =
+    let a = can.script_holds in
+    let b = bad.script_holds told refl in
+    let bytes : bad.script_bytes ≡ can.script_bytes = cc in
+    let shut : IsUnopened can.script_bytes class x can.file = subst (λ (l : List ℕ). IsUnopened l class x can.file) bytes (held told dir (IsUnopened bad.script_bytes class x) (good_run told dir script can) bad.of_class) in
+    let same = one_program can.file can.can.program shut.program can.can.runnable.links shut.runnable.links in
+    let is : IsScript can.file shut.program can.script_bytes can.can.script = subst (λ (p : Program). IsScript can.file p can.script_bytes can.can.script) same can.can.is_script in
+    let budget : can.can.script.budget ≡ shut.script.budget = ap (λ (s : Script). s.budget) (one_script can.file shut.program can.script_bytes can.can.script shut.script is shut.is_script) in
+    let Opens : Program → ℕ → Type 0 = λ p n. Opening p n (opening_state (can.file ∷ [])) (initialisers p) can.can.opening in
+    let opened : Opens shut.program shut.script.budget = subst (Opens shut.program) budget (subst (λ (p : Program). Opens p can.can.script.budget) same can.can.opens) in
+    returns shut.program shut.script.budget (opening_state (can.file ∷ [])) can.can.opening (initialisers shut.program) shut.number x opened shut.fails
+
+opens_of_words : (words : List (String Global)) (files : Option Files) (class : List ℕ) (x : Answer) → IsUnopenedOfWords words files class x → CanRunWords words files → ⊥
+opens_of_words words files class x h can =
+    let same = one_run words h.0 h.1 can.0 can.1 h.2 can.3 in
+    opens can.2 can.0 can.1 class x can.5 (rw (can.4, same.0, same.1) at h.3)
+
 unbuilt_run : (told : Files) (dir script : List ℕ) → CanRunIn told dir script → HasNoOneClass (Some told) dir ⊎ HasClass (Some told) dir IsOutsideForm → ⊥
 unfolding good_run
 unbuilt_run told dir script can (inl none) = none told refl can.name can.class_file
@@ -179,6 +213,7 @@ complete words old new (BadProgram r) status h s can =
 complete words old new (Untyped r) status h s can =
     absurd (none_untyped words can.2 can.0 (good_run can.2 can.0 can.1 can.5) (λ d n. run_folder words d can.0 can.1 n can.3) old.files r can.4 h)
 complete words old new (BadScript r) status h s can = absurd (good_script_of_words words old.files r h can)
+complete words old new (Unopened class x) status h s can = absurd (opens_of_words words old.files class x h can)
 complete words old new (Outside path) status h s can = inr (inl s)
 complete words old new (NotPut path) status h s can = absurd (apart words can.0 can.1 h.0 h.1 can.3 h.2)
 complete words old new NotBuilt status h s can = absurd (built_run words old.files h can)
@@ -217,6 +252,7 @@ complete_rewriting words old new (BadProgram r) status h s can =
 complete_rewriting words old new (Untyped r) status h s can =
     absurd (none_untyped words can.2 can.0 (good_rewriting can.2 can.0 can.5) (λ d n. rewriting_folder words d can.0 can.1 n can.3) old.files r can.4 h)
 complete_rewriting words old new (BadScript r) status h s can = absurd (apart words h.0 h.1 can.0 can.1 h.2 can.3)
+complete_rewriting words old new (Unopened class x) status h s can = absurd (apart words h.0 h.1 can.0 can.1 h.2 can.3)
 complete_rewriting words old new (Outside path) status h s can = inr (inl s)
 complete_rewriting words old new (NotPut path) status h s can = inr (inr (inr (inr s)))
 complete_rewriting words old new NotBuilt status h s can = absurd (built_rewriting words old.files h can)

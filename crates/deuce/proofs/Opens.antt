@@ -1,14 +1,14 @@
 -- The words and the state that a run begins with.
-use Rattle.std.proofs.Common.{◌≡◌, ℕ, suc, ◌+◌, ◌^◌, ◌<◌, ◌≤◌, List, [], ◌∷◌, ◌++◌, length, map, Bool, true, false, not, ◌&&◌, ◌==◌, Option, Some, Result, Ok, refl, sym, ap, subst, arith, length-append, nat_eq}
-use Rattle.std.specs.Prelude.{None, if◌then◌else◌}
+use Rattle.std.proofs.Common.{◌≡◌, ℕ, suc, ◌+◌, ◌^◌, ◌<◌, ◌≤◌, List, [], ◌∷◌, ◌++◌, length, map, Bool, true, false, not, ◌&&◌, ◌==◌, Option, Some, refl, sym, ap, subst, arith, length-append, nat_eq}
+use Rattle.std.specs.Prelude.{if◌then◌else◌}
 use Rattle.std.proofs.lemmas.List.{length-map}
 use Rattle.std.proofs.lemmas.Bool.Decides.{nat_tests}
 use Rattle.jmodel.specs.ClassFile.{ClassFile}
-use Rattle.jmodel.specs.declared.refusal.Refusal.{Refusal}
 use Rattle.jmodel.specs.Program.{Program}
 use Rattle.jmodel.specs.Layout.{statics, statics_object, opening_word, bases_end, opening_words, opening_state}
 use Rattle.jmodel.specs.Meaning.{header}
-use Rattle.jmodel.specs.Linking.{linked, program_in, is_form_class, are_form_fields}
+use Rattle.jmodel.specs.Linking.{linked, are_form_fields}
+use Rattle.jmodel.proofs.Formed.{formed}
 use Rattle.jmodel.proofs.Linked.{links, few_statics}
 use Rattle.jmodel.proofs.Opening.{opens}
 use Rattle.session.specs.Rule.{IsState, region_words}
@@ -17,13 +17,9 @@ both : (a b : Bool) → (a && b) ≡ true → (a ≡ true) × (b ≡ true)
 both true b h = (refl, h)
 both false b h = cc
 
-chosen : (b : Bool) (x : Result (Option Program) Refusal) (y : Program) → program_in (if b then x else Ok None) ≡ Some y → b ≡ true
-chosen true x y h = refl
-chosen false x y h = cc
-
 -- a class that means a program has static fields of the form
 of_form : (c : ClassFile) (P : Program) → linked c ≡ Some P → are_form_fields c ≡ true
-of_form c P h = (both _ _ (both _ _ (chosen (is_form_class c) _ P h)).0).1
+of_form c P h = (both _ _ (formed c P h).outside).1
 
 -- they are few
 room : (c : ClassFile) (P : Program) → linked c ≡ Some P → bases_end (c ∷ []) ≤ region_words

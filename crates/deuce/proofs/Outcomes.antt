@@ -4,6 +4,7 @@ use Rattle.std.specs.Prelude.{String, string_bytes}
 use Rattle.std.specs.declared.alloc.Global.{Global}
 use Rattle.deuce_io.specs.Fault.{Call}
 use Rattle.jmodel.specs.declared.refusal.Refusal.{Refusal}
+use Rattle.jmodel.specs.declared.value.Answer.{Answer}
 use Rattle.jmodel.specs.ClassFile.{ClassFile}
 use Rattle.deuce.specs.Command.{NamesFolder}
 use Rattle.deuce.specs.declared.inputs.ClassInput.{ClassInput}
@@ -26,12 +27,14 @@ module _ (words : List (String Global)) (old new : Seen) (dir : List ℕ) (kept 
   unread Asks ends.NoMemory o fails unbuilt h is = absurd is
 
   -- of a command over the class file that was read
-  pub refused : (input : ClassInput) (Bad : Refusal → ClassFile → Type 0) (Unbuilt : ClassFile → Type 0) (end : RunEnd) (o : Outcome) → NamesFolder words dir → IsClassInput old.files dir input
-      → ((r : Refusal) → HasClass old.files dir (Bad r) → Says words old new (outcomes.BadScript r)) → (HasClass old.files dir Unbuilt → IsNotBuilt words old.files)
-      → EndsCommand input.bytes Bad Unbuilt end → IsRefusedAs input.path end o → IsOutcome words old new o
-  refused input Bad Unbuilt (run_ends.BadClass r) o names a bad unbuilt h is = rw is (kept, (dir, names, bad_class old.files dir input r a h))
-  refused input Bad Unbuilt (run_ends.BadProgram r) o names a bad unbuilt h is = rw is (kept, (dir, names, has_class old.files dir input (IsBadProgram r) a h))
-  refused input Bad Unbuilt (run_ends.Untyped r) o names a bad unbuilt h is = rw is (kept, (dir, names, has_class old.files dir input (IsUntypable r) a h))
-  refused input Bad Unbuilt (run_ends.BadScript r) o names a bad unbuilt h is = rw is (kept, bad r (has_class old.files dir input (Bad r) a h))
-  refused input Bad Unbuilt run_ends.NotBuilt o names a bad unbuilt h is = rw is (kept, unbuilt (has_class old.files dir input Unbuilt a h))
-  refused input Bad Unbuilt run_ends.NoMemory o names a bad unbuilt h is = absurd is
+  pub refused : (input : ClassInput) (Bad : Refusal → ClassFile → Type 0) (Shut : List ℕ → Answer → ClassFile → Type 0) (Unbuilt : ClassFile → Type 0) (end : RunEnd) (o : Outcome) → NamesFolder words dir → IsClassInput old.files dir input
+      → ((r : Refusal) → HasClass old.files dir (Bad r) → Says words old new (outcomes.BadScript r))
+      → ((name : List ℕ) (x : Answer) → HasClass old.files dir (Shut name x) → Says words old new (outcomes.Unopened name x)) → (HasClass old.files dir Unbuilt → IsNotBuilt words old.files)
+      → EndsCommand input.bytes Bad Shut Unbuilt end → IsRefusedAs input.path end o → IsOutcome words old new o
+  refused input Bad Shut Unbuilt (run_ends.BadClass r) o names a bad shut unbuilt h is = rw is (kept, (dir, names, bad_class old.files dir input r a h))
+  refused input Bad Shut Unbuilt (run_ends.BadProgram r) o names a bad shut unbuilt h is = rw is (kept, (dir, names, has_class old.files dir input (IsBadProgram r) a h))
+  refused input Bad Shut Unbuilt (run_ends.Untyped r) o names a bad shut unbuilt h is = rw is (kept, (dir, names, has_class old.files dir input (IsUntypable r) a h))
+  refused input Bad Shut Unbuilt (run_ends.BadScript r) o names a bad shut unbuilt h is = rw is (kept, bad r (has_class old.files dir input (Bad r) a h))
+  refused input Bad Shut Unbuilt (run_ends.Unopened name x) o names a bad shut unbuilt h is = rw is (kept, shut name x (has_class old.files dir input (Shut name x) a h))
+  refused input Bad Shut Unbuilt run_ends.NotBuilt o names a bad shut unbuilt h is = rw is (kept, unbuilt (has_class old.files dir input Unbuilt a h))
+  refused input Bad Shut Unbuilt run_ends.NoMemory o names a bad shut unbuilt h is = absurd is

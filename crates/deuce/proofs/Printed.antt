@@ -3,13 +3,14 @@ use Rattle.std.proofs.Common.{◌≡◌, ℕ, List, Option, arith}
 use Rattle.std.specs.Prelude.{String, string_bytes, codes}
 use Rattle.std.specs.declared.alloc.Global.{Global}
 use Rattle.jmodel.specs.declared.refusal.Refusal.{Refusal}
-use Rattle.jmodel.specs.Output.{◌and◌, refusal_text, error_text}
+use Rattle.jmodel.specs.declared.value.Answer.{Answer}
+use Rattle.jmodel.specs.Output.{◌and◌, answer_text, refusal_text, error_text}
 use Rattle.deuce.specs.Command.{seen_words, run_words, rewrite_words}
 use Rattle.deuce.specs.Rewritten.{counts_text}
 use Rattle.deuce.specs.declared.outcome.Outcome.{Outcome}
-use Rattle.deuce.specs.declared.outcome.Outcome.TheVariants.{Journal, Rewritten, Usage, BadClass, BadProgram, Untyped, BadScript, Outside, NotPut, NotBuilt}
+use Rattle.deuce.specs.declared.outcome.Outcome.TheVariants.{Journal, Rewritten, Usage, BadClass, BadProgram, Untyped, BadScript, Unopened, Outside, NotPut, NotBuilt}
 use Rattle.deuce.specs.Ending.{IsJournalOf, IsRewritingOf, IsBadProgram, IsUntypable}
-use Rattle.deuce.specs.Outcomes.{Seen, Says, IsTextOf, Appends, status_of, IsBadClassOfWords, IsOfWords, IsBadScriptOfWords}
+use Rattle.deuce.specs.Outcomes.{Seen, Says, IsTextOf, Appends, status_of, IsBadClassOfWords, IsOfWords, IsBadScriptOfWords, IsUnopenedOfWords}
 use Rattle.deuce.proofs.Asked.{one_run, one_rewriting, apart}
 
 module _ (words : List (String Global)) (old new : Seen) (printed : List ℕ) (before now : Option (List ℕ)) (status : ℕ) where
@@ -25,6 +26,7 @@ module _ (words : List (String Global)) (old new : Seen) (printed : List ℕ) (b
   journal_printed (BadProgram r) h s is all z = absurd (omega (arith, s, z))
   journal_printed (Untyped r) h s is all z = absurd (omega (arith, s, z))
   journal_printed (BadScript r) h s is all z = absurd (omega (arith, s, z))
+  journal_printed (Unopened class x) h s is all z = absurd (omega (arith, s, z))
   journal_printed (Outside path) h s is all z = absurd (omega (arith, s, z))
   journal_printed (NotPut path) h s is all z = absurd (omega (arith, s, z))
   journal_printed NotBuilt h s is all z = absurd (omega (arith, s, z))
@@ -41,6 +43,7 @@ module _ (words : List (String Global)) (old new : Seen) (printed : List ℕ) (b
   rewriting_printed (BadProgram r) h s is all z = absurd (omega (arith, s, z))
   rewriting_printed (Untyped r) h s is all z = absurd (omega (arith, s, z))
   rewriting_printed (BadScript r) h s is all z = absurd (omega (arith, s, z))
+  rewriting_printed (Unopened class x) h s is all z = absurd (omega (arith, s, z))
   rewriting_printed (Outside path) h s is all z = absurd (omega (arith, s, z))
   rewriting_printed (NotPut path) h s is all z = absurd (omega (arith, s, z))
   rewriting_printed NotBuilt h s is all z = absurd (omega (arith, s, z))
@@ -55,6 +58,7 @@ module _ (words : List (String Global)) (old new : Seen) (printed : List ℕ) (b
   fault_printed (BadProgram r) h s is all z = absurd (omega (arith, s, z))
   fault_printed (Untyped r) h s is all z = absurd (omega (arith, s, z))
   fault_printed (BadScript r) h s is all z = absurd (omega (arith, s, z))
+  fault_printed (Unopened class x) h s is all z = absurd (omega (arith, s, z))
   fault_printed (Outside path) h s is all z = absurd (omega (arith, s, z))
   fault_printed (NotPut path) h s is all z = absurd (omega (arith, s, z))
   fault_printed NotBuilt h s is all z = absurd (omega (arith, s, z))
@@ -69,6 +73,7 @@ module _ (words : List (String Global)) (old new : Seen) (printed : List ℕ) (b
   program_printed (BadProgram r) h s is all z = (r, h, rw is at all)
   program_printed (Untyped r) h s is all z = absurd (omega (arith, s, z))
   program_printed (BadScript r) h s is all z = absurd (omega (arith, s, z))
+  program_printed (Unopened class x) h s is all z = absurd (omega (arith, s, z))
   program_printed (Outside path) h s is all z = absurd (omega (arith, s, z))
   program_printed (NotPut path) h s is all z = absurd (omega (arith, s, z))
   program_printed NotBuilt h s is all z = absurd (omega (arith, s, z))
@@ -83,6 +88,7 @@ module _ (words : List (String Global)) (old new : Seen) (printed : List ℕ) (b
   untyped_printed (BadProgram r) h s is all z = absurd (omega (arith, s, z))
   untyped_printed (Untyped r) h s is all z = (r, h, rw is at all)
   untyped_printed (BadScript r) h s is all z = absurd (omega (arith, s, z))
+  untyped_printed (Unopened class x) h s is all z = absurd (omega (arith, s, z))
   untyped_printed (Outside path) h s is all z = absurd (omega (arith, s, z))
   untyped_printed (NotPut path) h s is all z = absurd (omega (arith, s, z))
   untyped_printed NotBuilt h s is all z = absurd (omega (arith, s, z))
@@ -97,6 +103,22 @@ module _ (words : List (String Global)) (old new : Seen) (printed : List ℕ) (b
   script_printed (BadProgram r) h s is all z = absurd (omega (arith, s, z))
   script_printed (Untyped r) h s is all z = absurd (omega (arith, s, z))
   script_printed (BadScript r) h s is all z = (r, h, rw is at all)
+  script_printed (Unopened class x) h s is all z = absurd (omega (arith, s, z))
   script_printed (Outside path) h s is all z = absurd (omega (arith, s, z))
   script_printed (NotPut path) h s is all z = absurd (omega (arith, s, z))
   script_printed NotBuilt h s is all z = absurd (omega (arith, s, z))
+
+  -- a static initialiser that doesn't return
+  pub unopened_printed : (o : Outcome) → Says words old new o → status ≡ status_of o → IsTextOf o printed → Appends before now printed → status ≡ 7
+      → (class : List ℕ) × (x : Answer) × IsUnopenedOfWords words old.files class x × Appends before now (error_text (codes "7") (class and answer_text x))
+  unopened_printed (Journal text) h s is all z = absurd (omega (arith, s, z))
+  unopened_printed (Rewritten t m) h s is all z = absurd (omega (arith, s, z))
+  unopened_printed Usage h s is all z = absurd (omega (arith, s, z))
+  unopened_printed (BadClass path r) h s is all z = absurd (omega (arith, s, z))
+  unopened_printed (BadProgram r) h s is all z = absurd (omega (arith, s, z))
+  unopened_printed (Untyped r) h s is all z = absurd (omega (arith, s, z))
+  unopened_printed (BadScript r) h s is all z = absurd (omega (arith, s, z))
+  unopened_printed (Unopened class x) h s is all z = (class, x, h, rw is at all)
+  unopened_printed (Outside path) h s is all z = absurd (omega (arith, s, z))
+  unopened_printed (NotPut path) h s is all z = absurd (omega (arith, s, z))
+  unopened_printed NotBuilt h s is all z = absurd (omega (arith, s, z))

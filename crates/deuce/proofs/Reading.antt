@@ -4,12 +4,13 @@ use Rattle.std.specs.Prelude.{option_map, string_bytes}
 use Rattle.std.proofs.lemmas.List.{length-take, take_all}
 use Rattle.deuce_io.specs.Files.{Files, inside, with_content}
 use Rattle.jmodel.specs.declared.refusal.Refusal.{Refusal}
+use Rattle.jmodel.specs.declared.value.Answer.{Answer}
 use Rattle.jmodel.specs.ClassFile.{ClassFile}
 use Rattle.deuce.specs.declared.inputs.ClassInput.{ClassInput}
 use Rattle.deuce.specs.declared.inputs.Inputs.{Inputs}
 use Rattle.deuce.specs.Headline.{IsRun}
 use Rattle.deuce.specs.Rewritten.{IsRewriting}
-use Rattle.deuce.specs.Ending.{IsFrontOf, Holds, IsClassInput, AreInputs, IsJournalOf, IsRewritingOf, PutsOne, IsFileFault, IsBadClass, HasClass, IsOfClass}
+use Rattle.deuce.specs.Ending.{IsFrontOf, Holds, IsClassInput, AreInputs, IsJournalOf, IsRewritingOf, PutsOne, IsFileFault, IsBadClass, HasClass, IsOfClass, IsUnopened, HasUnopened}
 
 whole : (most limit : ℕ) (o : Option (List ℕ)) (bytes : List ℕ) → most ≡ suc limit → option_map (take most) o ≡ Some bytes → length bytes ≤ limit → o ≡ Some bytes
 whole most limit None bytes m e le = absurd (cc)
@@ -33,6 +34,14 @@ journal_of files dir script inputs text a c run = record {
   script_bytes = inputs.script;
   script_holds = holds files script 16777217 16777216 inputs.script refl a.script_bytes run.is_script.fits;
   run = run;
+}
+
+-- a run that doesn't begin, of what was read whole
+pub unopened_of : (files : Option Files) (dir script bytes name : List ℕ) (x : Answer) → IsFrontOf files script 16777217 bytes → HasClass files dir (IsUnopened bytes name x) → HasUnopened files dir script name x
+unopened_of files dir script bytes name x front h = record {
+  script_bytes = bytes;
+  script_holds = holds files script 16777217 16777216 bytes refl front h.holding.is_script.fits;
+  of_class = h;
 }
 
 -- a rewriting of what was read whole, that was put

@@ -1,29 +1,30 @@
 -- The calls of a script are those of a run.
-use Rattle.std.proofs.Common.{◌≡◌, ◌≤◌, ℕ, ℤ, pos, negsuc, suc, List, [], ◌∷◌, length, Bool, true, false, ◌&&◌, Option, Some, None, Result, Ok, Err, refl, sym, ap, ◌∙◌, subst, arith, length-append}
-use Rattle.std.specs.Prelude.{sum_by, option_and_then, if◌then◌else◌, FitsSigned, int_le, nat_le, unsigned_abs, codes}
+use Rattle.std.proofs.Common.{◌≡◌, ◌≤◌, ℕ, ℤ, pos, negsuc, suc, List, [], ◌∷◌, length, map, Bool, true, false, ◌&&◌, Option, Some, None, Result, Ok, Err, refl, sym, ap, ◌∙◌, subst, arith, length-append, lit<}
+use Rattle.std.specs.Prelude.{sum_by, option_map, option_and_then, unwrap_or, slice_get, if◌then◌else◌, FitsSigned, int_le, nat_le, unsigned_abs, codes}
 use Rattle.std.specs.Int.{w32}
 use Rattle.std.specs.List.{AllByRecursion}
 use Rattle.std.proofs.lemmas.Int.{ints}
 use Rattle.std.proofs.lemmas.Bool.Decides.{nat_tests}
 use Rattle.std.proofs.lemmas.List.Sums.{sum_by-cons}
 use Rattle.serde_json.specs.Data.{Data}
-use Rattle.serde_json.specs.Find.{as_str}
+use Rattle.serde_json.specs.Find.{as_str, as_bool}
 use Rattle.jmodel.specs.declared.refusal.Refusal.{Refusal}
 use Rattle.jmodel.specs.declared.refusal.Refusal.TheVariants.{OverLimit, BadArgs}
 use Rattle.jmodel.specs.declared.value.Value.{Value}
 use Rattle.jmodel.specs.declared.value.Value.TheVariants as value
+use Rattle.jmodel.specs.declared.op.WordType.{WordType}
 use Rattle.jmodel.specs.declared.op.WordType.TheVariants as word
 use Rattle.jmodel.specs.Value.{IsOfType}
 use Rattle.jmodel.specs.ClassFile.{ClassFile}
 use Rattle.jmodel.specs.Program.{Program, method_at}
 use Rattle.jmodel.specs.Layout.{opening_words}
 use Rattle.jmodel.specs.Reading.{◌>>=◌}
-use Rattle.jmodel.specs.Schedule.{Known, Phase, takes, lane_calls, phase_calls, script_calls}
+use Rattle.jmodel.specs.Schedule.{Known, Phase, ScriptPhase, Lanes, Bag, takes, lists_in, lane_calls, phase_calls, script_calls}
 use Rattle.script.specs.declared.head.Head.{Head}
-use Rattle.script.specs.Json.{under, at, bad_shape, must, or_refused, each_from, as_list, as_whole, is_object_of, wanted}
-use Rattle.script.specs.Script.{script_keys, within, lanes_path, list_in, lists_of_lanes, lists_of_phase, head_of, lists_of, numbers_within, is_within, number_named, not_callable, as_int, int_in, ints_of, known_at, call_in, lane_in, phase_of, calls_of, Script, script_with, script_of, script_in, IsScript}
+use Rattle.script.specs.Json.{under, at, bad_shape, must, or_refused, each_from, as_list, as_whole, is_object_of, is_object_with, wanted}
+use Rattle.script.specs.Script.{script_keys, within, Listed, InLanes, InBag, lanes_path, bag_path, list_in, lists_of_lanes, lanes_at, lists_at, lists_of_phase, head_of, lists_of, numbers_within, is_within, number_named, not_callable, as_value, types_of, value_in, values_of, known_at, call_in, lane_in, lanes_of, bag_of, phase_of, calls_of, Script, script_with, script_of, script_in, IsScript, least, greatest, truth_value, as_number_of, as_value, types_of, value_in, values_of}
 use Rattle.session.specs.Rule.{IsCallOf}
-use Rattle.driver.specs.Runs.{AreScripted}
+use Rattle.driver.specs.Runs.{AreScripted, HasLanes}
 
 -- ---- what was given without a refusal
 
@@ -80,6 +81,9 @@ few n h = grind (arith, ints, nat_tests)
 few_lanes : (m : ℕ) (n : ℤ) → int_le (pos m) n ≡ true → (int_le (pos 1) n && int_le n (pos 16)) ≡ true → m ≤ 16
 few_lanes m n h k = grind (arith, ints, nat_tests)
 
+some_lanes : (n : ℤ) → (int_le (pos 1) n && int_le n (pos 16)) ≡ true → (1 ≤ unsigned_abs n) × (unsigned_abs n ≤ 16)
+some_lanes n h = (grind (arith, ints, nat_tests), grind (arith, ints, nat_tests))
+
 few_phases : (n : ℕ) → (int_le (pos 0) (pos n) && int_le (pos n) (pos 10000)) ≡ true → n ≤ 10000
 few_phases n h = grind (arith, ints, nat_tests)
 
@@ -89,21 +93,47 @@ few_calls n h = grind (arith, nat_tests)
 inside : {A : Type 0} (name : List ℕ) (low high n : ℤ) (x : Result A Refusal) (y : A) → within name low high n x ≡ Ok y → ((int_le low n && int_le n high) ≡ true) × (x ≡ Ok y)
 inside name low high n x y h = passed (int_le low n && int_le n high) (OverLimit name n) x y h
 
+-- a phase has at most 16 lists, where it has lanes
+abbrev FewLists : Listed → Type 0
+FewLists (InLanes ls) = length ls ≤ 16
+FewLists (InBag ds) = Unit {0}
+
 -- ---- calls
 
-is_int : (d : Data) (v : Value) → as_int d ≡ Some v → IsOfType word.Int v
-is_int d v h = go (as_whole d) h
+-- a number of a narrower type is an int
+in_range : (t : WordType) (n : ℤ) → (int_le (least t) n && int_le n (greatest t)) ≡ true → FitsSigned w32 n
+in_range word.Boolean n h = grind (arith, ints, nat_tests)
+in_range word.Byte n h = grind (arith, ints, nat_tests)
+in_range word.Char n h = grind (arith, ints, nat_tests)
+in_range word.Short n h = grind (arith, ints, nat_tests)
+in_range word.Int n h = fits n h
+
+number_is_int : (t : WordType) (d : Data) (v : Value) → as_number_of t d ≡ Some v → IsOfType word.Int v
+number_is_int t d v h = go (as_whole d) h
   where
-    choose : (n : ℤ) (b : Bool) → (int_le (negsuc 2147483647) n && int_le n (pos 2147483647)) ≡ b → (if b then Some (value.Int n) else None) ≡ Some v → IsOfType word.Int v
-    choose n true e h = let same : v ≡ value.Int n = cc in rw same (fits n e)
+    choose : (n : ℤ) (b : Bool) → (int_le (least t) n && int_le n (greatest t)) ≡ b → (if b then Some (value.Int n) else None) ≡ Some v → IsOfType word.Int v
+    choose n true e h = let same : v ≡ value.Int n = cc in rw same (in_range t n e)
     choose n false e h = cc
 
-    go : (o : Option ℤ) → option_and_then (λ (n : ℤ). if int_le (negsuc 2147483647) n && int_le n (pos 2147483647) then Some (value.Int n) else None) o ≡ Some v → IsOfType word.Int v
-    go (Some n) h = choose n (int_le (negsuc 2147483647) n && int_le n (pos 2147483647)) refl h
+    go : (o : Option ℤ) → option_and_then (λ (n : ℤ). if int_le (least t) n && int_le n (greatest t) then Some (value.Int n) else None) o ≡ Some v → IsOfType word.Int v
+    go (Some n) h = choose n (int_le (least t) n && int_le n (greatest t)) refl h
     go None h = cc
 
-are_ints : (path : List ℕ) (args : List Data) (vs : List Value) → ints_of path args ≡ Ok vs → AllByRecursion (IsOfType word.Int) vs
-are_ints path args vs h = each_gives (int_in path) (IsOfType word.Int) (λ i d v is. is_int d v (there (BadArgs (at path i)) (as_int d) v is)) 0 args vs h
+truth_is_int : (o : Option Bool) (v : Value) → option_map truth_value o ≡ Some v → IsOfType word.Int v
+truth_is_int None v h = cc
+truth_is_int (Some true) v h = let same : v ≡ value.Int (pos 1) = cc in rw same (record { sfits = lit< tt })
+truth_is_int (Some false) v h = let same : v ≡ value.Int (pos 0) = cc in rw same (record { sfits = lit< tt })
+
+is_int : (t : WordType) (d : Data) (v : Value) → as_value t d ≡ Some v → IsOfType word.Int v
+is_int word.Boolean d v h = truth_is_int (as_bool d) v h
+is_int word.Byte d v h = number_is_int word.Byte d v h
+is_int word.Char d v h = number_is_int word.Char d v h
+is_int word.Short d v h = number_is_int word.Short d v h
+is_int word.Int d v h = number_is_int word.Int d v h
+
+are_ints : (types : List WordType) (path : List ℕ) (args : List Data) (vs : List Value) → values_of types path args ≡ Ok vs → AllByRecursion (IsOfType word.Int) vs
+are_ints types path args vs h =
+    each_gives (value_in types path) (IsOfType word.Int) (λ i d v is. let t = unwrap_or (slice_get types i) word.Int in is_int t d v (there (BadArgs (at path i)) (as_value t d) v is)) 0 args vs h
 
 module _ (file : ClassFile) (P : Program) where
   -- a call of a method with as many ints as that takes
@@ -116,85 +146,132 @@ module _ (file : ClassFile) (P : Program) where
   is_call path d k h =
       let place = under path (codes "args") in
       let made : ℕ → List Value → Result Known Refusal = λ m vs. Ok (record { method = m; args = vs }) in
-      let taken : List Data → ℕ → Result Known Refusal = λ args m. must (takes (method_at P m) (length args)) (BadArgs place) (ints_of place args >>= made m) in
+      let taken : List Data → ℕ → Result Known Refusal = λ args m. must (takes (method_at P m) (length args)) (BadArgs place) (values_of (types_of (method_at P m)) place args >>= made m) in
       let named : List ℕ → List Data → Result Known Refusal = λ text args. or_refused (not_callable file (under path (codes "call")) text) (number_named P text) >>= taken args in
       let a = passed (is_object_of (codes "call" ∷ codes "args" ∷ []) d) (bad_shape path) (wanted as_str path (codes "call") d >>= λ text. wanted as_list path (codes "args") d >>= named text) k h in
       let b = bound (wanted as_str path (codes "call") d) (λ text. wanted as_list path (codes "args") d >>= named text) k a.1 in
       let c = bound (wanted as_list path (codes "args") d) (named b.0) k b.2 in
       let m = bound (or_refused (not_callable file (under path (codes "call")) b.0) (number_named P b.0)) (taken c.0) k c.2 in
-      let e = passed (takes (method_at P m.0) (length c.0)) (BadArgs place) (ints_of place c.0 >>= made m.0) k m.2 in
-      let v = bound (ints_of place c.0) (made m.0) k e.1 in
-      call_made m.0 (length c.0) v.0 k e.0 (each_length (int_in place) 0 c.0 v.0 v.1) (are_ints place c.0 v.0 v.1) v.2
+      let e = passed (takes (method_at P m.0) (length c.0)) (BadArgs place) (values_of (types_of (method_at P m.0)) place c.0 >>= made m.0) k m.2 in
+      let types = types_of (method_at P m.0) in
+      let v = bound (values_of types place c.0) (made m.0) k e.1 in
+      call_made m.0 (length c.0) v.0 k e.0 (each_length (value_in types place) 0 c.0 v.0 v.1) (are_ints types place c.0 v.0 v.1) v.2
 
   lane_calls_are : (path : List ℕ) (l : ℕ) (ds : List Data) (ks : List Known) → lane_in file P path l ds ≡ Ok ks → AllByRecursion (IsCallOf P) ks
   lane_calls_are path l = each_gives (call_in file P (at path l)) (IsCallOf P) (λ i d k is. is_call (at (at path l) i) d k is) 0
 
-  phase_calls_are : (p : ℕ) (ls : List (List Data)) (phase : Phase) → phase_of file P p ls ≡ Ok phase → AllByRecursion (AllByRecursion (IsCallOf P)) phase
-  phase_calls_are p = each_gives (lane_in file P (lanes_path p)) (AllByRecursion (IsCallOf P)) (lane_calls_are (lanes_path p)) 0
+  lanes_are_calls : (p : ℕ) (ls : List (List Data)) (phase : Phase) → lanes_of file P p ls ≡ Ok phase → AllByRecursion (AllByRecursion (IsCallOf P)) phase
+  lanes_are_calls p = each_gives (lane_in file P (lanes_path p)) (AllByRecursion (IsCallOf P)) (lane_calls_are (lanes_path p)) 0
 
-  calls_are : (lists : List (List (List Data))) (phases : List Phase) → each_from (phase_of file P) 0 lists ≡ Ok phases → AllByRecursion (AllByRecursion (AllByRecursion (IsCallOf P))) phases
-  calls_are = each_gives (phase_of file P) (AllByRecursion (AllByRecursion (IsCallOf P))) phase_calls_are 0
+  bag_calls_are : (p : ℕ) (ds : List Data) (ks : List Known) → bag_of file P p ds ≡ Ok ks → AllByRecursion (IsCallOf P) ks
+  bag_calls_are p = each_gives (call_in file P (bag_path p)) (IsCallOf P) (λ i d k is. is_call (at (bag_path p) i) d k is) 0
+
+  phase_calls_are : (lanes p : ℕ) (l : Listed) (phase : ScriptPhase) → phase_of file P lanes p l ≡ Ok phase → AllByRecursion (AllByRecursion (IsCallOf P)) (lists_in phase)
+  phase_calls_are lanes p (InLanes ls) phase h =
+      let a = bound (lanes_of file P p ls) (λ ks. Ok (Lanes ks)) phase h in
+      let same : phase ≡ Lanes a.0 = let is = a.2 in cc in
+      rw same (lanes_are_calls p ls a.0 a.1)
+  phase_calls_are lanes p (InBag ds) phase h =
+      let a = bound (bag_of file P p ds) (λ ks. Ok (Bag lanes ks)) phase h in
+      let same : phase ≡ Bag lanes a.0 = let is = a.2 in cc in
+      rw same (bag_calls_are p ds a.0 a.1, tt)
+
+  calls_are : (lanes : ℕ) (lists : List Listed) (phases : List ScriptPhase) → each_from (phase_of file P lanes) 0 lists ≡ Ok phases
+      → AllByRecursion (λ (p : ScriptPhase). AllByRecursion (AllByRecursion (IsCallOf P)) (lists_in p)) phases
+  calls_are lanes = each_gives (phase_of file P lanes) (λ (p : ScriptPhase). AllByRecursion (AllByRecursion (IsCallOf P)) (lists_in p)) (phase_calls_are lanes) 0
 
   -- a phase has as many lanes as there are lists of calls
-  lanes_are : (most : ℕ) (lists : List (List (List Data))) (phases : List Phase) → AllByRecursion (λ (ls : List (List Data)). length ls ≤ most) lists → each_from (phase_of file P) 0 lists ≡ Ok phases
-      → AllByRecursion (λ (ls : Phase). length ls ≤ most) phases
-  lanes_are most lists phases few h =
-      each_all (phase_of file P) (λ (ls : List (List Data)). length ls ≤ most) (λ (ls : Phase). length ls ≤ most)
-      (λ p ls phase le is. let same = each_length (lane_in file P (lanes_path p)) 0 ls phase is in omega (arith, le, same)) 0 lists phases few h
+  phase_lanes_are : (lanes p : ℕ) (l : Listed) (phase : ScriptPhase) → (1 ≤ lanes) × (lanes ≤ 16) → FewLists l → phase_of file P lanes p l ≡ Ok phase → HasLanes phase
+  phase_lanes_are lanes p (InLanes ls) phase some few h =
+      let a = bound (lanes_of file P p ls) (λ ks. Ok (Lanes ks)) phase h in
+      let same : phase ≡ Lanes a.0 = let is = a.2 in cc in
+      let long = each_length (lane_in file P (lanes_path p)) 0 ls a.0 a.1 in
+      rw same (omega (arith, few, long))
+  phase_lanes_are lanes p (InBag ds) phase some few h =
+      let a = bound (bag_of file P p ds) (λ ks. Ok (Bag lanes ks)) phase h in
+      let same : phase ≡ Bag lanes a.0 = let is = a.2 in cc in
+      rw same some
+
+  lanes_are : (lanes : ℕ) (lists : List Listed) (phases : List ScriptPhase) → (1 ≤ lanes) × (lanes ≤ 16) → AllByRecursion FewLists lists
+      → each_from (phase_of file P lanes) 0 lists ≡ Ok phases → AllByRecursion HasLanes phases
+  lanes_are lanes lists phases some few h =
+      each_all (phase_of file P lanes) FewLists HasLanes (λ p l phase le is. phase_lanes_are lanes p l phase some le is) 0 lists phases few h
 
 -- ---- how many lanes and calls there are
 
-lists_within : (lanes : ℤ) (p : ℕ) (d : Data) (ls : List (List Data)) → lists_of_phase lanes p d ≡ Ok ls → int_le (pos (length ls)) lanes ≡ true
-lists_within lanes p d ls h =
-    let path = at (codes "/phases") p in
-    let a = passed (is_object_of (codes "lanes" ∷ []) d) (bad_shape path) (wanted as_list path (codes "lanes") d >>= lists_of_lanes lanes (lanes_path p)) ls h in
-    let b = bound (wanted as_list path (codes "lanes") d) (lists_of_lanes lanes (lanes_path p)) ls a.1 in
-    let c = passed (int_le (pos (length b.0)) lanes) (bad_shape (lanes_path p)) (each_from (list_in (lanes_path p)) 0 b.0) ls b.2 in
-    let same = each_length (list_in (lanes_path p)) 0 b.0 ls c.1 in
+lists_within : (lanes : ℤ) (path : List ℕ) (d : Data) (ls : List (List Data)) → lanes_at lanes path d ≡ Ok ls → int_le (pos (length ls)) lanes ≡ true
+lists_within lanes path d ls h =
+    let place = under path (codes "lanes") in
+    let b = bound (wanted as_list path (codes "lanes") d) (lists_of_lanes lanes place) ls h in
+    let c = passed (int_le (pos (length b.0)) lanes) (bad_shape place) (each_from (list_in place) 0 b.0) ls b.2 in
+    let same = each_length (list_in place) 0 b.0 ls c.1 in
     ap (λ (n : ℕ). int_le (pos n) lanes) same ∙ c.0
 
-few_lists : (lanes : ℤ) (d : Data) (lists : List (List (List Data))) → (int_le (pos 1) lanes && int_le lanes (pos 16)) ≡ true → lists_of lanes d ≡ Ok lists
-    → AllByRecursion (λ (ls : List (List Data)). length ls ≤ 16) lists
+few_in_lanes : (lanes : ℤ) (path : List ℕ) (d : Data) (l : Listed) → (int_le (pos 1) lanes && int_le lanes (pos 16)) ≡ true
+    → (lanes_at lanes path d >>= λ ls. Ok (InLanes ls)) ≡ Ok l → FewLists l
+few_in_lanes lanes path d l most h =
+    let a = bound (lanes_at lanes path d) (λ ls. Ok (InLanes ls)) l h in
+    let same : l ≡ InLanes a.0 = let is = a.2 in cc in
+    rw same (few_lanes (length a.0) lanes (lists_within lanes path d a.0 a.1) most)
+
+few_in_bag : (path : List ℕ) (d : Data) (l : Listed) → (wanted as_list path (codes "bag") d >>= λ cs. Ok (InBag cs)) ≡ Ok l → FewLists l
+few_in_bag path d l h =
+    let a = bound (wanted as_list path (codes "bag") d) (λ cs. Ok (InBag cs)) l h in
+    let same : l ≡ InBag a.0 = let is = a.2 in cc in
+    rw same tt
+
+few_in_phase : (lanes : ℤ) (path : List ℕ) (d : Data) (l : Listed) → (int_le (pos 1) lanes && int_le lanes (pos 16)) ≡ true → lists_at lanes path d ≡ Ok l → FewLists l
+few_in_phase lanes path d l most h = go (is_object_with (codes "lanes") d) (is_object_with (codes "bag") d) h
+  where
+    go : (a b : Bool)
+        → (if a then (lanes_at lanes path d >>= λ ls. Ok (InLanes ls)) else (if b then (wanted as_list path (codes "bag") d >>= λ cs. Ok (InBag cs)) else Err (bad_shape path))) ≡ Ok l
+        → FewLists l
+    go true b h = few_in_lanes lanes path d l most h
+    go false true h = few_in_bag path d l h
+    go false false h = cc
+
+few_lists : (lanes : ℤ) (d : Data) (lists : List Listed) → (int_le (pos 1) lanes && int_le lanes (pos 16)) ≡ true → lists_of lanes d ≡ Ok lists
+    → AllByRecursion FewLists lists
 few_lists lanes d lists most h =
     let a = bound (wanted as_list [] (codes "phases") d) (each_from (lists_of_phase lanes) 0) lists h in
-    each_gives (lists_of_phase lanes) (λ (ls : List (List Data)). length ls ≤ 16) (λ p x ls is. few_lanes (length ls) lanes (lists_within lanes p x ls is) most) 0 a.0 lists a.2
+    each_gives (lists_of_phase lanes) FewLists (λ p x l is. few_in_phase lanes (at (codes "/phases") p) x l most is) 0 a.0 lists a.2
 
 many_in_lane : (phase lane index : ℕ) (cs : List Known) → length (lane_calls phase lane index cs) ≡ length cs
 many_in_lane phase lane index [] = refl
 many_in_lane phase lane index (c ∷ cs) = ap suc (many_in_lane phase lane (suc index) cs)
 
-many_in_phase : (phase lane : ℕ) (ls : Phase) → length (phase_calls phase lane ls) ≡ calls_of ls
+many_in_phase : (phase lane : ℕ) (ls : Phase) → length (phase_calls phase lane ls) ≡ sum_by length ls
 many_in_phase phase lane [] = refl
 many_in_phase phase lane (cs ∷ ls) =
     let first = many_in_lane phase lane 0 cs in
     let rest = many_in_phase phase (suc lane) ls in
     length-append (lane_calls phase lane 0 cs) (phase_calls phase (suc lane) ls) ∙ omega (arith, first, rest, sum_by-cons length cs ls)
 
-many_in_script : (phase : ℕ) (ps : List Phase) → length (script_calls phase ps) ≡ sum_by calls_of ps
+many_in_script : (phase : ℕ) (ps : List ScriptPhase) → length (script_calls phase (map lists_in ps)) ≡ sum_by calls_of ps
 many_in_script phase [] = refl
-many_in_script phase (ls ∷ ps) =
-    let first = many_in_phase phase 0 ls in
+many_in_script phase (p ∷ ps) =
+    let first = many_in_phase phase 0 (lists_in p) in
     let rest = many_in_script (suc phase) ps in
-    length-append (phase_calls phase 0 ls) (script_calls (suc phase) ps) ∙ omega (arith, first, rest, sum_by-cons calls_of ls ps)
+    length-append (phase_calls phase 0 (lists_in p)) (script_calls (suc phase) (map lists_in ps)) ∙ omega (arith, first, rest, sum_by-cons calls_of p ps)
 
 -- ---- scripts
 
 -- the parts of a script
 record HasParts (file : ClassFile) (P : Program) (s : Script) : Type 0 where
   head : Head
-  lists : List (List (List Data))
+  lists : List Listed
   lanes : (int_le (pos 1) head.lanes && int_le head.lanes (pos 16)) ≡ true
   attempts : (int_le (pos 1) head.attempts && int_le head.attempts (pos 1000000)) ≡ true
   many : (int_le (pos 0) (pos (length lists)) && int_le (pos (length lists)) (pos 10000)) ≡ true
-  few : AllByRecursion (λ (ls : List (List Data)). length ls ≤ 16) lists
-  phases : each_from (phase_of file P) 0 lists ≡ Ok s.phases
+  few : AllByRecursion FewLists lists
+  phases : each_from (phase_of file P (unsigned_abs head.lanes)) 0 lists ≡ Ok s.phases
   calls : nat_le (sum_by calls_of s.phases) 100000 ≡ true
   attempts_are : s.attempts ≡ unsigned_abs head.attempts
 
 module _ (file : ClassFile) (P : Program) (s : Script) where
-  parts_of : (d : Data) (head : Head) (lists : List (List (List Data))) → lists_of head.lanes d ≡ Ok lists → script_of file P head lists ≡ Ok s → HasParts file P s
+  parts_of : (d : Data) (head : Head) (lists : List Listed) → lists_of head.lanes d ≡ Ok lists → script_of file P head lists ≡ Ok s → HasParts file P s
   parts_of d head lists are h =
-      let ended : Head → Result Script Refusal = λ k. each_from (phase_of file P) 0 lists >>= script_with k in
+      let ended : Head → Result Script Refusal = λ k. each_from (phase_of file P (unsigned_abs head.lanes)) 0 lists >>= script_with k in
       let region : Head → Result Head Refusal = λ k. within (codes "region") (pos (length (opening_words (file ∷ [])))) (pos 1048576) k.region (within (codes "phases") (pos 0) (pos 10000) (pos (length lists)) (Ok k)) in
       let a = bound (is_within file head (length lists)) ended s h in
       let b = bound (numbers_within head) region a.0 a.1 in
@@ -204,7 +281,7 @@ module _ (file : ClassFile) (P : Program) (s : Script) where
       let words = inside (codes "region") (pos (length (opening_words (file ∷ [])))) (pos 1048576) b.0.region (within (codes "phases") (pos 0) (pos 10000) (pos (length lists)) (Ok b.0)) a.0 b.2 in
       let many = inside (codes "phases") (pos 0) (pos 10000) (pos (length lists)) (Ok b.0) a.0 words.1 in
       let kept : head ≡ a.0 = let x = attempts.1 in let y = many.1 in cc in
-      let c = bound (each_from (phase_of file P) 0 lists) (script_with a.0) s a.2 in
+      let c = bound (each_from (phase_of file P (unsigned_abs head.lanes)) 0 lists) (script_with a.0) s a.2 in
       let e = passed (nat_le (sum_by calls_of c.0) 100000) (OverLimit (codes "calls") (pos (sum_by calls_of c.0))) (Ok (record { budget = unsigned_abs a.0.budget; attempts = unsigned_abs a.0.attempts; phases = c.0 })) s c.2 in
       let is : s ≡ record { budget = unsigned_abs a.0.budget; attempts = unsigned_abs a.0.attempts; phases = c.0 } = let x = e.1 in cc in
       let phases : s.phases ≡ c.0 = ap (λ (t : Script). t.phases) is in
@@ -215,8 +292,8 @@ module _ (file : ClassFile) (P : Program) (s : Script) where
         attempts = attempts.0;
         many = many.0;
         few = few_lists head.lanes d lists lanes.0 are;
-        phases = c.1 ∙ ap (λ (ps : List Phase). Ok ps) (sym phases);
-        calls = ap (λ (ps : List Phase). nat_le (sum_by calls_of ps) 100000) phases ∙ e.0;
+        phases = c.1 ∙ ap (λ (ps : List ScriptPhase). Ok ps) (sym phases);
+        calls = ap (λ (ps : List ScriptPhase). nat_le (sum_by calls_of ps) 100000) phases ∙ e.0;
         attempts_are = ap (λ (t : Script). t.attempts) is ∙ ap (λ (k : Head). unsigned_abs k.attempts) (sym kept);
       }
 
@@ -233,13 +310,13 @@ module _ (file : ClassFile) (P : Program) (s : Script) where
   pub scripted : (bytes : List ℕ) → IsScript file P bytes s → AreScripted P s.phases
   scripted bytes is =
       let p = parts bytes is in
-      let same = each_length (phase_of file P) 0 p.lists s.phases p.phases in
+      let same = each_length (phase_of file P (unsigned_abs p.head.lanes)) 0 p.lists s.phases p.phases in
       let many = few_phases (length p.lists) p.many in
       let calls = few_calls (sum_by calls_of s.phases) p.calls in
       let all = many_in_script 0 s.phases in
       record {
-        calls = calls_are file P p.lists s.phases p.phases;
-        lanes = lanes_are file P 16 p.lists s.phases p.few p.phases;
+        calls = calls_are file P (unsigned_abs p.head.lanes) p.lists s.phases p.phases;
+        lanes = lanes_are file P (unsigned_abs p.head.lanes) p.lists s.phases (some_lanes p.head.lanes p.lanes) p.few p.phases;
         few_phases = omega (arith, same, many);
         few_calls = omega (arith, all, calls);
       }

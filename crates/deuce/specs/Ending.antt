@@ -1,5 +1,5 @@
 -- What the program writes, and why it ends as it does.
-use Rattle.std.specs.Prelude.{◌≡◌, ◌⊎◌, ℕ, ◌<◌, ◌≤◌, pos, List, ◌++◌, length, Bool, false, Option, Some, None, Ok, Err, slice_get, codes, string_bytes}
+use Rattle.std.specs.Prelude.{◌≡◌, ◌⊎◌, ℕ, ◌<◌, ◌≤◌, pos, List, [], ◌∷◌, ◌++◌, length, Bool, false, Option, Some, None, Ok, Err, slice_get, codes, string_bytes}
 use Rattle.std.specs.Prelude.{option_map, take}
 use Rattle.std.specs.Option.{ForSome}
 use Rattle.deuce_io.specs.Fault.{Call, list_of, read_of, put_of, Rose}
@@ -13,7 +13,14 @@ use Rattle.jmodel.specs.ClassRules.{Spells}
 use Rattle.jmodel.specs.ClassFileReading.{class_file_of}
 use Rattle.std.specs.List.{AllByRecursion}
 use Rattle.jmodel.specs.Name.{printed}
+use Rattle.jmodel.specs.declared.value.Answer.{Answer}
 use Rattle.jmodel.specs.Program.{Method, Program}
+use Rattle.jmodel.specs.State.{State}
+use Rattle.jmodel.specs.Layout.{opening_state}
+use Rattle.jmodel.specs.Opening.{initialisers, Opening, Fails}
+use Rattle.session.specs.Rule.{IsState}
+use Rattle.driver.specs.declared.setting_up.SetUpEnd.{SetUpEnd}
+use Rattle.driver.specs.declared.setting_up.SetUpEnd.TheVariants as set_ends
 use Rattle.jmodel.specs.Decoding.{own_name}
 use Rattle.jmodel.specs.Linking.{linking, linked, pc_of}
 use Rattle.jmodel.specs.Typing.{IsTypable, IsUntypableAt}
@@ -151,7 +158,7 @@ in_class name r = r
 abbrev pub PassesLimit : Program → ClassFile → Refusal → Type 0
 PassesLimit P file r = (fault : Refusal) × (rewritten_class P file ≡ Err fault) × (r ≡ in_class (own_name file) fault)
 
--- Why a class whose file is good is refused: its code has this fault, the first; or it means a program of which each method has
+-- Why a class whose file is good is refused: the annotations of its methods, or their code, have this fault, the first; or it means a program of which each method has
 -- a typing, and this is the first limit that its rewriting passes.
 abbrev pub IsBadProgram : Refusal → ClassFile → Type 0
 IsBadProgram r file = (linking file ≡ Err r)
@@ -181,6 +188,17 @@ pub record IsNoScript (file : ClassFile) (P : Program) (bytes : List ℕ) (r : R
 abbrev pub IsBadScript : List ℕ → Refusal → ClassFile → Type 0
 IsBadScript bytes r file = (P : Program) × IsRunnable file P × IsNoScript file P bytes r
 
+-- Why a run doesn't begin: the class can be run and the bytes are a script for it, but its static initialiser, run alone from the state of
+-- the opening words, within the script's turns, doesn't return. It ends so; the name is that of the class.
+pub record IsUnopened (bytes name : List ℕ) (x : Answer) (file : ClassFile) : Type 0 where
+  pub program : Program
+  pub runnable : IsRunnable file program
+  pub script : Script
+  pub is_script : IsScript file program bytes script
+  pub class : name ≡ own_name file
+  pub number : ℕ
+  pub fails : Fails program script.budget (opening_state (file ∷ [])) (initialisers program) number x
+
 -- the class isn't of the form that is built so far
 abbrev pub IsOutsideForm : ClassFile → Type 0
 IsOutsideForm file = linking file ≡ Ok None
@@ -194,6 +212,12 @@ pub record HasBadScript (files : Option Files) (dir script : List ℕ) (r : Refu
   pub script_bytes : List ℕ
   pub script_front : IsFrontOf files script 16777217 script_bytes
   pub of_class : HasClass files dir (IsBadScript script_bytes r)
+
+-- A folder has one good class file, and a script for it, but a run of it doesn't begin.
+pub record HasUnopened (files : Option Files) (dir script name : List ℕ) (x : Answer) : Type 0 where
+  pub script_bytes : List ℕ
+  pub script_holds : Holds files script script_bytes
+  pub of_class : HasClass files dir (IsUnopened script_bytes name x)
 
 -- The files of a folder, as it tells them, let the script at a path be run on the folder's one class file.
 pub record CanRunIn (told : Files) (dir script : List ℕ) : Type 0 where
@@ -233,14 +257,20 @@ IsOfClass class Holding = (length class ≤ 1048576) × (file : ClassFile) × Sp
 abbrev pub NoScript : Refusal → ClassFile → Type 0
 NoScript r file = ⊥
 
--- why a command over the bytes of a class file isn't done; what a script is refused for, and what isn't built, is said of the class
-abbrev pub EndsCommand : List ℕ → (Refusal → ClassFile → Type 0) → (ClassFile → Type 0) → RunEnd → Type 0
-EndsCommand class Bad Unbuilt (run_ends.BadClass r) = IsFileFault class r
-EndsCommand class Bad Unbuilt (run_ends.BadProgram r) = IsOfClass class (IsBadProgram r)
-EndsCommand class Bad Unbuilt (run_ends.Untyped r) = IsOfClass class (IsUntypable r)
-EndsCommand class Bad Unbuilt (run_ends.BadScript r) = IsOfClass class (Bad r)
-EndsCommand class Bad Unbuilt run_ends.NotBuilt = IsOfClass class Unbuilt
-EndsCommand class Bad Unbuilt run_ends.NoMemory = Unit {0}
+-- and begins no run
+abbrev pub NoOpening : List ℕ → Answer → ClassFile → Type 0
+NoOpening name x file = ⊥
+
+-- why a command over the bytes of a class file isn't done; what a script is refused for, why a run doesn't begin, and what isn't built, is
+-- said of the class
+abbrev pub EndsCommand : List ℕ → (Refusal → ClassFile → Type 0) → (List ℕ → Answer → ClassFile → Type 0) → (ClassFile → Type 0) → RunEnd → Type 0
+EndsCommand class Bad Shut Unbuilt (run_ends.BadClass r) = IsFileFault class r
+EndsCommand class Bad Shut Unbuilt (run_ends.BadProgram r) = IsOfClass class (IsBadProgram r)
+EndsCommand class Bad Shut Unbuilt (run_ends.Untyped r) = IsOfClass class (IsUntypable r)
+EndsCommand class Bad Shut Unbuilt (run_ends.BadScript r) = IsOfClass class (Bad r)
+EndsCommand class Bad Shut Unbuilt (run_ends.Unopened name x) = IsOfClass class (Shut name x)
+EndsCommand class Bad Shut Unbuilt run_ends.NotBuilt = IsOfClass class Unbuilt
+EndsCommand class Bad Shut Unbuilt run_ends.NoMemory = Unit {0}
 
 -- why there is no class of these bytes
 abbrev pub EndsReading : List ℕ → RunEnd → Type 0
@@ -249,13 +279,14 @@ EndsReading class run_ends.NoMemory = Unit {0}
 EndsReading class end = ⊥
 
 -- why a command over a class isn't done
-abbrev pub EndsOnClass : ClassFile → (Refusal → ClassFile → Type 0) → (ClassFile → Type 0) → RunEnd → Type 0
-EndsOnClass file Bad Unbuilt (run_ends.BadClass r) = ⊥
-EndsOnClass file Bad Unbuilt (run_ends.BadProgram r) = IsBadProgram r file
-EndsOnClass file Bad Unbuilt (run_ends.Untyped r) = IsUntypable r file
-EndsOnClass file Bad Unbuilt (run_ends.BadScript r) = Bad r file
-EndsOnClass file Bad Unbuilt run_ends.NotBuilt = Unbuilt file
-EndsOnClass file Bad Unbuilt run_ends.NoMemory = Unit {0}
+abbrev pub EndsOnClass : ClassFile → (Refusal → ClassFile → Type 0) → (List ℕ → Answer → ClassFile → Type 0) → (ClassFile → Type 0) → RunEnd → Type 0
+EndsOnClass file Bad Shut Unbuilt (run_ends.BadClass r) = ⊥
+EndsOnClass file Bad Shut Unbuilt (run_ends.BadProgram r) = IsBadProgram r file
+EndsOnClass file Bad Shut Unbuilt (run_ends.Untyped r) = IsUntypable r file
+EndsOnClass file Bad Shut Unbuilt (run_ends.BadScript r) = Bad r file
+EndsOnClass file Bad Shut Unbuilt (run_ends.Unopened name x) = Shut name x file
+EndsOnClass file Bad Shut Unbuilt run_ends.NotBuilt = Unbuilt file
+EndsOnClass file Bad Shut Unbuilt run_ends.NoMemory = Unit {0}
 
 -- why a class has no program
 abbrev pub EndsBuild : ClassFile → RunEnd → Type 0
@@ -282,9 +313,27 @@ IsLimit file fault (run_ends.BadProgram r) = r ≡ in_class (own_name file) faul
 IsLimit file fault run_ends.NoMemory = Unit {0}
 IsLimit file fault end = ⊥
 
+-- words stand for the state that the static initialisers leave, from the state of the opening words
+abbrev pub IsOpened : ClassFile → Program → ℕ → List ℕ → Type 0
+IsOpened file P budget words = (τ : State) × Opening P budget (opening_state (file ∷ [])) (initialisers P) τ × IsState P words τ
+
+-- why the static initialisers of a class leave none
+abbrev pub EndsOpening : ClassFile → Program → ℕ → RunEnd → Type 0
+EndsOpening file P budget (run_ends.Unopened name x) = (name ≡ own_name file) × (n : ℕ) × Fails P budget (opening_state (file ∷ [])) (initialisers P) n x
+EndsOpening file P budget run_ends.NoMemory = Unit {0}
+EndsOpening file P budget end = ⊥
+
+-- the end of a run on a class whose static initialisers ended so
+abbrev pub IsUnopenedAs : ClassFile → SetUpEnd → RunEnd → Type 0
+IsUnopenedAs file (set_ends.Failed n x) (run_ends.Unopened name y) = (name ≡ own_name file) × (y ≡ x)
+IsUnopenedAs file set_ends.NoMemory (run_ends.Unopened name y) = ⊥
+IsUnopenedAs file e run_ends.NoMemory = Unit {0}
+IsUnopenedAs file e end = ⊥
+
 -- why a script isn't run on a class that can be
 abbrev pub EndsScript : ClassFile → Program → List ℕ → RunEnd → Type 0
 EndsScript file P bytes (run_ends.BadScript r) = IsNoScript file P bytes r
+EndsScript file P bytes (run_ends.Unopened name x) = (s : Script) × IsScript file P bytes s × EndsOpening file P s.budget (run_ends.Unopened name x)
 EndsScript file P bytes run_ends.NoMemory = Unit {0}
 EndsScript file P bytes end = ⊥
 

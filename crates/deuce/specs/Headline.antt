@@ -7,7 +7,8 @@ use Rattle.jmodel.specs.ClassRules.{Spells}
 use Rattle.jmodel.specs.Program.{Method, Program, method_at}
 use Rattle.jmodel.specs.State.{State}
 use Rattle.jmodel.specs.Layout.{opening_state}
-use Rattle.jmodel.specs.Schedule.{Phase, Made, IsJournal}
+use Rattle.jmodel.specs.Opening.{initialisers, Opening}
+use Rattle.jmodel.specs.Schedule.{Phase, Made, IsJournal, ScriptPhase}
 use Rattle.jmodel.specs.Linking.{linked}
 use Rattle.jmodel.specs.Typing.{IsTypable}
 use Rattle.jmodel.specs.Output.{Line, journal_text}
@@ -26,7 +27,7 @@ abbrev pub line_of : Program → Made → Line
 line_of P m = record { phase = m.call.phase; lane = m.call.lane; index = m.call.index; method = name_in (method_at P m.call.method); answer = m.answer }
 
 -- The text is the journal of these calls of the original methods.
-pub record AreCalls (P : Program) (budget : ℕ) (opening : State) (phases : List Phase) (text : List ℕ) : Type 0 where
+pub record AreCalls (P : Program) (budget : ℕ) (opening : State) (phases : List ScriptPhase) (text : List ℕ) : Type 0 where
   pub placed : List Made
   pub unplaced : List Made
   pub is_journal : IsJournal P budget opening phases placed unplaced
@@ -40,15 +41,17 @@ pub record IsRunnable (file : ClassFile) (P : Program) : Type 0 where
   pub instrumented : ClassFile
   pub rewrites : rewritten_class P file ≡ Ok instrumented
 
--- The script can be run on the class.
+-- The script can be run on the class: its static initialiser returns, within the script's turns.
 pub record CanRun (file : ClassFile) (bytes : List ℕ) : Type 0 where
   pub program : Program
   pub runnable : IsRunnable file program
   pub script : Script
   pub is_script : IsScript file program bytes script
+  pub opening : State
+  pub opens : Opening program script.budget (opening_state (file ∷ [])) (initialisers program) opening
 
 -- The text is the journal of a run of a script on a class file each of whose methods has a typing: each call of the script once, in
--- an order that keeps the phases' and each lane's.
+-- an order that keeps the phases' and each lane's, from the state that the static initialiser leaves.
 pub record IsRun (class bytes text : List ℕ) : Type 0 where
   pub file : ClassFile
   pub spells : Spells class file
@@ -57,4 +60,6 @@ pub record IsRun (class bytes text : List ℕ) : Type 0 where
   pub typed : AllByRecursion (IsTypable program) program.methods
   pub script : Script
   pub is_script : IsScript file program bytes script
-  pub are_calls : AreCalls program script.budget (opening_state (file ∷ [])) script.phases text
+  pub opening : State
+  pub opens : Opening program script.budget (opening_state (file ∷ [])) (initialisers program) opening
+  pub are_calls : AreCalls program script.budget opening script.phases text

@@ -6,16 +6,17 @@ use Rattle.deuce_io.specs.Fault.{Call}
 use Rattle.deuce_io.specs.Files.{Files}
 use Rattle.jmodel.specs.declared.refusal.Refusal.{Refusal}
 use Rattle.jmodel.specs.ClassFile.{ClassFile}
-use Rattle.jmodel.specs.Output.{◌and◌, refusal_text, error_text}
+use Rattle.jmodel.specs.declared.value.Answer.{Answer}
+use Rattle.jmodel.specs.Output.{◌and◌, answer_text, refusal_text, error_text}
 use Rattle.deuce.specs.Command.{seen_words, run_words, rewrite_words, IsNoCommand, NamesFolder}
 use Rattle.deuce.specs.Rewritten.{counts_text}
-use Rattle.deuce.specs.Ending.{IsCallOfFolder, IsCallOfRun, Failed, FailedPut, IsJournalOf, IsRewritingOf, PutsOne, IsBadClass, HasClass, HasNoOneClass, IsBadProgram, IsUntypable, HasBadScript, IsOutsideForm, IsNotRewritten, CanRunIn, CanRewriteIn}
+use Rattle.deuce.specs.Ending.{IsCallOfFolder, IsCallOfRun, Failed, FailedPut, IsJournalOf, IsRewritingOf, PutsOne, IsBadClass, HasClass, HasNoOneClass, IsBadProgram, IsUntypable, HasBadScript, HasUnopened, IsOutsideForm, IsNotRewritten, CanRunIn, CanRewriteIn}
 use Rattle.deuce.specs.declared.inputs.InputEnd.{InputEnd}
 use Rattle.deuce.specs.declared.inputs.InputEnd.TheVariants as ends
 use Rattle.deuce.specs.declared.run.RunEnd.{RunEnd}
 use Rattle.deuce.specs.declared.run.RunEnd.TheVariants as run_ends
 use Rattle.deuce.specs.declared.outcome.Outcome.{Outcome}
-use Rattle.deuce.specs.declared.outcome.Outcome.TheVariants.{Journal, Rewritten, Usage, BadClass, BadProgram, Untyped, BadScript, Outside, NotPut, NotBuilt}
+use Rattle.deuce.specs.declared.outcome.Outcome.TheVariants.{Journal, Rewritten, Usage, BadClass, BadProgram, Untyped, BadScript, Unopened, Outside, NotPut, NotBuilt}
 
 -- the text that an outcome is printed as
 abbrev pub IsTextOf : Outcome → List ℕ → Type 0
@@ -26,6 +27,7 @@ IsTextOf (BadClass path refusal) printed = printed ≡ error_text (codes "3") (s
 IsTextOf (BadProgram refusal) printed = printed ≡ error_text (codes "4") (refusal_text refusal)
 IsTextOf (Untyped refusal) printed = printed ≡ error_text (codes "5") (refusal_text refusal)
 IsTextOf (BadScript refusal) printed = printed ≡ error_text (codes "6") (refusal_text refusal)
+IsTextOf (Unopened class answer) printed = printed ≡ error_text (codes "7") (class and answer_text answer)
 IsTextOf (Outside path) printed = printed ≡ error_text (codes "8") (string_bytes path)
 IsTextOf (NotPut path) printed = printed ≡ error_text (codes "11") (string_bytes path)
 IsTextOf NotBuilt printed = printed ≡ error_text (codes "12") (codes "NotBuilt")
@@ -39,6 +41,7 @@ status_of (BadClass path refusal) = 3
 status_of (BadProgram refusal) = 4
 status_of (Untyped refusal) = 5
 status_of (BadScript refusal) = 6
+status_of (Unopened class answer) = 7
 status_of (Outside path) = 8
 status_of (NotPut path) = 11
 status_of NotBuilt = 12
@@ -49,6 +52,7 @@ IsRefusedAs path (run_ends.BadClass r) o = o ≡ BadClass path r
 IsRefusedAs path (run_ends.BadProgram r) o = o ≡ BadProgram r
 IsRefusedAs path (run_ends.Untyped r) o = o ≡ Untyped r
 IsRefusedAs path (run_ends.BadScript r) o = o ≡ BadScript r
+IsRefusedAs path (run_ends.Unopened class x) o = o ≡ Unopened class x
 IsRefusedAs path run_ends.NotBuilt o = o ≡ NotBuilt
 IsRefusedAs path run_ends.NoMemory o = ⊥
 
@@ -69,6 +73,10 @@ IsOfWords words files Says r = (dir : List ℕ) × NamesFolder words dir × HasC
 -- The words ask for a run, and its script has this fault.
 abbrev pub IsBadScriptOfWords : List (String Global) → Option Files → Refusal → Type 0
 IsBadScriptOfWords words files r = (dir : List ℕ) × (script : List ℕ) × (seen_words words ≡ run_words dir script) × HasBadScript files dir script r
+
+-- The words ask for a run, and the static initialiser of its class doesn't return.
+abbrev pub IsUnopenedOfWords : List (String Global) → Option Files → List ℕ → Answer → Type 0
+IsUnopenedOfWords words files class x = (dir : List ℕ) × (script : List ℕ) × (seen_words words ≡ run_words dir script) × HasUnopened files dir script class x
 
 -- The words ask for a run, and its folder hasn't one class file alone, or it has, and that isn't of the form.
 abbrev pub IsUnbuiltRun : List (String Global) → Option Files → Type 0
@@ -125,7 +133,7 @@ seen files faults put_faults failed = record { files = files; faults = faults; p
 
 -- the statuses of refusals: nothing was put before them
 abbrev pub IsRefusal : ℕ → Type 0
-IsRefusal status = (status ≡ 2) ⊎ ((status ≡ 3) ⊎ ((status ≡ 4) ⊎ ((status ≡ 5) ⊎ ((status ≡ 6) ⊎ ((status ≡ 8) ⊎ (status ≡ 12))))))
+IsRefusal status = (status ≡ 2) ⊎ ((status ≡ 3) ⊎ ((status ≡ 4) ⊎ ((status ≡ 5) ⊎ ((status ≡ 6) ⊎ ((status ≡ 7) ⊎ ((status ≡ 8) ⊎ (status ≡ 12)))))))
 
 -- an outcome before which nothing is put
 abbrev pub Keeps : Outcome → Seen → Seen → Type 0
@@ -142,6 +150,7 @@ Says words old new (BadClass path refusal) = IsBadClassOfWords words old.files (
 Says words old new (BadProgram refusal) = IsOfWords words old.files IsBadProgram refusal
 Says words old new (Untyped refusal) = IsOfWords words old.files IsUntypable refusal
 Says words old new (BadScript refusal) = IsBadScriptOfWords words old.files refusal
+Says words old new (Unopened class answer) = IsUnopenedOfWords words old.files class answer
 Says words old new (Outside path) = FailedOutside words (string_bytes path) old.faults new.faults new.failed
 Says words old new (NotPut path) = FailedPutOfWords words old.files (string_bytes path) old.put_faults new.put_faults new.failed
 Says words old new NotBuilt = IsNotBuilt words old.files

@@ -1,10 +1,11 @@
 -- What `rewrite` promises: the file that it puts is the rewriting of the class.
-use Rattle.std.specs.Prelude.{◌≡◌, ℕ, List, ◌++◌, length, filter, Some, Ok, Bool, is_some, codes}
+use Rattle.std.specs.Prelude.{◌≡◌, ℕ, List, ◌++◌, length, filter, Some, Ok, codes}
 use Rattle.std.specs.List.{AllByRecursion}
 use Rattle.std.specs.Fmt.{decimal}
 use Rattle.jmodel.specs.ClassFile.{ClassFile}
 use Rattle.jmodel.specs.ClassRules.{Spells}
-use Rattle.jmodel.specs.Program.{Method, Program}
+use Rattle.jmodel.specs.Program.{Program}
+use Rattle.jmodel.specs.Schedule.{is_marked}
 use Rattle.jmodel.specs.Linking.{linked, relinked}
 use Rattle.jmodel.specs.Rewriting.{rewritten}
 use Rattle.jmodel.specs.Typing.{IsTypable}
@@ -12,10 +13,6 @@ use Rattle.jmodel.specs.Output.{◌and◌, line}
 use Rattle.rewriter.specs.Meaning.{HasFewMembers}
 use Rattle.rewriter.specs.Rewritten.{rewritten_class}
 use Rattle.deuce.specs.Headline.{IsRunnable}
-
--- a marked method
-abbrev pub is_marked : Method → Bool
-is_marked k = is_some k.retries
 
 -- what is printed: how many classes the folder has, how many of their methods are taken, and how many are marked
 abbrev pub counts_text : ℕ → ℕ → List ℕ

@@ -92,6 +92,7 @@ fn refused(path: String, end: RunEnd) -> Result<Outcome, NoMemory>
         RunEnd::BadProgram(refusal) => Ok(Outcome::BadProgram(refusal)),
         RunEnd::Untyped(refusal) => Ok(Outcome::Untyped(refusal)),
         RunEnd::BadScript(refusal) => Ok(Outcome::BadScript(refusal)),
+        RunEnd::Unopened { class, answer } => Ok(Outcome::Unopened { class, answer }),
         RunEnd::NotBuilt => Ok(Outcome::NotBuilt),
         RunEnd::NoMemory => Err(NoMemory),
     }

@@ -1,11 +1,12 @@
 //! How a command ends, before anything is written.
 ghost use Rattle.std.specs.Prelude.{◌≡◌, ◌++◌, ◌∷◌, [], IfOk, codes};
-ghost use Rattle.jmodel.specs.Output.{◌and◌, refusal_text, error_text};
+ghost use Rattle.jmodel.specs.Output.{◌and◌, answer_text, refusal_text, error_text};
 ghost use Rattle.deuce.specs.Outcomes.{IsTextOf};
 ghost use Rattle.deuce.specs.Rewritten.{counts_text};
 
 use crate::refusal::push_refusal;
-use jmodel::{Bytes, Refusal};
+use crate::text::push_answer;
+use jmodel::{Answer, Bytes, Refusal};
 use std::alloc::{AllocError, Global};
 
 /// How a command ends.
@@ -25,6 +26,8 @@ pub enum Outcome {
     Untyped(Refusal),
     /// The script is none for the class, with the first rule that it breaks.
     BadScript(Refusal),
+    /// The static initialiser of the class of this name doesn't return, but ends so.
+    Unopened { class: Bytes, answer: Answer },
     /// A list or a read of the folder failed at this path.
     Outside(String),
     /// The put at this path failed.
@@ -50,6 +53,18 @@ fn refusal_line(alloc: Global, head: &[u8], refusal: &Refusal) -> Result<Bytes, 
 {
     let mut line = Bytes::from_slice(alloc, head)?;
     push_refusal(alloc, &mut line, refusal)?;
+    line.push(b'\n')?;
+    Ok(line)
+}
+
+// The line of a class whose static initialiser ends so.
+fn unopened_line(alloc: Global, class: &Bytes, answer: &Answer) -> Result<Bytes, AllocError>
+    ensures { IfOk result (λ line. line ≡ error_text (codes "7") (class.now and answer_text answer.now)) }
+{
+    let mut line = Bytes::from_slice(alloc, b"error 7 ")?;
+    line.extend_from_slice(class.as_slice())?;
+    line.push(b' ')?;
+    push_answer(alloc, &mut line, answer)?;
     line.push(b'\n')?;
     Ok(line)
 }
@@ -84,6 +99,7 @@ pub fn text_of(alloc: Global, outcome: Outcome) -> Result<Bytes, AllocError>
         Outcome::BadProgram(refusal) => refusal_line(alloc, b"error 4 ", &refusal),
         Outcome::Untyped(refusal) => refusal_line(alloc, b"error 5 ", &refusal),
         Outcome::BadScript(refusal) => refusal_line(alloc, b"error 6 ", &refusal),
+        Outcome::Unopened { class, answer } => unopened_line(alloc, &class, &answer),
         Outcome::Outside(path) => path_line(alloc, b"error 8 ", path.as_str()),
         Outcome::NotPut(path) => path_line(alloc, b"error 11 ", path.as_str()),
         Outcome::NotBuilt => Bytes::from_slice(alloc, b"error 12 NotBuilt\n"),
@@ -105,6 +121,7 @@ impl Outcome {
             Outcome::BadProgram(_) => 4,
             Outcome::Untyped(_) => 5,
             Outcome::BadScript(_) => 6,
+            Outcome::Unopened { .. } => 7,
             Outcome::Outside(_) => 8,
             Outcome::NotPut(_) => 11,
             Outcome::NotBuilt => 12,

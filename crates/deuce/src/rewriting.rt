@@ -2,8 +2,9 @@
 ghost use Rattle.std.specs.Prelude.{◌≡◌, ◌≤◌, ◌↔◌, ℕ, List, length, filter, IfOk, IfErr, OnOk, IsTrue};
 ghost use Rattle.jmodel.specs.ClassRules.{IsClassFile, Spells};
 ghost use Rattle.rewriter.specs.Meaning.{AreFiled, HasFewMembers};
-ghost use Rattle.deuce.specs.Ending.{EndsCommand, EndsOnClass, NoScript, IsNotRewritten};
-ghost use Rattle.deuce.specs.Rewritten.{is_marked, IsRewriting};
+ghost use Rattle.jmodel.specs.Schedule.{is_marked};
+ghost use Rattle.deuce.specs.Ending.{EndsCommand, EndsOnClass, NoScript, NoOpening, IsNotRewritten};
+ghost use Rattle.deuce.specs.Rewritten.{IsRewriting};
 
 use crate::run::{RunEnd, class_of, prepare};
 use class_writer::write_class;
@@ -37,7 +38,7 @@ impl From<NoMemory> for RunEnd {
 pub fn rewrite_file(alloc: Global, class: &[u8]) -> Result<NewFile, RunEnd>
     ensures rewriting { IfOk result (λ f. IsRewriting class.now f.bytes f.taken f.marked) }
     ensures within { OnOk result (length class.now ≤ 1048576) }
-    ensures cause { IfErr result (EndsCommand class.now NoScript IsNotRewritten) }
+    ensures cause { IfErr result (EndsCommand class.now NoScript NoOpening IsNotRewritten) }
 {
     let file = class_of(alloc, class)?;
     write_rewriting(alloc, &file)
@@ -48,7 +49,7 @@ fn write_rewriting(alloc: Global, class: &ClassFile) -> Result<NewFile, RunEnd>
     requires form { IsClassFile class.now }
     requires filed { AreFiled class.now }
     ensures rewriting { IfOk result (λ f. (bytes : List ℕ) → Spells bytes class.now → IsRewriting bytes f.bytes f.taken f.marked) }
-    ensures cause { IfErr result (EndsOnClass class.now NoScript IsNotRewritten) }
+    ensures cause { IfErr result (EndsOnClass class.now NoScript NoOpening IsNotRewritten) }
 {
     let prepared = prepare(alloc, class)?;
     if !has_few_members(&prepared.rewriting.class) {
@@ -74,8 +75,5 @@ fn has_few_members(class: &ClassFile) -> bool
 fn count_marked(methods: &[Method]) -> usize
     ensures { result ≡ length (filter is_marked methods.now) }
 {
-    methods
-        .iter()
-        .filter(|method| method.retries().is_some())
-        .count()
+    methods.iter().filter(|method| method.is_marked()).count()
 }

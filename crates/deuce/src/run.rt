@@ -1,5 +1,5 @@
 //! A run, from the bytes of a class file and a script to the text of its journal.
-ghost use Rattle.std.specs.Prelude.{◌≡◌, ◌≤◌, ℕ, List, length, Some, Ok, IfOk, IfErr, OnOk};
+ghost use Rattle.std.specs.Prelude.{◌≡◌, ◌≤◌, ◌<◌, ◌+◌, ◌^◌, ℕ, List, length, Some, Ok, IfOk, IfErr, OnOk};
 ghost use Rattle.jmodel.specs.ClassRules.{IsClassFile, Spells};
 ghost use Rattle.jmodel.specs.Linking.{linked};
 ghost use Rattle.jmodel.specs.Rewriting.{rewritten as rewritten_program};
@@ -8,7 +8,7 @@ ghost use Rattle.std.specs.List.{AllByRecursion};
 ghost use Rattle.rewriter.specs.Meaning.{AreFiled, HasFewMembers};
 ghost use Rattle.rewriter.specs.Rewritten.{rewritten_class};
 ghost use Rattle.deuce.specs.Headline.{IsRun};
-ghost use Rattle.deuce.specs.Ending.{EndsReading, EndsCommand, EndsOnClass, EndsBuild, EndsRewriting, EndsScript, IsLimit, IsBadScript, NoScript, IsOutsideForm};
+ghost use Rattle.deuce.specs.Ending.{EndsReading, EndsCommand, EndsOnClass, EndsBuild, EndsRewriting, EndsScript, EndsOpening, IsOpened, IsUnopenedAs, IsLimit, IsBadScript, IsUnopened, NoScript, NoOpening, IsOutsideForm};
 ghost use Rattle.script.specs.Script.{IsScript};
 ghost use Rattle.session.specs.Rule.{IsReady};
 
@@ -17,10 +17,10 @@ use crate::text::journal;
 use crate::typed::type_all;
 use class_reader::read_class;
 use const_pool::ClassFile;
-use driver::{Limits, run_phases};
+use driver::{Limits, SetUpEnd, run_phases, set_up};
 use hierarchy::symbols::own_name;
 use hierarchy::{BuildEnd, Program, opening_words};
-use jmodel::{Bytes, Halt, Refusal};
+use jmodel::{Answer, Bytes, Halt, Refusal};
 use rewriter::{Rewriting, rewrite};
 use script::{Script, read_script};
 use std::alloc::{AllocError, Global};
@@ -37,6 +37,8 @@ pub enum RunEnd {
     Untyped(Refusal),
     /// The script is none for the class, with the first rule that it breaks.
     BadScript(Refusal),
+    /// The static initialiser of the class of this name doesn't return, but ends so.
+    Unopened { class: Bytes, answer: Answer },
     /// The class isn't of the form that is built so far, or the rewritten class would have too many members.
     NotBuilt,
     NoMemory,
@@ -62,7 +64,7 @@ pub fn run<R: Threads + Sync>(
 ) -> Result<Bytes, RunEnd>
     ensures run { IfOk result (IsRun class.now script.now) }
     ensures class { OnOk result (length class.now ≤ 1048576) }
-    ensures cause { IfErr result (EndsCommand class.now (IsBadScript script.now) IsOutsideForm) }
+    ensures cause { IfErr result (EndsCommand class.now (IsBadScript script.now) (IsUnopened script.now) IsOutsideForm) }
 {
     let file = class_of(alloc, class)?;
     run_class(rt, alloc, &file, script)
@@ -96,7 +98,7 @@ fn run_class<R: Threads + Sync>(
     requires form { IsClassFile class.now }
     requires filed { AreFiled class.now }
     ensures run { IfOk result (λ text. (bytes : List ℕ) → Spells bytes class.now → IsRun bytes script.now text) }
-    ensures cause { IfErr result (EndsOnClass class.now (IsBadScript script.now) IsOutsideForm) }
+    ensures cause { IfErr result (EndsOnClass class.now (IsBadScript script.now) (IsUnopened script.now) IsOutsideForm) }
 {
     let prepared = prepare(alloc, class)?;
     run_script(
@@ -125,7 +127,7 @@ pub fn prepare(alloc: Global, class: &ClassFile) -> Result<Prepared, RunEnd>
     ensures rewritten { IfOk result (λ p. (p.rewriting.program ≡ rewritten_program p.original) × (rewritten_class p.original class.now ≡ Ok p.rewriting.class)) }
     ensures stays_typed { IfOk result (λ p. AllByRecursion (IsTypable p.rewriting.program) p.rewriting.program.methods) }
     ensures rules { IfOk result (λ p. HasFewMembers p.rewriting.class → IsClassFile p.rewriting.class) }
-    ensures cause { IfErr result (EndsOnClass class.now NoScript IsOutsideForm) }
+    ensures cause { IfErr result (EndsOnClass class.now NoScript NoOpening IsOutsideForm) }
 {
     let original = build(alloc, class)?;
     type_all(alloc, class, &original)?;
@@ -197,6 +199,42 @@ fn script_of(
     }
 }
 
+/// Runs the static initialisers of a class's program by its rewriting, alone, over the words that memory begins with, and gives the words that
+/// they left.
+fn opened(
+    alloc: Global,
+    class: &ClassFile,
+    original: &Program,
+    rewritten: &Program,
+    limits: Limits,
+) -> Result<Vec<u64>, RunEnd>
+    requires links { linked class.now ≡ Some original.now }
+    requires ready { IsReady original.now rewritten.now }
+    requires attempts { (1 ≤ limits.attempts) × (limits.attempts ≤ 1000000) }
+    ensures opens { IfOk result (λ words. IsOpened class.now original.now limits.budget words.items) }
+    ensures size { IfOk result (λ words. length words.items + 4097 < 2 ^ 32) }
+    ensures cause { IfErr result (EndsOpening class.now original.now limits.budget) }
+{
+    let words = opening_words(alloc, class)?;
+    match set_up(alloc, original, rewritten, words, limits) {
+        Ok(words) => Ok(words),
+        Err(end) => Err(unopened(alloc, class, end)),
+    }
+}
+
+/// The end of a run on a class whose static initialisers ended so.
+fn unopened(alloc: Global, class: &ClassFile, end: SetUpEnd) -> RunEnd
+    ensures { IsUnopenedAs class.now end result }
+{
+    match end {
+        SetUpEnd::Failed(_, answer) => match Bytes::from_slice(alloc, own_name(class)) {
+            Ok(class) => RunEnd::Unopened { class, answer },
+            Err(_) => RunEnd::NoMemory,
+        },
+        SetUpEnd::NoMemory => RunEnd::NoMemory,
+    }
+}
+
 /// Runs a script on a class's program by its rewriting.
 fn run_script<R: Threads + Sync>(
     rt: &R,
@@ -212,11 +250,11 @@ fn run_script<R: Threads + Sync>(
     ensures cause { IfErr result (EndsScript class.now original.now script.now) }
 {
     let wanted = script_of(alloc, class, original, script)?;
-    let words = opening_words(alloc, class)?;
     let limits = Limits {
         budget: wanted.budget,
         attempts: wanted.attempts,
     };
+    let words = opened(alloc, class, original, rewritten, limits)?;
     let made = run_phases(
         rt,
         alloc,

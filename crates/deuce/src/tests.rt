@@ -8,8 +8,12 @@ use std::thread::Threads;
 mod code;
 mod ints;
 mod lanes;
+mod marks;
+mod narrow;
+mod opening;
 mod rewritten;
 mod scripts;
+mod switches;
 
 /// The class of the example, as a compiler wrote it.
 const COUNTER: [u8; 201] = [
@@ -218,8 +222,8 @@ fn a_second_file_or_a_folder_is_not_built(rt: HostRuntime) -> Result<(), Fail> {
     Ok(())
 }
 
-/// Whether a run of one call on a class ends: with its answer, with a fault of the file or of its code, with a call of no marked method, or as
-/// not built.
+/// Whether a run of one call on a class ends: with its answer, with a fault of the file, of its annotations or of its code, with a call of no
+/// marked method, or as not built.
 fn ends<R: Threads + Sync>(rt: &R, alloc: Global, class: &[u8]) -> Result<bool, IoEnd> {
     let words = words_of(alloc, ["run", "d", "s"].as_slice())?;
     let mut folder = folder_of(alloc, class, ONE_CALL)?;
@@ -232,6 +236,7 @@ fn ends<R: Threads + Sync>(rt: &R, alloc: Global, class: &[u8]) -> Result<bool, 
         4 => {
             written.starts_with(b"error 4 13 BadInstr Counter.inc()I ")
                 || written.starts_with(b"error 4 14 BadTarget Counter.inc()I ")
+                || written.starts_with(b"error 4 22 BadAnnotation Counter.inc()I ")
         }
         5 => written.starts_with(b"error 5 32 Untypable Counter.inc()I "),
         6 => {

@@ -2,10 +2,11 @@
 ghost use Rattle.std.specs.Prelude.{◌≡◌, ◌⊎◌, ℕ, List, IfOk, codes};
 ghost use Rattle.deuce_io.specs.Fault.{Rose};
 ghost use Rattle.jmodel.specs.declared.refusal.Refusal.{Refusal};
-ghost use Rattle.jmodel.specs.Output.{◌and◌, refusal_text, error_text};
+ghost use Rattle.jmodel.specs.declared.value.Answer.{Answer};
+ghost use Rattle.jmodel.specs.Output.{◌and◌, answer_text, refusal_text, error_text};
 ghost use Rattle.deuce.specs.Command.{seen_words, run_words, rewrite_words, IsNoRewriting, IsNoCommand};
 ghost use Rattle.deuce.specs.Ending.{IsJournalOf, IsRewritingOf, IsBadProgram, IsUntypable};
-ghost use Rattle.deuce.specs.Outcomes.{IsOutcome, IsBadClassOfWords, IsOfWords, IsBadScriptOfWords, IsNotBuilt, CanRunWords, CanRewriteWords, FailedOutside, FailedPutOfWords, ArePut, IsRefusal, Appends, IsCut, seen};
+ghost use Rattle.deuce.specs.Outcomes.{IsOutcome, IsBadClassOfWords, IsOfWords, IsBadScriptOfWords, IsUnopenedOfWords, IsNotBuilt, CanRunWords, CanRewriteWords, FailedOutside, FailedPutOfWords, ArePut, IsRefusal, Appends, IsCut, seen};
 ghost use Rattle.deuce.specs.Rewritten.{counts_text};
 
 use crate::commands::{rewrite_command, run_command};
@@ -27,6 +28,7 @@ use std::thread::Threads;
 /// | 4 | the code of the class has a fault, or its rewriting passes a limit; that is printed |
 /// | 5 | a method of the class has no typing; the first is printed |
 /// | 6 | the script is none for the class; the first rule that it breaks is printed |
+/// | 7 | the static initialiser of the class doesn't return; the class and the answer are printed |
 /// | 8 | a list or a read of this command failed |
 /// | 9 | the sink failed; a front of the output was written |
 /// | 10 | memory ran out; nothing was written, or a front of the output |
@@ -70,6 +72,10 @@ pub fn deuce<R: Threads + Sync, F: Folder, O: Sink>(
     ensures bad_script { result ≡ 6 → (refusal : Refusal) × IsBadScriptOfWords words.now (F.files folder.old) refusal
         × Appends (O.written out.old) (O.written out.new) (error_text (codes "6") (refusal_text refusal)) }
 
+    // It can be run, and the script is one for it, but its static initialiser, run alone within the script's turns, doesn't return: it ends so.
+    ensures unopened { result ≡ 7 → (class : List ℕ) × (answer : Answer) × IsUnopenedOfWords words.now (F.files folder.old) class answer
+        × Appends (O.written out.old) (O.written out.new) (error_text (codes "7") (class and answer_text answer)) }
+
     // The folder hasn't one class file alone, or that isn't of the form, or the rewritten class would have too many members.
     ensures not_built { result ≡ 12 → IsNotBuilt words.now (F.files folder.old) }
     ensures not_built_line { result ≡ 12 → Appends (O.written out.old) (O.written out.new) (error_text (codes "12") (codes "NotBuilt")) }
@@ -97,7 +103,7 @@ pub fn deuce<R: Threads + Sync, F: Folder, O: Sink>(
     ensures refused_keeps { IsRefusal result → F.files folder.new ≡ F.files folder.old }
     ensures put { ArePut words.now (F.files folder.old) (F.files folder.new) }
 
-    ensures statuses { (result ≡ 0) ⊎ ((result ≡ 2) ⊎ ((result ≡ 3) ⊎ ((result ≡ 4) ⊎ ((result ≡ 5) ⊎ ((result ≡ 6) ⊎ ((result ≡ 8) ⊎ ((result ≡ 9) ⊎ ((result ≡ 10) ⊎ ((result ≡ 11) ⊎ (result ≡ 12)))))))))) }
+    ensures statuses { (result ≡ 0) ⊎ ((result ≡ 2) ⊎ ((result ≡ 3) ⊎ ((result ≡ 4) ⊎ ((result ≡ 5) ⊎ ((result ≡ 6) ⊎ ((result ≡ 7) ⊎ ((result ≡ 8) ⊎ ((result ≡ 9) ⊎ ((result ≡ 10) ⊎ ((result ≡ 11) ⊎ (result ≡ 12))))))))))) }
 {
     let Ok(outcome) = outcome_of(rt, alloc, words, folder) else {
         return 10;

@@ -1,5 +1,5 @@
 -- A run's journal, phase by phase.
-use Rattle.std.proofs.Common.{◌≡◌, ℕ, ◌+◌, List, [], ◌∷◌, ◌++◌, length, map, All, AllPairs, true, sym, ◌∙◌, ap, subst, arith, inl, inr}
+use Rattle.std.proofs.Common.{◌≡◌, ℕ, ◌+◌, List, [], ◌∷◌, ◌++◌, length, map, All, AllPairs, true, refl, sym, ◌∙◌, ap, subst, arith, inl, inr}
 use Rattle.std.specs.Prelude.{IsPermutation}
 use Rattle.std.specs.List.{AllByRecursion}
 use Rattle.std.proofs.lemmas.Simd.{map-map}
@@ -11,26 +11,28 @@ use Rattle.jmodel.specs.declared.value.Answer.TheVariants.{NoMemory}
 use Rattle.jmodel.specs.Program.{Program}
 use Rattle.jmodel.specs.State.{State}
 use Rattle.jmodel.specs.History.{Call, Told}
-use Rattle.jmodel.specs.Schedule.{Phase, Made, MayPrecede, IsAccepted, IsJournal, phase_calls, script_calls, ascends, call_of, answer_of}
+use Rattle.jmodel.specs.Schedule.{ScriptPhase, AreDealt, AreScriptCalls, Made, MayPrecede, IsAccepted, IsJournal, ascends, call_of, answer_of}
 use Rattle.jmodel.specs.Serial.{Serial}
 use Rattle.session.specs.Rule.{IsState, IsStretch, calls_of, answers_of}
 use Rattle.session.specs.Lane.{record_of}
 use Rattle.driver.specs.declared.run.Journal.{Journal}
 use Rattle.driver.specs.Sides.{IsLaneKept}
-use Rattle.driver.specs.Phases.{AddsPhase}
+use Rattle.driver.specs.Phases.{AddsPhase, AddsDealt}
 use Rattle.driver.specs.Runs.{HasRun, made_of}
 use Rattle.driver.proofs.Lists.{all_map, all_from_map, all_left, all_right, pairs_nil, pairs_append, pairs_map}
-use Rattle.driver.proofs.Places.{IsOfPhase, IsBefore, all_phase, all_script, script_append, ascends_phase}
+use Rattle.driver.proofs.Places.{IsOfPhase, IsBefore, all_dealt, all_script, script_append, ascends_phase}
 use Rattle.driver.proofs.Stretches.{stretch_append, stretch_nil}
 use Rattle.driver.proofs.Lists.{sorted_out}
 
 -- what a journal has after phases, and what their calls lead to
-pub record HasRunTo (P : Program) (budget : ℕ) (phases : List Phase) (words left : List ℕ) (journal : Journal) : Type 0 where
+pub record HasRunTo (P : Program) (budget : ℕ) (phases : List ScriptPhase) (words left : List ℕ) (journal : Journal) : Type 0 where
   pub placed : List Told
   pub unplaced : List Told
   pub placed_are : journal.placed.items ≡ map record_of placed
   pub unplaced_are : journal.unplaced.items ≡ map record_of unplaced
-  pub each_once : IsPermutation (script_calls 0 phases) (calls_of (placed ++ unplaced))
+  pub calls : List Call
+  pub are_calls : AreScriptCalls 0 phases calls
+  pub each_once : IsPermutation calls (calls_of (placed ++ unplaced))
   pub placed_order : AllPairs MayPrecede (calls_of placed)
   pub unplaced_order : AllPairs (λ c d. ascends c d ≡ true) (calls_of unplaced)
   pub no_memory : AllByRecursion (λ (t : Told). t.answer ≡ NoMemory) unplaced
@@ -48,6 +50,8 @@ run_none P budget words journal placed unplaced =
       unplaced = [];
       placed_are = placed;
       unplaced_are = unplaced;
+      calls = [];
+      are_calls = refl;
       each_once = IsPermutation-refl [];
       placed_order = pairs_nil MayPrecede;
       unplaced_order = pairs_nil (λ c d. ascends c d ≡ true);
@@ -71,40 +75,48 @@ placed_pairs phase ts kept all =
       kept i j d a b,
     ))
 
-module _ (P : Program) (budget : ℕ) (phases : List Phase) (lanes : Phase) (words left last : List ℕ) (old new : Journal)
+module _ (P : Program) (budget : ℕ) (phases : List ScriptPhase) (p : ScriptPhase) (words left last : List ℕ) (old new : Journal)
     (h : HasRunTo P budget phases words left old)
-    (k : AddsPhase P budget (length phases) lanes left last old new) where
+    (dealt : AddsDealt P budget (length phases) p left last old new) where
+  k : AddsPhase P budget dealt.calls left last old new
+  k = dealt.adds
+
   -- the earlier calls are of earlier phases
   earlier : All (IsBefore (length phases)) (calls_of h.placed) × All (IsBefore (length phases)) (calls_of h.unplaced)
   earlier =
       let e : 0 + length phases ≡ length phases = omega arith in
-      let Before : ℕ → Type 0 = λ n. All (IsBefore n) (script_calls 0 phases) in
-      of_both (IsBefore (length phases)) (script_calls 0 phases) h.placed h.unplaced h.each_once (subst Before e (all_script 0 phases))
+      let Before : ℕ → Type 0 = λ n. All (IsBefore n) h.calls in
+      of_both (IsBefore (length phases)) h.calls h.placed h.unplaced h.each_once (subst Before e (all_script 0 phases h.calls h.are_calls))
 
   now : All (IsOfPhase (length phases) 0) (calls_of k.placed) × All (IsOfPhase (length phases) 0) (calls_of k.unplaced)
-  now = of_both (IsOfPhase (length phases) 0) (phase_calls (length phases) 0 lanes) k.placed k.unplaced k.is_phase.each_once (all_phase (length phases) 0 lanes)
+  now = of_both (IsOfPhase (length phases) 0) dealt.calls k.placed k.unplaced k.is_phase.each_once (all_dealt (length phases) p dealt.calls dealt.are_dealt)
 
-  once : IsPermutation (script_calls 0 (phases ++ lanes ∷ [])) (calls_of ((h.placed ++ k.placed) ++ (h.unplaced ++ k.unplaced)))
+  all : AreScriptCalls 0 (phases ++ p ∷ []) (h.calls ++ dealt.calls)
+  all =
+      let e : length phases ≡ 0 + length phases = omega arith in
+      let Dealt : ℕ → Type 0 = λ n. AreDealt n p dealt.calls in
+      script_append 0 phases p h.calls dealt.calls h.are_calls (subst Dealt e dealt.are_dealt)
+
+  once : IsPermutation (h.calls ++ dealt.calls) (calls_of ((h.placed ++ k.placed) ++ (h.unplaced ++ k.unplaced)))
   once =
-      let e : 0 + length phases ≡ length phases = omega arith in
-      let all = script_append 0 phases lanes ∙ ap (λ n. script_calls 0 phases ++ phase_calls n 0 lanes) e in
       let parts = calls_append (h.placed ++ k.placed) (h.unplaced ++ k.unplaced) ∙ ap (λ l. l ++ calls_of (h.unplaced ++ k.unplaced))
       (calls_append h.placed k.placed)
       ∙ ap (λ l. (calls_of h.placed ++ calls_of k.placed) ++ l) (calls_append h.unplaced k.unplaced) in
-      subst (λ cs. IsPermutation cs (calls_of ((h.placed ++ k.placed) ++ (h.unplaced ++ k.unplaced)))) (sym all)
-      (subst (IsPermutation (script_calls 0 phases ++ phase_calls (length phases) 0 lanes)) (sym parts)
-      (sorted_out (script_calls 0 phases) (phase_calls (length phases) 0 lanes) (calls_of h.placed) (calls_of k.placed) (calls_of h.unplaced) (calls_of k.unplaced)
-      (subst (IsPermutation (script_calls 0 phases)) (calls_append h.placed h.unplaced) h.each_once)
-      (subst (IsPermutation (phase_calls (length phases) 0 lanes)) (calls_append k.placed k.unplaced) k.is_phase.each_once)))
+      subst (IsPermutation (h.calls ++ dealt.calls)) (sym parts)
+      (sorted_out h.calls dealt.calls (calls_of h.placed) (calls_of k.placed) (calls_of h.unplaced) (calls_of k.unplaced)
+      (subst (IsPermutation h.calls) (calls_append h.placed h.unplaced) h.each_once)
+      (subst (IsPermutation dealt.calls) (calls_append k.placed k.unplaced) k.is_phase.each_once))
 
   -- a phase more
-  pub run_more : HasRunTo P budget (phases ++ lanes ∷ []) words last new
+  pub run_more : HasRunTo P budget (phases ++ p ∷ []) words last new
   run_more =
       record {
         placed = h.placed ++ k.placed;
         unplaced = h.unplaced ++ k.unplaced;
         placed_are = k.placed_are ∙ ap (λ l. l ++ map record_of k.placed) h.placed_are ∙ sym (map-append record_of h.placed k.placed);
         unplaced_are = k.unplaced_are ∙ ap (λ l. l ++ map record_of k.unplaced) h.unplaced_are ∙ sym (map-append record_of h.unplaced k.unplaced);
+        calls = h.calls ++ dealt.calls;
+        are_calls = all;
         each_once = once;
         placed_order = subst (AllPairs MayPrecede) (sym (calls_append h.placed k.placed))
             (pairs_append MayPrecede (IsBefore (length phases)) (IsOfPhase (length phases) 0) (λ c d before is. inl (omega (arith, before, is.of_phase)))
@@ -124,7 +136,7 @@ made_calls : (ts : List Told) → map call_of (map made_of ts) ≡ calls_of ts
 made_calls ts = map-map call_of made_of ts
 
 -- all phases
-pub run_all : (P : Program) (budget : ℕ) (phases : List Phase) (words left : List ℕ) (journal : Journal) → HasRunTo P budget phases words left journal
+pub run_all : (P : Program) (budget : ℕ) (phases : List ScriptPhase) (words left : List ℕ) (journal : Journal) → HasRunTo P budget phases words left journal
     → HasRun P budget phases words journal
 run_all P budget phases words left journal h =
     record {
@@ -140,7 +152,9 @@ run_all P budget phases words left journal h =
         let calls : map call_of (map made_of h.placed ++ map made_of h.unplaced) ≡ calls_of (h.placed ++ h.unplaced)
         = ap (map call_of) (sym (map-append made_of h.placed h.unplaced)) ∙ made_calls (h.placed ++ h.unplaced) in
         record {
-          each_once = subst (IsPermutation (script_calls 0 phases)) (sym calls) h.each_once;
+          calls = h.calls;
+          are_calls = h.are_calls;
+          each_once = subst (IsPermutation h.calls) (sym calls) h.each_once;
           placed_order = subst (AllPairs MayPrecede) (sym (made_calls h.placed)) h.placed_order;
           unplaced_order = subst (AllPairs (λ c d. ascends c d ≡ true)) (sym (made_calls h.unplaced)) h.unplaced_order;
           no_memory = recursion_from_All (λ (m : Made). m.answer ≡ NoMemory) (map made_of h.unplaced)

@@ -5,6 +5,7 @@ pub mod Parts
 pub mod Ordered
 pub mod Journals
 pub mod Alone
+pub mod SettingUp
 pub mod Untouched
 pub mod Zipped
 pub mod Permuted
@@ -14,3 +15,4 @@ pub mod Stretching
 pub mod Siding
 pub mod Splitting
 pub mod Joining
+mod Dealing

@@ -94,7 +94,7 @@ module _ (P : Program) (budget phase : ℕ) (lanes : Phase) (words : List ℕ) (
       (All-weaker (λ (t : Told). is_unplaced t ≡ true) (λ (t : Told). t.answer ≡ NoMemory) (λ t is. memory_is t.answer is) rest_of (filter_passes is_unplaced made))
 
   -- a phase of two sides
-  phase_of : IsPhase P budget phase lanes words rest.words.items order_of rest_of
+  phase_of : IsPhase P budget (phase_calls phase 0 lanes) words rest.words.items order_of rest_of
   phase_of =
       record {
         each_once = each_once;
@@ -107,7 +107,7 @@ module _ (P : Program) (budget phase : ℕ) (lanes : Phase) (words : List ℕ) (
   -- a journal with their records added
   pub adds_phase : (old new : Journal) → new.placed.items ≡ old.placed.items ++ (first.placed.items ++ rest.placed.items)
       → new.unplaced.items ≡ old.unplaced.items ++ joined (unplaced_of first.parts.items) (unplaced_of rest.parts.items)
-      → AddsPhase P budget phase lanes words rest.words.items old new
+      → AddsPhase P budget (phase_calls phase 0 lanes) words rest.words.items old new
   adds_phase old new placed unplaced =
       record {
         placed = order_of;

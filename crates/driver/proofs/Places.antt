@@ -1,12 +1,12 @@
 -- The calls of a script by their places.
-use Rattle.std.proofs.Common.{◌≡◌, ℕ, suc, ◌<◌, ◌≤◌, ◌+◌, List, [], ◌∷◌, ◌++◌, length, All, AllPairs, true, refl, sym, ◌∙◌, ap, arith}
+use Rattle.std.proofs.Common.{◌≡◌, ℕ, suc, ◌<◌, ◌≤◌, ◌+◌, List, [], ◌∷◌, ◌++◌, length, map, All, AllPairs, true, refl, sym, ◌∙◌, ap, subst, arith}
 use Rattle.std.specs.List.{AllByRecursion}
 use Rattle.std.proofs.lemmas.Bool.Decides.{nat_tests}
 use Rattle.std.proofs.lemmas.List.{append_assoc, append-nil, length-append}
 use Rattle.std.proofs.lemmas.List.Elements.{All-from_recursion, All-weaker, All-append, All-nil}
 use Rattle.std.proofs.lemmas.List.Kept.{AllPairs-cons}
 use Rattle.jmodel.specs.History.{Call}
-use Rattle.jmodel.specs.Schedule.{Known, Phase, call_at, lane_calls, phase_calls, script_calls, ascends}
+use Rattle.jmodel.specs.Schedule.{Known, Phase, ScriptPhase, Lanes, Bag, call_at, lists_in, lane_calls, phase_calls, bag_calls, script_calls, AreDealt, AreScriptCalls, ascends}
 use Rattle.driver.proofs.Lists.{pairs_nil, pairs_append}
 
 -- a call of a lane, at a place from one on and before another
@@ -88,20 +88,40 @@ phase_pairs phase lane (cs ∷ ls) =
 abbrev pub IsBefore : ℕ → Call → Type 0
 IsBefore phase c = c.phase < phase
 
-pub all_script : (phase : ℕ) (ps : List Phase) → All (IsBefore (phase + length ps)) (script_calls phase ps)
-all_script phase [] = All-nil (IsBefore (phase + 0))
-all_script phase (ls ∷ ps) =
-    All-append (IsBefore (phase + suc (length ps))) (phase_calls phase 0 ls) (script_calls (suc phase) ps)
-    (All-weaker (IsOfPhase phase 0) (IsBefore (phase + suc (length ps))) (λ c is. omega (arith, is.of_phase)) (phase_calls phase 0 ls) (all_phase phase 0 ls))
-    (All-weaker (IsBefore (suc phase + length ps)) (IsBefore (phase + suc (length ps))) (λ c is. omega (arith, is)) (script_calls (suc phase) ps)
-    (all_script (suc phase) ps))
+all_bag : (phase index : ℕ) (takers : List ℕ) (cs : List Known) → AllByRecursion (IsOfPhase phase 0) (bag_calls phase index takers cs)
+all_bag phase index [] cs = tt
+all_bag phase index (lane ∷ takers) [] = tt
+all_bag phase index (lane ∷ takers) (c ∷ cs) = (record { of_phase = refl; from = omega arith }, all_bag phase (suc index) takers cs)
 
-pub script_append : (phase : ℕ) (ps : List Phase) (ls : Phase) → script_calls phase (ps ++ ls ∷ []) ≡ script_calls phase ps ++ phase_calls (phase + length ps) 0 ls
-script_append phase [] ls = let e : phase ≡ phase + 0 = omega arith in append-nil (phase_calls phase 0 ls) ∙ ap (λ k. phase_calls k 0 ls) e
-script_append phase (ms ∷ ps) ls =
+pub all_dealt : (phase : ℕ) (p : ScriptPhase) (cs : List Call) → AreDealt phase p cs → All (IsOfPhase phase 0) cs
+all_dealt phase (Lanes ls) cs are = subst (All (IsOfPhase phase 0)) (sym are) (all_phase phase 0 ls)
+all_dealt phase (Bag lanes ks) cs (takers, long, within, are) =
+    subst (All (IsOfPhase phase 0)) (sym are) (All-from_recursion (IsOfPhase phase 0) (bag_calls phase 0 takers ks) (all_bag phase 0 takers ks))
+
+pub all_script : (phase : ℕ) (ps : List ScriptPhase) (cs : List Call) → AreScriptCalls phase ps cs → All (IsBefore (phase + length ps)) cs
+all_script phase [] cs are = subst (All (IsBefore (phase + 0))) (sym are) (All-nil (IsBefore (phase + 0)))
+all_script phase (p ∷ ps) cs (first, rest, dealt, more, are) =
+    let Now : ℕ → Type 0 = λ n. All (IsBefore n) rest in
     let e : suc phase + length ps ≡ phase + suc (length ps) = omega arith in
-    ap (λ l. phase_calls phase 0 ms ++ l) (script_append (suc phase) ps ls ∙ ap (λ k. script_calls (suc phase) ps ++ phase_calls k 0 ls) e)
-    ∙ sym (append_assoc (phase_calls phase 0 ms) (script_calls (suc phase) ps) _)
+    subst (All (IsBefore (phase + suc (length ps)))) (sym are)
+    (All-append (IsBefore (phase + suc (length ps))) first rest
+    (All-weaker (IsOfPhase phase 0) (IsBefore (phase + suc (length ps))) (λ c is. omega (arith, is.of_phase)) first (all_dealt phase p first dealt))
+    (subst Now e (all_script (suc phase) ps rest more)))
+
+-- the calls of a phase more
+pub script_append : (phase : ℕ) (ps : List ScriptPhase) (p : ScriptPhase) (cs ds : List Call) → AreScriptCalls phase ps cs → AreDealt (phase + length ps) p ds
+    → AreScriptCalls phase (ps ++ p ∷ []) (cs ++ ds)
+script_append phase [] p cs ds are dealt =
+    let e : phase + 0 ≡ phase = omega arith in
+    (ds, [], subst (λ n. AreDealt n p ds) e dealt, refl, ap (λ l. l ++ ds) are ∙ sym (append-nil ds))
+script_append phase (q ∷ ps) p cs ds (first, rest, here, more, are) dealt =
+    let e : phase + suc (length ps) ≡ suc phase + length ps = omega arith in (
+      first,
+      rest ++ ds,
+      here,
+      script_append (suc phase) ps p rest ds more (subst (λ n. AreDealt n p ds) e dealt),
+      ap (λ l. l ++ ds) are ∙ append_assoc first rest ds,
+    )
 
 abbrev pub IsFew : List Known → Type 0
 IsFew cs = length cs ≤ 100000
@@ -118,3 +138,7 @@ few_in_script phase [] h = tt
 few_in_script phase (ls ∷ ps) h =
     let n = length-append (phase_calls phase 0 ls) (script_calls (suc phase) ps) in
     (few_in_phase phase 0 ls (omega (arith, n)), few_in_script (suc phase) ps (omega (arith, n)))
+
+pub few_in_phases : (ps : List ScriptPhase) → AllByRecursion (AllByRecursion IsFew) (map lists_in ps) → AllByRecursion (λ (p : ScriptPhase). AllByRecursion IsFew (lists_in p)) ps
+few_in_phases [] h = tt
+few_in_phases (p ∷ ps) h = (h.0, few_in_phases ps h.1)

@@ -1,5 +1,6 @@
 pub mod Sides
 pub mod Runs
+pub mod SetUp
 pub mod Phases
 pub mod Order
 pub mod Gathering

@@ -4,8 +4,8 @@ use Rattle.std.specs.List.{AllByRecursion}
 use Rattle.jmodel.specs.declared.value.Answer.TheVariants.{NoMemory}
 use Rattle.jmodel.specs.Program.{Program}
 use Rattle.jmodel.specs.State.{State}
-use Rattle.jmodel.specs.History.{Told}
-use Rattle.jmodel.specs.Schedule.{Known, Phase, lane_calls, phase_calls, ascends}
+use Rattle.jmodel.specs.History.{Call, Told}
+use Rattle.jmodel.specs.Schedule.{Known, ScriptPhase, lane_calls, AreDealt, ascends}
 use Rattle.session.specs.declared.record.Record.{Record}
 use Rattle.session.specs.declared.record.Lane.{Lane}
 use Rattle.session.specs.declared.record.Place.{Place}
@@ -40,19 +40,25 @@ joined [] us = []
 joined (t ∷ ts) [] = []
 joined (t ∷ ts) (u ∷ us) = (t ++ u) ++ joined ts us
 
--- Each call of a phase stands once, among the placed or the unplaced ones. The placed ones keep each lane's order, and in that order the
+-- Each of these calls of a phase stands once, among the placed or the unplaced ones. The placed ones keep each lane's order, and in that order the
 -- original methods, each run alone, answer so. The unplaced ones ran out of memory, and stand by lane and index.
-pub record IsPhase (P : Program) (budget phase : ℕ) (lanes : Phase) (words left : List ℕ) (placed unplaced : List Told) : Type 0 where
-  pub each_once : IsPermutation (phase_calls phase 0 lanes) (calls_of (placed ++ unplaced))
+pub record IsPhase (P : Program) (budget : ℕ) (calls : List Call) (words left : List ℕ) (placed unplaced : List Told) : Type 0 where
+  pub each_once : IsPermutation calls (calls_of (placed ++ unplaced))
   pub lanes_kept : AllPairs IsLaneKept placed
   pub unplaced_order : AllPairs (λ c d. ascends c d ≡ true) (calls_of unplaced)
   pub no_memory : AllByRecursion (λ (t : Told). t.answer ≡ NoMemory) unplaced
   pub stretch : (σ : State) → IsState P words σ → IsStretch P budget σ left placed
 
--- a journal with the calls of a phase added
-pub record AddsPhase (P : Program) (budget phase : ℕ) (lanes : Phase) (words left : List ℕ) (old new : Journal) : Type 0 where
+-- a journal with these calls of a phase added
+pub record AddsPhase (P : Program) (budget : ℕ) (calls : List Call) (words left : List ℕ) (old new : Journal) : Type 0 where
   pub placed : List Told
   pub unplaced : List Told
   pub placed_are : new.placed.items ≡ old.placed.items ++ map record_of placed
   pub unplaced_are : new.unplaced.items ≡ old.unplaced.items ++ map record_of unplaced
-  pub is_phase : IsPhase P budget phase lanes words left placed unplaced
+  pub is_phase : IsPhase P budget calls words left placed unplaced
+
+-- a journal with the calls of a phase added, each on a lane
+pub record AddsDealt (P : Program) (budget phase : ℕ) (p : ScriptPhase) (words left : List ℕ) (old new : Journal) : Type 0 where
+  pub calls : List Call
+  pub are_dealt : AreDealt phase p calls
+  pub adds : AddsPhase P budget calls words left old new

@@ -4,7 +4,7 @@ use Rattle.std.specs.List.{AllByRecursion}
 use Rattle.jmodel.specs.Program.{Program}
 use Rattle.jmodel.specs.State.{State}
 use Rattle.jmodel.specs.History.{Told}
-use Rattle.jmodel.specs.Schedule.{Phase, Made, IsJournal, script_calls}
+use Rattle.jmodel.specs.Schedule.{ScriptPhase, Lanes, Bag, Made, IsJournal, lists_in, script_calls}
 use Rattle.session.specs.Rule.{IsCallOf, IsState}
 use Rattle.session.specs.Lane.{record_of}
 use Rattle.driver.specs.declared.run.Journal.{Journal}
@@ -12,15 +12,20 @@ use Rattle.driver.specs.declared.run.Journal.{Journal}
 abbrev pub made_of : Told → Made
 made_of t = record { call = t.call; answer = t.answer }
 
+-- a phase has at most 16 lanes; a script with a bag has one or more
+abbrev pub HasLanes : ScriptPhase → Type 0
+HasLanes (Lanes ls) = length ls ≤ 16
+HasLanes (Bag lanes cs) = (1 ≤ lanes) × (lanes ≤ 16)
+
 -- the calls of a script for a program, of which there aren't too many
-pub record AreScripted (P : Program) (phases : List Phase) : Type 0 where
-  pub calls : AllByRecursion (AllByRecursion (AllByRecursion (IsCallOf P))) phases
-  pub lanes : AllByRecursion (λ (ls : Phase). length ls ≤ 16) phases
+pub record AreScripted (P : Program) (phases : List ScriptPhase) : Type 0 where
+  pub calls : AllByRecursion (λ (p : ScriptPhase). AllByRecursion (AllByRecursion (IsCallOf P)) (lists_in p)) phases
+  pub lanes : AllByRecursion HasLanes phases
   pub few_phases : length phases ≤ 10000
-  pub few_calls : length (script_calls 0 phases) ≤ 100000
+  pub few_calls : length (script_calls 0 (map lists_in phases)) ≤ 100000
 
 -- The journal of the calls of a script, from words on.
-pub record HasRun (P : Program) (budget : ℕ) (phases : List Phase) (words : List ℕ) (journal : Journal) : Type 0 where
+pub record HasRun (P : Program) (budget : ℕ) (phases : List ScriptPhase) (words : List ℕ) (journal : Journal) : Type 0 where
   pub placed : List Told
   pub unplaced : List Told
   pub placed_are : journal.placed.items ≡ map record_of placed

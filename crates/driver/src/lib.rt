@@ -4,6 +4,7 @@
 mod order;
 mod rest;
 mod run;
+mod setting_up;
 mod side;
 mod side_by_side;
 mod table;
@@ -11,3 +12,4 @@ mod threads;
 
 pub use run::{Journal, run_phases};
 pub use session::Limits;
+pub use setting_up::{SetUpEnd, set_up};

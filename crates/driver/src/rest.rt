@@ -71,7 +71,7 @@ pub(crate) fn one_after_another(
 }
 
 /// Makes the calls of a lane from a place on. Gives what is kept of them and the words that they left.
-fn make_rest(
+pub(crate) fn make_rest(
     alloc: Global,
     original: &Program,
     rewritten: &Program,

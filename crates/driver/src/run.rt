@@ -1,20 +1,21 @@
 //! A run of a script's calls.
 ghost use Rattle.std.specs.Prelude.{◌≡◌, ◌≤◌, ◌<◌, ◌+◌, ◌++◌, ◌^◌, ℕ, List, [], length, IfOk, OnOk, count_by, nat_lt};
 ghost use Rattle.std.specs.List.{AllByRecursion};
-ghost use Rattle.jmodel.specs.Schedule.{Known as Form};
+ghost use Rattle.jmodel.specs.Schedule.{Known as Form, lists_in, phase_calls};
 ghost use Rattle.jmodel.specs.Program.{Program as Meant};
 ghost use Rattle.session.specs.Rule.{IsReady, IsCallOf};
 ghost use Rattle.driver.specs.Sides.{IsSide, AreWhole, none_made};
-ghost use Rattle.driver.specs.Runs.{AreScripted, HasRun};
-ghost use Rattle.driver.specs.Phases.{AddsPhase, made_counts, unplaced_of, joined};
+ghost use Rattle.driver.specs.Runs.{AreScripted, HasLanes, HasRun};
+ghost use Rattle.driver.specs.Phases.{AddsPhase, AddsDealt, made_counts, unplaced_of, joined};
 
 use crate::rest::one_after_another;
 use crate::side::{Part, Side};
 use crate::side_by_side::side_by_side;
 use hierarchy::Program;
-use script::{LaneCalls, PhaseCalls};
+use script::{Calls, LaneCalls, PhaseCalls};
 use session::{Limits, Record};
 use std::alloc::{AllocError, Global};
+use std::slice::from_ref;
 use std::thread::Threads;
 
 /// The calls of a run.
@@ -88,15 +89,45 @@ pub fn run_phases<R: Threads + Sync>(
             words,
             limits,
             number as u32,
-            &phase.lanes,
+            phase,
             &mut journal,
         )?;
     }
     Ok(journal)
 }
 
-/// Makes the calls of a phase and adds them to the journal. Gives the words that they left.
+/// Makes the calls of a phase and adds them to the journal. Gives the words that they left. The calls of a bag are made alone, on lane 0.
 fn run_phase<R: Threads + Sync>(
+    rt: &R,
+    alloc: Global,
+    original: &Program,
+    rewritten: &Program,
+    words: Vec<u64>,
+    limits: Limits,
+    number: u32,
+    phase: &PhaseCalls,
+    journal: &mut Journal,
+) -> Result<Vec<u64>, AllocError>
+    requires ready { IsReady original.now rewritten.now }
+    requires calls { AllByRecursion (AllByRecursion (IsCallOf original.now)) (lists_in phase.now) }
+    requires few { AllByRecursion (λ (cs : List Form). length cs ≤ 100000) (lists_in phase.now) }
+    requires lanes { HasLanes phase.now }
+    requires attempts { (1 ≤ limits.attempts) × (limits.attempts ≤ 1000000) }
+    requires size { length words.items + 4097 < 2 ^ 32 }
+    ensures phase { IfOk result (λ left. AddsDealt original.now limits.budget number phase.now words.items left.items journal.old journal.new) }
+    ensures size { IfOk result (λ left. length left.items ≡ length words.items) }
+{
+    let lanes = match &phase.calls {
+        Calls::Lanes(lanes) => lanes.as_slice(),
+        Calls::Bag { lanes: _, calls } => from_ref(calls),
+    };
+    run_lanes(
+        rt, alloc, original, rewritten, words, limits, number, lanes, journal,
+    )
+}
+
+/// Makes the calls of the lanes of a phase and adds them to the journal. Gives the words that they left.
+fn run_lanes<R: Threads + Sync>(
     rt: &R,
     alloc: Global,
     original: &Program,
@@ -113,7 +144,7 @@ fn run_phase<R: Threads + Sync>(
     requires lanes { length lanes.now ≤ 16 }
     requires attempts { (1 ≤ limits.attempts) × (limits.attempts ≤ 1000000) }
     requires size { length words.items + 4097 < 2 ^ 32 }
-    ensures phase { IfOk result (λ left. AddsPhase original.now limits.budget phase lanes.now words.items left.items journal.old journal.new) }
+    ensures phase { IfOk result (λ left. AddsPhase original.now limits.budget (phase_calls phase 0 lanes.now) words.items left.items journal.old journal.new) }
     ensures size { IfOk result (λ left. length left.items ≡ length words.items) }
 {
     let first = first_side(rt, alloc, original, rewritten, words, limits, phase, lanes)?;

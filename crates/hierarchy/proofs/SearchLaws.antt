@@ -12,7 +12,7 @@ use Rattle.jmodel.specs.declared.refusal.NoMemory.{NoMemory}
 use Rattle.jmodel.specs.ClassFile.{Member, ClassFile}
 use Rattle.jmodel.specs.Pool.{MemberName}
 use Rattle.jmodel.specs.Decoding.{own_name, name_of}
-use Rattle.jmodel.specs.Coded.{is_marked, decoded}
+use Rattle.jmodel.specs.Coded.{is_root, decoded}
 use Rattle.jmodel.specs.Linking.{is_name}
 use Rattle.jmodel.specs.Taken.{invoked, code_calls, calls, is_taken_by, is_named_by, is_next, is_taken, IsClosed}
 use Rattle.jmodel.proofs.Taken.{Within, or_right, filter_covers, Same, filter_same, all_map, all_of, closed, taken_law}
@@ -124,7 +124,7 @@ module _ (c : ClassFile) where
   pub nothing_called : (s : State) → Visits c (λ k. false) s s
   nothing_called s = record {
     called = λ m. sym (or_false (is_called c s.called m));
-    queue = λ test. sym (ap (λ (ms : List Member). list_any test s.queue || list_any test ms) (filter_as (is_fresh c s.called s.called) (λ m. false) c.methods (λ m. none_fresh (is_marked c.pool m) (is_called c s.called m)) ∙ none_pass c.methods) ∙ or_false (list_any test s.queue));
+    queue = λ test. sym (ap (λ (ms : List Member). list_any test s.queue || list_any test ms) (filter_as (is_fresh c s.called s.called) (λ m. false) c.methods (λ m. none_fresh (is_root c.pool m) (is_called c s.called m)) ∙ none_pass c.methods) ∙ or_false (list_any test s.queue));
     less = omega arith;
   }
     where
@@ -139,7 +139,7 @@ module _ (c : ClassFile) where
     queue = λ test.
         let parts : list_any test (filter (is_fresh c s.called u.called) c.methods) ≡ (list_any test (filter (is_fresh c s.called t.called) c.methods) || list_any test (filter (is_fresh c t.called u.called) c.methods)) =
         ap (list_any test) (filter_as (is_fresh c s.called u.called) (λ m. is_fresh c s.called t.called m || is_fresh c t.called u.called m) c.methods (λ m.
-        fresh_split (is_marked c.pool m) (is_called c s.called m) (is_called c t.called m) (is_called c u.called m) (f (name_of c m)) (g (name_of c m)) (v.called m) (w.called m)))
+        fresh_split (is_root c.pool m) (is_called c s.called m) (is_called c t.called m) (is_called c u.called m) (f (name_of c m)) (g (name_of c m)) (v.called m) (w.called m)))
         ∙ any_or (is_fresh c s.called t.called) (is_fresh c t.called u.called) test c.methods in
         w.queue test ∙ ap (λ (b : Bool). b || list_any test (filter (is_fresh c t.called u.called) c.methods)) (v.queue test)
         ∙ sym (or_assoc (list_any test s.queue) (list_any test (filter (is_fresh c s.called t.called) c.methods)) (list_any test (filter (is_fresh c t.called u.called) c.methods)))
@@ -209,7 +209,7 @@ module _ (c : ClassFile) where
           let stays : t.queue ≡ s.queue = queue ∙ ap (λ (b : Bool). s.queue ++ (if b then [] else group_of groups n d)) e ∙ append-nil s.queue in
           let known : (m : Member) → is_named n d m ≡ true → is_called c s.called m ≡ true = λ m k. was_called s.called n d m k ∙ e in
           let none : filter (is_fresh c s.called t.called) c.methods ≡ [] =
-          filter_as (is_fresh c s.called t.called) (λ m. false) c.methods (λ m. old_fresh (is_marked c.pool m) (is_called c s.called m) (is_called c t.called m) (is_named n d m) (now m) (known m)) ∙ none_pass c.methods in
+          filter_as (is_fresh c s.called t.called) (λ m. false) c.methods (λ m. old_fresh (is_root c.pool m) (is_called c s.called m) (is_called c t.called m) (is_named n d m) (now m) (known m)) ∙ none_pass c.methods in
           let same : filter (λ m. not (is_called c t.called m)) c.methods ≡ filter (λ m. not (is_called c s.called m)) c.methods =
           filter_as (λ m. not (is_called c t.called m)) (λ m. not (is_called c s.called m)) c.methods (λ m. old_called (is_called c s.called m) (is_called c t.called m) (is_named n d m) (now m) (known m)) in
           record {
@@ -219,21 +219,21 @@ module _ (c : ClassFile) where
           }
       go false e =
           let known : (m : Member) → is_named n d m ≡ true → is_called c s.called m ≡ false = λ m k. was_called s.called n d m k ∙ e in
-          let found : group_of groups n d ≡ filter (λ m. not (is_marked c.pool m) && is_named n d m) c.methods =
-          grouped n d ∙ filter_as (λ m. not (is_marked c.pool m) && has_key c n d m) (λ m. not (is_marked c.pool m) && is_named n d m) c.methods (λ m. ap (λ (b : Bool). not (is_marked c.pool m) && b) (has_it n d m)) in
-          let more : t.queue ≡ s.queue ++ filter (λ m. not (is_marked c.pool m) && is_named n d m) c.methods =
+          let found : group_of groups n d ≡ filter (λ m. not (is_root c.pool m) && is_named n d m) c.methods =
+          grouped n d ∙ filter_as (λ m. not (is_root c.pool m) && has_key c n d m) (λ m. not (is_root c.pool m) && is_named n d m) c.methods (λ m. ap (λ (b : Bool). not (is_root c.pool m) && b) (has_it n d m)) in
+          let more : t.queue ≡ s.queue ++ filter (λ m. not (is_root c.pool m) && is_named n d m) c.methods =
           queue ∙ ap (λ (b : Bool). s.queue ++ (if b then [] else group_of groups n d)) e ∙ ap (λ (ms : List Member). s.queue ++ ms) found in
-          let fresh : filter (is_fresh c s.called t.called) c.methods ≡ filter (λ m. not (is_marked c.pool m) && is_named n d m) c.methods =
-          filter_as (is_fresh c s.called t.called) (λ m. not (is_marked c.pool m) && is_named n d m) c.methods (λ m. new_fresh (is_marked c.pool m) (is_called c s.called m) (is_called c t.called m) (is_named n d m) (now m) (known m)) in
-          let few : length (filter (λ m. not (is_marked c.pool m) && is_named n d m) c.methods) + uncalled c t.called ≤ uncalled c s.called =
-          two_parts (λ m. not (is_marked c.pool m) && is_named n d m) (λ m. not (is_called c t.called m)) (λ m. not (is_called c s.called m)) c.methods
-          (λ m h. ap not (known m ((both_true (not (is_marked c.pool m)) (is_named n d m) h).1)))
+          let fresh : filter (is_fresh c s.called t.called) c.methods ≡ filter (λ m. not (is_root c.pool m) && is_named n d m) c.methods =
+          filter_as (is_fresh c s.called t.called) (λ m. not (is_root c.pool m) && is_named n d m) c.methods (λ m. new_fresh (is_root c.pool m) (is_called c s.called m) (is_called c t.called m) (is_named n d m) (now m) (known m)) in
+          let few : length (filter (λ m. not (is_root c.pool m) && is_named n d m) c.methods) + uncalled c t.called ≤ uncalled c s.called =
+          two_parts (λ m. not (is_root c.pool m) && is_named n d m) (λ m. not (is_called c t.called m)) (λ m. not (is_called c s.called m)) c.methods
+          (λ m h. ap not (known m ((both_true (not (is_root c.pool m)) (is_named n d m) h).1)))
           (λ m h. still (is_called c s.called m) (is_called c t.called m) (is_named n d m) (now m) h)
-          (λ m h. not_still (is_called c s.called m) (is_called c t.called m) (is_named n d m) (now m) ((both_true (not (is_marked c.pool m)) (is_named n d m) h).1)) in
+          (λ m h. not_still (is_called c s.called m) (is_called c t.called m) (is_named n d m) (now m) ((both_true (not (is_root c.pool m)) (is_named n d m) h).1)) in
           record {
             called = now;
-            queue = λ test. ap (list_any test) more ∙ list_any-append test s.queue (filter (λ m. not (is_marked c.pool m) && is_named n d m) c.methods) ∙ ap (λ (ms : List Member). list_any test s.queue || list_any test ms) (sym fresh);
-            less = omega (arith, ap (λ (ms : List Member). length ms) more, length-append s.queue (filter (λ m. not (is_marked c.pool m) && is_named n d m) c.methods), few);
+            queue = λ test. ap (list_any test) more ∙ list_any-append test s.queue (filter (λ m. not (is_root c.pool m) && is_named n d m) c.methods) ∙ ap (λ (ms : List Member). list_any test s.queue || list_any test ms) (sym fresh);
+            less = omega (arith, ap (λ (ms : List Member). length ms) more, length-append s.queue (filter (λ m. not (is_root c.pool m) && is_named n d m) c.methods), few);
           }
 
   -- a call that is no constructor of another class takes the methods of its name
@@ -307,14 +307,14 @@ module _ (c : ClassFile) where
     pub called : (m : Member) → is_called c s.called m ≡ true → takes m ≡ true
     pub queued : (test : Member → Bool) → list_any test s.queue ≡ true → list_any test (filter (is_taken c) c.methods) ≡ true
 
-  marked_taken : Within (is_marked c.pool) (is_taken c) c.methods
-  marked_taken = all_map _ _ c.methods (λ m h e. h (or_left (is_marked c.pool m) (takes m) e)) (closed c)
+  marked_taken : Within (is_root c.pool) (is_taken c) c.methods
+  marked_taken = all_map _ _ c.methods (λ m h e. h (or_left (is_root c.pool m) (takes m) e)) (closed c)
 
   pub starts : IsUnderWay (starting c)
   starts = record {
-    reached = λ m h. ap (list_any (λ k. calls c k m)) (sym (filter_as (is_found c []) (is_marked c.pool) c.methods (λ k. or_false (is_marked c.pool k)))) ∙ h;
+    reached = λ m h. ap (list_any (λ k. calls c k m)) (sym (filter_as (is_found c []) (is_root c.pool) c.methods (λ k. or_false (is_root c.pool k)))) ∙ h;
     called = λ m h. absurd cc;
-    queued = λ test h. filter_covers (is_marked c.pool) (is_taken c) c.methods marked_taken test h;
+    queued = λ test h. filter_covers (is_root c.pool) (is_taken c) c.methods marked_taken test h;
   }
 
   -- one more method was visited
@@ -332,7 +332,7 @@ module _ (c : ClassFile) where
 
       split : (test : Member → Bool) → list_any test (filter (is_found c u.called) c.methods) ≡ (list_any test (filter (is_found c s.called) c.methods) || list_any test (filter (is_fresh c s.called u.called) c.methods))
       split test =
-          ap (list_any test) (filter_as (is_found c u.called) (λ m. is_found c s.called m || is_fresh c s.called u.called m) c.methods (λ m. found_split (is_marked c.pool m) (is_called c s.called m) (is_called c u.called m) (calls c p m) (now m)))
+          ap (list_any test) (filter_as (is_found c u.called) (λ m. is_found c s.called m || is_fresh c s.called u.called m) c.methods (λ m. found_split (is_root c.pool m) (is_called c s.called m) (is_called c u.called m) (calls c p m) (now m)))
           ∙ any_or (is_found c s.called) (is_fresh c s.called u.called) test c.methods
 
       reached : (m : Member) → list_any (λ k. calls c k m) (filter (is_found c u.called) c.methods) ≡ true → (is_called c u.called m || list_any (λ k. calls c k m) u.queue) ≡ true
@@ -354,7 +354,7 @@ module _ (c : ClassFile) where
       queued : (test : Member → Bool) → list_any test u.queue ≡ true → list_any test (filter (is_taken c) c.methods) ≡ true
       queued test h =
           let fresh_taken : Within (is_fresh c s.called u.called) (is_taken c) c.methods =
-          all_map _ _ c.methods (λ m k e. k (or_right (is_marked c.pool m) (takes m) (called m ((both_true (not (is_found c s.called m)) (is_called c u.called m) e).1)))) (closed c) in
+          all_map _ _ c.methods (λ m k e. k (or_right (is_root c.pool m) (takes m) (called m ((both_true (not (is_found c s.called m)) (is_called c u.called m) e).1)))) (closed c) in
           either (list_any test t.queue) (list_any test (filter (is_fresh c s.called u.called) c.methods)) (sym (added test) ∙ h)
           (λ e. way.queued test (waits test ∙ or_left (list_any test t.queue) (test p) e))
           (λ e. filter_covers (is_fresh c s.called u.called) (is_taken c) c.methods fresh_taken test e)
@@ -364,13 +364,13 @@ module _ (c : ClassFile) where
   is_done s done way = both c.methods ((taken_law c).least (is_found c s.called) found_closed) sound
     where
       found_closed : IsClosed c (is_found c s.called)
-      found_closed = all_of _ c.methods (λ m h. either (is_marked c.pool m) (list_any (λ k. calls c k m) (filter (is_found c s.called) c.methods)) h
-          (λ e. or_left (is_marked c.pool m) (is_called c s.called m) e)
-          (λ e. or_right (is_marked c.pool m) (is_called c s.called m) (sym (ap (λ (ms : List Member). is_called c s.called m || list_any (λ k. calls c k m) ms) done ∙ or_false (is_called c s.called m)) ∙ way.reached m e)))
+      found_closed = all_of _ c.methods (λ m h. either (is_root c.pool m) (list_any (λ k. calls c k m) (filter (is_found c s.called) c.methods)) h
+          (λ e. or_left (is_root c.pool m) (is_called c s.called m) e)
+          (λ e. or_right (is_root c.pool m) (is_called c s.called m) (sym (ap (λ (ms : List Member). is_called c s.called m || list_any (λ k. calls c k m) ms) done ∙ or_false (is_called c s.called m)) ∙ way.reached m e)))
 
       sound : Within (is_found c s.called) (is_taken c) c.methods
-      sound = all_map _ _ c.methods (λ m k h. either (is_marked c.pool m) (is_called c s.called m) h
-          (λ e. k (or_left (is_marked c.pool m) (takes m) e)) (λ e. k (or_right (is_marked c.pool m) (takes m) (way.called m e)))) (closed c)
+      sound = all_map _ _ c.methods (λ m k h. either (is_root c.pool m) (is_called c s.called m) h
+          (λ e. k (or_left (is_root c.pool m) (takes m) e)) (λ e. k (or_right (is_root c.pool m) (takes m) (way.called m e)))) (closed c)
 
       both : (ms : List Member) → Within (is_taken c) (is_found c s.called) ms → Within (is_found c s.called) (is_taken c) ms → Same (is_found c s.called) (is_taken c) ms
       both [] f g = tt

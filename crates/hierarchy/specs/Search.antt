@@ -6,7 +6,7 @@ use Rattle.jmodel.specs.declared.name.MethodName.{MethodName}
 use Rattle.jmodel.specs.ClassFile.{Member, ClassFile}
 use Rattle.jmodel.specs.Pool.{MemberName}
 use Rattle.jmodel.specs.Decoding.{own_name, name_of}
-use Rattle.jmodel.specs.Coded.{is_marked}
+use Rattle.jmodel.specs.Coded.{is_root}
 use Rattle.jmodel.specs.Taken.{invoked, is_named_by, is_taken}
 use Rattle.hierarchy.specs.Names.{is_key, has, group_of}
 
@@ -26,9 +26,9 @@ instrs_call c is name = list_any (λ (i : Instr). is_named_by (invoked c.pool i)
 abbrev pub has_key : ClassFile → List ℕ → List ℕ → Member → Bool
 has_key c name descriptor m = is_key name descriptor ((name_of c m).name, (name_of c m).descriptor)
 
--- Groups have each method that isn't marked.
+-- Groups have each method that is neither marked nor a static initialiser.
 abbrev pub IsGrouped : ClassFile → List ((List ℕ × List ℕ) × List Member) → Type 0
-IsGrouped c groups = (name descriptor : List ℕ) → group_of groups name descriptor ≡ filter (λ m. not (is_marked c.pool m) && has_key c name descriptor m) c.methods
+IsGrouped c groups = (name descriptor : List ℕ) → group_of groups name descriptor ≡ filter (λ m. not (is_root c.pool m) && has_key c name descriptor m) c.methods
 
 -- the names that were called so far, and the methods found whose calls are still to be looked at
 pub record State : Type 0 where
@@ -36,15 +36,15 @@ pub record State : Type 0 where
   pub queue : List Member
 
 abbrev pub starting : ClassFile → State
-starting c = record { called = []; queue = filter (is_marked c.pool) c.methods }
+starting c = record { called = []; queue = filter (is_root c.pool) c.methods }
 
 -- whether a method's name was called
 abbrev pub is_called : ClassFile → List (List ℕ × List ℕ) → Member → Bool
 is_called c called m = has called (name_of c m).name (name_of c m).descriptor
 
--- whether a method is marked or its name was called
+-- whether a method is marked or a static initialiser, or its name was called
 abbrev pub is_found : ClassFile → List (List ℕ × List ℕ) → Member → Bool
-is_found c called m = is_marked c.pool m || is_called c called m
+is_found c called m = is_root c.pool m || is_called c called m
 
 -- whether a method is found by what was called since
 abbrev pub is_fresh : ClassFile → List (List ℕ × List ℕ) → List (List ℕ × List ℕ) → Member → Bool
@@ -60,6 +60,6 @@ pub record Visits (c : ClassFile) (named : MethodName → Bool) (s t : State) : 
   pub queue : (test : Member → Bool) → list_any test t.queue ≡ (list_any test s.queue || list_any test (filter (is_fresh c s.called t.called) c.methods))
   pub less : length t.queue + uncalled c t.called ≤ length s.queue + uncalled c s.called
 
--- The methods that are marked or whose names are called are the taken ones.
+-- The methods that are marked or static initialisers, or whose names are called, are the taken ones.
 abbrev pub Finds : ClassFile → List (List ℕ × List ℕ) → Type 0
 Finds c called = AllByRecursion (λ m. is_found c called m ≡ is_taken c m) c.methods

@@ -4,27 +4,36 @@ ghost use Rattle.std.specs.List.{list_any};
 ghost use Rattle.hierarchy.specs.Search.{is_called};
 ghost use Rattle.hierarchy.specs.Built.{Builds, Links, relinked_seen};
 ghost use Rattle.jmodel.specs.Source.{IsSource};
-ghost use Rattle.jmodel.specs.Layout.{fields_from, statics, opening_word as first_word, opening_words as all_opening_words};
+ghost use Rattle.jmodel.specs.Layout.{fields_from, field_type as type_of_field, statics, opening_word as first_word, opening_words as all_opening_words};
 ghost use Rattle.jmodel.specs.Decoding.{each, name_of as name_of_member};
 ghost use Rattle.jmodel.specs.Program.{Method as MethodForm};
 ghost use Rattle.jmodel.specs.ClassFile.{Member};
-ghost use Rattle.jmodel.specs.Linking.{Coded as CodedForm, original_fields, symbols_of, method_of as meaning, form_method, form_methods as all_form_methods, form_program as program_of_form, linking, program_methods as methods_of_program, relinked_methods, relinked, is_name, takes_context as takes_a_context, is_untouched as untouched, rewritten_methods as methods_of_rewritten};
+ghost use Rattle.jmodel.specs.Linking.{Coded as CodedForm, original_fields, symbols_of, method_of as meaning, form_method, form_methods as all_form_methods, form_program as program_of_form, coded_program as program_of_code, linking, program_methods as methods_of_program, relinked_methods, relinked, is_name, takes_context as takes_a_context, is_untouched as untouched, rewritten_methods as methods_of_rewritten};
 
 use crate::code::{Coded, all_decoded};
 use crate::constants::int_value;
-use crate::form::{is_marked, methods_in_form, takes_context};
+use crate::form::{is_form_outside, methods_in_form, takes_context};
+use crate::marks::{is_root, marks_fault};
 use crate::meaning::Symbols;
 use crate::method::{form_method, method_of};
 use crate::names::Names;
 use crate::outcome::BuildEnd;
 use crate::program::{Field, Method, Program};
 use crate::symbols::{is_static, names_of, own_name, same, text};
+use crate::word_types::{narrowed, word_type};
 use const_pool::{ClassFile, Member, Pool};
 use jmodel::op::{Place, WordType};
 use jmodel::{Bytes, MethodName, NoMemory};
 use std::alloc::{AllocError, Global};
 
-// A static int field of a lone class, whose static base lies at 2.
+// The type of a static field, by its descriptor.
+fn field_type(pool: &Pool, field: &Member) -> WordType
+    ensures { result ≡ type_of_field pool.now field.now }
+{
+    word_type(text(pool, field.descriptor)).unwrap_or(WordType::Int)
+}
+
+// A static field of a lone class, whose static base lies at 2.
 fn field_at(
     alloc: Global,
     class: &ClassFile,
@@ -35,7 +44,8 @@ fn field_at(
 {
     let owner = Bytes::from_slice(alloc, own_name(class))?;
     let name = Bytes::from_slice(alloc, text(&class.pool, field.name))?;
-    Ok(Field::new(owner, name, Place { object: 2, index }, WordType::Int))
+    let word_type = field_type(&class.pool, field);
+    Ok(Field::new(owner, name, Place { object: 2, index }, word_type))
 }
 
 // The static fields of a lone class.
@@ -54,7 +64,7 @@ fn fields_of(alloc: Global, class: &ClassFile) -> Result<Vec<Field>, AllocError>
 }
 
 /// The words of memory before the first call: two that hold 0, the header of the static base, and a word for each static
-/// field: its constant, where it has one, else 0. A class without static fields has no static base.
+/// field: what its type keeps of its constant, where it has one, else 0. A class without static fields has no static base.
 pub fn opening_words(alloc: Global, class: &ClassFile) -> Result<Vec<u64>, AllocError>
     ensures { IfOk result (λ v. v.items ≡ all_opening_words (class.now ∷ [])) }
 {
@@ -67,11 +77,12 @@ pub fn opening_words(alloc: Global, class: &ClassFile) -> Result<Vec<u64>, Alloc
     Ok(words)
 }
 
-// The word that a static int field holds at first: its constant with the sign in all 64 bits, or 0.
+// The word that a static field holds at first: what its type keeps of its constant, with the sign in all 64 bits, or 0.
 fn opening_word(pool: &Pool, field: &Member) -> u64
     ensures { result ≡ first_word pool.now field.now }
 {
-    (int_value(pool, field).unwrap_or(0) as i64).cast_unsigned()
+    let constant = int_value(pool, field).unwrap_or(0);
+    i64::from(narrowed(field_type(pool, field), constant)).cast_unsigned()
 }
 
 // A word for each static field.
@@ -236,7 +247,7 @@ fn rewritten_members<'a>(
 fn is_untouched(alloc: Global, pool: &Pool, method: &Member) -> Result<bool, NoMemory>
     ensures { IfOk result (λ b. b ≡ untouched pool.now method.now) }
 {
-    if is_marked(pool, method) {
+    if is_root(pool, method) {
         return Ok(false);
     }
     Ok(!takes_context(alloc, pool, method)?)
@@ -317,9 +328,9 @@ fn relinked_of(
     rewritten_methods(alloc, &symbols, count, methods.as_slice())
 }
 
-// The program of a class.
-fn linked(alloc: Global, class: &ClassFile) -> Result<Program, BuildEnd>
-    ensures { Links (λ p. p) result (linking class.now) }
+// The program of the methods' code.
+fn coded_program(alloc: Global, class: &ClassFile) -> Result<Program, BuildEnd>
+    ensures { Links (λ p. p) result (program_of_code class.now) }
 {
     let Some(methods) = methods_in_form(alloc, class)? else {
         return Err(BuildEnd::NotBuilt);
@@ -328,14 +339,36 @@ fn linked(alloc: Global, class: &ClassFile) -> Result<Program, BuildEnd>
     form_program(alloc, class, methods.as_slice(), coded.as_slice())
 }
 
+// The program of a class.
+fn linked(alloc: Global, class: &ClassFile) -> Result<Program, BuildEnd>
+    ensures { Links (λ p. p) result (linking class.now) }
+{
+    if !is_form_outside(class) {
+        return Err(BuildEnd::NotBuilt);
+    }
+    if let Some(fault) = marks_fault(alloc, class)? {
+        return Err(BuildEnd::Refused(fault));
+    }
+    coded_program(alloc, class)
+}
+
 impl Program {
     /// The program of an original class: its static fields, and the methods that are taken, which are those that are marked as
-    /// atomic and those that taken ones call.
+    /// atomic, the static initialisers and those that taken ones call.
     ///
     /// NotBuilt exactly where the class isn't of the form that is known so far, which is temporary: one class right under
-    /// Object, whose static fields are ints, whose marks have no elements, whose taken methods are static, take ints and give an
-    /// int or nothing, by code on ints without exception entries, and which has no static initialiser. Refused, with
-    /// the method's printed name, exactly where that code has a fault:
+    /// Object, whose static fields are ints or of one of the four narrower types and have names of their own, whose taken methods are
+    /// static, take values of these types and give one or nothing, by code on ints without exception entries that calls no method with
+    /// the name of static initialisers; of methods whose names begin with `<` a static initialiser alone is taken. Refused, with the
+    /// method's printed name, exactly where one of these is the class's first fault. First the annotations of all methods are looked
+    /// at, in the order of the file:
+    ///
+    /// - `BadAnnotation` with the offset in an attribute's bytes at which they break their form, or at which the mark's `retries`
+    ///   isn't an int (`annotations::atomic_of`);
+    /// - else `BadRetries` with the number of attempts that the mark asks for, if it is below 1;
+    /// - else `Construct` of the kind `AtomicPlace`, at 0, where a constructor, a static initialiser, or a method without code is marked.
+    ///
+    /// Then the code of the taken ones, whose methods have to be of the form before:
     ///
     /// - `BadInstr` with the least pc at which no instruction stands;
     /// - else `BadTarget` with the least pc of a jump or a switch that leads to no instruction, or of an exception entry.

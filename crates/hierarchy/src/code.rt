@@ -63,8 +63,8 @@ fn decoded_code(alloc: Global, pool: &Pool, method: &Member) -> Result<Coded, Ha
     Ok(Coded { code, instrs })
 }
 
-// The printed name of a method.
-fn printed(alloc: Global, class: &ClassFile, method: &Member) -> Result<Bytes, AllocError>
+/// The printed name of a method.
+pub fn printed(alloc: Global, class: &ClassFile, method: &Member) -> Result<Bytes, AllocError>
     ensures { IfOk result (λ b. b ≡ printed_name (method_name class.now method.now)) }
 {
     let name = name_of(alloc, class, method)?;

@@ -1,19 +1,20 @@
-//! The form of the classes of which programs are built so far: int code of static methods that take ints and give an int or
-//! nothing. Temporary: the form grows until it has every program that is accepted.
+//! The form of the classes of which programs are built so far: int code of static methods that take values of one word and give
+//! one or nothing. Temporary: the form grows until it has every program that is accepted.
 ghost use Rattle.std.specs.Prelude.{◌≡◌, ◌≤◌, length, filter, map, bytes_eq, not, ◌&&◌, if◌then◌else◌, option_map, IfOk};
 ghost use Rattle.std.specs.List.{list_all, list_any};
-ghost use Rattle.jmodel.specs.Taken.{is_taken};
+ghost use Rattle.jmodel.specs.Taken.{invoked as invoked_by, is_taken};
 ghost use Rattle.hierarchy.specs.Forms.{is_form_kind as form_kind};
 ghost use Rattle.jmodel.specs.Layout.{library as library_names, is_static as static_member};
-ghost use Rattle.jmodel.specs.Linking.{has_part as part_of, is_reserved as reserved, is_form_constant as form_constant, is_form_field as form_field, is_plain_mark as plain_mark, is_mark as mark, is_marked as marked, takes_context as with_context, program_methods as methods_of_program, is_form_attribute as form_attribute, is_special as special, is_form_atomic as form_atomic, is_form_method as form_method, is_free_name as free_name, are_form_fields as form_fields, are_form_methods as form_methods, is_form_head as form_head, is_form_class as form_class, is_form_code as form_code, is_of_reference as of_reference, widened as widened_op, is_form_instr as form_instr, is_form_op as form_op, is_form_method_of as form_method_of};
+ghost use Rattle.jmodel.specs.Linking.{has_part as part_of, is_reserved as reserved, is_form_constant as form_constant, is_form_field as form_field, are_distinct as distinct, field_name_of as name_of_field, takes_context as with_context, program_methods as methods_of_program, is_special as special, is_form_atomic as form_atomic, is_form_method as form_method, is_free_name as free_name, are_form_fields as form_fields, are_form_methods as form_methods, is_form_head as form_head, is_form_code as form_code, is_of_reference as of_reference, widened as widened_op, is_form_instr as form_instr, is_form_op as form_op, is_form_method_of as form_method_of, is_form_name as form_name, is_form_callee as form_callee, is_form_outside as form_outside};
 
 use crate::code::Coded;
-use crate::constants::pair_number;
+use crate::marks::{is_initialiser, is_marked};
 use crate::program::Method;
 use crate::shape::{has_context, shape_of};
-use crate::symbols::{equal, is_named, is_static, is_text, own_name, text};
-use crate::taken::{are_taken, taken_methods};
-use const_pool::{Attribute, ClassFile, Code, Constant, Member, Pool};
+use crate::symbols::{equal, is_static, is_text, own_name, text};
+use crate::taken::{are_taken, invoked, taken_methods};
+use crate::word_types::word_type;
+use const_pool::{ClassFile, Code, Constant, Member, Pool};
 use jmodel::op::Op;
 use jmodel::value::Value;
 use jmodel::{Instr, NoMemory, Operands};
@@ -51,37 +52,12 @@ fn is_form_constant(entry: &Constant) -> bool
     }
 }
 
-// A static field is an int with a name of moderate size.
+// A static field is of a type of one word, with a name of moderate size.
 fn is_form_field(pool: &Pool, field: &Member) -> bool
     ensures { result ≡ form_field pool.now field.now }
 {
     !is_static(field)
-        || is_text(pool.utf8(field.descriptor), b"I") && text(pool, field.name).len() <= 1000
-}
-
-// The mark without elements, alone.
-fn is_plain_mark(pool: &Pool, bytes: &[u8]) -> bool
-    ensures { result ≡ plain_mark pool.now bytes.now }
-{
-    match bytes {
-        [0, 1, a, b, 0, 0] => is_text(pool.utf8(pair_number(*a, *b)), b"Lorg/deuce/Atomic;"),
-        _ => false,
-    }
-}
-
-// Whether an attribute marks its method as atomic and says no more.
-fn is_mark(pool: &Pool, attribute: &Attribute) -> bool
-    ensures { result ≡ mark pool.now attribute.now }
-{
-    is_named(pool, b"RuntimeVisibleAnnotations", attribute)
-        && is_plain_mark(pool, attribute.bytes.as_slice())
-}
-
-/// Whether a method is marked as atomic.
-pub fn is_marked(pool: &Pool, method: &Member) -> bool
-    ensures { result ≡ marked pool.now method.now }
-{
-    method.attributes.iter().any(|a| is_mark(pool, a))
+        || word_type(text(pool, field.descriptor)).is_some() && text(pool, field.name).len() <= 1000
 }
 
 /// Whether a method takes a transaction's context, as accessors and duplicates do.
@@ -91,63 +67,37 @@ pub fn takes_context(alloc: Global, pool: &Pool, method: &Member) -> Result<bool
     has_context(alloc, text(pool, method.descriptor))
 }
 
-// Of annotations that a running program sees, the mark alone.
-fn is_form_attribute(pool: &Pool, attribute: &Attribute) -> bool
-    ensures { result ≡ form_attribute pool.now attribute.now }
-{
-    !is_named(pool, b"RuntimeVisibleAnnotations", attribute)
-        || is_plain_mark(pool, attribute.bytes.as_slice())
-}
-
-fn each_is_attribute(pool: &Pool, attributes: &[Attribute]) -> bool
-    ensures { result ≡ list_all (form_attribute pool.now) attributes.now }
-{
-    attributes.iter().all(|a| is_form_attribute(pool, a))
-}
-
 fn is_special(name: &[u8]) -> bool
     ensures { result ≡ special name.now }
 {
     name.starts_with(b"<")
 }
 
-// A static method that takes ints and gives an int or nothing, with code and without a monitor.
+// An ordinary name, or a static initialiser without a mark.
+fn is_form_name(pool: &Pool, method: &Member) -> bool
+    ensures { result ≡ form_name pool.now method.now }
+{
+    !is_special(text(pool, method.name)) || is_initialiser(pool, method) && !is_marked(pool, method)
+}
+
+// A static method that takes values of one word and gives one or nothing, with code and without a monitor.
 fn is_form_atomic(alloc: Global, pool: &Pool, method: &Member) -> Result<bool, NoMemory>
     ensures { IfOk result (λ b. b ≡ form_atomic pool.now method.now) }
 {
     let has_shape = shape_of(alloc, text(pool, method.descriptor))?.is_some();
     let with_context = takes_context(alloc, pool, method)?;
-    Ok(
-        method.flags & 0x528 == 8
-            && has_shape
-            && !with_context
-            && !is_special(text(pool, method.name)),
-    )
+    Ok(method.flags & 0x528 == 8 && has_shape && !with_context && is_form_name(pool, method))
 }
 
-// A method that isn't taken may be anything but a static initialiser.
+// A method that isn't taken may be anything.
 fn is_form_kind(alloc: Global, pool: &Pool, method: &Member, taken: bool) -> Result<bool, NoMemory>
     ensures { IfOk result (λ b. b ≡ form_kind pool.now taken method.now) }
 {
     if taken {
         is_form_atomic(alloc, pool, method)
     } else {
-        Ok(!is_text(pool.utf8(method.name), b"<clinit>"))
+        Ok(true)
     }
-}
-
-fn is_form_method(
-    alloc: Global,
-    pool: &Pool,
-    method: &Member,
-    taken: bool,
-) -> Result<bool, NoMemory>
-    ensures { IfOk result (λ b. b ≡ (list_all (form_attribute pool.now) method.now.attributes && form_kind pool.now taken method.now)) }
-{
-    if !each_is_attribute(pool, method.attributes.as_slice()) {
-        return Ok(false);
-    }
-    is_form_kind(alloc, pool, method, taken)
 }
 
 fn library() -> [&'static [u8]; 20]
@@ -202,11 +152,37 @@ fn count_statics(fields: &[Member]) -> usize
     fields.iter().filter(|m| is_static(m)).count()
 }
 
+// Whether a static field has this name.
+fn have_name(pool: &Pool, name: &[u8], fields: &[Member]) -> bool
+    ensures { result ≡ list_any (bytes_eq name.now) (map (name_of_field pool.now) (filter static_member fields.now)) }
+{
+    for field in fields {
+        if is_static(field) && equal(name, text(pool, field.name)) {
+            return true;
+        }
+    }
+    false
+}
+
+// No two static fields have one name. For each of them the fields behind it are looked through.
+fn have_own_names(pool: &Pool, fields: &[Member]) -> bool
+    ensures { result ≡ distinct (map (name_of_field pool.now) (filter static_member fields.now)) }
+{
+    for (i, field) in fields.iter().enumerate() {
+        if is_static(field) && have_name(pool, text(pool, field.name), &fields[i + 1..]) {
+            return false;
+        }
+    }
+    true
+}
+
 fn are_form_fields(class: &ClassFile) -> bool
     ensures { result ≡ form_fields class.now }
 {
     let fields = class.fields.as_slice();
-    count_statics(fields) <= 100 && each_is_field(&class.pool, fields)
+    count_statics(fields) <= 100
+        && each_is_field(&class.pool, fields)
+        && have_own_names(&class.pool, fields)
 }
 
 fn each_is_method(alloc: Global, class: &ClassFile, taken: &[bool]) -> Result<bool, NoMemory>
@@ -214,7 +190,7 @@ fn each_is_method(alloc: Global, class: &ClassFile, taken: &[bool]) -> Result<bo
     ensures { IfOk result (λ b. b ≡ list_all (form_method class.now) class.now.methods) }
 {
     for (i, method) in class.methods.iter().enumerate() {
-        if !is_form_method(alloc, &class.pool, method, taken[i])? {
+        if !is_form_kind(alloc, &class.pool, method, taken[i])? {
             return Ok(false);
         }
     }
@@ -256,24 +232,20 @@ fn is_form_head(class: &ClassFile) -> bool
         && class.interfaces.is_empty()
 }
 
-// What is of the form without a look at methods.
-fn is_form_outside(class: &ClassFile) -> bool
-    ensures { result ≡ (list_all form_constant class.now.pool && form_head class.now && form_fields class.now) }
+/// Whether a class is of the form, without a look at its methods.
+pub fn is_form_outside(class: &ClassFile) -> bool
+    ensures { result ≡ form_outside class.now }
 {
     each_is_constant(class.pool.entries()) && is_form_head(class) && are_form_fields(class)
 }
 
-/// The methods of the program of a class of the form, None where the class isn't of the form. The code of the methods isn't
-/// looked at.
+/// The methods of the program of a class, None where they or others aren't of the form. Their code isn't looked at.
 pub fn methods_in_form<'a>(
     alloc: Global,
     class: &'a ClassFile,
 ) -> Result<Option<Vec<&'a Member>>, NoMemory>
-    ensures { IfOk result (λ o. option_map (λ v. map (λ m. m.now) v.items) o ≡ (if form_class class.now then Some (methods_of_program class.now) else None)) }
+    ensures { IfOk result (λ o. option_map (λ v. map (λ m. m.now) v.items) o ≡ (if form_methods class.now then Some (methods_of_program class.now) else None)) }
 {
-    if !is_form_outside(class) {
-        return Ok(None);
-    }
     let taken = are_taken(alloc, class)?;
     if !are_form_methods(alloc, class, taken.as_slice())? {
         return Ok(None);
@@ -305,10 +277,20 @@ fn widened(opcode: u8, operands: &Operands) -> u8
     }
 }
 
-fn is_form_instr(i: &Instr) -> bool
-    ensures { result ≡ form_instr i.now }
+// Whether an instruction calls no method with the name of static initialisers.
+fn is_form_call(pool: &Pool, i: &Instr) -> bool
+    ensures { result ≡ form_callee (invoked_by pool.now i.now) }
 {
-    !is_of_reference(widened(i.op, &i.operands))
+    match invoked(pool, i) {
+        Some(found) => !equal(found.name, b"<clinit>"),
+        None => true,
+    }
+}
+
+fn is_form_instr(pool: &Pool, i: &Instr) -> bool
+    ensures { result ≡ form_instr pool.now i.now }
+{
+    !is_of_reference(widened(i.op, &i.operands)) && is_form_call(pool, i)
 }
 
 // What may stand in a method with so many locals that gives a value or nothing.
@@ -323,6 +305,7 @@ fn is_form_op(locals: usize, gives: bool, op: &Op) -> bool
         | Op::Branch(_, _)
         | Op::BranchInts(_, _)
         | Op::Goto(_)
+        | Op::Switch { .. }
         | Op::GetStatic(_)
         | Op::PutStatic(_)
         | Op::InvokeStatic(_) => true,
@@ -333,10 +316,10 @@ fn is_form_op(locals: usize, gives: bool, op: &Op) -> bool
     }
 }
 
-fn are_form_instrs(instrs: &[Instr]) -> bool
-    ensures { result ≡ list_all form_instr instrs.now }
+fn are_form_instrs(pool: &Pool, instrs: &[Instr]) -> bool
+    ensures { result ≡ list_all (form_instr pool.now) instrs.now }
 {
-    instrs.iter().all(|i| is_form_instr(i))
+    instrs.iter().all(|i| is_form_instr(pool, i))
 }
 
 fn are_form_ops(locals: usize, gives: bool, ops: &[Op]) -> bool
@@ -346,12 +329,12 @@ fn are_form_ops(locals: usize, gives: bool, ops: &[Op]) -> bool
 }
 
 /// Whether a method that code means is of the form.
-pub fn is_form_method_of(coded: &Coded, method: &Method) -> bool
-    ensures { result ≡ form_method_of coded.now method.now }
+pub fn is_form_method_of(pool: &Pool, coded: &Coded, method: &Method) -> bool
+    ensures { result ≡ form_method_of pool.now coded.now method.now }
 {
     let entry = method.entry();
     is_form_code(&coded.code)
-        && are_form_instrs(coded.instrs.as_slice())
+        && are_form_instrs(pool, coded.instrs.as_slice())
         && entry.params <= entry.locals
         && are_form_ops(entry.locals, method.gives(), method.ops())
 }

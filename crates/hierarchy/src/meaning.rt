@@ -1,16 +1,18 @@
 //! What instructions mean, with every name resolved (JVM Specification, Java SE 7, chapter 6).
-ghost use Rattle.std.specs.Prelude.{◌≡◌, find, option_copied};
-ghost use Rattle.jmodel.specs.Decoding.{is_member as is_member_of, is_field_of as is_same_field, is_method_of as is_same_method, field_number as number_of_field, method_number as number_of_method, long_field as long_field_of, is_base as is_base_of, is_called as is_call_of, is_get_context as is_context_getter, short_local_op as short_local, arithmetic_op as arithmetic, rearranging_op as rearranging, leaving_op as leaving, simple_op as simple, number_op as number, local_op as local, wide_op as wide, test_of as test, jump_to as jump_to_number, jump_op as jump, get_op as get, put_op as put, static_call_op as static_call, context_op as context_call, virtual_call_op as virtual_call, pool_op as pooled, meaning as meaning_of, op_of as op_of_instr};
+ghost use Rattle.std.specs.Prelude.{◌≡◌, find, option_copied, option_map, IfOk};
+ghost use Rattle.jmodel.specs.Decoding.{is_member as is_member_of, is_field_of as is_same_field, is_method_of as is_same_method, field_number as number_of_field, method_number as number_of_method, long_field as long_field_of, is_base as is_base_of, is_called as is_call_of, is_get_context as is_context_getter, short_local_op as short_local, arithmetic_op as arithmetic, rearranging_op as rearranging, leaving_op as leaving, simple_op as simple, number_op as number, local_op as local, wide_op as wide, test_of as test, jump_to as jump_to_number, jump_op as jump, table_cases as cases_of_table, numbered_case as case_with_number, switch_op as switch, each, get_op as get, put_op as put, static_call_op as static_call, context_op as context_call, virtual_call_op as virtual_call, pool_op as pooled, meaning as meaning_of, op_of as op_of_instr};
 
 use crate::constants::{integer, long_value};
 use crate::numbered::Numbered;
 use crate::program::Field;
 use crate::reference::{Reference, field_reference, method_reference};
 use crate::symbols::{equal, is_text, own_name, same};
+use crate::word_types::{read_type, type_descriptor, word_type, write_type};
 use const_pool::{ClassFile, Member, Pool};
-use jmodel::op::{Binary, ContextCall, Op, Rearrange, Test, Unary, WordType};
+use jmodel::op::{Binary, ContextCall, Op, Rearrange, Test, Unary};
 use jmodel::value::Value;
-use jmodel::{Instr, MethodName, Operands};
+use jmodel::{Cases, Instr, MethodName, Operands};
+use std::alloc::{AllocError, Global};
 use std::marker::Model;
 
 /// A class, the static fields of its program, and the names of its methods in order of their numbers.
@@ -61,7 +63,10 @@ fn long_field(class: &ClassFile, r: &Reference) -> Option<i64>
 fn is_field_of(r: &Reference, field: &Field) -> bool
     ensures { result ≡ is_same_field r.now field.now }
 {
-    same(field.name(), r.name) && same(field.class(), r.class)
+    let (_, field_type) = field.place();
+    same(field.name(), r.name)
+        && equal(type_descriptor(field_type), r.descriptor)
+        && same(field.class(), r.class)
 }
 
 fn is_method_of(r: &Reference, name: &MethodName) -> bool
@@ -138,7 +143,10 @@ fn rearranging_op(opcode: u8) -> Option<Op>
         88 => Some(Op::Rearrange(Rearrange::PopTwo)),
         89 => Some(Op::Rearrange(Rearrange::Duplicate)),
         90 => Some(Op::Rearrange(Rearrange::DuplicateUnder)),
+        91 => Some(Op::Rearrange(Rearrange::DuplicateUnderTwo)),
         92 => Some(Op::Rearrange(Rearrange::DuplicateTwo)),
+        93 => Some(Op::Rearrange(Rearrange::DuplicateTwoUnder)),
+        94 => Some(Op::Rearrange(Rearrange::DuplicateTwoUnderTwo)),
         95 => Some(Op::Rearrange(Rearrange::Swap)),
         _ => None,
     }
@@ -233,10 +241,69 @@ fn jump_op(code: &Numbered, opcode: u8, target: u16) -> Option<Op>
     jump_to(opcode, code.number_at(target)?)
 }
 
+// The cases of a tableswitch: the keys from the lowest on, each with its target.
+fn table_cases(alloc: Global, low: i32, targets: &[u16]) -> Result<Vec<(i32, u16)>, AllocError>
+    ensures { IfOk result (λ v. v.items ≡ cases_of_table low targets.now) }
+{
+    let mut cases = Vec::new(alloc);
+    let mut key = low;
+    for target in targets {
+        cases.push((key, *target))?;
+        key = key.wrapping_add(1);
+    }
+    Ok(cases)
+}
+
+// A case, with the number of the instruction at its target.
+fn numbered_case(code: &Numbered, case: &(i32, u16)) -> Option<(i32, usize)>
+    ensures { result ≡ case_with_number code.now case.now }
+{
+    Some((case.0, code.number_at(case.1)?))
+}
+
+// The same of each case, if each target has an instruction.
+fn numbered_cases(
+    alloc: Global,
+    code: &Numbered,
+    cases: &[(i32, u16)],
+) -> Result<Option<Vec<(i32, usize)>>, AllocError>
+    ensures { IfOk result (λ o. option_map (λ v. v.items) o ≡ each (case_with_number code.now) cases.now) }
+{
+    let mut numbered = Vec::new(alloc);
+    for case in cases {
+        match numbered_case(code, case) {
+            Some(found) => numbered.push(found)?,
+            None => return Ok(None),
+        }
+    }
+    Ok(Some(numbered))
+}
+
+// A switch whose keys ascend, as those of every class file do.
+fn switch_op(
+    alloc: Global,
+    code: &Numbered,
+    other: u16,
+    cases: &[(i32, u16)],
+) -> Result<Option<Op>, AllocError>
+    ensures { IfOk result (λ o. o ≡ switch code.now other cases.now) }
+{
+    let Some(other) = code.number_at(other) else {
+        return Ok(None);
+    };
+    let Some(numbered) = numbered_cases(alloc, code, cases)? else {
+        return Ok(None);
+    };
+    match Cases::new(numbered) {
+        Some(cases) => Ok(Some(Op::Switch { other, cases })),
+        None => Ok(None),
+    }
+}
+
 fn get_op(symbols: &Symbols, r: &Reference) -> Option<Op>
     ensures { result ≡ get symbols.now r.now }
 {
-    if equal(r.descriptor, b"I") {
+    if word_type(r.descriptor).is_some() {
         Some(Op::GetStatic(field_number(symbols.fields, r)?))
     } else if equal(r.descriptor, b"J") {
         Some(Op::Constant(Value::Long(long_field(symbols.class, r)?)))
@@ -250,9 +317,6 @@ fn get_op(symbols: &Symbols, r: &Reference) -> Option<Op>
 fn put_op(symbols: &Symbols, r: &Reference) -> Option<Op>
     ensures { result ≡ put symbols.now r.now }
 {
-    if !equal(r.descriptor, b"I") {
-        return None;
-    }
     Some(Op::PutStatic(field_number(symbols.fields, r)?))
 }
 
@@ -287,10 +351,10 @@ fn context_op(r: &Reference) -> Option<Op>
         ContextCall::Init
     } else if is_called(b"beforeReadAccess", b"(Ljava/lang/Object;J)V", r) {
         ContextCall::BeforeRead
-    } else if is_called(b"onReadAccess", b"(Ljava/lang/Object;IJ)I", r) {
-        ContextCall::OnRead(WordType::Int)
-    } else if is_called(b"onWriteAccess", b"(Ljava/lang/Object;IJ)V", r) {
-        ContextCall::OnWrite(WordType::Int)
+    } else if equal(r.name, b"onReadAccess") {
+        ContextCall::OnRead(read_type(r.descriptor)?)
+    } else if equal(r.name, b"onWriteAccess") {
+        ContextCall::OnWrite(write_type(r.descriptor)?)
     } else if is_called(b"commit", b"()Z", r) {
         ContextCall::Commit
     } else if is_called(b"rollback", b"()V", r) {
@@ -327,24 +391,44 @@ fn pool_op(symbols: &Symbols, opcode: u8, i: u16) -> Option<Op>
 }
 
 // What an opcode with its operands means, among instructions of one code.
-fn meaning(symbols: &Symbols, code: &Numbered, opcode: u8, operands: &Operands) -> Option<Op>
-    ensures { result ≡ meaning_of symbols.now code.now opcode operands.now }
+fn meaning(
+    alloc: Global,
+    symbols: &Symbols,
+    code: &Numbered,
+    opcode: u8,
+    operands: &Operands,
+) -> Result<Option<Op>, AllocError>
+    ensures { IfOk result (λ o. o ≡ meaning_of symbols.now code.now opcode operands.now) }
 {
     match operands {
-        Operands::Nothing => simple_op(opcode),
-        Operands::Number(n) => number_op(opcode, *n),
-        Operands::Local(n) => local_op(opcode, *n),
-        Operands::LocalAdd(n, add) => Some(Op::Increment(*n as usize, *add as i32)),
-        Operands::Pool(i) => pool_op(symbols, opcode, *i),
-        Operands::Target(target) => jump_op(code, opcode, *target),
-        Operands::Wide { op, local, add } => wide_op(*op, *local, *add),
-        _ => None,
+        Operands::Nothing => Ok(simple_op(opcode)),
+        Operands::Number(n) => Ok(number_op(opcode, *n)),
+        Operands::Local(n) => Ok(local_op(opcode, *n)),
+        Operands::LocalAdd(n, add) => Ok(Some(Op::Increment(*n as usize, *add as i32))),
+        Operands::Pool(i) => Ok(pool_op(symbols, opcode, *i)),
+        Operands::Target(target) => Ok(jump_op(code, opcode, *target)),
+        Operands::Table {
+            other,
+            low,
+            targets,
+        } => {
+            let cases = table_cases(alloc, *low, targets.as_slice())?;
+            switch_op(alloc, code, *other, cases.as_slice())
+        }
+        Operands::Lookup { other, pairs } => switch_op(alloc, code, *other, pairs.as_slice()),
+        Operands::Wide { op, local, add } => Ok(wide_op(*op, *local, *add)),
+        _ => Ok(None),
     }
 }
 
 /// What an instruction of a list of them means, None where it has no meaning so far.
-pub fn op_of(symbols: &Symbols, code: &Numbered, i: &Instr) -> Option<Op>
-    ensures { result ≡ op_of_instr symbols.now code.now i.now }
+pub fn op_of(
+    alloc: Global,
+    symbols: &Symbols,
+    code: &Numbered,
+    i: &Instr,
+) -> Result<Option<Op>, AllocError>
+    ensures { IfOk result (λ o. o ≡ op_of_instr symbols.now code.now i.now) }
 {
-    meaning(symbols, code, i.op, &i.operands)
+    meaning(alloc, symbols, code, i.op, &i.operands)
 }

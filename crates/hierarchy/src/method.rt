@@ -2,10 +2,11 @@
 ghost use Rattle.std.specs.Prelude.{◌≡◌, Some, IfOk, length};
 ghost use Rattle.hierarchy.specs.Built.{Builds};
 ghost use Rattle.jmodel.specs.Decoding.{each, ops_of as all_ops, op_of as one_op};
-ghost use Rattle.jmodel.specs.Linking.{end_at as end_of, catches_of as caught, catch_of as one_catch, shape_of as shape, descriptor_of, retries_of as retries, make_method as made, coded_method as coded_of, method_of as meaning, form_method as formed};
+ghost use Rattle.jmodel.specs.Linking.{end_at as end_of, catches_of as caught, catch_of as one_catch, shape_of as shape, descriptor_of, make_method as made, coded_method as coded_of, method_of as meaning, form_method as formed};
 
 use crate::code::{Coded, decoded};
-use crate::form::{is_form_method_of, is_marked};
+use crate::form::is_form_method_of;
+use crate::marks::retries_of;
 use crate::meaning::{Symbols, op_of};
 use crate::numbered::Numbered;
 use crate::outcome::BuildEnd;
@@ -24,7 +25,7 @@ fn ops_of(alloc: Global, symbols: &Symbols, code: &Numbered) -> Result<Vec<Op>, 
     let mut ops = Vec::new(alloc);
     let list = code.instrs();
     for i in list {
-        match op_of(symbols, code, i) {
+        match op_of(alloc, symbols, code, i)? {
             Some(op) => ops.push(op)?,
             None => return Err(BuildEnd::NotBuilt),
         }
@@ -89,17 +90,6 @@ fn entries_of(
         }
     }
     Ok(catches)
-}
-
-// How many attempts a method may make, where it is marked.
-fn retries_of(pool: &Pool, method: &Member) -> Option<i32>
-    ensures { result ≡ retries pool.now method.now }
-{
-    if is_marked(pool, method) {
-        Some(i32::MAX)
-    } else {
-        None
-    }
 }
 
 fn make_method(
@@ -205,7 +195,8 @@ pub fn form_method(
     ensures { Builds (λ m. m) result (formed symbols.now method.now coded.now) }
 {
     let built = coded_method(alloc, symbols, true, method, coded)?;
-    if is_form_method_of(coded, &built) {
+    let class = symbols.class;
+    if is_form_method_of(&class.pool, coded, &built) {
         Ok(built)
     } else {
         Err(BuildEnd::NotBuilt)

@@ -1,12 +1,17 @@
 //! A program: its static fields, and its methods with their instructions.
-ghost use Rattle.std.specs.Prelude.{◌≡◌, slice_get, option_map, ◌<◌, ◌+◌, ◌^◌, IfSome, Option};
+ghost use Rattle.std.specs.Prelude.{◌≡◌, slice_get, option_map, ◌<◌, ◌+◌, ◌^◌, IfSome, Option, option_copied};
 ghost use Rattle.jmodel.specs.Program.{Field as JField, Method as JMethod, Program as JProgram, op_at, catch_at, is_counted, place_at, method_at, find_catch, takes};
-ghost use Rattle.std.specs.Prelude.{nat_le, nat_lt, ◌&&◌};
+ghost use Rattle.std.specs.Prelude.{nat_le, nat_lt, ◌&&◌, IfOk};
+ghost use Rattle.jmodel.specs.Coded.{names_initialiser};
+ghost use Rattle.jmodel.specs.Opening.{initialisers};
+ghost use Rattle.jmodel.specs.Schedule.{is_marked};
 
+use crate::symbols::equal;
 use jmodel::VType;
 use jmodel::bytes::Bytes;
 use jmodel::name::MethodName;
 use jmodel::op::{Catch, Catches, Op, Place, WordType};
+use std::alloc::{AllocError, Global};
 use std::marker::Model;
 
 /// A static field: its names, where it lies, and its type.
@@ -92,7 +97,7 @@ impl Model for Method {
 impl Method {
     /// A method whose `params` places of parameters have the types that it `takes`, of `locals` places in all and at most
     /// `max_stack` on its stack, which `gives` a value or none, whose entering and frames count where it is `counted`, and
-    /// which may make `retries` attempts where it is marked.
+    /// which may make `retries` attempts where it is marked or a static initialiser.
     pub fn new(
         name: MethodName,
         takes: Vec<VType>,
@@ -149,11 +154,26 @@ impl Method {
         self.gives
     }
 
-    /// How many attempts it may make, where it is marked.
+    /// How many attempts it may make, where it is marked or a static initialiser.
     pub fn retries(&self) -> Option<i32>
         ensures { result ≡ self.now.retries }
     {
         self.retries
+    }
+
+    /// Whether it is a static initialiser, by its name and its descriptor.
+    pub fn is_initialiser(&self) -> bool
+        ensures { result ≡ names_initialiser self.now.name }
+    {
+        equal(self.name.name.as_slice(), b"<clinit>")
+            && equal(self.name.descriptor.as_slice(), b"()V")
+    }
+
+    /// Whether it is marked.
+    pub fn is_marked(&self) -> bool
+        ensures { result ≡ is_marked self.now }
+    {
+        self.retries.is_some() && !self.is_initialiser()
     }
 
     /// Whether entering it is a turn, and its frames count.
@@ -191,11 +211,11 @@ impl Method {
     }
 
     /// The instruction at a place. Where there is one, the next place has a number too.
-    fn op(&self, pc: usize) -> Option<Op>
-        ensures at { result ≡ slice_get self.now.ops pc }
+    fn op(&self, pc: usize) -> Option<&Op>
+        ensures at { option_copied result ≡ slice_get self.now.ops pc }
         ensures next { IfSome result (λ _. pc + 1 < 2 ^ 64) }
     {
-        self.ops.get(pc).copied()
+        self.ops.get(pc)
     }
 
     /// Where the first exception entry goes that covers a place and takes an exception.
@@ -271,9 +291,22 @@ impl Program {
         self.methods.get(number)
     }
 
+    /// The numbers of the static initialisers, in the order in which they run.
+    pub fn initialisers(&self, alloc: Global) -> Result<Vec<usize>, AllocError>
+        ensures { IfOk result (λ v. v.items ≡ initialisers self.now) }
+    {
+        let mut numbers = Vec::new(alloc);
+        for (number, method) in self.methods().iter().enumerate() {
+            if method.is_initialiser() {
+                numbers.push(number)?;
+            }
+        }
+        Ok(numbers)
+    }
+
     /// The instruction at a place of a method. Where there is one, the next place has a number too.
-    pub fn op(&self, method: usize, pc: usize) -> Option<Op>
-        ensures at { result ≡ op_at self.now method pc }
+    pub fn op(&self, method: usize, pc: usize) -> Option<&Op>
+        ensures at { option_copied result ≡ op_at self.now method pc }
         ensures next { IfSome result (λ _. pc + 1 < 2 ^ 64) }
     {
         self.methods.get(method)?.op(pc)

@@ -5,6 +5,7 @@ ghost use Rattle.jmodel.specs.DescriptorReading.{signature_of};
 ghost use Rattle.jmodel.specs.Linking.{is_context as context, is_parameter as parameter, is_result as result_type, parameter_type as type_of_parameter, shape_in as shape_of_signature, shape_of as shape, has_context as with_context};
 
 use crate::symbols::same;
+use crate::word_types::as_word;
 use const_pool::Descriptor;
 use jmodel::{FieldType, Halt, NoMemory, VType};
 use std::alloc::{AllocError, Global};
@@ -35,18 +36,21 @@ fn is_context(t: &FieldType) -> bool
     }
 }
 
-// An int, or a transaction's context: each takes one place.
+// A value of one word, or a transaction's context: each takes one place.
 fn is_parameter(t: &FieldType) -> bool
     ensures { result ≡ parameter t.now }
 {
-    matches!(t, FieldType::Int) || is_context(t)
+    as_word(t).is_some() || is_context(t)
 }
 
-// An int or nothing.
+// A value of one word, or nothing.
 fn is_result(t: &Option<FieldType>) -> bool
     ensures { result ≡ result_type t.now }
 {
-    matches!(t, None | Some(FieldType::Int))
+    match t {
+        None => true,
+        Some(found) => as_word(found).is_some(),
+    }
 }
 
 // The signature of a descriptor, if it is one.
@@ -72,7 +76,7 @@ fn have_context(types: &[FieldType]) -> bool
     types.iter().any(|t| is_context(t))
 }
 
-// A reference, or else an int.
+// A reference, or else an int, as a value of one word is in a frame.
 fn parameter_type(alloc: Global, t: &FieldType) -> Result<VType, AllocError>
     ensures { IfOk result (λ v. v ≡ type_of_parameter t.now) }
 {

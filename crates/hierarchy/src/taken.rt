@@ -1,4 +1,4 @@
-//! Which methods of a class are taken: those that are marked, and those that taken ones call, by whatever chain.
+//! Which methods of a class are taken: those that are marked, the static initialisers, and those that taken ones call, by whatever chain.
 ghost use Rattle.std.specs.Prelude.{◌≡◌, ℕ, List, [], ◌∷◌, ◌++◌, ◌&&◌, ◌||◌, map, bytes_eq, IfOk, OnOk, MatchOption, if◌then◌else◌};
 ghost use Rattle.jmodel.specs.Coded.{decoded as decoded_of};
 ghost use Rattle.jmodel.specs.Taken.{index_of as index_in, invoked as invoked_by, is_named_by, code_calls, is_taken};
@@ -7,7 +7,7 @@ ghost use Rattle.hierarchy.specs.Names.{has, group_of};
 ghost use Rattle.hierarchy.specs.Search.{call_of, instrs_call, starting, is_found, IsGrouped, Visits, Finds};
 
 use crate::code::decoded;
-use crate::form::is_marked;
+use crate::marks::is_root;
 use crate::names::{Groups, Names};
 use crate::reference::{Reference, member_reference};
 use crate::symbols::{equal, own_name, text};
@@ -27,8 +27,8 @@ fn index_of(operands: &Operands) -> Option<u16>
     }
 }
 
-// The method that an invoke names.
-fn invoked<'a>(pool: &'a Pool, i: &Instr) -> Option<Reference<'a>>
+/// The method that an invoke names.
+pub fn invoked<'a>(pool: &'a Pool, i: &Instr) -> Option<Reference<'a>>
     ensures { result ≡ invoked_by pool.now i.now }
 {
     if !matches!(i.op, 182..=185) {
@@ -48,14 +48,14 @@ fn call<'a>(class: &'a ClassFile, i: &Instr) -> Option<Reference<'a>>
     Some(found)
 }
 
-// The methods that aren't marked, by their names.
+// The methods that are neither marked nor static initialisers, by their names.
 fn grouped<'a>(alloc: Global, class: &'a ClassFile) -> Result<Groups<'a>, NoMemory>
     ensures { IfOk result (IsGrouped class.now) }
 {
     let mut groups = Groups::new(alloc);
     let pool = &class.pool;
     for method in &class.methods {
-        if !is_marked(pool, method) {
+        if !is_root(pool, method) {
             groups.push(
                 alloc,
                 text(pool, method.name),
@@ -84,13 +84,13 @@ impl<'a> Model for Search<'a> {
 }
 
 impl<'a> Search<'a> {
-    // The search at its start: the marked methods are found.
+    // The search at its start: the marked methods and the static initialisers are found.
     fn start(alloc: Global, class: &'a ClassFile) -> Result<Self, NoMemory>
         ensures { IfOk result (λ s. s ≡ starting class.now) }
     {
         let mut queue = Vec::new(alloc);
         for method in &class.methods {
-            if is_marked(&class.pool, method) {
+            if is_root(&class.pool, method) {
                 queue.push(method)?;
             }
         }
@@ -182,13 +182,12 @@ fn called<'a>(alloc: Global, class: &'a ClassFile) -> Result<Names<'a>, NoMemory
     Ok(search.called)
 }
 
-// Whether a method is marked or has a name that is called.
+// Whether a method is marked or a static initialiser, or has a name that is called.
 fn is_found<'a>(class: &'a ClassFile, called: &Names<'a>, method: &Member) -> bool
     ensures { result ≡ is_found class.now called.now method.now }
 {
     let pool = &class.pool;
-    is_marked(pool, method)
-        || called.contains(text(pool, method.name), text(pool, method.descriptor))
+    is_root(pool, method) || called.contains(text(pool, method.name), text(pool, method.descriptor))
 }
 
 // For each method whether it is found.
@@ -206,8 +205,8 @@ fn are_found<'a>(
     Ok(found)
 }
 
-/// For each method of a class, in the order of the file, whether it is taken: whether it is marked as atomic, or a taken one
-/// calls it. Decodes the code of each taken method once.
+/// For each method of a class, in the order of the file, whether it is taken: whether it is marked as atomic or a static initialiser, or a
+/// taken one calls it. Decodes the code of each taken method once.
 pub fn are_taken(alloc: Global, class: &ClassFile) -> Result<Vec<bool>, NoMemory>
     ensures { IfOk result (λ v. v.items ≡ map (is_taken class.now) class.now.methods) }
 {

@@ -3,7 +3,6 @@ use Rattle.std.proofs.Common.{◌≡◌, ℕ, suc, ◌+◌, ◌<◌, ◌≤◌, 
 use Rattle.std.specs.Prelude.{slice_get}
 use Rattle.jmodel.specs.declared.typing.VType.{VType}
 use Rattle.jmodel.specs.declared.typing.VType.TheVariants.{Int, Long, Second, Ref}
-use Rattle.jmodel.specs.declared.op.WordType.TheVariants as word
 use Rattle.jmodel.specs.declared.op.Op.{Op}
 use Rattle.jmodel.specs.Program.{Field, Method, Program, place_at}
 use Rattle.jmodel.specs.TypeOrder.{object_class, context_class, IsStack}
@@ -24,14 +23,14 @@ over l s = record { locals = l; stack = s }
 abbrev entry : List VType → List VType → Option Types
 entry l s = Some (over l s)
 
--- an int field whose object isn't null
+-- a field whose object isn't null
 abbrev known_field : Field → ℕ → Field
-known_field f o = record { class = f.class; name = f.name; place = record { object = suc o; index = f.place.index }; type = word.Int }
+known_field f o = record { class = f.class; name = f.name; place = record { object = suc o; index = f.place.index }; type = f.type }
 
 is_field : (f : Field) (o : ℕ) → IsKnown f o → f ≡ known_field f o
 is_field f o h =
     let at : ℕ → Field = λ n. record f { place = record { object = n; index = f.place.index } } in
-    ap at h.object ∙ ap (λ t. record { class = f.class; name = f.name; place = record { object = suc o; index = f.place.index }; type = t }) h.type
+    ap at h.object
 
 module _ (Q : Program) (n : ℕ) (f : Field) (o : ℕ) (there : place_at Q n ≡ Some (known_field f o)) where
   abbrev getter : Method

@@ -1,6 +1,7 @@
 -- What an instruction does to a frame of original code, and what the one that stands for it does to the duplicate's frame.
 use Rattle.std.proofs.Common.{◌≡◌, ℕ, ℤ, ◌<◌, ◌^◌, List, [], ◌∷◌, length, Option, Some, None, Bool, true, false, refl, arith}
 use Rattle.std.specs.Prelude.{pos, negsuc, slice_get, slice_set, nat_lt, FitsSigned}
+use Rattle.std.specs.List.{AllByRecursion}
 use Rattle.std.specs.Int.{w32, int_shr}
 use Rattle.std.proofs.lemmas.Int.{ints}
 use Rattle.std.proofs.lemmas.Nat.{shr_le}
@@ -17,10 +18,11 @@ use Rattle.jmodel.specs.declared.op.Unary.{Unary}
 use Rattle.jmodel.specs.declared.op.Unary.TheVariants.{Negate, ToByte, ToChar, ToShort}
 use Rattle.jmodel.specs.declared.op.Rearrange.TheVariants as rearrange
 use Rattle.jmodel.specs.Program.{Method, Program}
-use Rattle.jmodel.specs.Step.{Did, Does, Wrong, does, on_top, on_int, branches, stores, slot_in, int_in, binary, unary, holds, shift}
-use Rattle.jmodel.specs.Rewriting.{moved, block, block_at}
+use Rattle.jmodel.specs.Step.{Did, Does, Wrong, does, on_top, on_int, branches, switched, stores, slot_in, int_in, binary, unary, holds, shift}
+use Rattle.jmodel.specs.Rewriting.{moved, moved_cases, block, block_at}
 use Rattle.jmodel.specs.Source.{IsSourceOp}
 use Rattle.jmodel.proofs.Rows.{frame}
+use Rattle.jmodel.proofs.Switched.{switched_has, switched_moved}
 use Rattle.jmodel.proofs.Moved.{IsPlain, ArePlain, Fits, plain_at, plain_set, fits_get, fits_set, fits_room}
 
 -- ---- what instructions make fits 32 bits
@@ -96,6 +98,10 @@ module _ (P Q : Program) (k : Method) (m pc dn a : ℕ) (l l' : List Slot) (fits
   chooses to s lt p true = jumps to s lt p
   chooses to s lt p false = left s p
 
+  switches : (other : ℕ) (cases : List (ℤ × ℕ)) → (other < length k.ops) × AllByRecursion (λ (c : ℤ × ℕ). c.1 < length k.ops) cases → (s : List Slot) → ArePlain s → (x : ℤ)
+      → AreAlike (Does (Jump (switched other cases x)) (frame m pc l s)) (Does (Jump (switched (block_at k.ops other) (moved_cases (block_at k.ops) cases) x)) (frame dn a l' s))
+  switches other cases src s p x = rw (switched_moved (block_at k.ops) other cases x) (jumps (switched other cases x) s (switched_has (λ (to : ℕ). to < length k.ops) other cases x src.0 src.1) p)
+
   -- where one instruction stands for it
   abbrev pub IsAlike : Did → List Slot → List Op → Type 0
   IsAlike d s (o ∷ []) = AreAlike d (does Q o (frame dn a l' s))
@@ -114,7 +120,11 @@ module _ (P Q : Program) (k : Method) (m pc dn a : ℕ) (l l' : List Slot) (fits
   op_alike (op.Rearrange rearrange.PopTwo) src s p = top s p _ _ (λ y t q p. top t p _ _ (λ x t r p. left t p))
   op_alike (op.Rearrange rearrange.Duplicate) src s p = top s p _ _ (λ v t q p. left (v ∷ v ∷ t) (q, (q, p)))
   op_alike (op.Rearrange rearrange.DuplicateUnder) src s p = top s p _ _ (λ y t q p. top t p _ _ (λ x t r p. left (y ∷ x ∷ y ∷ t) (q, (r, (q, p)))))
+  op_alike (op.Rearrange rearrange.DuplicateUnderTwo) src s p = top s p _ _ (λ z t a p. top t p _ _ (λ y t b p. top t p _ _ (λ x t c p. left (z ∷ y ∷ x ∷ z ∷ t) (a, (b, (c, (a, p)))))))
   op_alike (op.Rearrange rearrange.DuplicateTwo) src s p = top s p _ _ (λ y t q p. top t p _ _ (λ x t r p. left (y ∷ x ∷ y ∷ x ∷ t) (q, (r, (q, (r, p))))))
+  op_alike (op.Rearrange rearrange.DuplicateTwoUnder) src s p = top s p _ _ (λ z t a p. top t p _ _ (λ y t b p. top t p _ _ (λ x t c p. left (z ∷ y ∷ x ∷ z ∷ y ∷ t) (a, (b, (c, (a, (b, p))))))))
+  op_alike (op.Rearrange rearrange.DuplicateTwoUnderTwo) src s p =
+      top s p _ _ (λ z t a p. top t p _ _ (λ y t b p. top t p _ _ (λ x t c p. top t p _ _ (λ w t d p. left (z ∷ y ∷ x ∷ w ∷ z ∷ y ∷ t) (a, (b, (c, (d, (a, (b, p))))))))))
   op_alike (op.Rearrange rearrange.Swap) src s p = top s p _ _ (λ y t q p. top t p _ _ (λ x t r p. left (x ∷ y ∷ t) (r, (q, p))))
   op_alike (op.Binary b) src s p = int s p _ _ (λ y t h p. int t p _ _ (λ x t g p. left (Int (binary b x y) ∷ t) (binary_fits b x y g, p)))
   op_alike (op.Unary u) src s p = int s p _ _ (λ x t h p. left (Int (unary u x) ∷ t) (unary_fits u x, p))
@@ -122,6 +132,7 @@ module _ (P Q : Program) (k : Method) (m pc dn a : ℕ) (l l' : List Slot) (fits
   op_alike (op.Branch t to) src s p = int s p _ _ (λ x u h p. chooses to u src p (holds t x (pos 0)))
   op_alike (op.BranchInts t to) src s p = int s p _ _ (λ y u h p. int u p _ _ (λ x u g p. chooses to u src p (holds t x y)))
   op_alike (op.Goto to) src s p = jumps to s src p
+  op_alike (op.Switch other cases) src s p = int s p _ _ (λ x u h p. switches other cases src u p x)
   op_alike op.Return src s p = gives_none s src
   op_alike op.ReturnValue src [] p = neither
   op_alike op.ReturnValue src (Int x ∷ s) p = gives_value x s src p.0

@@ -1,16 +1,15 @@
 -- What holds after a block, and after a conflict in it.
-use Rattle.std.proofs.Common.{◌≡◌, ℕ, ℤ, ◌+◌, ◌<◌, ◌%◌, ◌^◌, List, [], ◌∷◌, length, Some, None, Bool, true, false, refl, sym, subst, arith, suc}
+use Rattle.std.proofs.Common.{◌≡◌, ℕ, ℤ, ◌+◌, ◌<◌, List, [], ◌∷◌, length, Some, None, Bool, true, false, refl, sym, subst, arith, suc}
 use Rattle.std.specs.Prelude.{slice_get, nat_lt, nat_le, ◌&&◌}
-use Rattle.std.specs.Int.{w32, cast_signed}
 use Rattle.std.proofs.lemmas.Bool.Decides.{nat_tests}
 use Rattle.jmodel.specs.declared.value.Value.TheVariants as value
 use Rattle.jmodel.specs.declared.op.Slot.{Slot}
 use Rattle.jmodel.specs.declared.op.Slot.TheVariants.{Int, Ref, Context}
 use Rattle.jmodel.specs.declared.op.Op.TheVariants.{Load, InvokeStatic, Throw}
-use Rattle.jmodel.specs.declared.op.WordType.TheVariants as word
 use Rattle.jmodel.specs.declared.op.Phase.TheVariants.{Ready, Open, Doomed}
 use Rattle.jmodel.specs.declared.op.Asking.TheVariants.{Go}
-use Rattle.jmodel.specs.Value.{word_of}
+use Rattle.jmodel.specs.WordTypes.{narrowed}
+use Rattle.jmodel.specs.Value.{word_of, number_of}
 use Rattle.jmodel.specs.Program.{Field, Method, Program, find_catch}
 use Rattle.jmodel.specs.Step.{Frames, Asked, Asks, unwinds}
 use Rattle.jmodel.specs.Attempt.{Log, Reply, Gives, Refuses, Bounds, Meter, Run, On, next_run, address, answered, written, recorded, access, on_look, on_read, on_write, unwound}
@@ -75,14 +74,14 @@ module _ (Q : Program) (B : Bounds) (F : Run → Type 0) (fine : IsOfEnds F) (n 
   -- the blocks of memory instructions
   module _ (dn a : ℕ) (dm : Method) (is : slice_get Q.methods dn ≡ Some dm) (l : List Slot) (c : ℕ) (here : slice_get l c ≡ Some Context) (g : ℕ) (at : HasAt dm.ops a (Load c ∷ InvokeStatic g ∷ [])) (i : ℕ) (f : Field) (o : ℕ) (known : IsKnown f o) (fs : Frames) (refused : (s : List Slot) → Refused Q B F n (frame dn (a + 1) l s ∷ fs)) (m : Meter) (w r : Log) (s : List Slot) where
     pub get_block : slice_get Q.methods g ≡ Some (getter_method i f) → slice_get Q.fields i ≡ Some f
-        → ((x : ℕ) → Holds Q B F n (On Open (frame dn (a + 1 + 1) l (Int (cast_signed w32 (answered w (address f.place) x % 2 ^ 32)) ∷ s) ∷ fs) m w (recorded (written w (address f.place)) (address f.place) x r)))
+        → ((x : ℕ) → Holds Q B F n (On Open (frame dn (a + 1 + 1) l (Int (number_of f.type (answered w (address f.place) x)) ∷ s) ∷ fs) m w (recorded (written w (address f.place)) (address f.place) x r)))
         → Holds Q B F (suc n) (On Open (frame dn a l s ∷ fs) m w r)
     get_block h there go =
         on_more Q B F fine 4 n _ _ (get_first Q B dn a dm is l c here g at i f o known fs m w r s h there)
         (on_reply Q B F fine n _ (λ v. subst (Holds Q B F n) (sym (get_look Q B dn a dm is l c here g at i f o known fs m w r s h there v)) (look v)))
       where
-        read : (v : Reply) → Holds Q B F n (on_read v Q f.place word.Int (frame g 8 (Context ∷ []) [] ∷ frame dn (a + 1) l s ∷ fs) m w r)
-        read (Gives x) = on_leads Q B F fine 1 n _ _ (get_last Q B dn a dm is l c here g at i f o known fs m w (recorded (written w (address f.place)) (address f.place) x r) s h there (cast_signed w32 (answered w (address f.place) x % 2 ^ 32))) (go x)
+        read : (v : Reply) → Holds Q B F n (on_read v Q f.place f.type (frame g 8 (Context ∷ []) [] ∷ frame dn (a + 1) l s ∷ fs) m w r)
+        read (Gives x) = on_leads Q B F fine 1 n _ _ (get_last Q B dn a dm is l c here g at i f o known fs m w (recorded (written w (address f.place)) (address f.place) x r) s h there (number_of f.type (answered w (address f.place) x))) (go x)
         read Refuses = subst (λ (b : Asked). Holds Q B F n (unwound b m w r)) (sym (get_refused Q B dn a dm is l c here g at i f o known fs m w r s h there 8 [])) (refused_safe _ (refused s) m w r)
 
         look : (v : Reply) → Holds Q B F n (on_look v Q (frame g 3 (Context ∷ []) [] ∷ frame dn (a + 1) l s ∷ fs) m w r)
@@ -91,12 +90,12 @@ module _ (Q : Program) (B : Bounds) (F : Run → Type 0) (fine : IsOfEnds F) (n 
         look Refuses = subst (λ (b : Asked). Holds Q B F n (unwound b m w r)) (sym (get_refused Q B dn a dm is l c here g at i f o known fs m w r s h there 3 [])) (refused_safe _ (refused s) m w r)
 
     pub put_block : slice_get Q.methods g ≡ Some (setter_method i f) → (x : ℤ)
-        → Holds Q B F n (On Open (frame dn (a + 1 + 1) l s ∷ fs) m (access (address f.place) (word_of (value.Int x)) ∷ w) r)
+        → Holds Q B F n (On Open (frame dn (a + 1 + 1) l s ∷ fs) m (access (address f.place) (word_of (value.Int (narrowed f.type x))) ∷ w) r)
         → Holds Q B F (suc n) (On Open (frame dn a l (Int x ∷ s) ∷ fs) m w r)
     put_block h x go =
         on_more Q B F fine 5 n _ _ (put_first Q B dn a dm is l c here g at i f o known fs m w r s h x)
         (on_reply Q B F fine n _ (λ v. subst (Holds Q B F n) (sym (put_write Q B dn a dm is l c here g at i f o known fs m w r s h x v)) (write v)))
       where
-        write : (v : Reply) → Holds Q B F n (on_write v Q f.place (word_of (value.Int x)) (frame g 4 (Int x ∷ Context ∷ []) [] ∷ frame dn (a + 1) l s ∷ fs) m w r)
-        write (Gives y) = on_leads Q B F fine 1 n _ _ (put_last Q B dn a dm is l c here g at i f o known fs m (access (address f.place) (word_of (value.Int x)) ∷ w) r s h x) go
+        write : (v : Reply) → Holds Q B F n (on_write v Q f.place (word_of (value.Int (narrowed f.type x))) (frame g 4 (Int x ∷ Context ∷ []) [] ∷ frame dn (a + 1) l s ∷ fs) m w r)
+        write (Gives y) = on_leads Q B F fine 1 n _ _ (put_last Q B dn a dm is l c here g at i f o known fs m (access (address f.place) (word_of (value.Int (narrowed f.type x))) ∷ w) r s h x) go
         write Refuses = subst (λ (b : Asked). Holds Q B F n (unwound b m w r)) (sym (put_refused Q B dn a dm is l c here g at i f o known fs m w r s h x 4 [])) (refused_safe _ (refused s) m w r)

@@ -1,8 +1,7 @@
 -- Where a call of the original method ends, an attempt over memory that stands still ends so too.
-use Rattle.std.proofs.Common.{◌≡◌, ◌≢◌, ℕ, ℤ, zero, suc, ◌+◌, ◌-◌, ◌%◌, ◌^◌, List, [], ◌∷◌, length, Option, Some, None, Bool, true, false, refl, sym, ap, subst, ◌∙◌, arith}
+use Rattle.std.proofs.Common.{◌≡◌, ◌≢◌, ℕ, ℤ, zero, suc, ◌+◌, ◌-◌, List, [], ◌∷◌, length, Option, Some, None, Bool, true, false, refl, sym, ap, subst, ◌∙◌, arith}
 use Rattle.std.specs.Prelude.{pos, slice_get, nat_lt, min}
 use Rattle.std.specs.List.{flat_map}
-use Rattle.std.specs.Int.{w32, cast_signed}
 use Rattle.std.proofs.lemmas.Bool.Decides.{nat_tests}
 use Rattle.jmodel.specs.declared.value.Value.TheVariants as value
 use Rattle.jmodel.specs.declared.value.Answer.{Answer}
@@ -11,7 +10,8 @@ use Rattle.jmodel.specs.declared.op.Slot.{Slot}
 use Rattle.jmodel.specs.declared.op.Slot.TheVariants.{Int, Context}
 use Rattle.jmodel.specs.declared.op.Op.TheVariants.{Load, GetStatic, PutStatic, InvokeStatic}
 use Rattle.jmodel.specs.declared.op.Phase.TheVariants.{Ready, Open, Closed}
-use Rattle.jmodel.specs.Value.{slots_of, word_of}
+use Rattle.jmodel.specs.WordTypes.{narrowed}
+use Rattle.jmodel.specs.Value.{slots_of, word_of, number_of}
 use Rattle.jmodel.specs.Program.{Field, Method, Program}
 use Rattle.jmodel.specs.Step.{Frames}
 use Rattle.jmodel.specs.State.{State, put}
@@ -27,7 +27,8 @@ use Rattle.jmodel.proofs.Places.{Rewrites, rewrites, HasAt}
 use Rattle.jmodel.proofs.Replies.{Leads}
 use Rattle.jmodel.proofs.Rows.{frame, IsKnown, get_first, get_look, get_second, get_read, get_last, put_first, put_write, put_last}
 use Rattle.jmodel.proofs.Wrapper.{IsWrapper, wrapper_is, loop_first, loop_begins, starts_up}
-use Rattle.jmodel.proofs.Moved.{ArePlain, FitsInt, fits_here, narrow}
+use Rattle.jmodel.proofs.Moved.{ArePlain, FitsInt, fits_here}
+use Rattle.jmodel.proofs.WordTypes.{word_back, narrowed_number}
 use Rattle.jmodel.proofs.Memory.{holds_at, represents_write}
 use Rattle.jmodel.proofs.Follow.{IsSet, FrameAlike}
 use Rattle.jmodel.proofs.Alone as alone
@@ -103,19 +104,18 @@ module _ (P Q : Program) (R : Rewrites P Q) (S : IsSource P) (B : Bounds) (size 
           let hold = holds_at P size (overlaid w ws) known.0 i y known.2 there in
           let held = hold.held in
           let is = f.is in
-          let same : hold.x ≡ read_int w y (ws at_field) = sym (narrow hold.x hold.fits) ∙ ap (λ (u : ℕ). cast_signed w32 (u % 2 ^ 32)) (sym hold.word) in
+          let same : hold.x ≡ read_int w y (ws at_field) = sym (word_back y.type hold.x hold.fits) ∙ ap (number_of y.type) (sym hold.word) in
           let step : next_direct P (call.On (frame m pc l s ∷ fs) M.turns known.0) ≡ call.On (frame m (pc + 1) l (Int hold.x ∷ s) ∷ fs) M.turns known.0 = simp (is, e, there, held) in
           (known.0, ap (direct P j) (sym (step ∙ ap (λ (y : ℤ). call.On (frame m (pc + 1) l (Int y ∷ s) ∷ fs) M.turns known.0) same)) ∙ known.1, known.2, agrees_more (written w at_field) known.3)
 
       writes : (s : List Slot) (v : ℤ) → FitsInt v → slice_get k.ops pc ≡ Some (PutStatic i) → Known (suc j) (call.On (frame m pc l (Int v ∷ s) ∷ fs) M.turns) w r
-          → Known j (call.On (frame m (pc + 1) l s ∷ fs) M.turns) (access at_field (word_of (value.Int v)) ∷ w) r
+          → Known j (call.On (frame m (pc + 1) l s ∷ fs) M.turns) (access at_field (word_of (value.Int (narrowed y.type v))) ∷ w) r
       writes s v fit e known =
           let hold = holds_at P size (overlaid w ws) known.0 i y known.2 there in
           let held = hold.held in
           let is = f.is in
-          let type = place.type in
-          let step : next_direct P (call.On (frame m pc l (Int v ∷ s) ∷ fs) M.turns known.0) ≡ call.On (frame m (pc + 1) l s ∷ fs) M.turns (put known.0 y.place (value.Int v)) = simp (is, e, there, type, held) in
-          (put known.0 y.place (value.Int v), ap (direct P j) (sym step) ∙ known.1, represents_write P size w ws known.0 i y v fit there known.2, known.3)
+          let step : next_direct P (call.On (frame m pc l (Int v ∷ s) ∷ fs) M.turns known.0) ≡ call.On (frame m (pc + 1) l s ∷ fs) M.turns (put known.0 y.place (value.Int (narrowed y.type v))) = simp (is, e, there, held) in
+          (put known.0 y.place (value.Int (narrowed y.type v)), ap (direct P j) (sym step) ∙ known.1, represents_write P S.shared size w ws known.0 i y (narrowed y.type v) (narrowed_number y.type v fit) there known.2, known.3)
 
       gets : (s : List Slot) → HasAt (duplicate_method P k).ops a (Load k.params ∷ InvokeStatic (getter P i) ∷ [])
           → Comes (On Open (frame dn (a + 1 + 1) l' (Int (read_int w y (ws at_field)) ∷ s) ∷ gs) M w (recorded (written w at_field) at_field (ws at_field) r)) → Comes (On Open (frame dn a l' s ∷ gs) M w r)
@@ -130,13 +130,13 @@ module _ (P Q : Program) (R : Rewrites P Q) (S : IsSource P) (B : Bounds) (size 
           (comes_led 1 _ _ (get_last Q B dn a (duplicate_method P k) dup l' k.params here g at i y o place gs M w r' s h below (read_int w y (ws at_field))) go))))))
 
       puts : (s : List Slot) (v : ℤ) → HasAt (duplicate_method P k).ops a (Load k.params ∷ InvokeStatic (setter P i) ∷ [])
-          → Comes (On Open (frame dn (a + 1 + 1) l' s ∷ gs) M (access at_field (word_of (value.Int v)) ∷ w) r) → Comes (On Open (frame dn a l' (Int v ∷ s) ∷ gs) M w r)
+          → Comes (On Open (frame dn (a + 1 + 1) l' s ∷ gs) M (access at_field (word_of (value.Int (narrowed y.type v))) ∷ w) r) → Comes (On Open (frame dn a l' (Int v ∷ s) ∷ gs) M w r)
       puts s v at go =
           let g = setter P i in
           let h = R.setters i y there in
           comes_led 6 _ _ (put_first Q B dn a (duplicate_method P k) dup l' k.params here g at i y o place gs M w r s h v)
           (comes_by (Gives 0) _ (subst Comes (sym (put_write Q B dn a (duplicate_method P k) dup l' k.params here g at i y o place gs M w r s h v (Gives 0)))
-          (comes_led 1 _ _ (put_last Q B dn a (duplicate_method P k) dup l' k.params here g at i y o place gs M (access at_field (word_of (value.Int v)) ∷ w) r s h v) go)))
+          (comes_led 1 _ _ (put_last Q B dn a (duplicate_method P k) dup l' k.params here g at i y o place gs M (access at_field (word_of (value.Int (narrowed y.type v))) ∷ w) r s h v) go)))
 
     pub completes : IsWalk P Q B mn k0 slots Comes Comes (OfAlone (Known (suc j))) (OfAlone (Known j))
     completes = record {

@@ -1,4 +1,4 @@
--- The int of a field's constant fits 32 bits.
+-- The int that a field holds at first is one of its type.
 use Rattle.std.proofs.Common.{Option, Some, None, arith, lit<}
 use Rattle.std.specs.Prelude.{ℕ, ℤ, pos, option_and_then, unwrap_or, FitsSigned}
 use Rattle.std.specs.Int.{w32}
@@ -8,7 +8,9 @@ use Rattle.jmodel.specs.declared.class_file.Constant.TheVariants as constants
 use Rattle.jmodel.specs.ClassFile.{Member, Pool}
 use Rattle.jmodel.specs.Pool.{entry}
 use Rattle.jmodel.specs.Constants.{integer_in, integer, constant_of}
-use Rattle.jmodel.specs.Layout.{opening_int}
+use Rattle.jmodel.specs.WordTypes.{IsNumberOf}
+use Rattle.jmodel.specs.Layout.{field_type, opening_int}
+use Rattle.jmodel.proofs.WordTypes.{narrowed_number}
 
 -- an int that is there fits 32 bits
 abbrev pub IsSmall : Option ℤ → Type 0
@@ -30,5 +32,5 @@ small_or : (o : Option ℤ) → IsSmall o → FitsSigned w32 (unwrap_or o (pos 0
 small_or None h = record { sfits = lit< tt }
 small_or (Some n) h = h
 
-pub opening_small : (pool : Pool) (m : Member) → FitsSigned w32 (opening_int pool m)
-opening_small pool m = small_or _ (small_entry (constant_of pool m))
+pub opening_number : (pool : Pool) (m : Member) → IsNumberOf (field_type pool m) (opening_int pool m)
+opening_number pool m = narrowed_number (field_type pool m) _ (small_or _ (small_entry (constant_of pool m)))

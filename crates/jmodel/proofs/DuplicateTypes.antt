@@ -10,7 +10,7 @@ use Rattle.jmodel.specs.declared.typing.VType.{VType}
 use Rattle.jmodel.specs.declared.typing.VType.TheVariants.{Int, Null, Ref, Top}
 use Rattle.jmodel.specs.declared.value.Value.TheVariants as value
 use Rattle.jmodel.specs.declared.op.Op.{Op}
-use Rattle.jmodel.specs.declared.op.Op.TheVariants.{Constant, Load, Store, Binary, Unary, Increment, Branch, BranchInts, Goto, GetStatic, PutStatic, InvokeStatic, Return, ReturnValue, Throw, GetContext, Context}
+use Rattle.jmodel.specs.declared.op.Op.TheVariants.{Constant, Load, Store, Binary, Unary, Increment, Branch, BranchInts, Goto, Switch, GetStatic, PutStatic, InvokeStatic, Return, ReturnValue, Throw, GetContext, Context}
 use Rattle.jmodel.specs.declared.op.Op.TheVariants as op
 use Rattle.jmodel.specs.declared.op.Rearrange.{Rearrange}
 use Rattle.jmodel.specs.declared.op.Rearrange.TheVariants as rearrange
@@ -20,7 +20,8 @@ use Rattle.jmodel.specs.Program.{Method, Program}
 use Rattle.jmodel.specs.Source.{IsSourceOp, IsSourceMethod, IsSource}
 use Rattle.jmodel.specs.TypeOrder.{context_class, conflict_class, is_within, AreWithin, IsLocalType, IsStack}
 use Rattle.jmodel.specs.Typing.{Types, Table, types_at, Flow, Leads, Wrong, flow, leaves, ends, stores, on, on_each, on_int, on_one, one_in, int_in, rearranged, type_of, with_stack, first_types, Covers, AreCaught, KeepsFlow, KeepsAt, IsTypedAt, IsTyping, IsTypable}
-use Rattle.jmodel.specs.Rewriting.{moved, block_len, block_at, catch, moved_catch, getter, setter, duplicate, duplicate_method, rewritten}
+use Rattle.jmodel.proofs.Switched.{exits_moved}
+use Rattle.jmodel.specs.Rewriting.{moved, moved_cases, block_len, block_at, catch, moved_catch, getter, setter, duplicate, duplicate_method, rewritten}
 use Rattle.jmodel.proofs.Fields.{each_at, some_at, field_at}
 use Rattle.jmodel.proofs.Places.{HasAt, get_front, get_back, at_cons, has_block, has_stub, next_block, blocks_most, rewrites}
 use Rattle.jmodel.proofs.Tables.{Shape, FineFrom, fine_append, fine_typing, typed_here, self_within, self_fits}
@@ -200,7 +201,10 @@ module _ (p n : ℕ) (at : ℕ → ℕ) where
     rearranged_moved rearrange.PopTwo h e = one_moved h.stack _ _ (λ t s. one_moved s _ _ (λ u s. leaves_moved h s e))
     rearranged_moved rearrange.Duplicate h e = one_moved h.stack _ _ (λ t s. leaves_moved h _ e)
     rearranged_moved rearrange.DuplicateUnder h e = one_moved h.stack _ _ (λ t s. one_moved s _ _ (λ u s. leaves_moved h _ e))
+    rearranged_moved rearrange.DuplicateUnderTwo h e = one_moved h.stack _ _ (λ t s. one_moved s _ _ (λ u s. one_moved s _ _ (λ v s. leaves_moved h _ e)))
     rearranged_moved rearrange.DuplicateTwo h e = one_moved h.stack _ _ (λ t s. one_moved s _ _ (λ u s. leaves_moved h _ e))
+    rearranged_moved rearrange.DuplicateTwoUnder h e = one_moved h.stack _ _ (λ t s. one_moved s _ _ (λ u s. one_moved s _ _ (λ v s. leaves_moved h _ e)))
+    rearranged_moved rearrange.DuplicateTwoUnderTwo h e = one_moved h.stack _ _ (λ t s. one_moved s _ _ (λ u s. one_moved s _ _ (λ v s. one_moved s _ _ (λ w s. leaves_moved h _ e))))
     rearranged_moved rearrange.Swap h e = one_moved h.stack _ _ (λ t s. one_moved s _ _ (λ u s. leaves_moved h _ e))
 
 -- ---- the table: at each block the types of its instruction, and in a block of two those behind the load of the context
@@ -424,9 +428,9 @@ module _ (P : Program) (S : IsSource P) (k : Method) (src : IsSourceMethod P k) 
     gets : (f : ℕ) → f < length P.fields → Block (GetStatic f)
     gets f lt is =
         let x = field_at P f S.fields lt in
-        let field = x.1 in let kind = x.3.type in let copy = (rewrites P).getters f x.0 x.1 in
+        let field = x.1 in let copy = (rewrites P).getters f x.0 x.1 in
         two pc (GetStatic f) is h typed (getter P f) (has_block P k pc (GetStatic f) is) refl
-        (λ a next. rw (field, kind, copy) (leaves_moved p k.locals at pc a next h (Int ∷ h.stack) same_size)) (behind_there pc (GetStatic f) h is refl there)
+        (λ a next. rw (field, copy) (leaves_moved p k.locals at pc a next h (Int ∷ h.stack) same_size)) (behind_there pc (GetStatic f) h is refl there)
 
     puts : (f : ℕ) → f < length P.fields → Block (PutStatic f)
     puts f lt is =
@@ -470,6 +474,9 @@ module _ (P : Program) (S : IsSource P) (k : Method) (src : IsSourceMethod P k) 
         one pc (BranchInts t to) is h typed (BranchInts t (at to)) (has_block P k pc _ is) refl
         (λ a next. int_moved p k.locals at h.stack _ _ (λ s. int_moved p k.locals at s _ _ (λ s. (ap (λ (n : ℕ). n ∷ at to ∷ []) next, refl, same_size))))
     fine_op (Goto to) src is = one pc (Goto to) is h typed (Goto (at to)) (has_block P k pc _ is) refl (λ a next. (refl, refl, same_size))
+    fine_op (Switch other cases) src is =
+        one pc (Switch other cases) is h typed (Switch (at other) (moved_cases at cases)) (has_block P k pc _ is) refl
+        (λ a next. int_moved p k.locals at h.stack _ _ (λ s. (exits_moved at other cases, refl, same_size)))
     fine_op (GetStatic f) src is = gets f src is
     fine_op (PutStatic f) src is = puts f src is
     fine_op (InvokeStatic m) src is = calls m src is

@@ -9,6 +9,7 @@ use Rattle.jmodel.specs.declared.op.Slot.TheVariants.{Int}
 use Rattle.jmodel.specs.declared.op.Op.{Op}
 use Rattle.jmodel.specs.declared.op.Op.TheVariants.{GetStatic, PutStatic}
 use Rattle.jmodel.specs.declared.op.Phase.TheVariants.{Ready, Open, Closed}
+use Rattle.jmodel.specs.WordTypes.{narrowed}
 use Rattle.jmodel.specs.Value.{word_of}
 use Rattle.jmodel.specs.Program.{Field, Method, Program}
 use Rattle.jmodel.specs.Step.{Frames}
@@ -36,7 +37,7 @@ pub record IsTold (P : Program) (F : Run → Type 0) (Known : Alone → Log → 
   pub reads : (m pc : ℕ) (k : Method) (l s : List Slot) (fs : Frames) (t : ℕ) (w r : Log) (i : ℕ) (f : Field) (o : ℕ) → slice_get P.methods m ≡ Some k → slice_get k.ops pc ≡ Some (GetStatic i) → slice_get P.fields i ≡ Some f → IsKnown f o
       → Known (alone.On (frame m pc l s ∷ fs) t) w r → (x : ℕ) → Known (alone.On (frame m (pc + 1) l (Int (read_int w f x) ∷ s) ∷ fs) t) w (recorded (written w (address f.place)) (address f.place) x r)
   pub writes : (m pc : ℕ) (k : Method) (l s : List Slot) (fs : Frames) (t : ℕ) (w r : Log) (i : ℕ) (f : Field) (o : ℕ) → slice_get P.methods m ≡ Some k → slice_get k.ops pc ≡ Some (PutStatic i) → slice_get P.fields i ≡ Some f → IsKnown f o
-      → (x : ℤ) → FitsInt x → Known (alone.On (frame m pc l (Int x ∷ s) ∷ fs) t) w r → Known (alone.On (frame m (pc + 1) l s ∷ fs) t) (access (address f.place) (word_of (value.Int x)) ∷ w) r
+      → (x : ℤ) → FitsInt x → Known (alone.On (frame m pc l (Int x ∷ s) ∷ fs) t) w r → Known (alone.On (frame m (pc + 1) l s ∷ fs) t) (access (address f.place) (word_of (value.Int (narrowed f.type x))) ∷ w) r
   pub stuck : (w r : Log) → Known alone.Stuck w r → F Stuck
   pub out_of_turns : (m : Meter) (w r : Log) → Known (alone.Ended Budget) w r → F (Ended Budget m [] r)
   pub too_deep : (m : Meter) (w r : Log) → Known (alone.Ended Depth) w r → F (Ended Depth m [] r)

@@ -5,8 +5,6 @@ use Rattle.std.specs.List.{AllByRecursion}
 use Rattle.std.specs.Int.{w64}
 use Rattle.std.proofs.lemmas.Bool.Decides.{nat_tests}
 use Rattle.std.proofs.lemmas.Int.{of_z-to_z}
-use Rattle.jmodel.specs.declared.op.WordType.{WordType}
-use Rattle.jmodel.specs.declared.op.WordType.TheVariants as word
 use Rattle.jmodel.specs.Program.{Field, Program}
 use Rattle.jmodel.specs.Source.{IsSourceField}
 use Rattle.jmodel.proofs.Rows.{IsKnown}
@@ -22,9 +20,6 @@ some_at [] i h = absurd (omega arith)
 some_at (x ∷ xs) zero h = (x, refl)
 some_at (x ∷ xs) (suc i) h = let h' : i < length xs = omega arith in some_at xs i h'
 
-is_int : (t : WordType) → t ≡ word.Int
-is_int word.Int = refl
-
 some_object : (o : ℕ) → 0 < o → (n : ℕ) × (o ≡ suc n)
 some_object zero h = absurd (omega arith)
 some_object (suc n) h = (n, refl)
@@ -36,7 +31,7 @@ known_at f h =
     let a = h.address in
     let lt : f.place.index < 2 ^ 64 = omega arith in
     let b : suc n.0 + f.place.index < 2 ^ 64 = omega arith in
-    (n.0, record { object = e; index = of_z-to_z w64 f.place.index lt; below = grind (arith, nat_tests); type = is_int f.type })
+    (n.0, record { object = e; index = of_z-to_z w64 f.place.index lt; below = grind (arith, nat_tests) })
 
 -- a field's number, with its field
 pub field_at : (P : Program) (f : ℕ) → AllByRecursion IsSourceField P.fields → f < length P.fields → (x : Field) × (slice_get P.fields f ≡ Some x) × (o : ℕ) × IsKnown x o

@@ -1,12 +1,13 @@
 -- Counter meets what the laws ask: it is a straight-line program, there are words for its state, and a run of it is explained.
-use Rattle.std.proofs.Common.{ℕ, [], ◌∷◌, ◌++◌, Some, refl, arith, lit<}
+use Rattle.std.proofs.Common.{◌≡◌, ℕ, zero, suc, [], ◌∷◌, ◌++◌, Some, refl, ap, arith, lit<}
 use Rattle.std.specs.Prelude.{pos, replicate}
 use Rattle.jmodel.specs.declared.value.Value.TheVariants.{Int}
 use Rattle.jmodel.specs.declared.value.Answer.TheVariants.{Returned}
 use Rattle.jmodel.specs.Attempt.{Gives, Refuses, Runs, access}
 use Rattle.jmodel.specs.History.{Entry}
 use Rattle.jmodel.specs.Meaning.{Explains}
-use Rattle.jmodel.specs.Source.{IsSource, IsSourceMethod, IsStraightProgram}
+use Rattle.jmodel.specs.Program.{Field}
+use Rattle.jmodel.specs.Source.{AreShared, IsSource, IsSourceMethod, IsStraightProgram}
 use Rattle.jmodel.specs.Rewriting.{rewritten}
 use Rattle.jmodel.specs.Law.{TellsOf}
 use Rattle.jmodel.proofs.Examples.{counter_program, method_inc, bounds, second_answers}
@@ -15,8 +16,13 @@ use Rattle.jmodel.proofs.Simulates.{simulation}
 counter_method : IsSourceMethod counter_program method_inc
 counter_method = record { counted = refl; takes = refl; room = omega arith; no_entries = refl; each = (lit< tt, (record { sfits = lit< tt }, (tt, (tt, (lit< tt, (refl, tt)))))) }
 
+one_type : AreShared counter_program
+one_type zero zero f g is js e = let same : f ≡ g = cc in ap (λ (f : Field). f.type) same
+one_type zero (suc j) f g is js e = cc
+one_type (suc i) j f g is js e = cc
+
 counter_source : IsSource counter_program
-counter_source = record { fields = (record { object = lit< tt; index = lit< tt; address = lit< tt }, tt); methods = (counter_method, tt) }
+counter_source = record { fields = (record { object = lit< tt; index = lit< tt; address = lit< tt }, tt); shared = one_type; methods = (counter_method, tt) }
 
 pub counter_straight : IsStraightProgram counter_program
 counter_straight = record { source = counter_source; straight = (record { no_params = refl; gives_value = refl; code = refl }, tt) }

@@ -6,11 +6,14 @@ pub mod Wrapper
 pub mod Blocks
 pub mod Fields
 pub mod Moved
+pub mod WordTypes
 pub mod Memory
 pub mod Follow
 pub mod Callers
 pub mod Alone
 pub mod Walk
+pub mod Switched
+pub mod Ascending
 pub mod Alike
 pub mod Match
 pub mod SerialProof
@@ -28,8 +31,10 @@ pub mod Numbers
 pub mod Linked
 pub mod Counter
 pub mod Untypable
+pub mod Formed
 pub mod Told
 pub mod Taken
+pub mod Returns
 pub mod Tables
 pub mod AccessorTypes
 pub mod WrapperTypes

@@ -1,12 +1,13 @@
 -- What is linked is a program of source code.
-use Rattle.std.proofs.Common.{◌≡◌, ℕ, ℤ, suc, ◌+◌, ◌-◌, ◌<◌, ◌≤◌, List, [], ◌∷◌, ◌++◌, length, Bool, true, false, not, ◌&&◌, nat_le, nat_eq, nat_lt, Option, Some, None, Result, Ok, Err, refl, sym, ◌∙◌, ap, subst, arith, ◌⊎◌, inl, inr}
-use Rattle.std.specs.Prelude.{if◌then◌else◌, codes, filter, map, replicate, is_some, bytes_eq, ◌||◌, pos, option_map, option_and_then, zip, ◌==◌, ◌-ℤ◌, FitsSigned}
+use Rattle.std.proofs.Common.{◌≡◌, ℕ, ℤ, zero, suc, ◌+◌, ◌-◌, ◌<◌, ◌≤◌, List, [], ◌∷◌, ◌++◌, length, Bool, true, false, not, ◌&&◌, nat_le, nat_eq, nat_lt, Option, Some, None, Result, Ok, Err, refl, sym, ◌∙◌, ap, subst, arith, ◌⊎◌, inl, inr}
+use Rattle.std.specs.Prelude.{slice_get, if◌then◌else◌, codes, filter, map, replicate, is_some, bytes_eq, ◌||◌, pos, option_map, option_and_then, zip, ◌==◌, ◌-ℤ◌, FitsSigned, IfSome, int_lt, ◌≤ℤ◌}
 use Rattle.std.specs.List.{AllByRecursion, list_all, list_any}
 use Rattle.std.specs.Int.{w32}
 use Rattle.std.proofs.lemmas.Bool.Decides.{nat_tests}
 use Rattle.std.proofs.lemmas.Int.{ints}
 use Rattle.std.proofs.lemmas.List.{length-map}
 use Rattle.std.proofs.lemmas.List.Quantifiers.{position-Some}
+use Rattle.std.proofs.lemmas.Slice.Eq.{bytes_eq-Decides}
 use Rattle.std.proofs.lemmas.Slice.Zip.{length-zip}
 use Rattle.jmodel.specs.declared.name.MethodName.{MethodName}
 use Rattle.jmodel.specs.declared.class_file.FieldType.{FieldType}
@@ -27,21 +28,28 @@ use Rattle.jmodel.specs.declared.op.Binary.TheVariants as binary
 use Rattle.jmodel.specs.declared.op.Unary.TheVariants as unary
 use Rattle.jmodel.specs.declared.op.ContextCall.TheVariants as context
 use Rattle.jmodel.specs.declared.op.Catch.{Catch}
+use Rattle.jmodel.specs.declared.op.Place.{Place}
+use Rattle.jmodel.specs.WordTypes.{read_descriptor, write_descriptor, type_with}
 use Rattle.jmodel.specs.ClassFile.{Member, Pool, ClassFile, Code}
 use Rattle.jmodel.specs.Pool.{utf8, MemberName, field_name, method_name}
 use Rattle.jmodel.specs.ClassRules.{same_text}
 use Rattle.jmodel.specs.Descriptor.{Signature}
-use Rattle.jmodel.specs.DescriptorReading.{signature_of}
+use Rattle.jmodel.specs.DescriptorReading.{signature_of, types_at, result_of}
 use Rattle.jmodel.specs.Constants.{integer}
+use Rattle.jmodel.specs.Instruction.{ascend}
 use Rattle.jmodel.specs.Reading.{◌>>=◌}
 use Rattle.jmodel.specs.Program.{Field, Method, Program}
 use Rattle.jmodel.specs.Source.{IsSourceOp, IsSourceMethod, IsSourceField}
-use Rattle.jmodel.specs.Decoding.{context_class, Symbols, number_at, name_of, simple_op, short_local_op, arithmetic_op, rearranging_op, leaving_op, number_op, local_op, wide_op, test_of, jump_to, jump_op, get_op, put_op, static_call_op, context_op, virtual_call_op, pool_op, meaning, op_of, ops_of, in_front, each, field_number, method_number, is_field_of, is_method_of, long_field}
+use Rattle.jmodel.specs.Decoding.{context_class, Symbols, number_at, name_of, simple_op, short_local_op, arithmetic_op, rearranging_op, leaving_op, number_op, local_op, wide_op, test_of, jump_to, jump_op, table_cases, numbered_case, ascending_op, switch_op, get_op, put_op, static_call_op, context_op, virtual_call_op, pool_op, meaning, op_of, ops_of, in_front, each, field_number, method_number, is_field_of, is_method_of, long_field}
 use Rattle.jmodel.specs.InstructionReading.{instrs_of}
-use Rattle.jmodel.specs.Linking.{catch_of, Shape, is_context, is_parameter, parameter_type, is_result, shape_in, has_context, takes_context, code_in, retries_of, Coded, make_method, descriptor_of, shape_of, named_fault, decoded_code, decoded, all_decoded, is_marked, program_methods, is_form_attribute, is_form_atomic, is_form_method, is_form_field, are_form_fields, are_form_methods, is_form_class, is_form_code, is_form_instr, is_form_op, is_form_method_of, if_form, form_method, symbols_of, original_fields, form_methods, form_program, program_in, linked}
-use Rattle.jmodel.specs.Layout.{fields_from, statics, base_of}
-use Rattle.jmodel.specs.LinkedLaw.{IsPlainlyMarked, IsLinked}
+use Rattle.jmodel.specs.Linking.{catch_of, Shape, is_context, is_parameter, parameter_type, is_result, shape_in, has_context, takes_context, code_in, retries_of, Coded, make_method, descriptor_of, shape_of, named_fault, decoded_code, decoded, all_decoded, is_marked, program_methods, is_form_atomic, is_form_method, is_form_field, are_form_fields, are_form_methods, is_form_code, is_form_instr, is_form_op, is_form_method_of, if_form, form_method, symbols_of, original_fields, form_methods, form_program, program_in, linked, is_form_name, is_initialiser, is_root}
+use Rattle.jmodel.specs.Layout.{fields_from, statics, base_of, text_or_none}
+use Rattle.jmodel.specs.LinkedLaw.{CanSetUp, IsLinked, MayAttempt}
+use Rattle.jmodel.specs.declared.mark.AnnotationFault.TheVariants.{Retries}
+use Rattle.jmodel.specs.Mark.{retries_in, answer}
+use Rattle.jmodel.specs.Coded.{attempts_in, mark_retries}
 use Rattle.jmodel.specs.Taken.{is_taken}
+use Rattle.jmodel.proofs.Formed.{formed}
 use Rattle.jmodel.proofs.Constants.{IsSmall, integer_small}
 use Rattle.jmodel.proofs.Numbers.{Has, IsSmallNumber, IsSmallInstr, read_small}
 
@@ -74,6 +82,7 @@ IsBound b (op.InvokeStatic m) = m < b.methods
 IsBound b (op.Branch t to) = to < b.ops
 IsBound b (op.BranchInts t to) = to < b.ops
 IsBound b (op.Goto to) = to < b.ops
+IsBound b (op.Switch other cases) = (other < b.ops) × AllByRecursion (λ (c : ℤ × ℕ). c.1 < b.ops) cases
 IsBound b (op.Constant (value.Int x)) = FitsSigned w32 x
 IsBound b o = Unit {0}
 
@@ -135,7 +144,9 @@ rearranging_fine : (b : Bounds) (c : ℕ) → Fine b (rearranging_op c)
 rearranging_fine b c =
     plain b _ (op.Rearrange rearrange.Nothing) _ tt (plain b _ (op.Rearrange rearrange.Pop) _ tt (plain b _ (op.Rearrange rearrange.PopTwo) _ tt
     (plain b _ (op.Rearrange rearrange.Duplicate) _ tt (plain b _ (op.Rearrange rearrange.DuplicateUnder) _ tt
-    (plain b _ (op.Rearrange rearrange.DuplicateTwo) _ tt (plain b _ (op.Rearrange rearrange.Swap) None tt (nothing b)))))))
+    (plain b _ (op.Rearrange rearrange.DuplicateUnderTwo) _ tt (plain b _ (op.Rearrange rearrange.DuplicateTwo) _ tt
+    (plain b _ (op.Rearrange rearrange.DuplicateTwoUnder) _ tt (plain b _ (op.Rearrange rearrange.DuplicateTwoUnderTwo) _ tt
+    (plain b _ (op.Rearrange rearrange.Swap) None tt (nothing b))))))))))
 
 leaving_fine : (b : Bounds) (c : ℕ) → Fine b (leaving_op c)
 leaving_fine b c = plain b _ op.ReturnValue _ tt (plain b _ op.Return _ tt (plain b _ op.Throw None tt (nothing b)))
@@ -179,6 +190,24 @@ target_there is pc i e = (position-Some (λ (i : Instr). nat_eq i.pc pc) is i bl
     blank : Instr
     blank = record { pc = 0; op = 0; operands = operands.Nothing }
 
+-- ---- lists of what each gives
+
+pub each_all : {A B : Type 0} (f : A → Option B) (P : A → Type 0) (Q : B → Type 0) → ((x : A) (y : B) → P x → f x ≡ Some y → Q y)
+    → (xs : List A) (ys : List B) → AllByRecursion P xs → each f xs ≡ Some ys → AllByRecursion Q ys × (length ys ≡ length xs)
+each_all f P Q h [] [] all is = (tt, refl)
+each_all f P Q h [] (y ∷ ys) all is = cc
+each_all {A} {B} f P Q h (x ∷ xs) ys all is = go (f x) refl (each f xs) (λ zs es. each_all f P Q h xs zs all.1 es) refl is
+  where
+    go : (o : Option B) → f x ≡ o → (os : Option (List B)) → ((zs : List B) → each f xs ≡ Some zs → AllByRecursion Q zs × (length zs ≡ length xs)) → each f xs ≡ os
+        → in_front o os ≡ Some ys → AllByRecursion Q ys × (length ys ≡ length (x ∷ xs))
+    go None e os rest es h2 = cc
+    go (Some y) e None rest es h2 = cc
+    go (Some y) e (Some zs) rest es h2 =
+        let same : ys ≡ y ∷ zs = cc in
+        let r = rest zs es in
+        let Both : List B → Type 0 = λ l. AllByRecursion Q l × (length l ≡ length (x ∷ xs)) in
+        subst Both (sym same) ((h x y all.0 e, r.0), ap suc r.1)
+
 -- ---- what instructions mean
 
 module _ (s : Symbols) (is : List Instr) where
@@ -188,6 +217,27 @@ module _ (s : Symbols) (is : List Instr) where
   jump_fine : (c target : ℕ) → Fine bounds (jump_op is c target)
   jump_fine c target = chained bounds (jump_to c) (number_at is target) (λ to e. jump_to_fine bounds c to (target_there is target to e))
 
+  case_there : (c d : ℤ × ℕ) → numbered_case is c ≡ Some d → d.1 < length is
+  case_there c d e = go (number_at is c.1) refl e
+    where
+      go : (o : Option ℕ) → number_at is c.1 ≡ o → option_map (λ (n : ℕ). (c.0, n)) o ≡ Some d → d.1 < length is
+      go None f h = cc
+      go (Some n) f h = let same : n ≡ d.1 = cc in subst (λ (i : ℕ). i < length is) same (target_there is c.1 n f)
+
+  free : (cases : List (ℤ × ℕ)) → AllByRecursion (λ (c : ℤ × ℕ). Unit {0}) cases
+  free [] = tt
+  free (c ∷ cases) = (tt, free cases)
+
+  switch_fine : (other : ℕ) (cases : List (ℤ × ℕ)) → Fine bounds (switch_op is other cases)
+  switch_fine other cases = go (number_at is other) refl (each (numbered_case is) cases) refl
+    where
+      go : (o : Option ℕ) → number_at is other ≡ o → (cs : Option (List (ℤ × ℕ))) → each (numbered_case is) cases ≡ cs → Fine bounds (ascending_op o cs)
+      go (Some o) e (Some cs) f =
+          plain bounds (ascend cs) (op.Switch o cs) None
+          (target_there is other o e, (each_all (numbered_case is) (λ c. Unit {0}) (λ d. d.1 < length is) (λ c d u. case_there c d) cases cs (free cases) f).0) (nothing bounds)
+      go (Some o) e None f = nothing bounds
+      go None e cs f = nothing bounds
+
   get_fine : (m : MemberName) → Fine bounds (get_op s m)
   get_fine m =
       either bounds _ _ _ (mapped bounds op.GetStatic (field_number s.fields m) (field_there s.fields m))
@@ -195,15 +245,16 @@ module _ (s : Symbols) (is : List Instr) where
       (plain bounds _ (op.Constant (value.Ref (base_of (s.class ∷ []) 0))) None tt (nothing bounds)))
 
   put_fine : (m : MemberName) → Fine bounds (put_op s m)
-  put_fine m = either bounds _ _ None (mapped bounds op.PutStatic (field_number s.fields m) (field_there s.fields m)) (nothing bounds)
+  put_fine m = mapped bounds op.PutStatic (field_number s.fields m) (field_there s.fields m)
 
   static_fine : (m : MemberName) → Fine bounds (static_call_op s m)
   static_fine m = plain bounds _ op.GetContext _ tt (mapped bounds op.InvokeStatic (method_number s.methods m) (method_there s.methods m))
 
   context_fine : (m : MemberName) → Fine bounds (context_op m)
   context_fine m =
-      plain bounds _ (op.Context context.Init) _ tt (plain bounds _ (op.Context context.BeforeRead) _ tt (plain bounds _ (op.Context (context.OnRead word.Int)) _ tt
-      (plain bounds _ (op.Context (context.OnWrite word.Int)) _ tt (plain bounds _ (op.Context context.Commit) _ tt
+      plain bounds _ (op.Context context.Init) _ tt (plain bounds _ (op.Context context.BeforeRead) _ tt
+      (either bounds _ _ _ (mapped bounds (λ t. op.Context (context.OnRead t)) (type_with read_descriptor m.descriptor) (λ t e. tt))
+      (either bounds _ _ _ (mapped bounds (λ t. op.Context (context.OnWrite t)) (type_with write_descriptor m.descriptor) (λ t e. tt)) (plain bounds _ (op.Context context.Commit) _ tt
       (plain bounds _ (op.Context context.Rollback) None tt (nothing bounds))))))
 
   virtual_fine : (m : MemberName) → Fine bounds (virtual_call_op m)
@@ -228,29 +279,13 @@ module _ (s : Symbols) (is : List Instr) where
   meaning_fine c (operands.LocalAdd n add) h = leaf bounds (op.Increment n add) tt
   meaning_fine c (operands.Pool i) h = pool_fine c i
   meaning_fine c (operands.Target t) h = jump_fine c t
+  meaning_fine c (operands.Table other low targets) h = switch_fine other (table_cases low targets)
+  meaning_fine c (operands.Lookup other pairs) h = switch_fine other pairs
   meaning_fine c (operands.Wide w n add) h = wide_fine bounds w n add
   meaning_fine c o h = nothing bounds
 
   op_fine : (i : Instr) (o : Op) → IsSmallInstr i → op_of s is i ≡ Some o → IsBound bounds o
   op_fine i o h e = (let f = meaning_fine i.op i.operands h in rw e at f).fine
-
--- ---- lists of what each gives
-
-pub each_all : {A B : Type 0} (f : A → Option B) (P : A → Type 0) (Q : B → Type 0) → ((x : A) (y : B) → P x → f x ≡ Some y → Q y)
-    → (xs : List A) (ys : List B) → AllByRecursion P xs → each f xs ≡ Some ys → AllByRecursion Q ys × (length ys ≡ length xs)
-each_all f P Q h [] [] all is = (tt, refl)
-each_all f P Q h [] (y ∷ ys) all is = cc
-each_all {A} {B} f P Q h (x ∷ xs) ys all is = go (f x) refl (each f xs) (λ zs es. each_all f P Q h xs zs all.1 es) refl is
-  where
-    go : (o : Option B) → f x ≡ o → (os : Option (List B)) → ((zs : List B) → each f xs ≡ Some zs → AllByRecursion Q zs × (length zs ≡ length xs)) → each f xs ≡ os
-        → in_front o os ≡ Some ys → AllByRecursion Q ys × (length ys ≡ length (x ∷ xs))
-    go None e os rest es h2 = cc
-    go (Some y) e None rest es h2 = cc
-    go (Some y) e (Some zs) rest es h2 =
-        let same : ys ≡ y ∷ zs = cc in
-        let r = rest zs es in
-        let Both : List B → Type 0 = λ l. AllByRecursion Q l × (length l ≡ length (x ∷ xs)) in
-        subst Both (sym same) ((h x y all.0 e, r.0), ap suc r.1)
 
 -- ---- instructions of the form
 
@@ -273,6 +308,7 @@ form_source P k (op.Increment i n) h b = below i k.locals h
 form_source P k (op.Branch t to) h b = b
 form_source P k (op.BranchInts t to) h b = b
 form_source P k (op.Goto to) h b = b
+form_source P k (op.Switch other cases) h b = b
 form_source P k (op.GetStatic f) h b = b
 form_source P k (op.PutStatic f) h b = b
 form_source P k (op.InvokeStatic m) h b = b
@@ -314,14 +350,14 @@ pub record Means (s : Symbols) (m : Member) (k : Coded) (p : Method) : Type 0 wh
   pub shaped : shape_of (descriptor_of s.class.pool m) ≡ Some shape
   pub told : ops_of s k.instrs ≡ Some ops
   pub caught : each (catch_of s.class.pool k.instrs (length k.code.code)) k.code.handlers ≡ Some catches
-  pub form : is_form_method_of k p ≡ true
+  pub form : is_form_method_of s.class.pool k p ≡ true
 
 pub means_of : (s : Symbols) (m : Member) (k : Coded) (p : Method) → form_method s m k ≡ Some p → Means s m k p
 means_of s m k p h = go (shape_of (descriptor_of s.class.pool m)) refl (ops_of s k.instrs) refl (each (catch_of s.class.pool k.instrs (length k.code.code)) k.code.handlers) refl h
   where
     choose : (shape : Shape) (ops : List Op) (catches : List Catch) → shape_of (descriptor_of s.class.pool m) ≡ Some shape → ops_of s k.instrs ≡ Some ops
         → each (catch_of s.class.pool k.instrs (length k.code.code)) k.code.handlers ≡ Some catches
-        → (b : Bool) → is_form_method_of k (meant s m k shape ops catches) ≡ b → (if b then Some (meant s m k shape ops catches) else None) ≡ Some p → Means s m k p
+        → (b : Bool) → is_form_method_of s.class.pool k (meant s m k shape ops catches) ≡ b → (if b then Some (meant s m k shape ops catches) else None) ≡ Some p → Means s m k p
     choose shape ops catches d t c true e h =
         let same : p ≡ meant s m k shape ops catches = cc in
         record { shape = shape; ops = ops; catches = catches; is = same; shaped = d; told = t; caught = c; form = rw same e }
@@ -329,8 +365,8 @@ means_of s m k p h = go (shape_of (descriptor_of s.class.pool m)) refl (ops_of s
 
     go : (shape : Option Shape) → shape_of (descriptor_of s.class.pool m) ≡ shape → (ops : Option (List Op)) → ops_of s k.instrs ≡ ops → (catches : Option (List Catch))
         → each (catch_of s.class.pool k.instrs (length k.code.code)) k.code.handlers ≡ catches
-        → if_form k (make_method s true m k.code shape ops catches) ≡ Some p → Means s m k p
-    go (Some shape) d (Some ops) t (Some catches) c h = choose shape ops catches d t c (is_form_method_of k (meant s m k shape ops catches)) refl h
+        → if_form s.class.pool k (make_method s true m k.code shape ops catches) ≡ Some p → Means s m k p
+    go (Some shape) d (Some ops) t (Some catches) c h = choose shape ops catches d t c (is_form_method_of s.class.pool k (meant s m k shape ops catches)) refl h
     go (Some shape) d (Some ops) t None c h = cc
     go (Some shape) d None t catches c h = cc
     go None d ops t catches c h = cc
@@ -344,6 +380,10 @@ neither true b h = h
 -- parameters none of which is a context are ints
 int_types : (ts : List FieldType) → list_all is_parameter ts ≡ true → list_any is_context ts ≡ false → map parameter_type ts ≡ replicate (length ts) type.Int
 int_types [] h n = refl
+int_types (types.Boolean ∷ ts) h n = ap (λ (us : List VType). type.Int ∷ us) (int_types ts h n)
+int_types (types.Byte ∷ ts) h n = ap (λ (us : List VType). type.Int ∷ us) (int_types ts h n)
+int_types (types.Char ∷ ts) h n = ap (λ (us : List VType). type.Int ∷ us) (int_types ts h n)
+int_types (types.Short ∷ ts) h n = ap (λ (us : List VType). type.Int ∷ us) (int_types ts h n)
 int_types (types.Int ∷ ts) h n = ap (λ (us : List VType). type.Int ∷ us) (int_types ts h n)
 int_types (types.Reference name ∷ ts) h n =
     let is : bytes_eq name context_class ≡ true = (both (bytes_eq name context_class) (list_all is_parameter ts) h).0 in
@@ -397,26 +437,72 @@ form_each c h = form_where c c.methods (both (nat_le (length (program_methods c)
 -- what the form says of a method of the program
 pub form_atomic : (c : ClassFile) (m : Member) → IsFormProgram c m → is_form_atomic c.pool m ≡ true
 form_atomic c m h =
-    let t = (both (list_all (is_form_attribute c.pool) m.attributes) (if is_taken c m then is_form_atomic c.pool m else not (same_text (utf8 c.pool m.name) (codes "<clinit>"))) h.1).1 in
+    let t = h.1 in
     let is = h.0 in
     rw is at t
 
 no_context : (c : ClassFile) (m : Member) → IsFormProgram c m → takes_context c.pool m ≡ false
 no_context c m h = is_not (takes_context c.pool m) (both _ _ (both _ _ (form_atomic c m h)).0).1
 
+-- ---- static initialisers
+
+-- a method of the form with the name of a static initialiser is called from outside
+is_called_alone : (pool : Pool) (m : Member) → is_form_name pool m ≡ true → bytes_eq (text_or_none (utf8 pool m.name)) (codes "<clinit>") ≡ true → is_root pool m ≡ true
+is_called_alone pool m form named = go (is_initialiser pool m) (mark_retries pool m) special
+  where
+    special : (is_initialiser pool m && not (is_marked pool m)) ≡ true
+    special =
+        let is = (bytes_eq-Decides (text_or_none (utf8 pool m.name)) (codes "<clinit>")).0 named in
+        rw is at form
+
+    go : (first : Bool) (granted : Option ℤ) → (first && not (is_some granted)) ≡ true → is_some (if first then Some (pos 2147483647) else granted) ≡ true
+    go true granted h = refl
+    go false granted h = cc
+
+-- and takes nothing
+takes_nothing : (d : List ℕ) (shape : Shape) → shape_of d ≡ Some shape → bytes_eq d (codes "()V") ≡ true → shape.params ≡ 0
+unfolding signature_of types_at result_of
+takes_nothing d shape h same =
+    let is = (bytes_eq-Decides d (codes "()V")).0 same in
+    none shape (rw is at h)
+  where
+    none : (shape : Shape) → shape_of (codes "()V") ≡ Some shape → shape.params ≡ 0
+    none shape e =
+        let empty : shape_of (codes "()V") ≡ Some (record { takes = []; params = 0; gives = false }) = refl in
+        let same : shape ≡ record { takes = []; params = 0; gives = false } = cc in
+        ap (λ (s : Shape). s.params) same
+
+sets_up : (s : Symbols) (m : Member) (k : Coded) (shape : Shape) (ops : List Op) (catches : List Catch) → is_form_atomic s.class.pool m ≡ true
+    → shape_of (descriptor_of s.class.pool m) ≡ Some shape → CanSetUp (meant s m k shape ops catches)
+sets_up s m k shape ops catches form shaped named =
+    let is = both (bytes_eq (text_or_none (utf8 s.class.pool m.name)) (codes "<clinit>")) (bytes_eq (descriptor_of s.class.pool m) (codes "()V")) named in
+    let root = is_called_alone s.class.pool m (both _ _ form).1 is.0 in
+    let none = takes_nothing (descriptor_of s.class.pool m) shape shaped is.1 in
+    rw root (rw none refl)
+
 -- ---- a method of the program
 
 -- what a linked method keeps
 record IsMethodOf (P : Program) (k : Method) : Type 0 where
   source : IsSourceMethod P k
-  marked : IsPlainlyMarked k
+  marked : MayAttempt k
+  sets_up : CanSetUp k
 
-plainly : (pool : Pool) (m : Member) → (retries_of pool m ≡ None) ⊎ (retries_of pool m ≡ Some (pos 2147483647))
-plainly pool m = go (is_marked pool m)
+may_attempt : (pool : Pool) (m : Member) → IfSome (retries_of pool m) (λ n. pos 1 ≤ℤ n)
+may_attempt pool m = by_kind (is_initialiser pool m)
   where
-    go : (b : Bool) → ((if b then Some (pos 2147483647) else None) ≡ None) ⊎ ((if b then Some (pos 2147483647) else None) ≡ Some (pos 2147483647))
-    go true = inr refl
-    go false = inl refl
+    by_test : (n : ℤ) (b : Bool) → int_lt n (pos 1) ≡ b → IfSome (attempts_in (if b then Err (Retries n) else Ok (Some (record { retries = n })))) (λ n. pos 1 ≤ℤ n)
+    by_test n true h = tt
+    by_test n false h = omega (arith, ints)
+
+    by_read : (r : Result (Option ℤ) ℕ) → IfSome (attempts_in (answer r)) (λ n. pos 1 ≤ℤ n)
+    by_read (Ok None) = tt
+    by_read (Ok (Some n)) = by_test n (int_lt n (pos 1)) refl
+    by_read (Err at) = tt
+
+    by_kind : (b : Bool) → IfSome (if b then Some (pos 2147483647) else mark_retries pool m) (λ n. pos 1 ≤ℤ n)
+    by_kind true = omega (arith, ints)
+    by_kind false = by_read (retries_in pool m.attributes)
 
 no_handlers : (hs : List Handler) → (length hs == 0) ≡ true → hs ≡ []
 no_handlers [] h = refl
@@ -426,14 +512,14 @@ each_none : {A B : Type 0} (f : A → Option B) (xs : List A) (ys : List B) → 
 each_none f [] ys e h = cc
 each_none f (x ∷ xs) ys e h = cc
 
-method_of : (P : Program) (s : Symbols) (m : Member) (k : Coded) (p : Method) → takes_context s.class.pool m ≡ false → length P.fields ≡ length s.fields → length P.methods ≡ length s.methods
+method_of : (P : Program) (s : Symbols) (m : Member) (k : Coded) (p : Method) → takes_context s.class.pool m ≡ false → is_form_atomic s.class.pool m ≡ true → length P.fields ≡ length s.fields → length P.methods ≡ length s.methods
     → AllByRecursion IsSmallInstr k.instrs → form_method s m k ≡ Some p → IsMethodOf P p
-method_of P s m k p plain same many smalls h =
+method_of P s m k p plain formal same many smalls h =
     let means = means_of s m k p h in
     let q = meant s m k means.shape means.ops means.catches in
     let ends = both _ _ (let f = means.form in let same_method = means.is in rw same_method at f) in
     let rooms = both _ _ ends.0 in
-    let codes_are : (nat_le k.code.max_locals 200 ≡ true) × ((length k.code.handlers == 0) ≡ true) = both _ _ (both (is_form_code k.code) (list_all is_form_instr k.instrs) rooms.0).0 in
+    let codes_are : (nat_le k.code.max_locals 200 ≡ true) × ((length k.code.handlers == 0) ≡ true) = both _ _ (both (is_form_code k.code) (list_all (is_form_instr s.class.pool) k.instrs) rooms.0).0 in
     let all = each_all (op_of s k.instrs) IsSmallInstr (IsBound (bounds s k.instrs)) (op_fine s k.instrs) k.instrs means.ops smalls means.told in
     let fits : bounds s k.instrs ≡ bounds_of P q = cc in
     let empty : means.catches ≡ [] =
@@ -447,7 +533,8 @@ method_of P s m k p plain same many smalls h =
         no_entries = empty;
         each = all_source P q means.ops ends.1 (rw (← fits) all.0);
       };
-      marked = plainly s.class.pool m;
+      marked = may_attempt s.class.pool m;
+      sets_up = sets_up s m k means.shape means.ops means.catches formal means.shaped;
     })
 
 -- ---- programs
@@ -457,14 +544,34 @@ fields_source c j [] h = tt
 fields_source c j (m ∷ ms) h =
     (record { object = omega arith; index = omega arith; address = omega (arith, h) }, fields_source c (suc j) ms (omega (arith, h)))
 
-split_methods : (P : Program) (ks : List Method) → AllByRecursion (IsMethodOf P) ks → AllByRecursion (IsSourceMethod P) ks × AllByRecursion IsPlainlyMarked ks
-split_methods P [] h = (tt, tt)
+same_item : {A : Type 0} (o : Option A) (x y : A) → o ≡ Some x → o ≡ Some y → x ≡ y
+same_item o x y p q = let e : Some x ≡ Some y = sym p ∙ q in cc
+
+-- a static field lies at the place of its number
+index_at : (c : ClassFile) (j : ℕ) (ms : List Member) (i : ℕ) (f : Field) → slice_get (fields_from (c ∷ []) 0 c (suc j) ms ++ []) i ≡ Some f → f.place.index ≡ suc j + i
+index_at c j [] i f h = cc
+index_at c j (m ∷ ms) zero f h = let same : suc j ≡ f.place.index = ap (λ (f : Field). f.place.index) (same_item _ _ f refl h) in omega arith
+index_at c j (m ∷ ms) (suc i) f h = let rest = index_at c (suc j) ms i f h in omega arith
+
+fields_shared : (c : ClassFile) (i j : ℕ) (f g : Field) → slice_get (original_fields c) i ≡ Some f → slice_get (original_fields c) j ≡ Some g → f.place ≡ g.place → f.type ≡ g.type
+fields_shared c i j f g is js e =
+    let here = index_at c 0 (statics c) i f is in
+    let there = index_at c 0 (statics c) j g js in
+    let one : f.place.index ≡ g.place.index = ap (λ (p : Place). p.index) e in
+    let same : i ≡ j = omega arith in
+    let both_are : slice_get (original_fields c) i ≡ Some g = rw same js in
+    let field : f ≡ g = same_item _ f g is both_are in
+    ap (λ (f : Field). f.type) field
+
+split_methods : (P : Program) (ks : List Method) → AllByRecursion (IsMethodOf P) ks
+    → AllByRecursion (IsSourceMethod P) ks × AllByRecursion MayAttempt ks × AllByRecursion CanSetUp ks
+split_methods P [] h = (tt, tt, tt)
 split_methods P (k ∷ ks) h =
     let r = split_methods P ks h.1 in
-    ((h.0.source, r.0), (h.0.marked, r.1))
+    ((h.0.source, r.0), (h.0.marked, r.1), (h.0.sets_up, r.2))
 
 pub few_statics : (c : ClassFile) → are_form_fields c ≡ true → length (statics c) ≤ 100
-few_statics c h = let few = (both (nat_le (length (statics c)) 100) (list_all (is_form_field c.pool) c.fields) h).0 in grind (arith, nat_tests)
+few_statics c h = let few = (both (nat_le (length (statics c)) 100) (list_all (is_form_field c.pool) c.fields) (both _ _ h).0).0 in grind (arith, nat_tests)
 
 -- code that is decoded has small numbers alone
 abbrev IsSmallCode : Coded → Type 0
@@ -527,28 +634,21 @@ module _ (c : ClassFile) (P : Program) (fields_are : are_form_fields c ≡ true)
           let zipped : length (zip (program_methods c) ks) ≡ length (program_methods c) = length-zip (program_methods c) ks ∙ omega (arith, long) in
           let many : length P.methods ≡ length own.methods = ap length members ∙ lengths ∙ zipped ∙ sym names in
           let all = (each_all (λ (p : Member × Coded). form_method own p.0 p.1) (IsGoodPair c) (IsMethodOf P)
-          (λ p k g e. method_of P own p.0 p.1 k (no_context c p.0 g.0) (ap length statics_are) many g.1 e) (zip (program_methods c) ks) ms pairs e).0 in
+          (λ p k g e. method_of P own p.0 p.1 k (no_context c p.0 g.0) (form_atomic c p.0 g.0) (ap length statics_are) many g.1 e) (zip (program_methods c) ks) ms pairs e).0 in
           let parts = split_methods P ms all in
           let few : 0 + length (statics c) ≤ 1000 = omega (arith, few_statics c fields_are) in
           let Sources : List Method → Type 0 = λ l. AllByRecursion (IsSourceMethod P) l in
-          let Marks : List Method → Type 0 = λ l. AllByRecursion IsPlainlyMarked l in
+          let Marks : List Method → Type 0 = λ l. AllByRecursion MayAttempt l in
+          let SetUps : List Method → Type 0 = λ l. AllByRecursion CanSetUp l in
           record {
-            source = record { fields = rw statics_are (fields_source c 0 (statics c) few); methods = subst Sources (sym members) parts.0 };
+            source = record { fields = rw statics_are (fields_source c 0 (statics c) few); shared = λ i j f g. rw statics_are (fields_shared c i j f g); methods = subst Sources (sym members) parts.0 };
             marked = subst Marks (sym members) parts.1;
+            initialisers = subst SetUps (sym members) parts.2;
             fields = statics_are;
           }
 
 pub links : (c : ClassFile) (P : Program) → linked c ≡ Some P → IsLinked c P
-links c P h = go (is_form_class c) refl h
-  where
-    read : (r : Result (List Coded) Refusal) → all_decoded c (program_methods c) ≡ r → is_form_class c ≡ true → program_in (r >>= λ ks. Ok (form_program c ks)) ≡ Some P → IsLinked c P
-    read (Ok ks) e is h =
-        let ends = both _ _ is in
-        let fields = both _ _ ends.0 in
-        let smalls = all_small c (program_methods c) ks e in
-        program_of c P fields.1 ends.1 ks smalls.0 smalls.1 h
-    read (Err f) e is h = cc
-
-    go : (b : Bool) → is_form_class c ≡ b → program_in (if b then (all_decoded c (program_methods c) >>= λ ks. Ok (form_program c ks)) else Ok None) ≡ Some P → IsLinked c P
-    go true is h = read (all_decoded c (program_methods c)) refl is h
-    go false is h = cc
+links c P h =
+    let f = formed c P h in
+    let smalls = all_small c (program_methods c) f.code f.decodes in
+    program_of c P (both _ _ f.outside).1 f.methods f.code smalls.0 smalls.1 f.program

@@ -6,7 +6,6 @@ use Rattle.std.proofs.lemmas.Bool.{cases_lt}
 use Rattle.std.proofs.lemmas.Bool.Decides.{nat_tests}
 use Rattle.std.proofs.lemmas.List.{length-set}
 use Rattle.std.proofs.lemmas.Option.{slice_get_within}
-use borrow.Author.Gap.{read_sfits}
 use Rattle.jmodel.specs.declared.value.Value.TheVariants as value
 use Rattle.jmodel.specs.declared.value.Answer.TheVariants.{Returned}
 use Rattle.jmodel.specs.declared.op.Slot.{Slot}
@@ -15,6 +14,7 @@ use Rattle.jmodel.specs.declared.op.Op.{Op}
 use Rattle.jmodel.specs.declared.op.Op.TheVariants.{GetStatic, PutStatic, InvokeStatic}
 use Rattle.jmodel.specs.declared.op.Op.TheVariants as op
 use Rattle.jmodel.specs.declared.op.Phase.TheVariants.{Open}
+use Rattle.jmodel.specs.WordTypes.{narrowed}
 use Rattle.jmodel.specs.Value.{word_of}
 use Rattle.jmodel.specs.Program.{Method, Program}
 use Rattle.jmodel.specs.Step.{Frames, Did, Taken, Took, does, depth, jumps, gives, with_args, take_args}
@@ -26,6 +26,7 @@ use Rattle.jmodel.specs.Rewriting.{block, block_len, block_at, duplicate, duplic
 use Rattle.jmodel.specs.Source.{IsSource, IsSourceOp}
 use Rattle.jmodel.proofs.Places.{Rewrites, HasAt, has_block, has_stub, next_block, blocks_grow, blocks_most, past_end}
 use Rattle.jmodel.proofs.Replies.{Leads}
+use Rattle.jmodel.proofs.WordTypes.{read_fits}
 use Rattle.jmodel.proofs.Rows.{frame}
 use Rattle.jmodel.proofs.Wrapper.{IsWrapper, end_first, end_commits, end_again, end_last, bare_first, bare_commits, bare_again, bare_last}
 use Rattle.jmodel.proofs.Fields.{each_at, some_at, field_at}
@@ -205,13 +206,13 @@ module _ (P Q : Program) (R : Rewrites P Q) (S : IsSource P) (B : Bounds) (mn : 
           let x = field_at P i S.fields lt in
           X.get m pc dn a k l l' s fs gs M w r f callers i x.0 x.2 e x.1 x.3 (stands (GetStatic i) e) known
           (λ v known'. open_fine m (pc + 1) dn (a + 1 + 1) k l l' (Int (read_int w x.0 v) ∷ s) fs gs M w (recorded (written w (address x.0.place)) (address x.0.place) v r)
-          (next_frame m pc dn a k l l' (GetStatic i) f e (a + 1 + 1) (two_on a)) (read_sfits w32 _, p) callers known')
+          (next_frame m pc dn a k l l' (GetStatic i) f e (a + 1 + 1) (two_on a)) (read_fits x.0.type _, p) callers known')
 
       put_goes : (i : ℕ) → slice_get k.ops pc ≡ Some (PutStatic i) → i < length P.fields → (x : ℤ) (s : List Slot) → FitsSigned w32 x → ArePlain s → Before (Above (Int x ∷ s)) w r → Now (Below (Int x ∷ s))
       put_goes i e lt x s fit p known =
           let y = field_at P i S.fields lt in
           X.put m pc dn a k l l' s fs gs M w r f callers i y.0 y.2 e y.1 y.3 (stands (PutStatic i) e) x fit known
-          (λ known'. open_fine m (pc + 1) dn (a + 1 + 1) k l l' s fs gs M (access (address y.0.place) (word_of (value.Int x)) ∷ w) r
+          (λ known'. open_fine m (pc + 1) dn (a + 1 + 1) k l l' s fs gs M (access (address y.0.place) (word_of (value.Int (narrowed y.0.type x))) ∷ w) r
           (next_frame m pc dn a k l l' (PutStatic i) f e (a + 1 + 1) (two_on a)) p callers known')
 
       -- a call
@@ -283,10 +284,9 @@ module _ (P Q : Program) (R : Rewrites P Q) (S : IsSource P) (B : Bounds) (mn : 
           let x = field_at P i S.fields src in
           let at = stands _ e in
           let setter_is = R.setters i x.0 x.1 in
-          let type = x.3.type in
           let is = f.is in
           let there = x.1 in
-          X.more 6 _ _ (λ v1 v2 v3 v4 v5 v6 v7. simp (dup, at.0, at.1.0, here, setter_is, type)) (X.stuck w r (X.step (Above (Empty ∷ s)) alone.Stuck w r (simp (is, e, there, type)) known))
+          X.more 6 _ _ (λ v1 v2 v3 v4 v5 v6 v7. simp (dup, at.0, at.1.0, here, setter_is)) (X.stuck w r (X.step (Above (Empty ∷ s)) alone.Stuck w r (simp (is, e, there)) known))
       op_goes (PutStatic i) e src (u ∷ s) p known = absurd p.0
       op_goes (InvokeStatic callee) e src s p known = let x = some_at P.methods callee src in invoke_goes callee e x.0 x.1 s p known
       op_goes op.Throw e src s p known = absurd src

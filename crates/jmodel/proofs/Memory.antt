@@ -1,7 +1,7 @@
 -- Words that stand for a state: what a field reads there, and a write of a field.
 use Rattle.std.proofs.Common.{◌≡◌, ◌≢◌, ℕ, ℤ, zero, suc, ◌+◌, ◌*◌, ◌/◌, ◌%◌, ◌<◌, ◌≤◌, List, [], ◌∷◌, length, Option, Some, None, Bool, true, false, refl, sym, ap, subst, ◌∙◌, arith, ◌⊎◌, inl, inr, ⊎_elim}
-use Rattle.std.specs.Prelude.{slice_get, slice_set, nat_eq, option_and_then, IsSomeAnd, FitsSigned}
-use Rattle.std.specs.Int.{w32, w64, cast_unsigned}
+use Rattle.std.specs.Prelude.{slice_get, slice_set, nat_eq, option_and_then, IsSomeAnd}
+use Rattle.std.specs.Int.{w64, cast_unsigned}
 use Rattle.std.specs.List.{AllByRecursion}
 use Rattle.std.proofs.lemmas.Bool.{cases_lt}
 use Rattle.std.proofs.lemmas.Bool.Decides.{nat_tests}
@@ -12,12 +12,13 @@ use Rattle.jmodel.specs.declared.value.Value.{Value}
 use Rattle.jmodel.specs.declared.value.Value.TheVariants as value
 use Rattle.jmodel.specs.declared.op.Place.{Place}
 use Rattle.jmodel.specs.declared.op.WordType.{WordType}
-use Rattle.jmodel.specs.declared.op.WordType.TheVariants as word
+use Rattle.jmodel.specs.WordTypes.{IsNumberOf}
 use Rattle.jmodel.specs.Value.{word_of, IsOfType}
 use Rattle.jmodel.specs.Program.{Field, Program}
 use Rattle.jmodel.specs.State.{Object, State, value_at, value_held, put}
 use Rattle.jmodel.specs.Attempt.{Log, access, address}
 use Rattle.jmodel.specs.History.{Words, overlaid}
+use Rattle.jmodel.specs.Source.{AreShared}
 use Rattle.jmodel.specs.Meaning.{header, AreLaid, IsLaid, IsInRegion, IsFieldHeld, Represents}
 use Rattle.jmodel.proofs.Fields.{each_at}
 use Rattle.jmodel.proofs.Moved.{get_set_same, get_set_other}
@@ -43,19 +44,19 @@ laid_at ws a [] i v l h = cc
 laid_at ws a (x ∷ vs) zero v l h = let e : x ≡ v = cc in let z : a + 0 ≡ a = omega arith in ap ws z ∙ l.0 ∙ ap word_of e
 laid_at ws a (x ∷ vs) (suc i) v l h = let z : a + suc i ≡ a + 1 + i = omega arith in ap ws z ∙ laid_at ws (a + 1) vs i v l.1 h
 
--- what a field's place holds
-pub record Holding (ws : Words) (τ : State) (p : Place) : Type 0 where
+-- what the place of a field of a type holds
+pub record Holding (ws : Words) (τ : State) (t : WordType) (p : Place) : Type 0 where
   pub x : ℤ
   pub held : value_held τ p ≡ Some (value.Int x)
-  pub fits : FitsSigned w32 x
+  pub fits : IsNumberOf t x
   pub word : ws (address p) ≡ cast_unsigned w64 x
 
-held_parts : (t : WordType) (v : Option Value) → IsSomeAnd v (IsOfType t) → (x : ℤ) × (v ≡ Some (value.Int x)) × FitsSigned w32 x
-held_parts word.Int None h = absurd h
-held_parts word.Int (Some (value.Int x)) h = (x, refl, h)
-held_parts word.Int (Some v) h = absurd h
+held_parts : (t : WordType) (v : Option Value) → IsSomeAnd v (IsOfType t) → (x : ℤ) × (v ≡ Some (value.Int x)) × IsNumberOf t x
+held_parts t None h = absurd h
+held_parts t (Some (value.Int x)) h = (x, refl, h)
+held_parts t (Some v) h = absurd h
 
-pub holds_at : (P : Program) (size : ℕ) (ws : Words) (τ : State) (i : ℕ) (f : Field) → Represents P size ws τ → slice_get P.fields i ≡ Some f → Holding ws τ f.place
+pub holds_at : (P : Program) (size : ℕ) (ws : Words) (τ : State) (i : ℕ) (f : Field) → Represents P size ws τ → slice_get P.fields i ≡ Some f → Holding ws τ f.type f.place
 holds_at P size ws τ i f R h =
     let t = held_parts f.type (value_held τ f.place) (each_at (IsFieldHeld τ) P.fields i f R.fields h) in
     let k = held_at τ f.place _ t.1 in
@@ -92,8 +93,8 @@ same_region size r d n h le =
 apart_places : (r q a d n m i : ℕ) → r ≢ q → (r < q → r + n < q) → (q < r → q + m < r) → d ≤ n → i < m → a ≡ q + 1 + i → r + d ≡ a → ⊥
 apart_places r q a d n m i ne up down le lt e f = ⊎_elim (λ (b : r < q). let u = up b in omega arith) (λ (b : q ≤ r). let c : q < r = omega arith in let u = down c in omega arith) (cases_lt r q)
 
--- a write of a field
-module _ (P : Program) (size : ℕ) (ws ws' : Words) (τ : State) (p : Place) (x : ℤ) (fits : FitsSigned w32 x) (old : Value) (h : IsHeldAt τ p old) (R : Represents P size ws τ) (there : ws' (address p) ≡ word_of (value.Int x)) (same : (b : ℕ) → b ≢ address p → ws' b ≡ ws b) where
+-- a write of a field, and of each that shares its place
+module _ (P : Program) (size : ℕ) (ws ws' : Words) (τ : State) (p : Place) (t : WordType) (x : ℤ) (fits : IsNumberOf t x) (shared : (i : ℕ) (g : Field) → slice_get P.fields i ≡ Some g → p ≡ g.place → t ≡ g.type) (old : Value) (h : IsHeldAt τ p old) (R : Represents P size ws τ) (there : ws' (address p) ≡ word_of (value.Int x)) (same : (b : ℕ) → b ≢ address p → ws' b ≡ ws b) where
   abbrev after : State
   after = put τ p (value.Int x)
 
@@ -164,30 +165,33 @@ module _ (P : Program) (size : ℕ) (ws ws' : Words) (τ : State) (p : Place) (x
   apart_after r q o u e f lt = let b = before r o e in let c = before q u f in let a = R.apart r q b.0 c.0 b.1 c.1 lt in rw (← b.2) a
 
   -- a field's place keeps a value of its type
-  place_after : (t : WordType) (vs : List Value) (j i : ℕ) → j < length vs → IsSomeAnd (slice_get vs i) (IsOfType t) → IsSomeAnd (slice_get (slice_set vs j (value.Int x)) i) (IsOfType t)
-  place_after t vs j i lt k = ⊎_elim
-      (λ (e : i ≡ j). rw (e, get_set_same vs j (value.Int x) lt) (of_type t))
+  place_after : (u : WordType) (vs : List Value) (j i : ℕ) → (i ≡ j → t ≡ u) → j < length vs → IsSomeAnd (slice_get vs i) (IsOfType u) → IsSomeAnd (slice_get (slice_set vs j (value.Int x)) i) (IsOfType u)
+  place_after u vs j i same lt k = ⊎_elim
+      (λ (e : i ≡ j). let here : IsNumberOf u x = subst (λ (u : WordType). IsNumberOf u x) (same e) fits in rw (e, get_set_same vs j (value.Int x) lt) here)
       (λ (n : i ≢ j). rw (get_set_other vs j i (value.Int x) n) k)
       (one_or i j)
-    where
-      of_type : (t : WordType) → IsOfType t (value.Int x)
-      of_type word.Int = fits
 
-  held_after : (f : Field) → IsFieldHeld τ f → IsFieldHeld after f
-  held_after f k = ⊎_elim
+  held_after : (f : Field) → (p ≡ f.place → t ≡ f.type) → IsFieldHeld τ f → IsFieldHeld after f
+  held_after f same k = ⊎_elim
       (λ (e : f.place.object ≡ p.object).
       let before_it : IsSomeAnd (value_at f.place.index h.o) (IsOfType f.type) = subst (λ (o : Option Object). IsSomeAnd (option_and_then (value_at f.place.index) o) (IsOfType f.type)) (ap τ.objects e ∙ h.object) k in
-      subst (λ (o : Option Object). IsSomeAnd (option_and_then (value_at f.place.index) o) (IsOfType f.type)) (sym (ap after.objects e ∙ object_here)) (by_index f.place.index before_it))
+      subst (λ (o : Option Object). IsSomeAnd (option_and_then (value_at f.place.index) o) (IsOfType f.type)) (sym (ap after.objects e ∙ object_here)) (by_index e f.place.index refl before_it))
       (λ (n : f.place.object ≢ p.object). subst (λ (o : Option Object). IsSomeAnd (option_and_then (value_at f.place.index) o) (IsOfType f.type)) (sym (object_there f.place.object n)) k)
       (one_or f.place.object p.object)
     where
-      by_index : (i : ℕ) → IsSomeAnd (value_at i h.o) (IsOfType f.type) → IsSomeAnd (value_at i written_object) (IsOfType f.type)
-      by_index zero k = absurd k
-      by_index (suc i) k = place_after f.type h.o.values h.i i inside k
+      at : ℕ → ℕ → Place
+      at o n = record { object = o; index = n }
 
-  all_held : (fs : List Field) → AllByRecursion (IsFieldHeld τ) fs → AllByRecursion (IsFieldHeld after) fs
-  all_held [] k = tt
-  all_held (f ∷ fs) k = (held_after f k.0, all_held fs k.1)
+      one_place : f.place.object ≡ p.object → (i : ℕ) → f.place.index ≡ suc i → i ≡ h.i → p ≡ f.place
+      one_place e i d q = let n : p.index ≡ f.place.index = omega (arith, h.index) in ap (λ (o : ℕ). at o p.index) (sym e) ∙ ap (at f.place.object) n
+
+      by_index : f.place.object ≡ p.object → (i : ℕ) → f.place.index ≡ i → IsSomeAnd (value_at i h.o) (IsOfType f.type) → IsSomeAnd (value_at i written_object) (IsOfType f.type)
+      by_index e zero d k = absurd k
+      by_index e (suc i) d k = place_after f.type h.o.values h.i i (λ q. same (one_place e i d q)) inside k
+
+  all_held : (fs : List Field) → ((i : ℕ) (g : Field) → slice_get fs i ≡ Some g → p ≡ g.place → t ≡ g.type) → AllByRecursion (IsFieldHeld τ) fs → AllByRecursion (IsFieldHeld after) fs
+  all_held [] same k = tt
+  all_held (f ∷ fs) same k = (held_after f (same 0 f refl) k.0, all_held fs (λ i g e. same (suc i) g e) k.1)
 
   free_after : (a : ℕ) → after.used (a / size) ≤ a % size → ws' a ≡ 0
   free_after a le = ⊎_elim (λ (e : a ≡ address p). absurd (taken e)) (λ (n : a ≢ address p). same a n ∙ R.free a le) (one_or a (address p))
@@ -204,7 +208,7 @@ module _ (P : Program) (size : ℕ) (ws ws' : Words) (τ : State) (p : Place) (x
           omega (arith, i.below)
 
   pub represents_after : Represents P size ws' after
-  represents_after = record { laid = laid_after; regions = regions_after; apart = apart_after; fields = all_held P.fields R.fields; free = free_after }
+  represents_after = record { laid = laid_after; regions = regions_after; apart = apart_after; fields = all_held P.fields shared R.fields; free = free_after }
 
 -- a write in the log is a write of the words
 overlaid_here : (a y : ℕ) (w : Log) (ws : Words) → overlaid (access a y ∷ w) ws a ≡ y
@@ -213,9 +217,9 @@ overlaid_here a y w ws = let e : nat_eq a a ≡ true = grind (arith, nat_tests) 
 overlaid_there : (a y : ℕ) (w : Log) (ws : Words) (b : ℕ) → b ≢ a → overlaid (access a y ∷ w) ws b ≡ overlaid w ws b
 overlaid_there a y w ws b n = let e : nat_eq a b ≡ false = grind (arith, nat_tests) in rw e refl
 
-pub represents_write : (P : Program) (size : ℕ) (w : Log) (ws : Words) (τ : State) (i : ℕ) (f : Field) (x : ℤ) → FitsSigned w32 x → slice_get P.fields i ≡ Some f → Represents P size (overlaid w ws) τ
+pub represents_write : (P : Program) → AreShared P → (size : ℕ) (w : Log) (ws : Words) (τ : State) (i : ℕ) (f : Field) (x : ℤ) → IsNumberOf f.type x → slice_get P.fields i ≡ Some f → Represents P size (overlaid w ws) τ
     → Represents P size (overlaid (access (address f.place) (word_of (value.Int x)) ∷ w) ws) (put τ f.place (value.Int x))
-represents_write P size w ws τ i f x fits is R =
+represents_write P shared size w ws τ i f x fits is R =
     let k = holds_at P size (overlaid w ws) τ i f R is in
-    represents_after P size (overlaid w ws) (overlaid (access (address f.place) (word_of (value.Int x)) ∷ w) ws) τ f.place x fits (value.Int k.x) (held_at τ f.place _ k.held) R
+    represents_after P size (overlaid w ws) (overlaid (access (address f.place) (word_of (value.Int x)) ∷ w) ws) τ f.place f.type x fits (λ j g e. shared i j f g is e) (value.Int k.x) (held_at τ f.place _ k.held) R
     (overlaid_here (address f.place) (word_of (value.Int x)) w ws) (overlaid_there (address f.place) (word_of (value.Int x)) w ws)

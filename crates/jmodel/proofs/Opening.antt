@@ -1,20 +1,19 @@
 -- The opening words stand for the opening state: one static base, whose fields hold their constants.
-use Rattle.std.proofs.Common.{◌≡◌, ℕ, zero, suc, ◌+◌, ◌/◌, ◌%◌, ◌<◌, ◌≤◌, List, [], ◌∷◌, ◌++◌, length, map, Bool, true, false, not, nat_eq, nat_lt, Some, None, refl, ap, ◌∙◌, arith, slice_index, slice_get}
+use Rattle.std.proofs.Common.{◌≡◌, ℕ, zero, suc, ◌+◌, ◌/◌, ◌%◌, ◌<◌, ◌≤◌, List, [], ◌∷◌, ◌++◌, length, map, Bool, true, false, not, nat_eq, nat_lt, Some, None, refl, sym, ap, subst, ◌∙◌, arith, slice_index, slice_get}
 use Rattle.std.specs.Prelude.{if◌then◌else◌, ◌==◌, IsSomeAnd}
 use Rattle.std.specs.List.{AllByRecursion}
 use Rattle.std.proofs.lemmas.Bool.Decides.{nat_tests}
 use Rattle.std.proofs.Math.Nat.{mod-eq_of_lt, div-eq_of_lt}
 use Rattle.std.proofs.lemmas.List.{length-map}
 use Rattle.jmodel.specs.declared.value.Value.{Value}
-use Rattle.jmodel.specs.declared.op.WordType.TheVariants as word
 use Rattle.jmodel.specs.ClassFile.{Member, Pool, ClassFile}
 use Rattle.jmodel.specs.Value.{IsOfType}
 use Rattle.jmodel.specs.Program.{Program}
 use Rattle.jmodel.specs.State.{Object, State}
 use Rattle.jmodel.specs.History.{Words}
-use Rattle.jmodel.specs.Layout.{opening_value, opening_word, statics, statics_object, has_base, fields_from, fields_of, bases_end, opening_words, opening_state, at_address}
+use Rattle.jmodel.specs.Layout.{field_type, opening_value, opening_word, statics, statics_object, has_base, fields_from, fields_of, bases_end, opening_words, opening_state, at_address}
 use Rattle.jmodel.specs.Meaning.{header, AreLaid, IsLaid, IsInRegion, IsFieldHeld, Represents}
-use Rattle.jmodel.proofs.Constants.{opening_small}
+use Rattle.jmodel.proofs.Constants.{opening_number}
 
 module _ (pool : Pool) where
   abbrev image_of : List Member → List ℕ
@@ -29,10 +28,10 @@ module _ (pool : Pool) where
   read_past (m ∷ ms) zero h = absurd (omega (arith, h))
   read_past (m ∷ ms) (suc i) h = read_past ms i (omega (arith, h))
 
-  get_values : (ms : List Member) (i : ℕ) → i < length ms → IsSomeAnd (slice_get (values ms) i) (IsOfType word.Int)
-  get_values [] i h = absurd (omega (arith, h))
-  get_values (m ∷ ms) zero h = opening_small pool m
-  get_values (m ∷ ms) (suc i) h = get_values ms i (omega (arith, h))
+  get_values : (ms : List Member) (i : ℕ) (m : Member) → slice_get ms i ≡ Some m → IsSomeAnd (slice_get (values ms) i) (IsOfType (field_type pool m))
+  get_values [] i m h = cc
+  get_values (n ∷ ms) zero m h = let same : n ≡ m = cc in subst (λ (k : Member). IsOfType (field_type pool k) (opening_value pool n)) same (opening_number pool n)
+  get_values (n ∷ ms) (suc i) m h = get_values ms i m h
 
   -- values lie where the words are theirs
   words_laid : (words : Words) (a : ℕ) (ms : List Member) → ((i : ℕ) → words (a + i) ≡ slice_index (image_of ms ++ []) i) → AreLaid words a (values ms)
@@ -121,13 +120,15 @@ module _ (c : ClassFile) where
           beyond a (omega (arith, rest, rw first at h))
       go false is = let high : size ≤ a = grind (arith, nat_tests) in beyond a (omega (arith, high, room))
 
-  held_from : (j : ℕ) (ms : List Member) → j + length ms ≤ length (statics c) → AllByRecursion (IsFieldHeld (state_at true)) (fields_from (c ∷ []) 0 c (suc j) ms ++ [])
+  held_from : (j : ℕ) (ms : List Member) → ((i : ℕ) → slice_get ms i ≡ slice_get (statics c) (j + i)) → AllByRecursion (IsFieldHeld (state_at true)) (fields_from (c ∷ []) 0 c (suc j) ms ++ [])
   held_from j [] h = tt
   held_from j (m ∷ ms) h =
-      (get_values c.pool (statics c) j (omega (arith, h)), held_from (suc j) ms (omega (arith, h)))
+      let first : j + 0 ≡ j = omega arith in
+      let there : slice_get (statics c) j ≡ Some m = ap (slice_get (statics c)) (sym first) ∙ sym (h 0) in
+      (get_values c.pool (statics c) j m there, held_from (suc j) ms (λ i. let next : j + suc i ≡ suc j + i = omega arith in h (suc i) ∙ ap (slice_get (statics c)) next))
 
   held_at : (b : Bool) → has_base c ≡ b → AllByRecursion (IsFieldHeld (state_at b)) (fields_from (c ∷ []) 0 c 1 (statics c) ++ [])
-  held_at true is = held_from 0 (statics c) (omega arith)
+  held_at true is = held_from 0 (statics c) (λ i. let same : i ≡ 0 + i = omega arith in ap (slice_get (statics c)) same)
   held_at false is = go (statics c) is
     where
       go : (ms : List Member) → not (length ms == 0) ≡ false → AllByRecursion (IsFieldHeld (state_at false)) (fields_from (c ∷ []) 0 c 1 ms ++ [])

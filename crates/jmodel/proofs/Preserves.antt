@@ -3,7 +3,6 @@ use Rattle.std.proofs.Common.{◌≡◌, ◌≢◌, ℕ, ℤ, zero, suc, ◌+◌
 use Rattle.std.specs.Prelude.{pos, slice_get, FitsSigned}
 use Rattle.std.specs.List.{flat_map, AllByRecursion}
 use Rattle.std.specs.Int.{w32}
-use borrow.Author.Gap.{read_sfits}
 use Rattle.jmodel.specs.declared.op.Slot.{Slot}
 use Rattle.jmodel.specs.declared.op.Slot.TheVariants.{Int}
 use Rattle.jmodel.specs.declared.op.Op.TheVariants.{GetStatic, PutStatic}
@@ -18,6 +17,7 @@ use Rattle.jmodel.specs.Attempt.{Log, Meter, Run, Stuck, run}
 use Rattle.jmodel.specs.Rewriting.{wrapper_method, conflict_at, rewritten}
 use Rattle.jmodel.specs.Law.{Preservation}
 use Rattle.jmodel.proofs.Places.{rewrites}
+use Rattle.jmodel.proofs.WordTypes.{read_fits}
 use Rattle.jmodel.proofs.Rows.{frame, IsKnown}
 use Rattle.jmodel.proofs.Wrapper.{wrapper_is}
 use Rattle.jmodel.proofs.Moved.{FitsInt}
@@ -72,12 +72,11 @@ module _ (P : Program) where
     reads e there place h x =
         let y = read_int w f x in
         let step : next_free P y (any.On (frame m pc l s ∷ fs) t) ≡ any.On (frame m (pc + 1) l (Int y ∷ s) ∷ fs) t = simp (is, e, there) in
-        subst IsSafe step (safe_next y (any.On (frame m pc l s ∷ fs) t) (read_sfits w32 _) h)
+        subst IsSafe step (safe_next y (any.On (frame m pc l s ∷ fs) t) (read_fits f.type _) h)
 
     writes : slice_get k.ops pc ≡ Some (PutStatic i) → slice_get P.fields i ≡ Some f → IsKnown f o → (x : ℤ) → FitsInt x → IsSafe (any.On (frame m pc l (Int x ∷ s) ∷ fs) t) → IsSafe (any.On (frame m (pc + 1) l s ∷ fs) t)
     writes e there place x fit h =
-        let type = place.type in
-        let step : next_free P (pos 0) (any.On (frame m pc l (Int x ∷ s) ∷ fs) t) ≡ any.On (frame m (pc + 1) l s ∷ fs) t = simp (is, e, there, type) in
+        let step : next_free P (pos 0) (any.On (frame m pc l (Int x ∷ s) ∷ fs) t) ≡ any.On (frame m (pc + 1) l s ∷ fs) t = simp (is, e, there) in
         subst IsSafe step (safe_next (pos 0) (any.On (frame m pc l (Int x ∷ s) ∷ fs) t) zero_fits h)
 
   told : IsTold P (λ (c : Run). c ≢ Stuck) Known

@@ -7,8 +7,8 @@ use Rattle.jmodel.specs.declared.op.Slot.TheVariants.{Int, Long, Second, Ref, Co
 use Rattle.jmodel.specs.declared.op.Slot.TheVariants as slot
 use Rattle.jmodel.specs.declared.op.Op.TheVariants.{Load, InvokeStatic}
 use Rattle.jmodel.specs.declared.op.Place.{Place}
-use Rattle.jmodel.specs.declared.op.WordType.TheVariants as word
 use Rattle.jmodel.specs.declared.op.Phase.TheVariants.{Open}
+use Rattle.jmodel.specs.WordTypes.{narrowed}
 use Rattle.jmodel.specs.Value.{word_of}
 use Rattle.jmodel.specs.declared.value.Value.TheVariants as value
 use Rattle.jmodel.specs.Program.{Field, Method, Program}
@@ -26,7 +26,6 @@ pub record IsKnown (f : Field) (o : ℕ) : Type 0 where
   pub object : f.place.object ≡ suc o
   pub index : cast_unsigned w64 (cast_signed w64 f.place.index) ≡ f.place.index
   pub below : nat_lt (suc o + f.place.index) (2 ^ 64) ≡ true
-  pub type : f.type ≡ word.Int
 
 abbrev known_place : Field → ℕ → Place
 known_place f o = record { object = suc o; index = f.place.index }
@@ -52,10 +51,10 @@ module _ (Q : Program) (B : Bounds) (dn a : ℕ) (dm : Method) (is : slice_get Q
     get_second = λ v1 v2 v3 v4. simp (h, there)
 
     pub get_read : (v : Reply) → next_run Q B v (On Open (frame g 8 (Context ∷ []) (Second ∷ Long (cast_signed w64 f.place.index) ∷ slot.Loaded ∷ Ref f.place.object ∷ Context ∷ []) ∷ caller ∷ fs) m w r)
-        ≡ on_read v Q f.place word.Int (frame g 8 (Context ∷ []) [] ∷ caller ∷ fs) m w r
+        ≡ on_read v Q f.place f.type (frame g 8 (Context ∷ []) [] ∷ caller ∷ fs) m w r
     get_read v =
-        let e : next_run Q B v (On Open (frame g 8 (Context ∷ []) (Second ∷ Long (cast_signed w64 f.place.index) ∷ slot.Loaded ∷ Ref f.place.object ∷ Context ∷ []) ∷ caller ∷ fs) m w r) ≡ on_read v Q (known_place f o) word.Int (frame g 8 (Context ∷ []) [] ∷ caller ∷ fs) m w r = simp (h, known.object, known.index, known.below, known.type) in
-        e ∙ ap (λ (p : Place). on_read v Q p word.Int (frame g 8 (Context ∷ []) [] ∷ caller ∷ fs) m w r) (sym (is_place f o known))
+        let e : next_run Q B v (On Open (frame g 8 (Context ∷ []) (Second ∷ Long (cast_signed w64 f.place.index) ∷ slot.Loaded ∷ Ref f.place.object ∷ Context ∷ []) ∷ caller ∷ fs) m w r) ≡ on_read v Q (known_place f o) f.type (frame g 8 (Context ∷ []) [] ∷ caller ∷ fs) m w r = simp (h, known.object, known.index, known.below) in
+        e ∙ ap (λ (p : Place). on_read v Q p f.type (frame g 8 (Context ∷ []) [] ∷ caller ∷ fs) m w r) (sym (is_place f o known))
 
     pub get_last : (x : ℤ) → Leads Q B 1 (On Open (frame g 9 (Context ∷ []) (Int x ∷ []) ∷ caller ∷ fs) m w r) (On Open (frame dn (a + 1 + 1) l (Int x ∷ s) ∷ fs) m w r)
     get_last x = λ v. simp h
@@ -69,10 +68,10 @@ module _ (Q : Program) (B : Bounds) (dn a : ℕ) (dm : Method) (is : slice_get Q
     put_first = λ v1 v2 v3 v4 v5 v6. simp (is, at.0, at.1.0, here, h)
 
     pub put_write : (v : Reply) → next_run Q B v (On Open (frame g 4 (Int x ∷ Context ∷ []) (Second ∷ Long (cast_signed w64 f.place.index) ∷ Int x ∷ Ref f.place.object ∷ Context ∷ []) ∷ caller ∷ fs) m w r)
-        ≡ on_write v Q f.place (word_of (value.Int x)) (frame g 4 (Int x ∷ Context ∷ []) [] ∷ caller ∷ fs) m w r
+        ≡ on_write v Q f.place (word_of (value.Int (narrowed f.type x))) (frame g 4 (Int x ∷ Context ∷ []) [] ∷ caller ∷ fs) m w r
     put_write v =
-        let e : next_run Q B v (On Open (frame g 4 (Int x ∷ Context ∷ []) (Second ∷ Long (cast_signed w64 f.place.index) ∷ Int x ∷ Ref f.place.object ∷ Context ∷ []) ∷ caller ∷ fs) m w r) ≡ on_write v Q (known_place f o) (word_of (value.Int x)) (frame g 4 (Int x ∷ Context ∷ []) [] ∷ caller ∷ fs) m w r = simp (h, known.object, known.index, known.below, known.type) in
-        e ∙ ap (λ (p : Place). on_write v Q p (word_of (value.Int x)) (frame g 4 (Int x ∷ Context ∷ []) [] ∷ caller ∷ fs) m w r) (sym (is_place f o known))
+        let e : next_run Q B v (On Open (frame g 4 (Int x ∷ Context ∷ []) (Second ∷ Long (cast_signed w64 f.place.index) ∷ Int x ∷ Ref f.place.object ∷ Context ∷ []) ∷ caller ∷ fs) m w r) ≡ on_write v Q (known_place f o) (word_of (value.Int (narrowed f.type x))) (frame g 4 (Int x ∷ Context ∷ []) [] ∷ caller ∷ fs) m w r = simp (h, known.object, known.index, known.below) in
+        e ∙ ap (λ (p : Place). on_write v Q p (word_of (value.Int (narrowed f.type x))) (frame g 4 (Int x ∷ Context ∷ []) [] ∷ caller ∷ fs) m w r) (sym (is_place f o known))
 
     pub put_last : Leads Q B 1 (On Open (frame g 5 (Int x ∷ Context ∷ []) [] ∷ caller ∷ fs) m w r) (On Open (frame dn (a + 1 + 1) l s ∷ fs) m w r)
     put_last = λ v. simp h

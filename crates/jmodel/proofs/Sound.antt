@@ -10,7 +10,7 @@ use Rattle.jmodel.specs.declared.op.Slot.TheVariants.{Int, Empty}
 use Rattle.jmodel.specs.declared.op.Op.{Op}
 use Rattle.jmodel.specs.declared.op.Op.TheVariants.{Constant, Load, Rearrange, GetStatic, PutStatic, ReturnValue}
 use Rattle.jmodel.specs.declared.op.Op.TheVariants as op
-use Rattle.jmodel.specs.declared.op.Rearrange.TheVariants.{Nothing, Pop, PopTwo, Duplicate, DuplicateUnder, DuplicateTwo, Swap}
+use Rattle.jmodel.specs.declared.op.Rearrange.TheVariants.{Nothing, Pop, PopTwo, Duplicate, DuplicateUnder, DuplicateUnderTwo, DuplicateTwo, DuplicateTwoUnder, DuplicateTwoUnderTwo, Swap}
 use Rattle.jmodel.specs.Program.{Method, Program}
 use Rattle.jmodel.specs.Step.{Frames, binary, unary}
 use Rattle.jmodel.specs.Free.{Free, On, Ended, Stuck, turned, next_free, free, free_start, IsNeverStuck}
@@ -56,9 +56,22 @@ module _ (P : Program) (S : IsSource P) (m : ℕ) (k : Method) (is : slice_get P
   op_leaves (Rearrange DuplicateUnder) pc e s [] p q v = cc
   op_leaves (Rearrange DuplicateUnder) pc e s (x ∷ []) p q v = cc
   op_leaves (Rearrange DuplicateUnder) pc e s (y ∷ x ∷ xs) p q v = (y ∷ x ∷ y ∷ xs, omega arith, simp (is, e))
+  op_leaves (Rearrange DuplicateUnderTwo) pc e s [] p q v = cc
+  op_leaves (Rearrange DuplicateUnderTwo) pc e s (x ∷ []) p q v = cc
+  op_leaves (Rearrange DuplicateUnderTwo) pc e s (y ∷ x ∷ []) p q v = cc
+  op_leaves (Rearrange DuplicateUnderTwo) pc e s (z ∷ y ∷ x ∷ xs) p q v = (z ∷ y ∷ x ∷ z ∷ xs, omega arith, simp (is, e))
   op_leaves (Rearrange DuplicateTwo) pc e s [] p q v = cc
   op_leaves (Rearrange DuplicateTwo) pc e s (x ∷ []) p q v = cc
   op_leaves (Rearrange DuplicateTwo) pc e s (y ∷ x ∷ xs) p q v = (y ∷ x ∷ y ∷ x ∷ xs, omega arith, simp (is, e))
+  op_leaves (Rearrange DuplicateTwoUnder) pc e s [] p q v = cc
+  op_leaves (Rearrange DuplicateTwoUnder) pc e s (x ∷ []) p q v = cc
+  op_leaves (Rearrange DuplicateTwoUnder) pc e s (y ∷ x ∷ []) p q v = cc
+  op_leaves (Rearrange DuplicateTwoUnder) pc e s (z ∷ y ∷ x ∷ xs) p q v = (z ∷ y ∷ x ∷ z ∷ y ∷ xs, omega arith, simp (is, e))
+  op_leaves (Rearrange DuplicateTwoUnderTwo) pc e s [] p q v = cc
+  op_leaves (Rearrange DuplicateTwoUnderTwo) pc e s (x ∷ []) p q v = cc
+  op_leaves (Rearrange DuplicateTwoUnderTwo) pc e s (y ∷ x ∷ []) p q v = cc
+  op_leaves (Rearrange DuplicateTwoUnderTwo) pc e s (z ∷ y ∷ x ∷ []) p q v = cc
+  op_leaves (Rearrange DuplicateTwoUnderTwo) pc e s (z ∷ y ∷ x ∷ w ∷ xs) p q v = (z ∷ y ∷ x ∷ w ∷ z ∷ y ∷ xs, omega arith, simp (is, e))
   op_leaves (Rearrange Swap) pc e s [] p q v = cc
   op_leaves (Rearrange Swap) pc e s (x ∷ []) p q v = cc
   op_leaves (Rearrange Swap) pc e s (y ∷ x ∷ xs) p q v = (x ∷ y ∷ xs, omega arith, simp (is, e))
@@ -69,7 +82,7 @@ module _ (P : Program) (S : IsSource P) (m : ℕ) (k : Method) (is : slice_get P
   op_leaves (op.Unary u) pc e s (x ∷ xs) p q v = (unary u x ∷ xs, omega arith, simp (is, e))
   op_leaves (GetStatic f) pc e s xs p q v = let y = field_at P f S.fields s in let there = y.1 in (v ∷ xs, omega arith, simp (is, e, there))
   op_leaves (PutStatic f) pc e s [] p q v = cc
-  op_leaves (PutStatic f) pc e s (x ∷ xs) p q v = let y = field_at P f S.fields s in let there = y.1 in let type = y.3.type in (xs, omega arith, simp (is, e, there, type))
+  op_leaves (PutStatic f) pc e s (x ∷ xs) p q v = let y = field_at P f S.fields s in let there = y.1 in (xs, omega arith, simp (is, e, there))
   op_leaves (Load i) pc e s xs p q v = cc
   op_leaves o pc e s xs p q v = cc
 

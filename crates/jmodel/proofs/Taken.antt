@@ -3,7 +3,7 @@ use Rattle.std.proofs.Common.{◌≡◌, ℕ, zero, suc, ◌<◌, ◌≤◌, Lis
 use Rattle.std.specs.Prelude.{filter, cond}
 use Rattle.std.specs.List.{AllByRecursion, list_any}
 use Rattle.jmodel.specs.ClassFile.{Member, ClassFile}
-use Rattle.jmodel.specs.Linking.{is_marked}
+use Rattle.jmodel.specs.Linking.{is_root}
 use Rattle.jmodel.specs.Taken.{calls, is_next, is_found, is_taken, IsClosed, TakenLaw}
 
 -- ---- sets of items
@@ -86,14 +86,14 @@ all_of P (x ∷ xs) f = (f x, all_of P xs f)
 module _ (c : ClassFile) where
   pub next_mono : (s t : Member → Bool) → Within s t c.methods → (m : Member) → is_next c s m ≡ true → is_next c t m ≡ true
   next_mono s t w m h =
-      or_mono (is_marked c.pool m) (list_any (λ k. calls c k m) (filter s c.methods)) (list_any (λ k. calls c k m) (filter t c.methods)) (filter_covers s t c.methods w (λ k. calls c k m)) h
+      or_mono (is_root c.pool m) (list_any (λ k. calls c k m) (filter s c.methods)) (list_any (λ k. calls c k m) (filter t c.methods)) (filter_covers s t c.methods w (λ k. calls c k m)) h
 
   pub grows : (n : ℕ) → Within (is_found c n) (is_found c (suc n)) c.methods
   grows zero = all_of _ c.methods (λ m h. cc)
   grows (suc n) = all_of _ c.methods (λ m h. next_mono (is_found c n) (is_found c (suc n)) (grows n) m h)
 
   next_same : (s t : Member → Bool) → Same s t c.methods → (m : Member) → is_next c s m ≡ is_next c t m
-  next_same s t w m = ap (λ (l : List Member). is_marked c.pool m || list_any (λ k. calls c k m) l) (filter_same s t c.methods w)
+  next_same s t w m = ap (λ (l : List Member). is_root c.pool m || list_any (λ k. calls c k m) l) (filter_same s t c.methods w)
 
   stays : (n : ℕ) → Same (is_found c n) (is_found c (suc n)) c.methods → Same (is_found c (suc n)) (is_found c (suc (suc n))) c.methods
   stays n w = all_of _ c.methods (λ m. next_same (is_found c n) (is_found c (suc n)) w m)

@@ -16,8 +16,9 @@ use Rattle.jmodel.specs.ClassReading.{attributes_at, handlers_at, body_at, code_
 use Rattle.jmodel.specs.Program.{Method, Program}
 use Rattle.jmodel.specs.Decoding.{Symbols, name_of, in_front, each, op_of}
 use Rattle.jmodel.specs.InstructionReading.{instr_at, instrs_at, targets_fit, places_fit, instrs_of}
-use Rattle.jmodel.specs.Linking.{Coded, code_in, named_fault, decoded_code, decoded, all_decoded, program_methods, form_method, form_methods, form_program, symbols_of, original_fields, is_form_class, program_in, linked, pc_in, pc_of}
+use Rattle.jmodel.specs.Linking.{Coded, code_in, named_fault, decoded_code, decoded, all_decoded, program_methods, form_method, form_methods, form_program, symbols_of, original_fields, linked, pc_in, pc_of}
 use Rattle.jmodel.proofs.Numbers.{Has, then_has, after}
+use Rattle.jmodel.proofs.Formed.{formed}
 use Rattle.jmodel.proofs.Linked.{each_all, means_of}
 
 -- ---- code isn't empty
@@ -202,13 +203,5 @@ module _ (c : ClassFile) (P : Program) (m : ℕ) (k : Method) (there : slice_get
       let found = each_at means (zip (program_methods c) ks) ms m k es (ap (λ (l : List Method). slice_get l m) (sym members) ∙ there) in
       of_pair ks e found.0 found.1 found.2
 
-  of_codes : (r : Result (List Coded) Refusal) → all_decoded c (program_methods c) ≡ r → program_in (r >>= λ ks. Ok (form_program c ks)) ≡ Some P → HasCode c P m k
-  of_codes (Ok ks) e h = of_methods ks e (form_methods c ks) refl h
-  of_codes (Err f) e h = cc
-
-  formed : (b : Bool) → program_in (if b then (all_decoded c (program_methods c) >>= λ ks. Ok (form_program c ks)) else Ok None) ≡ Some P → HasCode c P m k
-  formed true h = of_codes (all_decoded c (program_methods c)) refl h
-  formed false h = cc
-
 pub has_code : (c : ClassFile) (P : Program) (m : ℕ) (k : Method) → linked c ≡ Some P → slice_get P.methods m ≡ Some k → HasCode c P m k
-has_code c P m k h there = formed c P m k there (is_form_class c) h
+has_code c P m k h there = let f = formed c P h in of_methods c P m k there f.code f.decodes (form_methods c f.code) refl f.program

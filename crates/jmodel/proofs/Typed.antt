@@ -31,6 +31,7 @@ use Rattle.jmodel.specs.Source.{IsSourceOp, IsSourceMethod}
 use Rattle.jmodel.specs.Typing.{Types, Table, types_at, IsWithin, AreWithin, FitsIn, Flow, Leads, Wrong, flow, first_types, results, Covers, KeepsFlow, KeepsAt, IsTypedAt, IsTyping, IsTypable}
 use Rattle.jmodel.specs.Typing as typed
 use Rattle.jmodel.specs.TypingLaw.{IsTypedProgram, TypedSafety, TypedSoundness}
+use Rattle.jmodel.proofs.Switched.{exit_has}
 use Rattle.jmodel.proofs.Fields.{each_at}
 use Rattle.jmodel.proofs.Rows.{frame}
 use Rattle.jmodel.proofs.Preserves.{preservation}
@@ -260,7 +261,14 @@ module _ (P : Program) (S : IsTypedProgram P) where
     rearranged_fine rearrange.PopTwo h l s hl hs e = on_one_fine h.stack s _ _ hs (λ t v us r a hr e. on_one_fine us r _ _ hr (λ u w us r b hr e. goes_next _ l _ e hl hr) e) e
     rearranged_fine rearrange.Duplicate h l s hl hs e = on_one_fine h.stack s _ _ hs (λ t v us r a hr e. goes_next _ l _ e hl (a, (a, hr))) e
     rearranged_fine rearrange.DuplicateUnder h l s hl hs e = on_one_fine h.stack s _ _ hs (λ t v us r a hr e. on_one_fine us r _ _ hr (λ u w us r b hr e. goes_next _ l _ e hl (a, (b, (a, hr)))) e) e
+    rearranged_fine rearrange.DuplicateUnderTwo h l s hl hs e =
+        on_one_fine h.stack s _ _ hs (λ t v us r a hr e. on_one_fine us r _ _ hr (λ u w us r b hr e. on_one_fine us r _ _ hr (λ u w us r c hr e. goes_next _ l _ e hl (a, (b, (c, (a, hr))))) e) e) e
     rearranged_fine rearrange.DuplicateTwo h l s hl hs e = on_one_fine h.stack s _ _ hs (λ t v us r a hr e. on_one_fine us r _ _ hr (λ u w us r b hr e. goes_next _ l _ e hl (a, (b, (a, (b, hr))))) e) e
+    rearranged_fine rearrange.DuplicateTwoUnder h l s hl hs e =
+        on_one_fine h.stack s _ _ hs (λ t v us r a hr e. on_one_fine us r _ _ hr (λ u w us r b hr e. on_one_fine us r _ _ hr (λ u w us r c hr e. goes_next _ l _ e hl (a, (b, (c, (a, (b, hr)))))) e) e) e
+    rearranged_fine rearrange.DuplicateTwoUnderTwo h l s hl hs e =
+        on_one_fine h.stack s _ _ hs (λ t v us r a hr e. on_one_fine us r _ _ hr (λ u w us r b hr e. on_one_fine us r _ _ hr (λ u w us r c hr e.
+        on_one_fine us r _ _ hr (λ u w us r d hr e. goes_next _ l _ e hl (a, (b, (c, (d, (a, (b, hr))))))) e) e) e) e
     rearranged_fine rearrange.Swap h l s hl hs e = on_one_fine h.stack s _ _ hs (λ t v us r a hr e. on_one_fine us r _ _ hr (λ u w us r b hr e. goes_next _ l _ e hl (b, (a, hr))) e) e
 
     ends_fine : (b : Bool) (h : Types) (v : Option Value) (f : Frame) → k.gives ≡ b → Lets k T (typed.ends b h) → IsResult true v → f.method ≡ m → f.pc ≡ pc → DidFine (Does (doing.Give v) f)
@@ -273,10 +281,7 @@ module _ (P : Program) (S : IsTypedProgram P) where
 
     gets_fine : (o : Option Field) (h : Types) (l s : List Slot) → HaveTypes h.locals l → HaveTypes h.stack s → Lets k T (typed.field_in o (λ f. typed.leaves pc h (typed.type_of f.type ∷ h.stack))) → DidFine (field_in o (λ x. Does (doing.Ask (request.Get x.place x.type)) (here l s)))
     gets_fine None h l s hl hs e = absurd e
-    gets_fine (Some f) h l s hl hs e = (λ x. go x f.type e, refl, refl)
-      where
-        go : (x : ℤ) (w : WordType) → Lets k T (typed.leaves pc h (typed.type_of w ∷ h.stack)) → Goes (pc + 1) (here l (slot.Int x ∷ s))
-        go x word.Int e = goes_on _ (pc + 1) [] l _ e hl (tt, hs)
+    gets_fine (Some f) h l s hl hs e = (λ x. goes_on _ (pc + 1) [] l _ e hl (tt, hs), refl, refl)
 
     puts_fine : (o : Option Field) (h : Types) (l s : List Slot) → HaveTypes h.locals l → HaveTypes h.stack s → Lets k T (typed.field_in o (λ f. typed.on (typed.type_of f.type) h.stack (λ s. typed.leaves pc h s)))
         → DidFine (field_in o (λ x. on_top s (λ v r. value_in (stored x.type v) (λ y. Does (doing.Ask (request.Put x.place y)) (here l r)))))
@@ -284,7 +289,7 @@ module _ (P : Program) (S : IsTypedProgram P) where
     puts_fine (Some f) h l s hl hs e = go f.place f.type e
       where
         go : (p : Place) (w : WordType) → Lets k T (typed.on (typed.type_of w) h.stack (λ s. typed.leaves pc h s)) → DidFine (on_top s (λ v r. value_in (stored w v) (λ y. Does (doing.Ask (request.Put p y)) (here l r))))
-        go p word.Int e = int_top_fine h.stack s _ _ hs (λ x us r hr e. (goes_on _ (pc + 1) [] l r e hl hr, refl, refl)) (on_int_type h.stack _ e)
+        go p w e = int_top_fine h.stack s _ _ hs (λ x us r hr e. (goes_on _ (pc + 1) [] l r e hl hr, refl, refl)) (on_int_type h.stack _ e)
 
     -- an instruction that keeps the rules finds what it takes, and leaves what they say
     op_fine : (o : Op) → IsSourceOp P k o → (h : Types) (l s : List Slot) → HaveTypes h.locals l → HaveTypes h.stack s → Lets k T (flow P k pc o h) → DidFine (does P o (here l s))
@@ -299,6 +304,8 @@ module _ (P : Program) (S : IsTypedProgram P) where
     op_fine (op.Branch t to) src h l s hl hs e = on_int_fine h.stack s _ _ hs (λ x us r hr e. branches_fine (holds t x (pos 0)) to _ l r e hl hr) e
     op_fine (op.BranchInts t to) src h l s hl hs e = on_int_fine h.stack s _ _ hs (λ y us r hr e. on_int_fine us r _ _ hr (λ x us r hr e. branches_fine (holds t x y) to _ l r e hl hr) e) e
     op_fine (op.Goto to) src h l s hl hs e = (goes_on h to [] l s e hl hs, refl, refl)
+    op_fine (op.Switch other cases) src h l s hl hs e =
+        on_int_fine h.stack s _ _ hs (λ x us r hr e. (record { types = typed.with_stack h us; covers = exit_has (Covers k T (typed.with_stack h us)) other cases x e.1; locals = hl; stack = hr }, refl, refl)) e
     op_fine (op.GetStatic n) src h l s hl hs e = gets_fine (place_at P n) h l s hl hs e
     op_fine (op.PutStatic n) src h l s hl hs e = puts_fine (place_at P n) h l s hl hs e
     op_fine (op.InvokeStatic c) src h l s hl hs e = (record { types = h; keeps = e; locals = hl; stack = hs }, refl, refl)

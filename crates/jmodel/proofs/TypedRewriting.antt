@@ -64,6 +64,7 @@ module _ (P : Program) (S : IsTypedProgram P) where
   same_flow k pc (op.Branch t to) h src = refl
   same_flow k pc (op.BranchInts t to) h src = refl
   same_flow k pc (op.Goto to) h src = refl
+  same_flow k pc (op.Switch other cases) h src = refl
   same_flow k pc (op.GetStatic f) h src = refl
   same_flow k pc (op.PutStatic f) h src = refl
   same_flow k pc op.Return h src = refl

@@ -1,7 +1,6 @@
 -- Two runs that go together step by step, whatever it is that is proved of them.
-use Rattle.std.proofs.Common.{◌≡◌, ℕ, ℤ, zero, suc, ◌+◌, ◌%◌, ◌^◌, List, [], ◌∷◌, Option, Some, Bool, true, false}
+use Rattle.std.proofs.Common.{◌≡◌, ℕ, ℤ, zero, suc, ◌+◌, List, [], ◌∷◌, Option, Some, Bool, true, false}
 use Rattle.std.specs.Prelude.{pos, slice_get}
-use Rattle.std.specs.Int.{w32, cast_signed}
 use Rattle.jmodel.specs.declared.value.Value.{Value}
 use Rattle.jmodel.specs.declared.value.Value.TheVariants as value
 use Rattle.jmodel.specs.declared.value.Answer.TheVariants.{Returned, Budget, Depth}
@@ -9,7 +8,8 @@ use Rattle.jmodel.specs.declared.op.Slot.{Slot}
 use Rattle.jmodel.specs.declared.op.Slot.TheVariants.{Int}
 use Rattle.jmodel.specs.declared.op.Op.TheVariants.{Load, GetStatic, PutStatic, InvokeStatic}
 use Rattle.jmodel.specs.declared.op.Phase.TheVariants.{Ready, Open, Closed}
-use Rattle.jmodel.specs.Value.{word_of}
+use Rattle.jmodel.specs.WordTypes.{narrowed}
+use Rattle.jmodel.specs.Value.{word_of, number_of}
 use Rattle.jmodel.specs.Program.{Field, Method, Program}
 use Rattle.jmodel.specs.Step.{Frames}
 use Rattle.jmodel.proofs.Alone.{Alone, next_alone}
@@ -24,7 +24,7 @@ use Rattle.jmodel.proofs.Follow.{IsSet, FrameAlike, Callers}
 
 -- the int that a read leaves, where the engine answers x
 abbrev pub read_int : Log → Field → ℕ → ℤ
-read_int w f x = cast_signed w32 (answered w (address f.place) x % 2 ^ 32)
+read_int w f x = number_of f.type (answered w (address f.place) x)
 
 -- What a proof has to say. Before and After: of the original method's run, before a step and after it. Now and Then: of the
 -- rewritten code's run at the same places.
@@ -52,8 +52,8 @@ pub record IsWalk (P Q : Program) (B : Bounds) (mn : ℕ) (k0 : Method) (slots :
   pub put : (m pc dn a : ℕ) (k : Method) (l l' s : List Slot) (fs gs : Frames) (M : Meter) (w r : Log) → FrameAlike P mn k0 slots m pc dn a k l l' → Callers P mn k0 slots k.gives fs gs
       → (i : ℕ) (f : Field) (o : ℕ) → slice_get k.ops pc ≡ Some (PutStatic i) → slice_get P.fields i ≡ Some f → IsKnown f o
       → HasAt (duplicate_method P k).ops a (Load k.params ∷ InvokeStatic (setter P i) ∷ []) → (x : ℤ) → FitsInt x → Before (alone.On (frame m pc l (Int x ∷ s) ∷ fs) M.turns) w r
-      → (After (alone.On (frame m (pc + 1) l s ∷ fs) M.turns) (access (address f.place) (word_of (value.Int x)) ∷ w) r
-      → Then (On Open (frame dn (a + 1 + 1) l' s ∷ gs) M (access (address f.place) (word_of (value.Int x)) ∷ w) r))
+      → (After (alone.On (frame m (pc + 1) l s ∷ fs) M.turns) (access (address f.place) (word_of (value.Int (narrowed f.type x))) ∷ w) r
+      → Then (On Open (frame dn (a + 1 + 1) l' s ∷ gs) M (access (address f.place) (word_of (value.Int (narrowed f.type x))) ∷ w) r))
       → Now (On Open (frame dn a l' (Int x ∷ s) ∷ gs) M w r)
 
 module _ (P Q : Program) (B : Bounds) (mn : ℕ) (k0 : Method) (slots : List Slot) (Now Then : Run → Type 0) (Before After : Alone → Log → Log → Type 0) (X : IsWalk P Q B mn k0 slots Now Then Before After) where

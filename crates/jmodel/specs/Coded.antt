@@ -1,32 +1,52 @@
--- Code of methods with its instructions, or its first fault, and the mark of atomic methods.
-use Rattle.std.specs.Prelude.{ℕ, List, [], ◌∷◌, Option, Some, None, Result, Ok, Err, Bool, false, ◌&&◌, nat_eq, codes, find, option_and_then}
-use Rattle.std.specs.List.{list_any}
+-- Code of methods with its instructions, or its first fault, the mark of atomic methods, and static initialisers.
+use Rattle.std.specs.Prelude.{ℕ, ℤ, pos, List, [], Option, Some, None, Result, Ok, Err, Bool, ◌&&◌, nat_eq, codes, bit_and, bytes_eq, find, option_and_then, is_some, if◌then◌else◌}
 use Rattle.jmodel.specs.declared.instruction.Instr.{Instr}
+use Rattle.jmodel.specs.declared.mark.Atomic.{Atomic}
+use Rattle.jmodel.specs.declared.mark.AnnotationFault.{AnnotationFault}
 use Rattle.jmodel.specs.declared.name.MethodName.{MethodName}
 use Rattle.jmodel.specs.declared.refusal.Refusal.{Refusal}
 use Rattle.jmodel.specs.declared.refusal.Refusal.TheVariants.{BadCode, BadInstr, BadTarget}
 use Rattle.jmodel.specs.Name.{printed}
 use Rattle.jmodel.specs.ClassFile.{Attribute, Member, Pool, ClassFile, Code}
-use Rattle.jmodel.specs.Pool.{utf8}
-use Rattle.jmodel.specs.ClassRules.{same_text, is_named}
+use Rattle.jmodel.specs.ClassRules.{is_named}
 use Rattle.jmodel.specs.ClassReading.{code_of}
-use Rattle.jmodel.specs.Constants.{pair_number}
 use Rattle.jmodel.specs.InstructionReading.{instrs_of}
 use Rattle.jmodel.specs.Reading.{◌>>=◌}
-use Rattle.jmodel.specs.Decoding.{name_of}
+use Rattle.jmodel.specs.Decoding.{name_of, is_member}
+use Rattle.jmodel.specs.Mark.{mark_of}
 
 -- ---- the mark
 
--- the mark without elements, alone: the count of annotations, the type's index, the count of elements
-abbrev pub is_plain_mark : Pool → List ℕ → Bool
-is_plain_mark pool (n ∷ m ∷ a ∷ b ∷ p ∷ q ∷ []) = nat_eq n 0 && nat_eq m 1 && nat_eq p 0 && nat_eq q 0 && same_text (utf8 pool (pair_number a b)) (codes "Lorg/deuce/Atomic;")
-is_plain_mark pool bs = false
+-- how many attempts the mark says, where the annotations and the mark have no fault
+abbrev pub attempts_in : Result (Option Atomic) AnnotationFault → Option ℤ
+attempts_in (Ok (Some a)) = Some a.retries
+attempts_in (Ok None) = None
+attempts_in (Err e) = None
 
-abbrev pub is_mark : Pool → Attribute → Bool
-is_mark pool a = is_named pool (codes "RuntimeVisibleAnnotations") a && is_plain_mark pool a.bytes
+-- how many attempts the mark of a method grants
+abbrev pub mark_retries : Pool → Member → Option ℤ
+mark_retries pool m = attempts_in (mark_of pool m)
 
 abbrev pub is_marked : Pool → Member → Bool
-is_marked pool m = list_any (is_mark pool) m.attributes
+is_marked pool m = is_some (mark_retries pool m)
+
+-- ---- static initialisers
+
+-- the name and the descriptor of a static initialiser
+abbrev pub names_initialiser : MethodName → Bool
+names_initialiser n = bytes_eq n.name (codes "<clinit>") && bytes_eq n.descriptor (codes "()V")
+
+-- A static initialiser: of the flags 0008 and 0400 the first alone is set. Any other method of the name is none.
+abbrev pub is_initialiser : Pool → Member → Bool
+is_initialiser pool m = nat_eq (bit_and m.flags 0x408) 8 && is_member pool (codes "<clinit>") (codes "()V") m
+
+-- How many attempts a call from outside may make: of a static initialiser 2147483647, else those that the mark grants.
+abbrev pub retries_of : Pool → Member → Option ℤ
+retries_of pool m = if is_initialiser pool m then Some (pos 2147483647) else mark_retries pool m
+
+-- what is called from outside, each time as a transaction: a marked method, or a static initialiser
+abbrev pub is_root : Pool → Member → Bool
+is_root pool m = is_some (retries_of pool m)
 
 -- ---- code
 

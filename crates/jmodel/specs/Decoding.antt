@@ -1,5 +1,6 @@
 -- What the instructions of a class's code mean (JVM Specification, Java SE 7, chapters 4 and 6), of those that this stage knows.
-use Rattle.std.specs.Prelude.{ℕ, ℤ, pos, ◌-◌, ◌-ℤ◌, List, [], ◌∷◌, Option, Some, None, Bool, ◌==◌, ◌&&◌, ◌||◌, nat_le, nat_eq, if◌then◌else◌, codes, bytes_eq, find, position, option_map, option_and_then}
+use Rattle.std.specs.Prelude.{ℕ, ℤ, pos, ◌-◌, ◌-ℤ◌, List, [], ◌∷◌, Option, Some, None, Bool, ◌==◌, ◌&&◌, ◌||◌, nat_le, nat_eq, if◌then◌else◌, codes, bytes_eq, find, position, is_some, option_map, option_and_then}
+use Rattle.std.specs.Int.{w32, int_wrapping_add}
 use Rattle.jmodel.specs.declared.name.MethodName.{MethodName}
 use Rattle.jmodel.specs.declared.value.Value.TheVariants as value
 use Rattle.jmodel.specs.declared.instruction.Operands.{Operands}
@@ -7,17 +8,18 @@ use Rattle.jmodel.specs.declared.instruction.Operands.TheVariants as operands
 use Rattle.jmodel.specs.declared.instruction.Instr.{Instr}
 use Rattle.jmodel.specs.declared.op.Op.{Op}
 use Rattle.jmodel.specs.declared.op.Op.TheVariants as op
-use Rattle.jmodel.specs.declared.op.Rearrange.TheVariants.{Nothing, Pop, PopTwo, Duplicate, DuplicateUnder, DuplicateTwo, Swap}
+use Rattle.jmodel.specs.declared.op.Rearrange.TheVariants.{Nothing, Pop, PopTwo, Duplicate, DuplicateUnder, DuplicateUnderTwo, DuplicateTwo, DuplicateTwoUnder, DuplicateTwoUnderTwo, Swap}
 use Rattle.jmodel.specs.declared.op.Binary.TheVariants.{Add, Subtract, Multiply, ShiftLeft, ShiftRight, UnsignedShiftRight, And, Or, Xor}
 use Rattle.jmodel.specs.declared.op.Unary.TheVariants.{Negate, ToByte, ToChar, ToShort}
 use Rattle.jmodel.specs.declared.op.Test.{Test}
 use Rattle.jmodel.specs.declared.op.Test.TheVariants.{Equal, NotEqual, Less, GreaterOrEqual, Greater, LessOrEqual}
 use Rattle.jmodel.specs.declared.op.ContextCall.TheVariants.{Init, BeforeRead, OnRead, OnWrite, Commit, Rollback}
-use Rattle.jmodel.specs.declared.op.WordType.TheVariants as word
 use Rattle.jmodel.specs.ClassFile.{Member, Pool, ClassFile}
 use Rattle.jmodel.specs.Pool.{utf8, class_name, MemberName, field_name, method_name}
 use Rattle.jmodel.specs.ClassRules.{same_text}
+use Rattle.jmodel.specs.Instruction.{ascend}
 use Rattle.jmodel.specs.Constants.{integer, long_value}
+use Rattle.jmodel.specs.WordTypes.{type_descriptor, read_descriptor, write_descriptor, type_with, word_type}
 use Rattle.jmodel.specs.Program.{Field}
 pub use Rattle.jmodel.specs.TypeOrder.{context_class}
 use Rattle.jmodel.specs.Layout.{text_or_none, base_of}
@@ -41,7 +43,7 @@ abbrev pub name_of : ClassFile → Member → MethodName
 name_of c m = record { class = own_name c; name = text_or_none (utf8 c.pool m.name); descriptor = text_or_none (utf8 c.pool m.descriptor) }
 
 abbrev pub is_field_of : MemberName → Field → Bool
-is_field_of m f = bytes_eq f.name m.name && bytes_eq f.class m.class
+is_field_of m f = bytes_eq f.name m.name && bytes_eq (type_descriptor f.type) m.descriptor && bytes_eq f.class m.class
 
 -- the number of a field
 abbrev pub field_number : List Field → MemberName → Option ℕ
@@ -105,7 +107,10 @@ rearranging_op c =
     else if c == 88 then Some (op.Rearrange PopTwo)
     else if c == 89 then Some (op.Rearrange Duplicate)
     else if c == 90 then Some (op.Rearrange DuplicateUnder)
+    else if c == 91 then Some (op.Rearrange DuplicateUnderTwo)
     else if c == 92 then Some (op.Rearrange DuplicateTwo)
+    else if c == 93 then Some (op.Rearrange DuplicateTwoUnder)
+    else if c == 94 then Some (op.Rearrange DuplicateTwoUnderTwo)
     else if c == 95 then Some (op.Rearrange Swap)
     else None
 
@@ -163,15 +168,42 @@ jump_to c to =
 abbrev pub jump_op : List Instr → ℕ → ℕ → Option Op
 jump_op is c target = option_and_then (jump_to c) (number_at is target)
 
+abbrev pub in_front : {A : Type 0} → Option A → Option (List A) → Option (List A)
+in_front (Some x) (Some xs) = Some (x ∷ xs)
+in_front x xs = None
+
+-- what each gives, if each gives something
+abbrev pub each : {A B : Type 0} → (A → Option B) → List A → Option (List B)
+each f [] = Some []
+each f (x ∷ xs) = in_front (f x) (each f xs)
+
+-- the cases of a tableswitch: the keys from the lowest on, each with its target
+abbrev pub table_cases : ℤ → List ℕ → List (ℤ × ℕ)
+table_cases key [] = []
+table_cases key (target ∷ targets) = (key, target) ∷ table_cases (int_wrapping_add w32 key (pos 1)) targets
+
+-- a case, with the number of the instruction at its target
+abbrev pub numbered_case : List Instr → ℤ × ℕ → Option (ℤ × ℕ)
+numbered_case is c = option_map (λ n. (c.0, n)) (number_at is c.1)
+
+-- A switch whose keys ascend, as those of every class file do.
+abbrev pub ascending_op : Option ℕ → Option (List (ℤ × ℕ)) → Option Op
+ascending_op (Some other) (Some cases) = if ascend cases then Some (op.Switch other cases) else None
+ascending_op other cases = None
+
+-- a switch with these targets
+abbrev pub switch_op : List Instr → ℕ → List (ℤ × ℕ) → Option Op
+switch_op is other cases = ascending_op (number_at is other) (each (numbered_case is) cases)
+
 abbrev pub get_op : Symbols → MemberName → Option Op
 get_op s m =
-    if bytes_eq m.descriptor (codes "I") then option_map op.GetStatic (field_number s.fields m)
+    if is_some (word_type m.descriptor) then option_map op.GetStatic (field_number s.fields m)
     else if bytes_eq m.descriptor (codes "J") then option_map (λ n. op.Constant (value.Long n)) (long_field s.class m)
     else if is_base s.class m then Some (op.Constant (value.Ref (base_of (s.class ∷ []) 0)))
     else None
 
 abbrev pub put_op : Symbols → MemberName → Option Op
-put_op s m = if bytes_eq m.descriptor (codes "I") then option_map op.PutStatic (field_number s.fields m) else None
+put_op s m = option_map op.PutStatic (field_number s.fields m)
 
 abbrev pub is_get_context : MemberName → Bool
 is_get_context m = bytes_eq m.class (codes "org/deuce/transaction/ContextDelegator") && bytes_eq m.name (codes "getInstance")
@@ -188,8 +220,8 @@ abbrev pub context_op : MemberName → Option Op
 context_op m =
     if is_called (codes "init") (codes "(II)V") m then Some (op.Context Init)
     else if is_called (codes "beforeReadAccess") (codes "(Ljava/lang/Object;J)V") m then Some (op.Context BeforeRead)
-    else if is_called (codes "onReadAccess") (codes "(Ljava/lang/Object;IJ)I") m then Some (op.Context (OnRead word.Int))
-    else if is_called (codes "onWriteAccess") (codes "(Ljava/lang/Object;IJ)V") m then Some (op.Context (OnWrite word.Int))
+    else if bytes_eq m.name (codes "onReadAccess") then option_map (λ t. op.Context (OnRead t)) (type_with read_descriptor m.descriptor)
+    else if bytes_eq m.name (codes "onWriteAccess") then option_map (λ t. op.Context (OnWrite t)) (type_with write_descriptor m.descriptor)
     else if is_called (codes "commit") (codes "()Z") m then Some (op.Context Commit)
     else if is_called (codes "rollback") (codes "()V") m then Some (op.Context Rollback)
     else None
@@ -215,21 +247,14 @@ meaning s is c (operands.Local n) = local_op c n
 meaning s is c (operands.LocalAdd n add) = Some (op.Increment n add)
 meaning s is c (operands.Pool i) = pool_op s c i
 meaning s is c (operands.Target t) = jump_op is c t
+meaning s is c (operands.Table other low targets) = switch_op is other (table_cases low targets)
+meaning s is c (operands.Lookup other pairs) = switch_op is other pairs
 meaning s is c (operands.Wide w n add) = wide_op w n add
 meaning s is c o = None
 
 -- what an instruction of a list of them means
 abbrev pub op_of : Symbols → List Instr → Instr → Option Op
 op_of s is i = meaning s is i.op i.operands
-
-abbrev pub in_front : {A : Type 0} → Option A → Option (List A) → Option (List A)
-in_front (Some x) (Some xs) = Some (x ∷ xs)
-in_front x xs = None
-
--- what each gives, if each gives something
-abbrev pub each : {A B : Type 0} → (A → Option B) → List A → Option (List B)
-each f [] = Some []
-each f (x ∷ xs) = in_front (f x) (each f xs)
 
 abbrev pub ops_of : Symbols → List Instr → Option (List Op)
 ops_of s is = each (op_of s is) is

@@ -2,9 +2,11 @@
 use Rattle.std.specs.Prelude.{ℕ, ℤ, suc, pos, ◌+◌, List, [], ◌∷◌, ◌++◌, length, map, take, filter, sum_by, Option, Some, None, Bool, not, nat_eq, ◌==◌, if◌then◌else◌, codes, bit_and, slice_index, unwrap_or}
 use Rattle.jmodel.specs.declared.value.Value.{Value}
 use Rattle.jmodel.specs.declared.value.Value.TheVariants.{Int}
+use Rattle.jmodel.specs.declared.op.WordType.{WordType}
 use Rattle.jmodel.specs.declared.op.WordType.TheVariants as word
 use Rattle.jmodel.specs.ClassFile.{Member, Pool, ClassFile}
 use Rattle.jmodel.specs.Pool.{utf8, class_name}
+use Rattle.jmodel.specs.WordTypes.{word_type, narrowed}
 use Rattle.jmodel.specs.Value.{word_of}
 use Rattle.jmodel.specs.Constants.{int_value}
 use Rattle.jmodel.specs.Program.{Field}
@@ -53,6 +55,10 @@ abbrev pub text_or_none : Option (List ℕ) → List ℕ
 text_or_none None = []
 text_or_none (Some t) = t
 
+-- the type of a field, by its descriptor; an int, where that is of no type of one word
+abbrev pub field_type : Pool → Member → WordType
+field_type pool m = unwrap_or (word_type (text_or_none (utf8 pool m.descriptor))) word.Int
+
 -- the static fields of the class that is the n-th, the first of them behind the header
 abbrev pub fields_from : List ClassFile → ℕ → ClassFile → ℕ → List Member → List Field
 fields_from classes n c i [] = []
@@ -60,16 +66,16 @@ fields_from classes n c i (m ∷ ms) = record {
   class = text_or_none (class_name c.pool c.this_class);
   name = text_or_none (utf8 c.pool m.name);
   place = record { object = base_of classes n; index = i };
-  type = word.Int;
+  type = field_type c.pool m;
 } ∷ fields_from classes n c (suc i) ms
 
 abbrev pub fields_of : List ClassFile → ℕ → List ClassFile → List Field
 fields_of classes n [] = []
 fields_of classes n (c ∷ cs) = fields_from classes n c 1 (statics c) ++ fields_of classes (suc n) cs
 
--- the int that a static field holds at first: its constant, where it has one, else 0
+-- the int that a static field holds at first: what its type keeps of its constant, where it has one, else 0
 abbrev pub opening_int : Pool → Member → ℤ
-opening_int pool m = unwrap_or (int_value pool m) (pos 0)
+opening_int pool m = narrowed (field_type pool m) (unwrap_or (int_value pool m) (pos 0))
 
 abbrev pub opening_value : Pool → Member → Value
 opening_value pool m = Int (opening_int pool m)

@@ -5,6 +5,7 @@ pub mod ClassFile
 pub mod Pool
 pub mod ClassRules
 pub mod Constants
+pub mod WordTypes
 pub mod Value
 pub mod Program
 pub mod Step
@@ -39,8 +40,14 @@ pub mod Engine
 pub mod Decoding
 pub mod Coded
 pub mod Taken
+pub mod Opening
 pub mod Linking
 pub mod PoolAdding
 pub mod Book
 pub mod Rule
 pub mod Plays
+pub mod Annotation
+pub mod AnnotationRules
+pub mod AnnotationReading
+pub mod Mark
+pub mod MarkLaw

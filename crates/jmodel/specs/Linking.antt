@@ -1,7 +1,8 @@
 -- What a class means as a program: original classes of a temporary form, and rewritten ones. The form has the int code of static
--- methods that take ints and give an int or nothing.
+-- methods that take ints, of any type of one word, and give one or nothing.
 use Rattle.std.specs.Prelude.{ℕ, ℤ, pos, ◌-◌, List, [], ◌∷◌, ◌++◌, length, map, filter, take, drop, zip, Option, Some, None, Result, Ok, Err, Bool, true, false, not, ◌==◌, ◌&&◌, ◌||◌, nat_lt, nat_le, nat_eq, if◌then◌else◌, codes, bytes_eq, bit_and, option_map, option_and_then, is_some, slice_get}
 use Rattle.std.specs.List.{list_any, list_all, starts_with}
+use Rattle.std.specs.Option.{option_or}
 use Rattle.jmodel.specs.declared.class_file.Constant.{Constant}
 use Rattle.jmodel.specs.declared.class_file.Constant.TheVariants as constants
 use Rattle.jmodel.specs.declared.class_file.FieldType.{FieldType}
@@ -11,7 +12,11 @@ use Rattle.jmodel.specs.declared.instruction.Operands.{Operands}
 use Rattle.jmodel.specs.declared.instruction.Operands.TheVariants as operands
 use Rattle.jmodel.specs.declared.instruction.Instr.{Instr}
 use Rattle.jmodel.specs.declared.name.MethodName.{MethodName}
+use Rattle.jmodel.specs.declared.mark.Atomic.{Atomic}
+use Rattle.jmodel.specs.declared.mark.AnnotationFault.{AnnotationFault}
+use Rattle.jmodel.specs.declared.mark.AnnotationFault.TheVariants.{Bad, Retries}
 use Rattle.jmodel.specs.declared.refusal.Refusal.{Refusal}
+use Rattle.jmodel.specs.declared.refusal.Refusal.TheVariants.{BadAnnotation, BadRetries, Construct}
 use Rattle.jmodel.specs.declared.value.Value.TheVariants as value
 use Rattle.jmodel.specs.declared.typing.VType.{VType}
 use Rattle.jmodel.specs.declared.typing.VType.TheVariants.{Int, Ref}
@@ -21,15 +26,18 @@ use Rattle.jmodel.specs.declared.op.Catch.{Catch}
 use Rattle.jmodel.specs.declared.op.Catches.{Catches}
 use Rattle.jmodel.specs.declared.op.Catches.TheVariants.{Conflict, Any}
 use Rattle.jmodel.specs.ClassFile.{Attribute, Member, Pool, ClassFile, Code}
-use Rattle.jmodel.specs.Pool.{utf8, class_name}
+use Rattle.jmodel.specs.Pool.{utf8, class_name, MemberName}
 use Rattle.jmodel.specs.ClassRules.{same_text, is_named}
 use Rattle.jmodel.specs.Descriptor.{Signature}
 use Rattle.jmodel.specs.DescriptorReading.{signature_of}
-use Rattle.jmodel.specs.Reading.{◌>>=◌}
+use Rattle.jmodel.specs.Reading.{◌>>=◌, place}
+use Rattle.jmodel.specs.WordTypes.{word_type, as_word}
 use Rattle.jmodel.specs.Program.{Field, Method, Program}
 use Rattle.jmodel.specs.Layout.{library, is_static, statics, text_or_none, fields_of}
-pub use Rattle.jmodel.specs.Coded.{code_in, is_plain_mark, is_mark, is_marked, Coded, in_method, named_fault, decoded_code, decoded}
-use Rattle.jmodel.specs.Taken.{is_taken}
+pub use Rattle.jmodel.specs.Coded.{code_in, mark_retries, is_marked, names_initialiser, is_initialiser, retries_of, is_root, Coded, in_method, named_fault, decoded_code, decoded}
+use Rattle.jmodel.specs.Taken.{invoked, is_taken}
+use Rattle.jmodel.specs.Name.{printed}
+use Rattle.jmodel.specs.Mark.{mark_of}
 use Rattle.jmodel.specs.Decoding.{number_at, context_class, Symbols, own_name, name_of, each, ops_of}
 
 -- ---- exception entries, by numbers of instructions
@@ -63,31 +71,25 @@ abbrev pub is_context : FieldType → Bool
 is_context (types.Reference name) = bytes_eq name context_class
 is_context t = false
 
--- an int, or a transaction's context: each takes one place
+-- a value of one word, or a transaction's context: each takes one place
 abbrev pub is_parameter : FieldType → Bool
-is_parameter types.Int = true
-is_parameter t = is_context t
+is_parameter t = is_some (as_word t) || is_context t
 
--- a reference, or else an int
+-- a reference, or else an int, as a value of one word is in a frame
 abbrev pub parameter_type : FieldType → VType
 parameter_type (types.Reference name) = Ref name
 parameter_type t = Int
 
--- an int or nothing
+-- a value of one word, or nothing
 abbrev pub is_result : Option FieldType → Bool
 is_result None = true
-is_result (Some types.Int) = true
-is_result (Some t) = false
+is_result (Some t) = is_some (as_word t)
 
 abbrev pub shape_in : Signature → Option Shape
 shape_in s = if list_all is_parameter s.parameters && is_result s.result then Some (record { takes = map parameter_type s.parameters; params = length s.parameters; gives = is_some s.result }) else None
 
 abbrev pub shape_of : List ℕ → Option Shape
 shape_of d = option_and_then shape_in (signature_of d)
-
--- a mark that names no number of attempts allows 2147483647
-abbrev pub retries_of : Pool → Member → Option ℤ
-retries_of pool m = if is_marked pool m then Some (pos 2147483647) else None
 
 abbrev pub make_method : Symbols → Bool → Member → Code → Option Shape → Option (List Op) → Option (List Catch) → Option Method
 make_method s counted m k (Some shape) (Some ops) (Some catches) = Some (record {
@@ -160,33 +162,41 @@ is_form_constant c = true
 abbrev pub is_empty : {A : Type 0} → List A → Bool
 is_empty xs = length xs == 0
 
--- an int whose name has at most 1000 bytes, where the field is static
+-- of a type of one word, with a name of at most 1000 bytes, where the field is static
 abbrev pub is_form_field : Pool → Member → Bool
-is_form_field pool m = not (is_static m) || same_text (utf8 pool m.descriptor) (codes "I") && nat_le (length (text_or_none (utf8 pool m.name))) 1000
-
--- an attribute of a method: of annotations that a running program sees, the mark alone
-abbrev pub is_form_attribute : Pool → Attribute → Bool
-is_form_attribute pool a = not (is_named pool (codes "RuntimeVisibleAnnotations") a) || is_plain_mark pool a.bytes
+is_form_field pool m = not (is_static m) || is_some (word_type (text_or_none (utf8 pool m.descriptor))) && nat_le (length (text_or_none (utf8 pool m.name))) 1000
 
 -- the names of static initialisers and constructors begin so, 60
 abbrev pub is_special : List ℕ → Bool
 is_special name = starts_with nat_eq name (60 ∷ [])
 
--- A static method that takes ints and gives an int or nothing; of the flags 0008, 0020, 0100 and 0400 the first alone is set.
+-- an ordinary name, or a static initialiser without a mark
+abbrev pub is_form_name : Pool → Member → Bool
+is_form_name pool m = not (is_special (text_or_none (utf8 pool m.name))) || (is_initialiser pool m && not (is_marked pool m))
+
+-- A static method that takes ints, and gives one or nothing; of the flags 0008, 0020, 0100 and 0400 the first alone is set.
 abbrev pub is_form_atomic : Pool → Member → Bool
 is_form_atomic pool m = nat_eq (bit_and m.flags 0x528) 8 && is_some (shape_of (descriptor_of pool m)) && not (takes_context pool m)
-    && not (is_special (text_or_none (utf8 pool m.name)))
+    && is_form_name pool m
 
--- a method that isn't one of the program may be anything but a static initialiser
+-- a method that isn't one of the program may be anything
 abbrev pub is_form_method : ClassFile → Member → Bool
-is_form_method c m = list_all (is_form_attribute c.pool) m.attributes && (if is_taken c m then is_form_atomic c.pool m else not (same_text (utf8 c.pool m.name) (codes "<clinit>")))
+is_form_method c m = not (is_taken c m) || is_form_atomic c.pool m
 
 -- a class's name that no class of the library has
 abbrev pub is_free_name : List ℕ → Bool
 is_free_name name = not (list_any (bytes_eq name) library)
 
+abbrev pub are_distinct : List (List ℕ) → Bool
+are_distinct [] = true
+are_distinct (text ∷ texts) = not (list_any (bytes_eq text) texts) && are_distinct texts
+
+abbrev pub field_name_of : Pool → Member → List ℕ
+field_name_of pool m = text_or_none (utf8 pool m.name)
+
+-- No two static fields have one name, also where their types differ.
 abbrev pub are_form_fields : ClassFile → Bool
-are_form_fields c = nat_le (length (statics c)) 100 && list_all (is_form_field c.pool) c.fields
+are_form_fields c = nat_le (length (statics c)) 100 && list_all (is_form_field c.pool) c.fields && are_distinct (map (field_name_of c.pool) (statics c))
 
 abbrev pub are_form_methods : ClassFile → Bool
 are_form_methods c = nat_le (length (program_methods c)) 100 && list_all (is_form_method c) c.methods
@@ -196,8 +206,9 @@ abbrev pub is_form_head : ClassFile → Bool
 is_form_head c = nat_eq (bit_and c.flags 0x200) 0 && is_free_name (own_name c) && same_text (class_name c.pool c.super_class) (codes "java/lang/Object")
     && is_empty c.interfaces
 
-abbrev pub is_form_class : ClassFile → Bool
-is_form_class c = list_all is_form_constant c.pool && is_form_head c && are_form_fields c && are_form_methods c
+-- the form of a class without a look at its methods
+abbrev pub is_form_outside : ClassFile → Bool
+is_form_outside c = list_all is_form_constant c.pool && is_form_head c && are_form_fields c
 
 -- a Code without exception entries, of at most 200 locals
 abbrev pub is_form_code : Code → Bool
@@ -212,8 +223,13 @@ abbrev pub widened : ℕ → Operands → ℕ
 widened c (operands.Wide w n add) = w
 widened c o = c
 
-abbrev pub is_form_instr : Instr → Bool
-is_form_instr i = not (is_of_reference (widened i.op i.operands))
+-- a static initialiser can't be called, nor can any method of its name
+abbrev pub is_form_callee : Option MemberName → Bool
+is_form_callee None = true
+is_form_callee (Some n) = not (bytes_eq n.name (codes "<clinit>"))
+
+abbrev pub is_form_instr : Pool → Instr → Bool
+is_form_instr pool i = not (is_of_reference (widened i.op i.operands)) && is_form_callee (invoked pool i)
 
 -- what may stand in a method with so many locals that gives a value or nothing
 abbrev pub is_form_op : ℕ → Bool → Op → Bool
@@ -227,6 +243,7 @@ is_form_op locals gives (op.Unary u) = true
 is_form_op locals gives (op.Branch t to) = true
 is_form_op locals gives (op.BranchInts t to) = true
 is_form_op locals gives (op.Goto to) = true
+is_form_op locals gives (op.Switch other cases) = true
 is_form_op locals gives (op.GetStatic f) = true
 is_form_op locals gives (op.PutStatic f) = true
 is_form_op locals gives (op.InvokeStatic m) = true
@@ -234,16 +251,42 @@ is_form_op locals gives op.Return = not gives
 is_form_op locals gives op.ReturnValue = gives
 is_form_op locals gives o = false
 
-abbrev pub is_form_method_of : Coded → Method → Bool
-is_form_method_of k p = is_form_code k.code && list_all is_form_instr k.instrs && nat_le p.params p.locals && list_all (is_form_op p.locals p.gives) p.ops
+abbrev pub is_form_method_of : Pool → Coded → Method → Bool
+is_form_method_of pool k p = is_form_code k.code && list_all (is_form_instr pool) k.instrs && nat_le p.params p.locals && list_all (is_form_op p.locals p.gives) p.ops
 
-abbrev pub if_form : Coded → Option Method → Option Method
-if_form k None = None
-if_form k (Some p) = if is_form_method_of k p then Some p else None
+abbrev pub if_form : Pool → Coded → Option Method → Option Method
+if_form pool k None = None
+if_form pool k (Some p) = if is_form_method_of pool k p then Some p else None
 
 -- what a method of the form means
 abbrev pub form_method : Symbols → Member → Coded → Option Method
-form_method s m k = if_form k (coded_method s true m k)
+form_method s m k = if_form s.class.pool k (coded_method s true m k)
+
+-- ---- marks
+
+-- a method with code, without 0100 and 0400, that is neither a constructor nor a static initialiser
+abbrev pub may_be_marked : Pool → Member → Bool
+may_be_marked pool m = nat_eq (bit_and m.flags 0x500) 0 && not (same_text (utf8 pool m.name) (codes "<init>") || same_text (utf8 pool m.name) (codes "<clinit>"))
+
+-- the fault of annotations and their mark, in the method of this name, which may be marked or not
+abbrev pub fault_in : List ℕ → Bool → Result (Option Atomic) AnnotationFault → Option Refusal
+fault_in name may (Err (Bad at)) = Some (BadAnnotation name (place at))
+fault_in name may (Err (Retries n)) = Some (BadRetries name n)
+fault_in name true (Ok (Some a)) = None
+fault_in name false (Ok (Some a)) = Some (Construct (codes "AtomicPlace") name (pos 0))
+fault_in name may (Ok None) = None
+
+abbrev pub mark_fault : ClassFile → Member → Option Refusal
+mark_fault c m = fault_in (printed (name_of c m)) (may_be_marked c.pool m) (mark_of c.pool m)
+
+-- the first fault among methods
+abbrev pub marks_fault : ClassFile → List Member → Option Refusal
+marks_fault c [] = None
+marks_fault c (m ∷ ms) = option_or (mark_fault c m) (marks_fault c ms)
+
+abbrev pub unless : {A : Type 0} → Option Refusal → Result A Refusal → Result A Refusal
+unless None r = r
+unless (Some fault) r = Err fault
 
 -- ---- programs
 
@@ -261,9 +304,14 @@ form_methods c ks = each (λ (p : Member × Coded). form_method (symbols_of c (o
 abbrev pub form_program : ClassFile → List Coded → Option Program
 form_program c ks = option_map (λ ms. record { fields = original_fields c; methods = ms }) (form_methods c ks)
 
--- The program of an original class, none where it isn't of the form, or the first fault of the code of its methods.
+-- the program of the methods' code, or its first fault
+abbrev pub coded_program : ClassFile → Result (Option Program) Refusal
+coded_program c = if are_form_methods c then (all_decoded c (program_methods c) >>= λ ks. Ok (form_program c ks)) else Ok None
+
+-- The program of an original class, none where it isn't of the form, or its first fault: that of the marks of all its methods, else that
+-- of the code of those that are taken.
 abbrev pub linking : ClassFile → Result (Option Program) Refusal
-linking c = if is_form_class c then (all_decoded c (program_methods c) >>= λ ks. Ok (form_program c ks)) else Ok None
+linking c = if is_form_outside c then unless (marks_fault c c.methods) (coded_program c) else Ok None
 
 abbrev pub program_in : Result (Option Program) Refusal → Option Program
 program_in (Ok p) = p
@@ -299,7 +347,7 @@ rewritten_methods P c = filter (is_rewritten_method P c) c.methods
 
 -- a method that is neither a wrapper nor takes a context stays as it was, and counts
 abbrev pub is_untouched : Pool → Member → Bool
-is_untouched pool m = not (is_marked pool m || takes_context pool m)
+is_untouched pool m = not (is_root pool m || takes_context pool m)
 
 -- The methods of a rewritten class: the last n, which are duplicates, count.
 abbrev pub relinked_methods : Symbols → ℕ → List Member → Option (List Method)

@@ -29,7 +29,7 @@ pub record Method : Type 0 where
   pub gives : Bool
   -- whether entering it is a turn, and its frames count
   pub counted : Bool
-  -- how many attempts it may make, where it is marked
+  -- how many attempts it may make, where it is marked or a static initialiser
   pub retries : Option ℤ
   pub ops : List Op
   pub catches : List Catch

@@ -1,20 +1,19 @@
 -- The rewriting of a program: accessors, duplicates and wrappers (Korland, Shavit, Felber, MULTIPROG 2010, in this project's form).
-use Rattle.std.specs.Prelude.{ℕ, ℤ, zero, suc, pos, ◌+◌, ◌*◌, List, [], ◌∷◌, ◌++◌, length, map, take, drop, sum_by, max, Option, Some, None, Bool, true, false, not, ◌==◌, nat_lt, if◌then◌else◌, codes}
+use Rattle.std.specs.Prelude.{ℕ, ℤ, zero, suc, pos, ◌+◌, ◌*◌, List, [], ◌∷◌, ◌++◌, length, map, take, drop, sum_by, max, Option, Some, None, Bool, true, false, not, ◌==◌, nat_lt, if◌then◌else◌, codes, bytes_eq}
 use Rattle.std.specs.List.{flat_map}
 use Rattle.jmodel.specs.declared.value.Value.TheVariants.{Int, Long, Ref}
 use Rattle.jmodel.specs.declared.typing.VType.TheVariants as type
 use Rattle.jmodel.specs.declared.op.Op.{Op}
-use Rattle.jmodel.specs.declared.op.Op.TheVariants.{Constant, Load, Store, Rearrange, Increment, Branch, BranchInts, Goto, GetStatic, PutStatic, InvokeStatic, Return, ReturnValue, Throw, GetContext, Context}
+use Rattle.jmodel.specs.declared.op.Op.TheVariants.{Constant, Load, Store, Rearrange, Increment, Branch, BranchInts, Goto, Switch, GetStatic, PutStatic, InvokeStatic, Return, ReturnValue, Throw, GetContext, Context}
 use Rattle.jmodel.specs.declared.op.Rearrange.TheVariants.{Pop}
 use Rattle.jmodel.specs.declared.op.Test.TheVariants.{Equal}
 use Rattle.jmodel.specs.declared.op.ContextCall.TheVariants.{Init, BeforeRead, OnRead, OnWrite, Commit, Rollback}
-use Rattle.jmodel.specs.declared.op.WordType.{WordType}
-use Rattle.jmodel.specs.declared.op.WordType.TheVariants as word
 use Rattle.jmodel.specs.declared.op.Catch.{Catch}
 use Rattle.jmodel.specs.declared.op.Catches.{Catches}
 use Rattle.jmodel.specs.declared.op.Catches.TheVariants.{Conflict, Any}
 use Rattle.jmodel.specs.Program.{Field, Method, Program}
 use Rattle.jmodel.specs.TypeOrder.{context_class, type_of}
+pub use Rattle.jmodel.specs.WordTypes.{type_descriptor}
 use Rattle.std.specs.Int.{w64, cast_signed}
 
 -- the descriptor of the context's class
@@ -31,6 +30,10 @@ before_end false (c ∷ cs) = if c == 41 then 0 else suc (before_end (c == 76) c
 abbrev pub with_context : List ℕ → List ℕ
 with_context d = take (before_end false d) d ++ context_type ++ drop (before_end false d) d
 
+-- The name of a method's duplicate: its own. A method with the name of static initialisers can't be called, so that duplicate has another.
+abbrev pub duplicate_name : List ℕ → List ℕ
+duplicate_name n = if bytes_eq n (codes "<clinit>") then codes "__CLINIT__" else n
+
 -- Numbers of the added methods: behind the old ones a getter and a setter for each field, then a duplicate for each method.
 abbrev pub getter : Program → ℕ → ℕ
 getter P f = length P.methods + 2 * f
@@ -40,9 +43,6 @@ setter P f = length P.methods + 2 * f + 1
 
 abbrev pub duplicate : Program → ℕ → ℕ
 duplicate P m = length P.methods + 2 * length P.fields + m
-
-abbrev pub type_descriptor : WordType → List ℕ
-type_descriptor word.Int = codes "I"
 
 -- the field's object and its address field, as constants
 abbrev pub base : Field → Op
@@ -89,6 +89,10 @@ accessors n (f ∷ fs) = getter_method n f ∷ setter_method n f ∷ accessors (
 abbrev pub moved : ℕ → ℕ → ℕ
 moved p i = if nat_lt i p then i else i + 1
 
+-- the cases of a switch, with their targets moved
+abbrev pub moved_cases : (ℕ → ℕ) → List (ℤ × ℕ) → List (ℤ × ℕ)
+moved_cases at cases = map (λ (c : ℤ × ℕ). (c.0, at c.1)) cases
+
 -- The blocks: what stands in the duplicate for an instruction. A jump goes to the block of its target.
 abbrev pub block : Program → ℕ → (ℕ → ℕ) → Op → List Op
 block P p at (GetStatic f) = Load p ∷ InvokeStatic (getter P f) ∷ []
@@ -100,6 +104,7 @@ block P p at (Increment i n) = Increment (moved p i) n ∷ []
 block P p at (Branch t to) = Branch t (at to) ∷ []
 block P p at (BranchInts t to) = BranchInts t (at to) ∷ []
 block P p at (Goto to) = Goto (at to) ∷ []
+block P p at (Switch other cases) = Switch (at other) (moved_cases at cases) ∷ []
 block P p at o = o ∷ []
 
 abbrev pub block_len : Op → ℕ
@@ -124,7 +129,7 @@ catch from to at catches = record { from = from; to = to; at = at; catches = cat
 -- The duplicate: the blocks, and behind them the stub that throws a conflict on, past every entry of the method's own.
 abbrev pub duplicate_method : Program → Method → Method
 duplicate_method P k = record {
-  name = record { class = k.name.class; name = k.name.name; descriptor = with_context k.name.descriptor };
+  name = record { class = k.name.class; name = duplicate_name k.name.name; descriptor = with_context k.name.descriptor };
   takes = k.takes ++ type.Ref context_class ∷ [];
   params = k.params + 1;
   locals = k.locals + 1;
@@ -186,7 +191,7 @@ wrapper_method P id m retries k = record k {
       ∷ catch 6 (body_end k.params) (conflict_at k.gives k.params + 4) Any ∷ [];
 }
 
--- an old method: a wrapper where it is marked, else as it was
+-- an old method: a wrapper where it is marked or a static initialiser, else as it was
 abbrev pub old_method : Program → ℕ → ℕ → Option ℤ → Method → Method
 old_method P id m None k = k
 old_method P id m (Some retries) k = wrapper_method P id m retries k

@@ -1,9 +1,10 @@
 -- The calls of a script by phases and lanes, and in which orders a run may print them.
-use Rattle.std.specs.Prelude.{◌≡◌, ◌<◌, ◌⊎◌, ℕ, suc, List, [], ◌∷◌, ◌++◌, map, Option, Some, None, Bool, true, false, not, ◌&&◌, is_some, nat_eq, nat_lt, AllPairs, IsPermutation}
+use Rattle.std.specs.Prelude.{◌≡◌, ◌<◌, ◌⊎◌, ℕ, suc, List, [], ◌∷◌, ◌++◌, length, min, map, Option, Some, None, Bool, true, false, not, ◌&&◌, is_some, nat_eq, nat_lt, AllPairs, IsPermutation}
 use Rattle.std.specs.List.{AllByRecursion}
 use Rattle.jmodel.specs.declared.value.Value.{Value}
 use Rattle.jmodel.specs.declared.value.Answer.{Answer}
 use Rattle.jmodel.specs.declared.value.Answer.TheVariants.{NoMemory}
+use Rattle.jmodel.specs.Coded.{names_initialiser}
 use Rattle.jmodel.specs.Program.{Method, Program}
 use Rattle.jmodel.specs.State.{State}
 use Rattle.jmodel.specs.History.{Call, first_by}
@@ -14,7 +15,11 @@ pub record Known : Type 0 where
   pub method : ℕ
   pub args : List Value
 
--- whether a script may call a method with so many arguments: it is marked, and takes as many
+-- whether a method is marked
+abbrev pub is_marked : Method → Bool
+is_marked k = is_some k.retries && not (names_initialiser k.name)
+
+-- whether a method can be called from outside with so many arguments: it is marked or a static initialiser, and takes as many
 abbrev pub takes : Option Method → ℕ → Bool
 takes None count = false
 takes (Some k) count = is_some k.retries && nat_eq count k.params
@@ -41,6 +46,35 @@ phase_calls phase lane (cs ∷ ls) = lane_calls phase lane 0 cs ++ phase_calls p
 abbrev pub script_calls : ℕ → List Phase → List Call
 script_calls phase [] = []
 script_calls phase (ls ∷ ps) = phase_calls phase 0 ls ++ script_calls (suc phase) ps
+
+-- A phase as a script has it: what each lane calls; or a bag, whose calls belong to no lane beforehand, with how many lanes the script has. Workers, as
+-- many as the lesser of the lanes and the calls, each take the next call that is left, on a lane of their own.
+pub data ScriptPhase : Type 0 where
+  Lanes : Phase → ScriptPhase
+  Bag : ℕ → List Known → ScriptPhase
+
+-- the lists of calls of a phase: one for each lane, or that of the bag
+abbrev pub lists_in : ScriptPhase → Phase
+lists_in (Lanes ls) = ls
+lists_in (Bag lanes cs) = cs ∷ []
+
+-- the calls of a bag, from an index on, each on the lane of the worker that took it
+abbrev pub bag_calls : ℕ → ℕ → List ℕ → List Known → List Call
+bag_calls phase index [] cs = []
+bag_calls phase index (lane ∷ takers) [] = []
+bag_calls phase index (lane ∷ takers) (c ∷ cs) = call_at phase lane index c ∷ bag_calls phase (suc index) takers cs
+
+-- these are the calls of a phase, each with its lane
+abbrev pub AreDealt : ℕ → ScriptPhase → List Call → Type 0
+AreDealt phase (Lanes ls) calls = calls ≡ phase_calls phase 0 ls
+AreDealt phase (Bag lanes cs) calls =
+    (takers : List ℕ) × (length takers ≡ length cs) × AllByRecursion (λ lane. lane < min lanes (length cs)) takers × (calls ≡ bag_calls phase 0 takers cs)
+
+-- these are the calls of a script, each with its lane, from a phase on
+abbrev pub AreScriptCalls : ℕ → List ScriptPhase → List Call → Type 0
+AreScriptCalls phase [] calls = calls ≡ []
+AreScriptCalls phase (p ∷ ps) calls =
+    (first : List Call) × (rest : List Call) × AreDealt phase p first × AreScriptCalls (suc phase) ps rest × (calls ≡ first ++ rest)
 
 -- a call that ran out of memory has no place in the history
 abbrev pub is_memory : Answer → Bool
@@ -69,14 +103,16 @@ ascends c d = first_by c.phase d.phase (first_by c.lane d.lane (nat_lt c.index d
 
 -- Each call of a script stands once, among the placed calls or the unplaced ones. The placed ones keep the order of the phases and of
 -- each lane; the unplaced ones ran out of memory, and stand by phase, lane and index.
-pub record IsAccepted (phases : List Phase) (placed unplaced : List Made) : Type 0 where
-  pub each_once : IsPermutation (script_calls 0 phases) (map call_of (placed ++ unplaced))
+pub record IsAccepted (phases : List ScriptPhase) (placed unplaced : List Made) : Type 0 where
+  pub calls : List Call
+  pub are_calls : AreScriptCalls 0 phases calls
+  pub each_once : IsPermutation calls (map call_of (placed ++ unplaced))
   pub placed_order : AllPairs MayPrecede (map call_of placed)
   pub unplaced_order : AllPairs (λ c d. ascends c d ≡ true) (map call_of unplaced)
   pub no_memory : AllByRecursion (λ m. m.answer ≡ NoMemory) unplaced
 
 -- The placed calls, each run alone by its original method from what those before it left, answer so. The unplaced ones left nothing.
-pub record IsJournal (P : Program) (budget : ℕ) (opening : State) (phases : List Phase) (placed unplaced : List Made) : Type 0 where
+pub record IsJournal (P : Program) (budget : ℕ) (opening : State) (phases : List ScriptPhase) (placed unplaced : List Made) : Type 0 where
   pub accepted : IsAccepted phases placed unplaced
   pub after : State
   pub serial : Serial P budget opening (map call_of placed) (map answer_of placed) after

@@ -1,12 +1,12 @@
 -- Programs that are rewritten: what their instructions may be.
-use Rattle.std.specs.Prelude.{◌≡◌, ℕ, ◌+◌, ◌-◌, ◌<◌, ◌≤◌, ◌^◌, List, [], ◌∷◌, length, Bool, true, false, nat_le, ◌&&◌, replicate, FitsSigned}
+use Rattle.std.specs.Prelude.{◌≡◌, ℕ, ◌+◌, ◌-◌, ◌<◌, ◌≤◌, ◌^◌, List, [], ◌∷◌, length, Some, Bool, true, false, nat_le, ◌&&◌, replicate, slice_get, FitsSigned, ℤ}
 use Rattle.std.specs.List.{AllByRecursion}
 use Rattle.std.specs.Int.{w32}
 use Rattle.jmodel.specs.declared.value.Value.TheVariants.{Int}
 use Rattle.jmodel.specs.declared.typing.VType.TheVariants as type
 use Rattle.jmodel.specs.declared.op.Op.{Op}
-use Rattle.jmodel.specs.declared.op.Op.TheVariants.{Constant, Load, Store, Rearrange, Binary, Unary, Increment, Branch, BranchInts, Goto, GetStatic, PutStatic, InvokeStatic, Return, ReturnValue}
-use Rattle.jmodel.specs.declared.op.Rearrange.TheVariants.{Pop, PopTwo, Duplicate, DuplicateUnder, DuplicateTwo, Swap}
+use Rattle.jmodel.specs.declared.op.Op.TheVariants.{Constant, Load, Store, Rearrange, Binary, Unary, Increment, Branch, BranchInts, Goto, Switch, GetStatic, PutStatic, InvokeStatic, Return, ReturnValue}
+use Rattle.jmodel.specs.declared.op.Rearrange.TheVariants.{Pop, PopTwo, Duplicate, DuplicateUnder, DuplicateUnderTwo, DuplicateTwo, DuplicateTwoUnder, DuplicateTwoUnderTwo, Swap}
 use Rattle.jmodel.specs.Program.{Field, Method, Program}
 
 -- an instruction of an original method: its fields, methods and locals are there, and it isn't one of transactional code
@@ -21,6 +21,7 @@ IsSourceOp P k (Increment i n) = i < k.locals
 IsSourceOp P k (Branch t to) = to < length k.ops
 IsSourceOp P k (BranchInts t to) = to < length k.ops
 IsSourceOp P k (Goto to) = to < length k.ops
+IsSourceOp P k (Switch other cases) = (other < length k.ops) × AllByRecursion (λ (c : ℤ × ℕ). c.1 < length k.ops) cases
 IsSourceOp P k (GetStatic f) = f < length P.fields
 IsSourceOp P k (PutStatic f) = f < length P.fields
 IsSourceOp P k (InvokeStatic m) = m < length P.methods
@@ -41,8 +42,13 @@ pub record IsSourceField (f : Field) : Type 0 where
   pub index : 0 < f.place.index
   pub address : f.place.object + f.place.index < 2 ^ 64
 
+-- Fields that lie at one place have one type.
+abbrev pub AreShared : Program → Type 0
+AreShared P = (i j : ℕ) (f g : Field) → slice_get P.fields i ≡ Some f → slice_get P.fields j ≡ Some g → f.place ≡ g.place → f.type ≡ g.type
+
 pub record IsSource (P : Program) : Type 0 where
   pub fields : AllByRecursion IsSourceField P.fields
+  pub shared : AreShared P
   pub methods : AllByRecursion (IsSourceMethod P) P.methods
 
 -- how many slots an instruction of straight-line code takes from the stack
@@ -51,7 +57,10 @@ takes (Rearrange Pop) = 1
 takes (Rearrange PopTwo) = 2
 takes (Rearrange Duplicate) = 1
 takes (Rearrange DuplicateUnder) = 2
+takes (Rearrange DuplicateUnderTwo) = 3
 takes (Rearrange DuplicateTwo) = 2
+takes (Rearrange DuplicateTwoUnder) = 3
+takes (Rearrange DuplicateTwoUnderTwo) = 4
 takes (Rearrange Swap) = 2
 takes (Binary b) = 2
 takes (Unary u) = 1
@@ -63,7 +72,10 @@ abbrev pub leaves : Op → ℕ
 leaves (Constant v) = 1
 leaves (Rearrange Duplicate) = 2
 leaves (Rearrange DuplicateUnder) = 3
+leaves (Rearrange DuplicateUnderTwo) = 4
 leaves (Rearrange DuplicateTwo) = 4
+leaves (Rearrange DuplicateTwoUnder) = 5
+leaves (Rearrange DuplicateTwoUnderTwo) = 6
 leaves (Rearrange Swap) = 2
 leaves (Binary b) = 1
 leaves (Unary u) = 1

@@ -147,6 +147,11 @@ abbrev pub branches : Bool → ℕ → Frame → Did
 branches true to f = Does (Jump to) f
 branches false to f = Does Next f
 
+-- where a switch goes with an int: to the target of the first case whose key it is, else to the other target
+abbrev pub switched : ℕ → List (ℤ × ℕ) → ℤ → ℕ
+switched other [] x = other
+switched other ((key, to) ∷ cases) x = if int_eq key x then to else switched other cases x
+
 abbrev pub stores : Bool → ℕ → Slot → Frame → Did
 stores true i v f = Does Next (with_locals f (slice_set f.locals i v))
 stores false i v f = Wrong
@@ -157,7 +162,10 @@ rearranged rearrange.Pop f = on_top f.stack (λ v s. leaves f s)
 rearranged rearrange.PopTwo f = on_top f.stack (λ y s. on_top s (λ x s. leaves f s))
 rearranged rearrange.Duplicate f = on_top f.stack (λ v s. leaves f (v ∷ v ∷ s))
 rearranged rearrange.DuplicateUnder f = on_top f.stack (λ y s. on_top s (λ x s. leaves f (y ∷ x ∷ y ∷ s)))
+rearranged rearrange.DuplicateUnderTwo f = on_top f.stack (λ z s. on_top s (λ y s. on_top s (λ x s. leaves f (z ∷ y ∷ x ∷ z ∷ s))))
 rearranged rearrange.DuplicateTwo f = on_top f.stack (λ y s. on_top s (λ x s. leaves f (y ∷ x ∷ y ∷ x ∷ s)))
+rearranged rearrange.DuplicateTwoUnder f = on_top f.stack (λ z s. on_top s (λ y s. on_top s (λ x s. leaves f (z ∷ y ∷ x ∷ z ∷ y ∷ s))))
+rearranged rearrange.DuplicateTwoUnderTwo f = on_top f.stack (λ z s. on_top s (λ y s. on_top s (λ x s. on_top s (λ w s. leaves f (z ∷ y ∷ x ∷ w ∷ z ∷ y ∷ s)))))
 rearranged rearrange.Swap f = on_top f.stack (λ y s. on_top s (λ x s. leaves f (x ∷ y ∷ s)))
 
 -- The arguments of a call of the context lie in order, the last topmost.
@@ -184,6 +192,7 @@ does P (op.Increment i n) f = slot_in (slice_get f.locals i) (λ v. int_in v (λ
 does P (op.Branch t to) f = on_int f.stack (λ x s. branches (holds t x (pos 0)) to (with_stack f s))
 does P (op.BranchInts t to) f = on_int f.stack (λ y s. on_int s (λ x s. branches (holds t x y) to (with_stack f s)))
 does P (op.Goto to) f = Does (Jump to) f
+does P (op.Switch other cases) f = on_int f.stack (λ x s. Does (Jump (switched other cases x)) (with_stack f s))
 does P (op.GetStatic n) f = field_in (place_at P n) (λ x. Does (Ask (request.Get x.place x.type)) f)
 does P (op.PutStatic n) f = field_in (place_at P n) (λ x. on_top f.stack (λ v s. value_in (stored x.type v) (λ y. Does (Ask (request.Put x.place y)) (with_stack f s))))
 does P (op.InvokeStatic m) f = Does (Invoke m) f

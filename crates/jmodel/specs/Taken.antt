@@ -1,5 +1,5 @@
--- Which methods of a class are taken: those that are marked, and those that taken ones call, by whatever chain. That these alone are
--- typed and rewritten is this project's own rule; which instructions call is the JVM Specification's, Java SE 7, section 6.5.
+-- Which methods of a class are taken: those that are marked, the static initialisers, and those that taken ones call, by whatever chain.
+-- That these alone are typed and rewritten is this project's own rule; which instructions call is the JVM Specification's, Java SE 7, section 6.5.
 use Rattle.std.specs.Prelude.{◌≡◌, ℕ, zero, suc, length, filter, Option, Some, None, Result, Ok, Err, Bool, true, false, not, ◌&&◌, ◌||◌, nat_le, codes, bytes_eq, option_and_then}
 use Rattle.std.specs.List.{AllByRecursion, list_any}
 use Rattle.jmodel.specs.declared.instruction.Operands.{Operands}
@@ -10,7 +10,7 @@ use Rattle.jmodel.specs.declared.refusal.Refusal.{Refusal}
 use Rattle.jmodel.specs.ClassFile.{Member, Pool, ClassFile}
 use Rattle.jmodel.specs.Pool.{MemberName, member_name}
 use Rattle.jmodel.specs.Decoding.{name_of}
-use Rattle.jmodel.specs.Coded.{Coded, is_marked, decoded}
+use Rattle.jmodel.specs.Coded.{Coded, is_root, decoded}
 
 -- the index of the pool that an instruction names
 abbrev pub index_of : Operands → Option ℕ
@@ -43,9 +43,9 @@ code_calls pool (Err r) name = false
 abbrev pub calls : ClassFile → Member → Member → Bool
 calls c k m = code_calls c.pool (decoded c k) (name_of c m)
 
--- a method that is marked, or that one of a set calls
+-- a method that is marked or a static initialiser, or that one of a set calls
 abbrev pub is_next : ClassFile → (Member → Bool) → Member → Bool
-is_next c s m = is_marked c.pool m || list_any (λ k. calls c k m) (filter s c.methods)
+is_next c s m = is_root c.pool m || list_any (λ k. calls c k m) (filter s c.methods)
 
 -- what is found in so many rounds
 abbrev pub is_found : ClassFile → ℕ → Member → Bool
@@ -56,7 +56,7 @@ is_found c (suc n) m = is_next c (is_found c n) m
 abbrev pub is_taken : ClassFile → Member → Bool
 is_taken c m = is_found c (length c.methods) m
 
--- a set that has the marked methods, and each that one of its own calls
+-- a set that has the marked methods, the static initialisers, and each that one of its own calls
 abbrev pub IsClosed : ClassFile → (Member → Bool) → Type 0
 IsClosed c s = AllByRecursion (λ m. is_next c s m ≡ true → s m ≡ true) c.methods
 

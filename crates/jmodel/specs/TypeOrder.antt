@@ -4,7 +4,6 @@ use Rattle.std.specs.List.{list_any}
 use Rattle.jmodel.specs.declared.typing.VType.{VType}
 use Rattle.jmodel.specs.declared.typing.VType.TheVariants.{Int, Long, Second, Null, Ref, Uninit, UninitThis, Top}
 use Rattle.jmodel.specs.declared.op.WordType.{WordType}
-use Rattle.jmodel.specs.declared.op.WordType.TheVariants as word
 
 abbrev pub object_class : List ℕ
 object_class = codes "java/lang/Object"
@@ -76,6 +75,6 @@ IsStackUnder under s = ⊥
 abbrev pub IsStack : List VType → Type 0
 IsStack s = IsStackUnder false s
 
--- the type of a field's value
+-- the type of a field's value on a stack: those of one word are ints there
 abbrev pub type_of : WordType → VType
-type_of word.Int = Int
+type_of t = Int

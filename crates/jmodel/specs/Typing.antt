@@ -1,6 +1,6 @@
 -- Typed code (JVM Specification, Java SE 7, section 4.10.1): a table of the types before each instruction, tested against what the
 -- instructions ask. Places are counted in instructions.
-use Rattle.std.specs.Prelude.{◌≡◌, ℕ, zero, suc, ◌+◌, ◌-◌, ◌<◌, ◌≤◌, List, [], ◌∷◌, ◌++◌, length, replicate, reverse, Option, Some, None, Bool, true, false, IsTrue, not, nat_le, nat_lt, ◌&&◌, if◌then◌else◌, slice_get, slice_set, option_and_then}
+use Rattle.std.specs.Prelude.{◌≡◌, ℕ, ℤ, zero, suc, ◌+◌, ◌-◌, ◌<◌, ◌≤◌, List, [], ◌∷◌, ◌++◌, length, map, replicate, reverse, Option, Some, None, Bool, true, false, IsTrue, not, nat_le, nat_lt, ◌&&◌, if◌then◌else◌, slice_get, slice_set, option_and_then}
 use Rattle.std.specs.List.{AllByRecursion}
 use Rattle.jmodel.specs.declared.value.Value.{Value}
 use Rattle.jmodel.specs.declared.value.Value.TheVariants as value
@@ -127,7 +127,10 @@ rearranged rearrange.Pop pc h = on_one h.stack (λ t s. leaves pc h s)
 rearranged rearrange.PopTwo pc h = on_one h.stack (λ t s. on_one s (λ u s. leaves pc h s))
 rearranged rearrange.Duplicate pc h = on_one h.stack (λ t s. leaves pc h (t ∷ t ∷ s))
 rearranged rearrange.DuplicateUnder pc h = on_one h.stack (λ t s. on_one s (λ u s. leaves pc h (t ∷ u ∷ t ∷ s)))
+rearranged rearrange.DuplicateUnderTwo pc h = on_one h.stack (λ t s. on_one s (λ u s. on_one s (λ v s. leaves pc h (t ∷ u ∷ v ∷ t ∷ s))))
 rearranged rearrange.DuplicateTwo pc h = on_one h.stack (λ t s. on_one s (λ u s. leaves pc h (t ∷ u ∷ t ∷ u ∷ s)))
+rearranged rearrange.DuplicateTwoUnder pc h = on_one h.stack (λ t s. on_one s (λ u s. on_one s (λ v s. leaves pc h (t ∷ u ∷ v ∷ t ∷ u ∷ s))))
+rearranged rearrange.DuplicateTwoUnderTwo pc h = on_one h.stack (λ t s. on_one s (λ u s. on_one s (λ v s. on_one s (λ w s. leaves pc h (t ∷ u ∷ v ∷ w ∷ t ∷ u ∷ s)))))
 rearranged rearrange.Swap pc h = on_one h.stack (λ t s. on_one s (λ u s. leaves pc h (u ∷ t ∷ s)))
 
 -- The arguments of a call of the context lie in order, the last topmost: the context, the object, a value, and the place.
@@ -138,6 +141,10 @@ called (call.OnRead t) pc h = on_long h.stack (λ s. on (type_of t) s (λ s. on_
 called (call.OnWrite t) pc h = on_long h.stack (λ s. on (type_of t) s (λ s. on_reference s (λ s. on_context s (λ s. leaves pc h s))))
 called call.Commit pc h = on_context h.stack (λ s. leaves pc h (Int ∷ s))
 called call.Rollback pc h = on_context h.stack (λ s. leaves pc h s)
+
+-- the targets of a switch, the other one first
+abbrev pub exits : ℕ → List (ℤ × ℕ) → List ℕ
+exits other cases = other ∷ map (λ (c : ℤ × ℕ). c.1) cases
 
 -- what an instruction of a method asks of the types before it, where it goes on, and what it leaves
 abbrev pub flow : Program → Method → ℕ → Op → Types → Flow
@@ -151,6 +158,7 @@ flow P k pc (op.Increment i n) h = int_in (slice_get h.locals i) (leaves pc h h.
 flow P k pc (op.Branch t to) h = on_int h.stack (λ s. Leads ((pc + 1) ∷ to ∷ []) (with_stack h s))
 flow P k pc (op.BranchInts t to) h = on_int h.stack (λ s. on_int s (λ s. Leads ((pc + 1) ∷ to ∷ []) (with_stack h s)))
 flow P k pc (op.Goto to) h = Leads (to ∷ []) h
+flow P k pc (op.Switch other cases) h = on_int h.stack (λ s. Leads (exits other cases) (with_stack h s))
 flow P k pc (op.GetStatic n) h = field_in (place_at P n) (λ f. leaves pc h (type_of f.type ∷ h.stack))
 flow P k pc (op.PutStatic n) h = field_in (place_at P n) (λ f. on (type_of f.type) h.stack (λ s. leaves pc h s))
 flow P k pc (op.InvokeStatic m) h = method_in (method_at P m) (λ c. on_each (reverse c.takes) h.stack (λ s. leaves pc h (results c.gives ++ s)))

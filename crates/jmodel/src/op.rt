@@ -1,5 +1,6 @@
 //! Instructions by kind, with every name resolved (JVM Specification, Java SE 7, chapter 6). Places in code are counted
 //! in instructions, from 0.
+use crate::switch::Cases;
 use crate::value::Value;
 
 /// One place of a frame, among its locals or on its operand stack (JVM Specification, Java SE 7, section 2.6). A long
@@ -21,9 +22,17 @@ pub enum Slot {
     Empty,
 }
 
-/// The type of a field or an element, as far as words of memory go.
+/// The type of a field or an element, as far as words of memory go, and what it keeps of an int that is stored there.
 #[derive(Clone, Copy, Debug)]
 pub enum WordType {
+    /// The low bit, without a sign.
+    Boolean,
+    /// The low eight bits, with their sign.
+    Byte,
+    /// The low sixteen bits, without a sign.
+    Char,
+    /// The low sixteen bits, with their sign.
+    Short,
     Int,
 }
 
@@ -83,8 +92,14 @@ pub enum Rearrange {
     Duplicate,
     /// A copy of the topmost value under the two topmost.
     DuplicateUnder,
+    /// A copy of the topmost value under the three topmost.
+    DuplicateUnderTwo,
     /// Copies of the two topmost values on top of them.
     DuplicateTwo,
+    /// Copies of the two topmost values under the three topmost.
+    DuplicateTwoUnder,
+    /// Copies of the two topmost values under the four topmost.
+    DuplicateTwoUnderTwo,
     Swap,
 }
 
@@ -104,7 +119,7 @@ pub enum ContextCall {
 }
 
 /// An instruction.
-#[derive(Clone, Copy, Debug)]
+#[derive(Debug, Drop)]
 pub enum Op {
     Constant(Value),
     Load(usize),
@@ -119,6 +134,8 @@ pub enum Op {
     /// To the target, where the test holds of two ints.
     BranchInts(Test, usize),
     Goto(usize),
+    /// To the target of the case whose key an int is, else to the other one: tableswitch and lookupswitch.
+    Switch { other: usize, cases: Cases },
     /// A static field, by its number.
     GetStatic(usize),
     PutStatic(usize),

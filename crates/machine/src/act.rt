@@ -10,6 +10,7 @@ use crate::failure::Failure;
 use crate::frame::Frame;
 use crate::value::{given, stored};
 use hierarchy::program::Program;
+use jmodel::Cases;
 use jmodel::op::{Binary, Doing, Op, Request, Slot, Test, Unary};
 use jmodel::value::Value;
 
@@ -27,30 +28,31 @@ fn branched(is_taken: bool, to: usize) -> Doing
 
 impl Frame {
     /// Does one instruction, all but what lies outside the frame. `Wrong` where the frame hasn't what it needs.
-    pub fn act(&mut self, program: &Program, op: Op) -> Result<Doing, Failure>
-        ensures does { Meets result self.new (does program.now op self.old) }
+    pub fn act(&mut self, program: &Program, op: &Op) -> Result<Doing, Failure>
+        ensures does { Meets result self.new (does program.now op.now self.old) }
         ensures can { IfOk result CanDo }
         ensures pc { self.new.pc ≡ self.old.pc }
     {
         match op {
-            Op::Constant(value) => self.constant(value),
-            Op::Load(i) => self.load(i),
-            Op::Store(i) => self.store(i),
-            Op::Rearrange(r) => self.rearrange(r),
-            Op::Binary(b) => self.binary(b),
-            Op::Unary(u) => self.unary(u),
-            Op::Increment(i, n) => self.increment(i, n),
-            Op::Branch(test, to) => self.branch(test, to),
-            Op::BranchInts(test, to) => self.branch_ints(test, to),
-            Op::Goto(to) => Ok(Doing::Jump(to)),
-            Op::GetStatic(n) => self.get_static(program, n),
-            Op::PutStatic(n) => self.put_static(program, n),
-            Op::InvokeStatic(method) => Ok(Doing::Invoke(method)),
+            Op::Constant(value) => self.constant(*value),
+            Op::Load(i) => self.load(*i),
+            Op::Store(i) => self.store(*i),
+            Op::Rearrange(r) => self.rearrange(*r),
+            Op::Binary(b) => self.binary(*b),
+            Op::Unary(u) => self.unary(*u),
+            Op::Increment(i, n) => self.increment(*i, *n),
+            Op::Branch(test, to) => self.branch(*test, *to),
+            Op::BranchInts(test, to) => self.branch_ints(*test, *to),
+            Op::Goto(to) => Ok(Doing::Jump(*to)),
+            Op::Switch { other, cases } => self.switch(*other, cases),
+            Op::GetStatic(n) => self.get_static(program, *n),
+            Op::PutStatic(n) => self.put_static(program, *n),
+            Op::InvokeStatic(method) => Ok(Doing::Invoke(*method)),
             Op::Return => Ok(Doing::Give(None)),
             Op::ReturnValue => self.return_value(),
             Op::Throw => self.throw(),
             Op::GetContext => self.get_context(),
-            Op::Context(call) => self.context(call),
+            Op::Context(call) => self.context(*call),
         }
     }
 
@@ -136,6 +138,15 @@ impl Frame {
         let y = self.stack.take_int()?;
         let x = self.stack.take_int()?;
         Ok(branched(holds(test, x, y), to))
+    }
+
+    fn switch(&mut self, other: usize, cases: &Cases) -> Result<Doing, Failure>
+        ensures does { (P : JProgram) → Meets result self.new (does P (op.Switch other cases.now) self.old) }
+        ensures can { IfOk result CanDo }
+        ensures pc { self.new.pc ≡ self.old.pc }
+    {
+        let x = self.stack.take_int()?;
+        Ok(Doing::Jump(cases.target(x, other)))
     }
 
     fn get_static(&mut self, program: &Program, n: usize) -> Result<Doing, Failure>

@@ -1,4 +1,5 @@
-//! What rearranges the operand stack (JVM Specification, Java SE 7, chapter 6: pop, pop2, dup, dup_x1, dup2, swap).
+//! What rearranges the operand stack (JVM Specification, Java SE 7, chapter 6: pop, pop2, dup, dup_x1, dup_x2, dup2,
+//! dup2_x1, dup2_x2, swap).
 ghost use Rattle.std.specs.Prelude.{◌≡◌, IfOk};
 ghost use Rattle.jmodel.specs.Step.{rearranged};
 ghost use Rattle.jmodel.specs.declared.op.Rearrange.TheVariants as rearrange;
@@ -21,7 +22,10 @@ impl Frame {
             Rearrange::PopTwo => self.pop_two(),
             Rearrange::Duplicate => self.duplicate(),
             Rearrange::DuplicateUnder => self.duplicate_under(),
+            Rearrange::DuplicateUnderTwo => self.duplicate_under_two(),
             Rearrange::DuplicateTwo => self.duplicate_two(),
+            Rearrange::DuplicateTwoUnder => self.duplicate_two_under(),
+            Rearrange::DuplicateTwoUnderTwo => self.duplicate_two_under_two(),
             Rearrange::Swap => self.swap(),
         }
     }
@@ -73,6 +77,22 @@ impl Frame {
         Ok(Doing::Next)
     }
 
+    /// With a copy of the topmost slot under the three topmost.
+    fn duplicate_under_two(&mut self) -> Result<Doing, Failure>
+        ensures does { Meets result self.new (rearranged rearrange.DuplicateUnderTwo self.old) }
+        ensures can { IfOk result CanDo }
+        ensures pc { self.new.pc ≡ self.old.pc }
+    {
+        let z = self.stack.take()?;
+        let y = self.stack.take()?;
+        let x = self.stack.take()?;
+        self.stack.push(z)?;
+        self.stack.push(x)?;
+        self.stack.push(y)?;
+        self.stack.push(z)?;
+        Ok(Doing::Next)
+    }
+
     /// With the two topmost slots twice.
     fn duplicate_two(&mut self) -> Result<Doing, Failure>
         ensures does { Meets result self.new (rearranged rearrange.DuplicateTwo self.old) }
@@ -85,6 +105,42 @@ impl Frame {
         self.stack.push(y)?;
         self.stack.push(x)?;
         self.stack.push(y)?;
+        Ok(Doing::Next)
+    }
+
+    /// With copies of the two topmost slots under the three topmost.
+    fn duplicate_two_under(&mut self) -> Result<Doing, Failure>
+        ensures does { Meets result self.new (rearranged rearrange.DuplicateTwoUnder self.old) }
+        ensures can { IfOk result CanDo }
+        ensures pc { self.new.pc ≡ self.old.pc }
+    {
+        let z = self.stack.take()?;
+        let y = self.stack.take()?;
+        let x = self.stack.take()?;
+        self.stack.push(y)?;
+        self.stack.push(z)?;
+        self.stack.push(x)?;
+        self.stack.push(y)?;
+        self.stack.push(z)?;
+        Ok(Doing::Next)
+    }
+
+    /// With copies of the two topmost slots under the four topmost.
+    fn duplicate_two_under_two(&mut self) -> Result<Doing, Failure>
+        ensures does { Meets result self.new (rearranged rearrange.DuplicateTwoUnderTwo self.old) }
+        ensures can { IfOk result CanDo }
+        ensures pc { self.new.pc ≡ self.old.pc }
+    {
+        let z = self.stack.take()?;
+        let y = self.stack.take()?;
+        let x = self.stack.take()?;
+        let w = self.stack.take()?;
+        self.stack.push(y)?;
+        self.stack.push(z)?;
+        self.stack.push(w)?;
+        self.stack.push(x)?;
+        self.stack.push(y)?;
+        self.stack.push(z)?;
         Ok(Doing::Next)
     }
 

@@ -2,15 +2,16 @@
 ghost use Rattle.std.specs.Prelude.{◌≡◌};
 ghost use Rattle.jmodel.specs.Value.{stored, given, word_of, value_of};
 
+use hierarchy::word_types::narrowed;
 use jmodel::op::{Slot, WordType};
 use jmodel::value::Value;
 
-/// The value that a field of this type keeps of a slot, if the slot fits it.
+/// The value that a field of this type keeps of a slot, the low bits of an int, if the slot fits it.
 pub fn stored(word_type: WordType, slot: Slot) -> Option<Value>
     ensures { result ≡ stored word_type slot }
 {
-    match (word_type, slot) {
-        (WordType::Int, Slot::Int(x)) => Some(Value::Int(x)),
+    match slot {
+        Slot::Int(x) => Some(Value::Int(narrowed(word_type, x))),
         _ => None,
     }
 }
@@ -41,7 +42,6 @@ pub fn word_of(value: Value) -> u64
 pub fn value_of(word_type: WordType, word: u64) -> Value
     ensures { result ≡ value_of word_type word }
 {
-    match word_type {
-        WordType::Int => Value::Int(((word % (1 << 32)) as u32).cast_signed()),
-    }
+    let low = ((word % (1 << 32)) as u32).cast_signed();
+    Value::Int(narrowed(word_type, low))
 }

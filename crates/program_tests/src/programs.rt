@@ -216,23 +216,46 @@ fn builds_a_compiled_class(rt: HostRuntime) {
     assert!(&rt; matches!(program.op(0, 5), Some(Op::ReturnValue)));
 }
 
+// The class as the compiler made it, with a method `<clinit>` of these flags that sets n to 5.
+fn with_initialiser(alloc: Global, flags: u16) -> Result<ClassFile, AllocError> {
+    let mut class = compiled(alloc)?;
+    if class.pool.entries().len() < 65534 {
+        class.pool.push(utf8(alloc, b"<clinit>")?)?;
+    }
+    let code = attribute(
+        alloc,
+        9,
+        &[0, 1, 0, 0, 0, 0, 0, 5, 8, 0xb3, 0, 20, 0xb1, 0, 0, 0, 0],
+    )?;
+    class.methods.push(Member {
+        flags,
+        name: 24,
+        descriptor: 8,
+        attributes: vec![in alloc; code]?,
+    })?;
+    Ok(class)
+}
+
 #[test]
-fn refuses_a_static_initialiser(rt: HostRuntime) {
+fn takes_a_static_initialiser(rt: HostRuntime) {
     let alloc = rt.alloc();
-    let mut class = compiled(alloc).expect(&rt, "memory");
-    let text = utf8(alloc, b"<clinit>").expect(&rt, "memory");
-    class
-        .methods
-        .push(Member {
-            flags: 8,
-            name: 24,
-            descriptor: 8,
-            attributes: Vec::new(alloc),
-        })
-        .expect(&rt, "memory");
-    assert!(&rt; class.pool.entries().len() < 65534);
-    class.pool.push(text).expect(&rt, "memory");
+    let class = with_initialiser(alloc, 8).expect(&rt, "memory");
+    let program = Program::build(alloc, &class).expect(&rt, "a program");
+    assert_eq!(&rt; program.methods().len(), 2);
+    assert!(&rt; matches!(program.op(1, 1), Some(Op::PutStatic(0))));
+    let numbers = program.initialisers(alloc).expect(&rt, "memory");
+    assert!(&rt; matches!(numbers.as_slice(), [1]));
+}
+
+// One with a monitor isn't of the form, and one that isn't static is an ordinary method that nothing calls.
+#[test]
+fn tells_other_methods_of_the_name(rt: HostRuntime) {
+    let alloc = rt.alloc();
+    let class = with_initialiser(alloc, 0x28).expect(&rt, "memory");
     assert!(&rt; matches!(Program::build(alloc, &class), Err(BuildEnd::NotBuilt)));
+    let class = with_initialiser(alloc, 0).expect(&rt, "memory");
+    let program = Program::build(alloc, &class).expect(&rt, "a program");
+    assert_eq!(&rt; program.methods().len(), 1);
 }
 
 // A constant of -7 is the field's first word.

@@ -10,6 +10,7 @@ fn utf8(alloc: Global, text: &[u8]) -> Result<Constant, AllocError> {
 
 fn entry(alloc: Global, tag: u8, a: u16, b: u16, text: &str) -> Result<Constant, AllocError> {
     match tag {
+        3 => Ok(Constant::Integer(i32::from(a))),
         7 => Ok(Constant::Class(a)),
         9 => Ok(Constant::Field { class: a, pair: b }),
         10 => Ok(Constant::Method { class: a, pair: b }),
@@ -48,11 +49,11 @@ const COUNTER: [(u8, u16, u16, &str); 13] = [
     (1, 0, 0, "Lorg/deuce/Atomic;"),
 ];
 
-fn inc(alloc: Global) -> Result<Member, AllocError> {
+fn inc(alloc: Global, mark: &[u8]) -> Result<Member, AllocError> {
     let mut bytes = Bytes::from_slice(alloc, &[0, 2, 0, 0, 0, 0, 0, 10])?;
     bytes.extend_from_slice(&[0xb2, 0, 10, 4, 0x60, 0x59, 0xb3, 0, 10, 0xac])?;
     bytes.extend_from_slice(&[0, 0, 0, 0])?;
-    let mark = Bytes::from_slice(alloc, &[0, 1, 0, 13, 0, 0])?;
+    let mark = Bytes::from_slice(alloc, mark)?;
     let mut attributes = Vec::new(alloc);
     attributes.push(Attribute { name: 9, bytes })?;
     attributes.push(Attribute {
@@ -67,7 +68,12 @@ fn inc(alloc: Global) -> Result<Member, AllocError> {
     })
 }
 
-fn counter(alloc: Global) -> Result<ClassFile, AllocError> {
+// Counter with entries of its pool and the bytes of its method's annotations.
+fn counter_of(
+    alloc: Global,
+    rows: &[(u8, u16, u16, &str)],
+    mark: &[u8],
+) -> Result<ClassFile, AllocError> {
     let mut fields = Vec::new(alloc);
     fields.push(Member {
         flags: 8,
@@ -76,11 +82,11 @@ fn counter(alloc: Global) -> Result<ClassFile, AllocError> {
         attributes: Vec::new(alloc),
     })?;
     let mut methods = Vec::new(alloc);
-    methods.push(inc(alloc)?)?;
+    methods.push(inc(alloc, mark)?)?;
     Ok(ClassFile {
         minor: 0,
         major: 49,
-        pool: pool_of(alloc, &COUNTER)?,
+        pool: pool_of(alloc, rows)?,
         flags: 0x21,
         this_class: 1,
         super_class: 3,
@@ -90,6 +96,33 @@ fn counter(alloc: Global) -> Result<ClassFile, AllocError> {
         attributes: Vec::new(alloc),
     })
 }
+
+fn counter(alloc: Global) -> Result<ClassFile, AllocError> {
+    counter_of(alloc, &COUNTER, &[0, 1, 0, 13, 0, 0])
+}
+
+// What a mark with a number of attempts adds to Counter's pool: the entries 14 and 15, and another annotation's type.
+const THREE: [(u8, u16, u16, &str); 16] = [
+    (7, 2, 0, ""),
+    (1, 0, 0, "Counter"),
+    (7, 4, 0, ""),
+    (1, 0, 0, "java/lang/Object"),
+    (1, 0, 0, "n"),
+    (1, 0, 0, "I"),
+    (1, 0, 0, "inc"),
+    (1, 0, 0, "()I"),
+    (1, 0, 0, "Code"),
+    (9, 1, 11, ""),
+    (12, 5, 6, ""),
+    (1, 0, 0, "RuntimeVisibleAnnotations"),
+    (1, 0, 0, "Lorg/deuce/Atomic;"),
+    (1, 0, 0, "retries"),
+    (3, 3, 0, ""),
+    (1, 0, 0, "Ljava/lang/Deprecated;"),
+];
+
+// @Deprecated @Atomic(retries = 3)
+const MARK: [u8; 15] = [0, 2, 0, 16, 0, 0, 0, 13, 0, 1, 0, 14, b'I', 0, 15];
 
 // The same of the class that the Java compiler of Eclipse makes of Counter with `-1.5 -g`.
 const COMPILED: [(u8, u16, u16, &str); 23] = [
@@ -218,6 +251,27 @@ fn rewrites_counter(rt: HostRuntime) {
     assert_eq!(&rt; program.catch(0, 6, 1), Some(14));
     assert_eq!(&rt; program.catch(0, 6, 2), Some(18));
     assert_eq!(&rt; program.catch(3, 0, 1), Some(8));
+}
+
+// The wrapper begins each attempt with the mark's number, and keeps the annotations.
+#[test]
+fn a_wrapper_has_the_number_of_its_mark(rt: HostRuntime) {
+    let alloc = rt.alloc();
+    let class = counter_of(alloc, &THREE, &MARK).expect(&rt, "memory");
+    let original = Program::build(alloc, &class).expect(&rt, "a program");
+    let rewritten = rewrite_class(alloc, &class, &original).expect(&rt, "a class");
+    let first = rewritten.methods.first().expect(&rt, "a method");
+    let last = first.attributes.last().expect(&rt, "its annotations");
+    assert!(&rt; last.bytes.as_slice() == MARK.as_slice());
+    let program = Program::rebuilt(alloc, &rewritten, &original).expect(&rt, "a program");
+    let wrapper = program.method(0).expect(&rt, "a method");
+    assert_eq!(&rt; wrapper.retries(), Some(3));
+    let text = shown(alloc, wrapper).expect(&rt, "memory");
+    assert!(&rt;
+        text.as_str().starts_with(
+            "GetContext Store(0) Load(0) Constant(Int(0)) Constant(Int(3)) Context(Init)"
+        )
+    );
 }
 
 // The constructor stays as it is, in its place.

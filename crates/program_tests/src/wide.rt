@@ -107,6 +107,22 @@ const LOOP: [u8; 17] = [
     26, 158, 0, 12, 178, 0, 10, 179, 0, 10, 167, 0xff, 0xf6, 178, 0, 10, 172,
 ];
 
+// A tableswitch of the keys 1 and 2, which leads behind a read of a field, to one, and back.
+const SWITCH: [u8; 30] = [
+    26, 170, 0, 0, 0xff, 0xff, 0xff, 0xff, 0, 0, 0, 1, 0, 0, 0, 2, 0, 0, 0, 27, 0, 0, 0, 23, 178,
+    0, 10, 172, 4, 172,
+];
+
+#[test]
+fn switches_lead_to_blocks(rt: HostRuntime) {
+    let alloc = rt.alloc();
+    let class = class_of(alloc, "(I)I", 1, 1, &SWITCH).expect(&rt, "memory");
+    let meaning =
+        "Load(0) Switch { other: 0, cases: Cases { items: [(1, 5), (2, 2)] } } Load(1) InvokeStatic(1) ReturnValue Constant(Int(1)) ReturnValue Throw";
+    let same = means(alloc, &class, 3, meaning).expect(&rt, "memory");
+    assert!(&rt; same);
+}
+
 // A jump back over a read and a write of a field, and one forward.
 #[test]
 fn jumps_lead_to_blocks(rt: HostRuntime) {

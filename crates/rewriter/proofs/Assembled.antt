@@ -1,6 +1,6 @@
 -- A rewritten class means the rewritten program.
 use Rattle.std.proofs.Common.{Bool, ◌≡◌, ℕ, ℤ, suc, ◌+◌, ◌-◌, ◌≤◌, true, false, not, None, subst, List, [], ◌∷◌, ◌++◌, length, map, take, drop, Option, Some, Ok, refl, sym, ap, ◌∙◌, arith, append_assoc, length-append, add-one}
-use Rattle.std.specs.Prelude.{slice_get, nat_le, option_map, pos, zip}
+use Rattle.std.specs.Prelude.{slice_get, nat_le, option_map, pos, zip, if◌then◌else◌, is_some}
 use Rattle.std.specs.List.{flat_map, AllByRecursion}
 use Rattle.std.proofs.lemmas.List.Concat.{flat_map-cons}
 use Rattle.std.proofs.lemmas.Bool.Decides.{nat_tests}
@@ -10,7 +10,7 @@ use Rattle.jmodel.specs.Pool.{utf8}
 use Rattle.jmodel.specs.Program.{Field, Method, Program}
 use Rattle.jmodel.specs.Rewriting.{accessors, getter_method, setter_method, old_method, old_methods, next_id, wrapper_method, duplicate_method, rewritten}
 use Rattle.jmodel.specs.Decoding.{Symbols, own_name, in_front, each}
-use Rattle.jmodel.specs.Linking.{symbols_of, method_of, is_marked, takes_context, is_untouched, program_methods, rewritten_methods, linked, relinked_methods, relinked}
+use Rattle.jmodel.specs.Linking.{symbols_of, method_of, is_root, takes_context, is_untouched, program_methods, rewritten_methods, linked, relinked_methods, relinked, retries_of, is_marked}
 use Rattle.jmodel.specs.Taken.{is_taken}
 use Rattle.rewriter.specs.declared.accessors.Accessors.{Accessors}
 use Rattle.rewriter.specs.Meaning.{HasBytes, AreFiled}
@@ -20,11 +20,11 @@ use Rattle.rewriter.proofs.Puts.{AreAccessors}
 use Rattle.rewriter.proofs.Rests.{here, behind, from_first, all_where}
 use Rattle.rewriter.proofs.Pairs.{each_append, each_length}
 use Rattle.rewriter.proofs.Whole.{Each, AreNames, IsCopyOf, rewrites}
-use Rattle.rewriter.proofs.Marks.{or_first, or_later, neither, mark_swapped, stays_unmarked}
+use Rattle.rewriter.proofs.Marks.{or_first, or_later, neither, retries_stay, retries_swapped}
 use Rattle.rewriter.proofs.Untouched.{untouched_is}
 use Rattle.rewriter.proofs.Old.{AllOld, AreBoth, original}
 use Rattle.rewriter.proofs.Numbers.{AreOwn}
-use Rattle.rewriter.proofs.Tables.{Known, AreLawful, AreFormal, AreGood, EachTaken, good, owned, both, formal, lawful, olds, olds_now, replaced, parts, takes_none, getter_takes, setter_takes}
+use Rattle.rewriter.proofs.Tables.{Known, AreLawful, AreSound, AreGood, EachTaken, good, owned, both, sound, lawful, olds, olds_now, replaced, parts, takes_none, getter_takes, setter_takes}
 use Rattle.rewriter.proofs.Methods.{getter_is, setter_is}
 use Rattle.rewriter.proofs.Wraps.{wrapper_is}
 use Rattle.rewriter.proofs.Duplicated.{copy_is}
@@ -42,9 +42,9 @@ module _ (c new : ClassFile) (P : Program) (K : Known c new P) where
   touched x b e o h = ap (λ (v : Bool). method_of (symbols_of new P.fields (rewritten_methods P new)) v x) e ∙ h
 
   takes_touched : (x : Member) → takes_context new.pool x ≡ true → is_untouched new.pool x ≡ false
-  takes_touched x h = ap not (or_later (is_marked new.pool x) (takes_context new.pool x) h)
+  takes_touched x h = ap not (or_later (is_root new.pool x) (takes_context new.pool x) h)
 
-  olds_each : (n id : ℕ) (ms W : List Member) (ks : List Method) → EachTaken c new P K n id ms W → AllOld c P.fields ms ks → AreBoth c.pool ms → AreLawful c.pool ms → AreFormal c.pool ms → AllByRecursion HasBytes ms
+  olds_each : (n id : ℕ) (ms W : List Member) (ks : List Method) → EachTaken c new P K n id ms W → AllOld c P.fields ms ks → AreBoth c.pool ms → AreLawful c.pool ms → AreSound c.pool ms → AllByRecursion HasBytes ms
       → ((j : ℕ) → slice_get P.methods (n + j) ≡ slice_get ks j) → each first_of W ≡ Some (old_methods P id n ks)
   olds_each n id [] [] [] w h a l g f r = refl
   olds_each n id [] [] (j ∷ ks) w h a l g f r = absurd h
@@ -52,29 +52,29 @@ module _ (c new : ClassFile) (P : Program) (K : Known c new P) where
   olds_each n id (m ∷ ms) [] ks w h a l g f r = absurd w
   olds_each n id (m ∷ ms) (x ∷ W) [] w h a l g f r = absurd h
   olds_each n id (m ∷ ms) (x ∷ W) (k ∷ ks) w h a l g f r =
-      go (is_marked c.pool m) refl (λ (i : ℕ) t. olds_each (n + 1) i ms W ks t h.1 a.1 l.1 g.1 f.1 (behind P.methods n k ks r)) w.1
+      go (retries_of c.pool m) refl (λ (i : ℕ) t. olds_each (n + 1) i ms W ks t h.1 a.1 l.1 g.1 f.1 (behind P.methods n k ks r)) w.1
     where
-      go : (b : Bool) → is_marked c.pool m ≡ b → ((i : ℕ) → EachTaken c new P K (n + 1) i ms W → each first_of W ≡ Some (old_methods P i (n + 1) ks)) → EachTaken c new P K (n + 1) (id_behind c.pool id m) ms W
+      go : (o : Option ℤ) → retries_of c.pool m ≡ o → ((i : ℕ) → EachTaken c new P K (n + 1) i ms W → each first_of W ≡ Some (old_methods P i (n + 1) ks)) → EachTaken c new P K (n + 1) (id_behind c.pool id m) ms W
           → each first_of (x ∷ W) ≡ Some (old_methods P id n (k ∷ ks))
-      go true mark rest t =
+      go (Some attempts) mark rest t =
           let at = here P.methods n k ks r in
-          let wrapped = w.0.wrapped mark k at in
-          let marked : k.retries ≡ Some (pos 2147483647) = h.0.retries ∙ rw mark refl in
-          let still : is_marked new.pool x ≡ true = ap (is_marked new.pool) wrapped.is ∙ mark_swapped c.pool new.pool K.rewritten.grown wrapped.bytes m.attributes mark in
-          let other : is_untouched new.pool x ≡ false = ap not (or_first (is_marked new.pool x) (takes_context new.pool x) still) in
-          let one = touched x false other _ (wrapper_is c new P K n id m x k a.0.0 a.0.1 a.0.2 a.0.3 at h.0 l.0 mark wrapped) in
-          let next : id_behind c.pool id m ≡ suc id = rw mark (add-one id) in
+          let wrapped = w.0.wrapped attempts mark k at in
+          let marked : k.retries ≡ Some attempts = h.0.retries ∙ mark in
+          let still : is_root new.pool x ≡ true = ap (is_root new.pool) wrapped.is ∙ ap (λ (o : Option ℤ). is_some o) (retries_swapped c.pool new.pool K.rewritten.grown wrapped.bytes m a.0.0 a.0.1 a.0.2 a.0.3 l.0 g.0 ∙ mark) in
+          let other : is_untouched new.pool x ≡ false = ap not (or_first (is_root new.pool x) (takes_context new.pool x) still) in
+          let one = touched x false other _ (wrapper_is c new P K n id m x k a.0.0 a.0.1 a.0.2 a.0.3 at h.0 l.0 attempts mark wrapped g.0) in
+          let next : id_behind c.pool id m ≡ suc id = ap (λ (o : Option ℤ). if is_some o then id + 1 else id) mark ∙ add-one id in
           let more = rest (suc id) (subst (λ (i : ℕ). EachTaken c new P K (n + 1) i ms W) next t) in
-          let list : old_methods P id n (k ∷ ks) ≡ wrapper_method P id n (pos 2147483647) k ∷ old_methods P (suc id) (suc n) ks = ap (λ (o : Option ℤ). old_method P id n o k ∷ old_methods P (next_id o id) (suc n) ks) marked in
-          front (first_of x) (each first_of W) _ _ one more ∙ ap (λ (i : ℕ). Some (wrapper_method P id n (pos 2147483647) k ∷ old_methods P (suc id) i ks)) (add-one n) ∙ ap (λ (l : List Method). Some l) (sym list)
-      go false mark rest t =
+          let list : old_methods P id n (k ∷ ks) ≡ wrapper_method P id n attempts k ∷ old_methods P (suc id) (suc n) ks = ap (λ (o : Option ℤ). old_method P id n o k ∷ old_methods P (next_id o id) (suc n) ks) marked in
+          front (first_of x) (each first_of W) _ _ one more ∙ ap (λ (i : ℕ). Some (wrapper_method P id n attempts k ∷ old_methods P (suc id) i ks)) (add-one n) ∙ ap (λ (l : List Method). Some l) (sym list)
+      go None mark rest t =
           let kept = w.0.kept mark in
-          let none : k.retries ≡ None = h.0.retries ∙ rw mark refl in
-          let unmarked = stays_unmarked c.pool new.pool K.rewritten.grown m l.0 g.0 mark in
+          let none : k.retries ≡ None = h.0.retries ∙ mark in
+          let unmarked = ap (λ (o : Option ℤ). is_some o) (retries_stay c.pool new.pool K.rewritten.grown m a.0.0 a.0.1 a.0.2 a.0.3 l.0 g.0 ∙ mark) in
           let alone = takes_none c new P K m a.0.1 a.0.3 in
-          let same : is_untouched new.pool m ≡ true = ap not (neither (is_marked new.pool m) (takes_context new.pool m) unmarked alone) in
+          let same : is_untouched new.pool m ≡ true = ap not (neither (is_root new.pool m) (takes_context new.pool m) unmarked alone) in
           let one : first_of x ≡ Some k = ap first_of kept ∙ touched m true same _ (untouched_is c new P K m k a.0.0 a.0.1 a.0.2 a.0.3 h.0 l.0 g.0 f.0 mark) in
-          let next : id_behind c.pool id m ≡ id = rw mark refl in
+          let next : id_behind c.pool id m ≡ id = ap (λ (o : Option ℤ). if is_some o then id + 1 else id) mark in
           let more = rest id (subst (λ (i : ℕ). EachTaken c new P K (n + 1) i ms W) next t) in
           let list : old_methods P id n (k ∷ ks) ≡ k ∷ old_methods P id (suc n) ks = ap (λ (o : Option ℤ). old_method P id n o k ∷ old_methods P (next_id o id) (suc n) ks) none in
           front (first_of x) (each first_of W) _ _ one more ∙ ap (λ (i : ℕ). Some (k ∷ old_methods P id i ks)) (add-one n) ∙ ap (λ (l : List Method). Some l) (sym list)
@@ -88,11 +88,11 @@ module _ (c new : ClassFile) (P : Program) (K : Known c new P) where
       let at = here P.fields n f fs r in
       let first = h.0.getter.method in
       let second = h.0.setter.method in
-      let takes = getter_takes c new P K a.getter (ap (λ (y : Member). utf8 new.pool y.descriptor) first.is ∙ first.typed) in
-      let gives = setter_takes c new P K a.setter (ap (λ (y : Member). utf8 new.pool y.descriptor) second.is ∙ second.typed) in
-      let one = touched a.getter false (takes_touched a.getter takes) _ (getter_is c new P K n f a.getter at o.0 g.0 g.1 h.0.getter) in
-      let two = touched a.setter false (takes_touched a.setter gives) _ (setter_is c new P K n f a.setter at o.0 g.0 g.1 h.0.setter) in
-      let more = accessors_each (n + 1) fs A h.1 g.2 o.1 (behind P.fields n f fs r) in
+      let takes = getter_takes c new P K f.type a.getter (ap (λ (y : Member). utf8 new.pool y.descriptor) first.is ∙ first.typed) in
+      let gives = setter_takes c new P K f.type a.setter (ap (λ (y : Member). utf8 new.pool y.descriptor) second.is ∙ second.typed) in
+      let one = touched a.getter false (takes_touched a.getter takes) _ (getter_is c new P K n f a.getter at o.0 g.0 h.0.getter) in
+      let two = touched a.setter false (takes_touched a.setter gives) _ (setter_is c new P K n f a.setter at o.0 g.0 h.0.setter) in
+      let more = accessors_each (n + 1) fs A h.1 g.1 o.1 (behind P.fields n f fs r) in
       let back = front (first_of a.setter) (each first_of (flat_map both_of A)) _ _ two more in
       ap (each first_of) (flat_map-cons both_of a A)
       ∙ front (first_of a.getter) (each first_of (a.setter ∷ flat_map both_of A)) _ _ one back
@@ -149,7 +149,7 @@ law c new P rules F L e =
     let M = K.rewritten.methods in
     let N = M.new in
     let held = all_where HasBytes (is_taken c) c.methods F in
-    let w = olds_each c new P K 0 0 (program_methods c) (olds_now c new P K) P.methods (replaced c new P K) (olds c new P K) (both c new P K) (lawful c new P K) (formal c new P K) held (from_first P.methods) in
+    let w = olds_each c new P K 0 0 (program_methods c) (olds_now c new P K) P.methods (replaced c new P K) (olds c new P K) (both c new P K) (lawful c new P K) (sound c new P K) held (from_first P.methods) in
     let a = accessors_each c new P K 0 P.fields N.accessors N.each (good c new P K) (owned c new P K) (from_first P.fields) in
     let d = copies_each c new P K L N.copied.names N.copied.are_names 0 (program_methods c) N.copies P.methods N.copied.each (olds c new P K) (both c new P K) held (from_first P.methods) in
     let fronts = each_append (first_of c new P K) (olds_now c new P K) (flat_map both_of N.accessors) (old_methods P 0 0 P.methods) (accessors 0 P.fields) w a in

@@ -1,6 +1,6 @@
 -- What the code of a wrapper means: a loop of attempts.
 use Rattle.std.proofs.Common.{◌≡◌, ℕ, zero, suc, ◌+◌, ◌<◌, ◌≤◌, Bool, true, false, List, [], ◌∷◌, ◌++◌, length, Some, None, Ok, refl, sym, ap, ◌∙◌, subst, arith, append_assoc, length-append, ne_eqb, inr, inl}
-use Rattle.std.specs.Prelude.{codes, pos, nat_eq}
+use Rattle.std.specs.Prelude.{ℤ, codes, pos, nat_eq}
 use Rattle.std.specs.List.{AllByRecursion}
 use Rattle.std.proofs.lemmas.List.{append-nil}
 use Rattle.jmodel.specs.declared.class_file.Handler.{Handler}
@@ -63,8 +63,8 @@ loads_length i zero = refl
 loads_length i (suc n) = omega (arith, loads_length (suc i) n)
 
 -- what a wrapper names
-pub record Named (s : Symbols) (n d : ℕ) (a : Opening) (e : Ending) : Type 0 where
-  pub opens : IsOpening n s.class.pool a
+pub record Named (s : Symbols) (n d : ℕ) (attempts : ℤ) (a : Opening) (e : Ending) : Type 0 where
+  pub opens : IsOpening n attempts s.class.pool a
   pub duplicate : IsCalled s e.duplicate d
   pub commit_is : method_name s.class.pool e.commit ≡ Some (wanted context_class (codes "commit") (codes "()Z"))
   pub commit_few : e.commit < 65535
@@ -145,7 +145,7 @@ module _ (p : ℕ) (gives : Bool) (a : Opening) (e : Ending) where
   there5 = at_next (is_block 5) _ _ 4 refl (at_next (is_block 5) _ _ 3 refl (at_next (is_block 5) _ _ 2 refl (at_next (is_block 5) _ _ 1 refl (at_next (is_block 5) _ _ 0 refl (at_here (is_block 5) _ _ refl)))))
 
   leads_back : LeadsIn (wrapper_blocks p gives a e) (jump 153 1).operands
-  leads_back = (1, there1)
+  leads_back = ((1, there1), tt)
 
   keeps_lead : (g : Bool) → AllByRecursion (λ (x : Instr). LeadsIn (wrapper_blocks p gives a e) x.operands) (keeps g p)
   keeps_lead true = (local_leads _ 54 59 (p + 1), tt)
@@ -164,7 +164,7 @@ module _ (p : ℕ) (gives : Bool) (a : Opening) (e : Ending) where
       (tt, (local_leads _ 25 42 p, (tt, (leads_back, tt))))
       (local_leads _ 58 75 (p + 1), (local_leads _ 25 42 p, (tt, (leads_back, (local_leads _ 25 42 (p + 1), (tt, tt))))))
 
-  module _ (s : Symbols) (few : p ≤ 50000) (n d : ℕ) (N : Named s n d a e) where
+  module _ (s : Symbols) (few : p ≤ 50000) (n d : ℕ) (attempts : ℤ) (N : Named s n d attempts a e) where
     keeps_laid : (g : Bool) → AllByRecursion (IsLaid s.class.pool) (keeps g p)
     keeps_laid true = (store_laid s.class.pool (p + 1) (omega (arith, few)), tt)
     keeps_laid false = tt
@@ -180,10 +180,10 @@ module _ (p : ℕ) (gives : Bool) (a : Opening) (e : Ending) where
     commit_laid = call_virtual_laid s.class.pool e.commit (wanted context_class (codes "commit") (codes "()Z")) N.commit_few N.commit_is
 
     back_laid : IsLaid s.class.pool (jump 153 1)
-    back_laid = record { shaped = record { op = omega arith; operands = tt }; simple = tt; fits = tt }
+    back_laid = record { shaped = record { op = omega arith; operands = tt }; fits = tt }
 
     goto_laid : IsLaid s.class.pool (jump 167 1)
-    goto_laid = record { shaped = record { op = omega arith; operands = tt }; simple = tt; fits = tt }
+    goto_laid = record { shaped = record { op = omega arith; operands = tt }; fits = tt }
 
     entry_laid : AllByRecursion (IsLaid s.class.pool) entry_instrs
     entry_laid = (
@@ -197,7 +197,7 @@ module _ (p : ℕ) (gives : Bool) (a : Opening) (e : Ending) where
       (
         int_laid s.class.pool a.number (pos n) N.opens.number_few N.opens.number_is,
         (
-          int_laid s.class.pool a.retries (pos 2147483647) N.opens.retries_few N.opens.retries_is,
+          int_laid s.class.pool a.retries attempts N.opens.retries_few N.opens.retries_is,
           (call_virtual_laid s.class.pool a.init (wanted context_class (codes "init") (codes "(II)V")) N.opens.init_is.1 N.opens.init_is.0, tt),
         ),
       ),
@@ -275,16 +275,16 @@ module _ (p : ℕ) (gives : Bool) (a : Opening) (e : Ending) where
     entry_meant : AreMeant s place L entry_instrs (entry_code p)
     entry_meant = (call_static_means s place L a.get (wanted (codes "org/deuce/transaction/ContextDelegator") (codes "getInstance") (codes "()Lorg/deuce/transaction/Context;")) op.GetContext N.opens.get_is.0 refl, (store_reference_means s place L p, tt))
 
-    number_means : (i : ℕ) (x : ℕ) → integer s.class.pool i ≡ Some (pos x) → Means s place L (op.Constant (value.Int (pos x))) (naming 19 i)
+    number_means : (i : ℕ) (x : ℤ) → integer s.class.pool i ≡ Some x → Means s place L (op.Constant (value.Int x)) (naming 19 i)
     number_means i x e at = rw e refl
 
-    begin_meant : AreMeant s place L begin_instrs (begin_code p n (pos 2147483647))
+    begin_meant : AreMeant s place L begin_instrs (begin_code p n attempts)
     begin_meant = (
       context_means,
       (
-        number_means a.number n N.opens.number_is,
+        number_means a.number (pos n) N.opens.number_is,
         (
-          number_means a.retries 2147483647 N.opens.retries_is,
+          number_means a.retries attempts N.opens.retries_is,
           (call_virtual_means s place L a.init (wanted context_class (codes "init") (codes "(II)V")) (op.Context context.Init) N.opens.init_is.0 refl, tt),
         ),
       ),
@@ -305,12 +305,12 @@ module _ (p : ℕ) (gives : Bool) (a : Opening) (e : Ending) where
     exception_meant = (store_reference_means s place L (p + 1), (context_means, (commit_means, (back_means, (load_reference_means s place L (p + 1), (λ at. refl, tt))))))
 
     abbrev pub wrapper_ops : List Op
-    wrapper_ops = entry_code p ++ begin_code p n (pos 2147483647) ++ body_code p d ++ end_code gives p ++ conflict_code p ++ exception_code p
+    wrapper_ops = entry_code p ++ begin_code p n attempts ++ body_code p d ++ end_code gives p ++ conflict_code p ++ exception_code p
 
-    all_parts : AreMeant s place L parts (entry_code p ++ (begin_code p n (pos 2147483647) ++ (body_code p d ++ (end_code gives p ++ (conflict_code p ++ (exception_code p ++ []))))))
+    all_parts : AreMeant s place L parts (entry_code p ++ (begin_code p n attempts ++ (body_code p d ++ (end_code gives p ++ (conflict_code p ++ (exception_code p ++ []))))))
     all_parts =
-        meant_append s place L entry_instrs (begin_instrs ++ (body_instrs ++ (end_instrs ++ (conflict_instrs ++ (exception_instrs ++ []))))) (entry_code p) (begin_code p n (pos 2147483647) ++ (body_code p d ++ (end_code gives p ++ (conflict_code p ++ (exception_code p ++ []))))) entry_meant
-        (meant_append s place L begin_instrs (body_instrs ++ (end_instrs ++ (conflict_instrs ++ (exception_instrs ++ [])))) (begin_code p n (pos 2147483647)) (body_code p d ++ (end_code gives p ++ (conflict_code p ++ (exception_code p ++ [])))) begin_meant
+        meant_append s place L entry_instrs (begin_instrs ++ (body_instrs ++ (end_instrs ++ (conflict_instrs ++ (exception_instrs ++ []))))) (entry_code p) (begin_code p n attempts ++ (body_code p d ++ (end_code gives p ++ (conflict_code p ++ (exception_code p ++ []))))) entry_meant
+        (meant_append s place L begin_instrs (body_instrs ++ (end_instrs ++ (conflict_instrs ++ (exception_instrs ++ [])))) (begin_code p n attempts) (body_code p d ++ (end_code gives p ++ (conflict_code p ++ (exception_code p ++ [])))) begin_meant
         (meant_append s place L body_instrs (end_instrs ++ (conflict_instrs ++ (exception_instrs ++ []))) (body_code p d) (end_code gives p ++ (conflict_code p ++ (exception_code p ++ []))) body_meant
         (meant_append s place L end_instrs (conflict_instrs ++ (exception_instrs ++ [])) (end_code gives p) (conflict_code p ++ (exception_code p ++ [])) end_meant
         (meant_append s place L conflict_instrs (exception_instrs ++ []) (conflict_code p) (exception_code p ++ []) conflict_meant
@@ -322,8 +322,8 @@ module _ (p : ℕ) (gives : Bool) (a : Opening) (e : Ending) where
     pub wrapper_means : ops_of s L ≡ Some wrapper_ops
     wrapper_means =
         ap (λ (l : List Instr). each (op_of s L) (laid_to place 0 l)) parts_are
-        ∙ all_meant s place L 0 parts (entry_code p ++ (begin_code p n (pos 2147483647) ++ (body_code p d ++ (end_code gives p ++ (conflict_code p ++ (exception_code p ++ [])))))) all_parts
-        ∙ ap (λ (l : List Op). Some l) (regrouped (entry_code p) (begin_code p n (pos 2147483647)) (body_code p d) (end_code gives p) (conflict_code p) (exception_code p))
+        ∙ all_meant s place L 0 parts (entry_code p ++ (begin_code p n attempts ++ (body_code p d ++ (end_code gives p ++ (conflict_code p ++ (exception_code p ++ [])))))) all_parts
+        ∙ ap (λ (l : List Op). Some l) (regrouped (entry_code p) (begin_code p n attempts) (body_code p d) (end_code gives p) (conflict_code p) (exception_code p))
 
     -- ---- the code
 

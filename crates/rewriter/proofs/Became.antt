@@ -1,12 +1,13 @@
 -- What became of each old method: it stayed, or it has a wrapper in its place.
-use Rattle.std.proofs.Common.{◌≡◌, ◌⊎◌, inl, inr, ℕ, ◌+◌, Bool, true, false, List, [], ◌∷◌, Some, refl, subst}
+use Rattle.std.proofs.Common.{◌≡◌, ◌⊎◌, inl, inr, ℕ, ℤ, ◌+◌, Bool, true, false, List, [], ◌∷◌, Option, Some, None, refl, subst}
 use Rattle.std.specs.Prelude.{slice_get, filter}
 use Rattle.jmodel.specs.ClassFile.{Member, ClassFile}
 use Rattle.jmodel.specs.Program.{Method, Program}
 use Rattle.jmodel.specs.Taken.{is_taken}
-use Rattle.jmodel.specs.Linking.{is_marked}
+use Rattle.jmodel.specs.Linking.{is_root, retries_of, is_marked}
 use Rattle.rewriter.specs.Rewritten.{number_behind, id_behind}
 use Rattle.rewriter.proofs.Old.{IsOld, AllOld}
+use Rattle.rewriter.proofs.Marks.{not_some}
 use Rattle.rewriter.proofs.Rests.{here, behind, from_first}
 use Rattle.rewriter.proofs.Whole.{IsWrapped, EachReplaced}
 use Rattle.rewriter.proofs.Tables.{Known, marked_taken, olds}
@@ -18,9 +19,10 @@ module _ (c new : ClassFile) (P : Program) (K : Known c new P) where
     pub id : ℕ
     pub method : Method
     pub at : slice_get P.methods number ≡ Some method
-    pub marked : is_marked c.pool m ≡ true
+    pub attempts : ℤ
+    pub marked : retries_of c.pool m ≡ Some attempts
     pub old : IsOld c P.fields m method
-    pub wrapped : IsWrapped c new.pool id method m x
+    pub wrapped : IsWrapped c new.pool id attempts method m x
 
   -- a method, or the wrapper of one
   abbrev pub Became : Member → Member → Type 0
@@ -42,16 +44,16 @@ module _ (c new : ClassFile) (P : Program) (K : Known c new P) where
   each_became i n id (m ∷ ms) (x ∷ xs) ks old at numbers h =
       go (is_taken c m) refl ks old numbers (λ (a : ℕ) (ls : List Method) q r s. each_became (i + 1) a (id_behind c.pool id m) ms xs ls q (behind c.methods i m ms at) r s) h.1
     where
-      one : (k : Method) → slice_get P.methods n ≡ Some k → IsOld c P.fields m k → (b : Bool) → is_marked c.pool m ≡ b → Became m x
-      one k number o true e = inr (record { number = n; id = id; method = k; at = number; marked = e; old = o; wrapped = h.0.wrapped e k number })
-      one k number o false e = inl (h.0.kept e)
+      one : (k : Method) → slice_get P.methods n ≡ Some k → IsOld c P.fields m k → (a : Option ℤ) → retries_of c.pool m ≡ a → Became m x
+      one k number o (Some attempts) e = inr (record { number = n; id = id; method = k; at = number; attempts = attempts; marked = e; old = o; wrapped = h.0.wrapped attempts e k number })
+      one k number o None e = inl (h.0.kept e)
 
       taken : (ks : List Method) → AllOld c P.fields (m ∷ filter (is_taken c) ms) ks → ((j : ℕ) → slice_get P.methods (n + j) ≡ slice_get ks j)
           → ((ls : List Method) → AllOld c P.fields (filter (is_taken c) ms) ls → ((j : ℕ) → slice_get P.methods (n + 1 + j) ≡ slice_get ls j) → EachBecame ms xs) → EachBecame (m ∷ ms) (x ∷ xs)
       taken [] old numbers rest = absurd old
       taken (k ∷ ls) old numbers rest =
           let number = here P.methods n k ls numbers in
-          (one k number old.0 (is_marked c.pool m) refl, rest ls old.1 (behind P.methods n k ls numbers))
+          (one k number old.0 (retries_of c.pool m) refl, rest ls old.1 (behind P.methods n k ls numbers))
 
       go : (b : Bool) → is_taken c m ≡ b → (ks : List Method) → AllOld c P.fields (filter (is_taken c) (m ∷ ms)) ks → ((j : ℕ) → slice_get P.methods (n + j) ≡ slice_get ks j)
           → ((a : ℕ) (ls : List Method) → AllOld c P.fields (filter (is_taken c) ms) ls → ((j : ℕ) → slice_get P.methods (a + j) ≡ slice_get ls j)
@@ -66,10 +68,10 @@ module _ (c new : ClassFile) (P : Program) (K : Known c new P) where
           let dropped : filter (is_taken c) (m ∷ ms) ≡ filter (is_taken c) ms = rw e refl in
           let count : number_behind c n m ≡ n = rw e refl in
           let from_next = subst (λ (a : ℕ). EachReplaced P c new.pool a (id_behind c.pool id m) ms xs) count s in
-          let unmarked : is_marked c.pool m ≡ false = unmarked_of (is_marked c.pool m) refl in
-          (inl (h.0.kept unmarked), rest n ks (subst (λ (us : List Member). AllOld c P.fields us ks) dropped old) numbers from_next)
+          let unmarked : is_root c.pool m ≡ false = unmarked_of (is_root c.pool m) refl in
+          (inl (h.0.kept (not_some (retries_of c.pool m) unmarked)), rest n ks (subst (λ (us : List Member). AllOld c P.fields us ks) dropped old) numbers from_next)
         where
-          unmarked_of : (v : Bool) → is_marked c.pool m ≡ v → is_marked c.pool m ≡ false
+          unmarked_of : (v : Bool) → is_root c.pool m ≡ v → is_root c.pool m ≡ false
           unmarked_of true q = let t = marked_taken c new P K i m (here c.methods i m ms at) q in absurd (cc (t, e))
           unmarked_of false q = q
 

@@ -11,6 +11,8 @@ use Rattle.jmodel.specs.declared.class_file.FieldType.TheVariants as types
 use Rattle.jmodel.specs.declared.typing.VType.{VType}
 use Rattle.jmodel.specs.declared.typing.VType.TheVariants.{Ref}
 use Rattle.jmodel.specs.Descriptor.{field_descriptor, result_descriptor, method_descriptor, places, places_of, Signature, IsFieldType, IsSignature, IsClassName}
+use Rattle.jmodel.specs.declared.op.WordType.{WordType}
+use Rattle.jmodel.specs.declared.op.WordType.TheVariants as word
 use Rattle.jmodel.specs.DescriptorReading.{element_rest, type_rest, is_field_descriptor, type_of, types_at, result_of, signature_of}
 use Rattle.rewriter.specs.Members.{getter_type, setter_type}
 use Rattle.jmodel.specs.Decoding.{context_class}
@@ -101,18 +103,34 @@ context_shows d = ap (has_part marker) (with_is d) ∙ part_behind (take (before
 same_name : (name : List ℕ) → bytes_eq name context_class ≡ true → name ≡ context_class
 same_name name h = (bytes_eq-Decides name context_class).0 h
 
--- a parameter is an int or a context
+-- the type of a parameter or a result
+abbrev pub field_of : WordType → FieldType
+field_of word.Boolean = types.Boolean
+field_of word.Byte = types.Byte
+field_of word.Char = types.Char
+field_of word.Short = types.Short
+field_of word.Int = types.Int
+
+-- a parameter is a value of one word or a context
 data IsTaken (t : FieldType) : Type 0 where
-  int : t ≡ types.Int → IsTaken t
+  of_word : (u : WordType) → t ≡ field_of u → IsTaken t
   context : t ≡ types.Reference context_class → IsTaken t
 
 taken : (t : FieldType) → is_parameter t ≡ true → IsTaken t
-taken types.Int h = int refl
+taken types.Boolean h = of_word word.Boolean refl
+taken types.Byte h = of_word word.Byte refl
+taken types.Char h = of_word word.Char refl
+taken types.Short h = of_word word.Short refl
+taken types.Int h = of_word word.Int refl
 taken (types.Reference name) h = context (ap types.Reference (same_name name h))
 taken t h = cc
 
-int_over : (ds : List ℕ) → before_end false (codes "I" ++ ds) ≡ length (codes "I") + before_end false ds
-int_over ds = omega arith
+word_over : (u : WordType) (ds : List ℕ) → before_end false (field_descriptor (field_of u) ++ ds) ≡ length (field_descriptor (field_of u)) + before_end false ds
+word_over word.Boolean ds = omega arith
+word_over word.Byte ds = omega arith
+word_over word.Char ds = omega arith
+word_over word.Short ds = omega arith
+word_over word.Int ds = omega arith
 
 context_over : (ds : List ℕ) → before_end false (context_type ++ ds) ≡ length context_type + before_end false ds
 context_over ds = go (before_end false ds)
@@ -124,7 +142,7 @@ end_over : (t : FieldType) (ds : List ℕ) → is_parameter t ≡ true → befor
 end_over t ds h = go (taken t h)
   where
     go : IsTaken t → before_end false (field_descriptor t ++ ds) ≡ length (field_descriptor t) + before_end false ds
-    go (int e) = subst (λ (x : FieldType). before_end false (field_descriptor x ++ ds) ≡ length (field_descriptor x) + before_end false ds) (sym e) (int_over ds)
+    go (of_word u e) = subst (λ (x : FieldType). before_end false (field_descriptor x ++ ds) ≡ length (field_descriptor x) + before_end false ds) (sym e) (word_over u ds)
     go (context e) = subst (λ (x : FieldType). before_end false (field_descriptor x ++ ds) ≡ length (field_descriptor x) + before_end false ds) (sym e) (context_over ds)
 
 end_of_types : (ts : List FieldType) (rest : List ℕ) → list_all is_parameter ts ≡ true → before_end false (flat_map field_descriptor ts ++ 41 ∷ rest) ≡ length (flat_map field_descriptor ts)
@@ -318,10 +336,47 @@ no_context d free = go (signature_of d) refl
 
 -- ---- the accessors' descriptors
 
-pub getter_signature : signature_of getter_type ≡ Some (record { parameters = types.Reference context_class ∷ []; result = Some types.Int })
+pub getter_signature : (t : WordType) → signature_of (getter_type t) ≡ Some (record { parameters = types.Reference context_class ∷ []; result = Some (field_of t) })
 unfolding element_rest type_rest is_field_descriptor type_of types_at result_of signature_of
-getter_signature = refl
+getter_signature word.Boolean = refl
+getter_signature word.Byte = refl
+getter_signature word.Char = refl
+getter_signature word.Short = refl
+getter_signature word.Int = refl
 
-pub setter_signature : signature_of setter_type ≡ Some (record { parameters = types.Int ∷ types.Reference context_class ∷ []; result = None })
+pub setter_signature : (t : WordType) → signature_of (setter_type t) ≡ Some (record { parameters = field_of t ∷ types.Reference context_class ∷ []; result = None })
 unfolding element_rest type_rest is_field_descriptor type_of types_at result_of signature_of
-setter_signature = refl
+setter_signature word.Boolean = refl
+setter_signature word.Byte = refl
+setter_signature word.Char = refl
+setter_signature word.Short = refl
+setter_signature word.Int = refl
+
+-- both show the context, and differ
+pub getter_shows : (t : WordType) → has_part marker (getter_type t) ≡ true
+getter_shows word.Boolean = refl
+getter_shows word.Byte = refl
+getter_shows word.Char = refl
+getter_shows word.Short = refl
+getter_shows word.Int = refl
+
+pub setter_shows : (t : WordType) → has_part marker (setter_type t) ≡ true
+setter_shows word.Boolean = refl
+setter_shows word.Byte = refl
+setter_shows word.Char = refl
+setter_shows word.Short = refl
+setter_shows word.Int = refl
+
+pub getter_no_setter : (t u : WordType) → bytes_eq (getter_type t) (setter_type u) ≡ false
+getter_no_setter t word.Boolean = refl
+getter_no_setter t word.Byte = refl
+getter_no_setter t word.Char = refl
+getter_no_setter t word.Short = refl
+getter_no_setter t word.Int = refl
+
+pub setter_no_getter : (u t : WordType) → bytes_eq (setter_type u) (getter_type t) ≡ false
+setter_no_getter word.Boolean t = refl
+setter_no_getter word.Byte t = refl
+setter_no_getter word.Char t = refl
+setter_no_getter word.Short t = refl
+setter_no_getter word.Int t = refl

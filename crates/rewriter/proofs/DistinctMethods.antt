@@ -1,43 +1,45 @@
 -- The methods of a rewritten class differ by their names and descriptors.
-use Rattle.std.proofs.Common.{◌≡◌, inl, inr, ℕ, ◌+◌, true, false, List, [], ◌∷◌, ◌++◌, map, Some, refl, sym, ap, ◌∙◌, subst}
+use Rattle.std.proofs.Common.{◌≡◌, inl, inr, ℕ, ◌+◌, Bool, true, false, ◌||◌, List, [], ◌∷◌, ◌++◌, map, Some, refl, sym, ap, ◌∙◌, subst}
 use Rattle.std.specs.Prelude.{codes, bytes_eq, zip}
 use Rattle.std.specs.List.{AllByRecursion, list_any, flat_map}
 use Rattle.std.proofs.lemmas.List.Concat.{flat_map-cons}
 use Rattle.jmodel.specs.declared.name.MethodName.{MethodName}
+use Rattle.jmodel.specs.declared.op.WordType.{WordType}
 use Rattle.jmodel.specs.ClassFile.{Member, Pool, ClassFile}
 use Rattle.jmodel.specs.Pool.{utf8}
 use Rattle.jmodel.specs.Program.{Field, Method, Program}
 use Rattle.jmodel.specs.ClassRules.{IsMethod, AreDistinct}
 use Rattle.jmodel.specs.Decoding.{own_name}
 use Rattle.jmodel.specs.Layout.{text_or_none}
-use Rattle.jmodel.specs.Linking.{program_methods}
-use Rattle.jmodel.specs.Rewriting.{with_context}
+use Rattle.jmodel.specs.Linking.{has_part, is_reserved, program_methods}
+use Rattle.jmodel.specs.Rewriting.{with_context, duplicate_name}
 use Rattle.rewriter.specs.declared.accessors.Accessors.{Accessors}
 use Rattle.rewriter.specs.Members.{Names, getter_name, setter_name, getter_type, setter_type}
 use Rattle.rewriter.specs.Rewritten.{both_of}
 use Rattle.rewriter.proofs.Became.{Became, EachBecame, became}
-use Rattle.rewriter.proofs.Contexts.{context_apart, context_shows}
+use Rattle.rewriter.proofs.Contexts.{context_apart, context_shows, getter_shows, setter_shows, getter_no_setter}
 use Rattle.rewriter.proofs.DistinctFields.{ended_apart}
 use Rattle.rewriter.proofs.Grown.{utf8_grown}
-use Rattle.rewriter.proofs.Keys.{Key, IsKeyed, AreKeyed, IsNone, AreUnlike, keyed_append, unlike_append, kinds_apart, distinct, unlike, key_of, member_keyed, key_grown, shows_context, shows_getter, shows_setter, IsNamedFree, IsNamedReserved, IsTypedFree, IsTypedReserved, reserved_apart, types_apart, types_free}
-use Rattle.rewriter.proofs.Marks.{or_false}
-use Rattle.rewriter.proofs.Numbers.{field_names, both_pass}
+use Rattle.rewriter.proofs.Keys.{Key, IsKeyed, AreKeyed, IsNone, AreUnlike, keyed_append, unlike_append, kinds_apart, distinct, unlike, key_of, member_keyed, key_grown, shows_context, IsTypedFree, IsTypedReserved, types_apart, types_free}
+use Rattle.rewriter.proofs.Marks.{or_first, or_later, or_false, neither}
+use Rattle.rewriter.proofs.Numbers.{field_names, AreUnreserved, both_pass}
 use Rattle.rewriter.proofs.Old.{AreApart, same_method, AreApartMethods, AllOld, AreBoth, free_text}
 use Rattle.rewriter.proofs.Pairs.{all_append}
 use Rattle.rewriter.proofs.Positions.{same, apart, ends_in}
 use Rattle.rewriter.proofs.Puts.{AreAccessors}
-use Rattle.rewriter.proofs.Tables.{Known, form, fields_apart, olds, both, apart as methods_apart}
+use Rattle.rewriter.proofs.Renamed.{duplicate_apart, duplicate_shows}
+use Rattle.rewriter.proofs.Tables.{Known, form, fields_apart, olds, both, no_getter, no_setter, unreserved, apart as methods_apart}
 use Rattle.rewriter.proofs.Whole.{Each, IsCopyOf}
 
 -- ---- accessors
 
 -- the name and the descriptor of a getter
 abbrev getter_key : Field → Key
-getter_key f = (getter_name f, getter_type)
+getter_key f = (getter_name f, getter_type f.type)
 
 -- the name and the descriptor of a setter
 abbrev setter_key : Field → Key
-setter_key f = (setter_name f, setter_type)
+setter_key f = (setter_name f, setter_type f.type)
 
 -- those of all accessors
 abbrev accessor_keys : List Field → List Key
@@ -45,8 +47,8 @@ accessor_keys [] = []
 accessor_keys (f ∷ fs) = getter_key f ∷ setter_key f ∷ accessor_keys fs
 
 -- getters and setters differ by their descriptors
-getter_setter : (a b : List ℕ) (k j : Key) → k ≡ (a, getter_type) → j ≡ (b, setter_type) → ¬ (k ≡ j)
-getter_setter a b k j p q e = apart getter_type setter_type refl (sym (ap (λ (y : Key). y.1) p) ∙ ap (λ (y : Key). y.1) e ∙ ap (λ (y : Key). y.1) q)
+getter_setter : (a b : List ℕ) (t u : WordType) (k j : Key) → k ≡ (a, getter_type t) → j ≡ (b, setter_type u) → ¬ (k ≡ j)
+getter_setter a b t u k j p q e = apart (getter_type t) (setter_type u) (getter_no_setter t u) (sym (ap (λ (y : Key). y.1) p) ∙ ap (λ (y : Key). y.1) e ∙ ap (λ (y : Key). y.1) q)
 
 -- a getter differs from the accessors of fields of other names
 none_getter : (f : Field) (fs : List Field) → list_any (λ y. bytes_eq y f.name) (field_names fs) ≡ false → IsNone (accessor_keys fs) (getter_key f)
@@ -54,7 +56,7 @@ none_getter f [] h = tt
 none_getter f (g ∷ fs) h =
     let t = or_false (bytes_eq g.name f.name) (list_any (λ y. bytes_eq y f.name) (field_names fs)) h in (
       λ e. ended_apart f.name g.name (codes "__Getter$") t.0 (ap (λ (k : Key). k.0) e),
-      (getter_setter (getter_name f) (setter_name g) (getter_key f) (setter_key g) refl refl, none_getter f fs t.1),
+      (getter_setter (getter_name f) (setter_name g) f.type g.type (getter_key f) (setter_key g) refl refl, none_getter f fs t.1),
     )
 
 -- a setter differs from the accessors of fields of other names
@@ -62,7 +64,7 @@ none_setter : (f : Field) (fs : List Field) → list_any (λ y. bytes_eq y f.nam
 none_setter f [] h = tt
 none_setter f (g ∷ fs) h =
     let t = or_false (bytes_eq g.name f.name) (list_any (λ y. bytes_eq y f.name) (field_names fs)) h in (
-      λ e. getter_setter (getter_name g) (setter_name f) (getter_key g) (setter_key f) refl refl (sym e),
+      λ e. getter_setter (getter_name g) (setter_name f) g.type f.type (getter_key g) (setter_key f) refl refl (sym e),
       (λ e. ended_apart f.name g.name (codes "__Setter$") t.0 (ap (λ (k : Key). k.0) e), none_setter f fs t.1),
     )
 
@@ -70,16 +72,29 @@ none_setter f (g ∷ fs) h =
 accessors_unlike : (fs : List Field) → AreApart (field_names fs) → AreUnlike (accessor_keys fs)
 accessors_unlike [] h = tt
 accessors_unlike (f ∷ fs) h = (
-  (getter_setter (getter_name f) (setter_name f) (getter_key f) (setter_key f) refl refl, none_getter f fs h.0),
+  (getter_setter (getter_name f) (setter_name f) f.type f.type (getter_key f) (setter_key f) refl refl, none_getter f fs h.0),
   (none_setter f fs h.0, accessors_unlike fs h.1),
 )
 
--- the names of accessors have a reserved part
-accessors_reserved : (fs : List Field) → AllByRecursion IsNamedReserved (accessor_keys fs)
-accessors_reserved [] = tt
-accessors_reserved (f ∷ fs) = (
-  shows_getter (getter_name f) (ends_in (codes "__Getter$") refl f.name),
-  (shows_setter (setter_name f) (ends_in (codes "__Setter$") refl f.name), accessors_reserved fs),
+-- whether a name has a part that accessors' names have
+abbrev shows_accessor : List ℕ → Bool
+shows_accessor n = has_part (codes "__Getter$") n || has_part (codes "__Setter$") n
+
+abbrev IsAccessorNamed : Key → Type 0
+IsAccessorNamed k = shows_accessor k.0 ≡ true
+
+abbrev IsCopyNamed : Key → Type 0
+IsCopyNamed k = shows_accessor k.0 ≡ false
+
+names_differ : (k j : Key) → IsAccessorNamed k → IsCopyNamed j → ¬ (k ≡ j)
+names_differ k j h f e = let t : shows_accessor j.0 ≡ true = ap (λ (y : Key). shows_accessor y.0) (sym e) ∙ h in absurd (cc (t, f))
+
+-- the names of accessors have such a part
+accessors_shown : (fs : List Field) → AllByRecursion IsAccessorNamed (accessor_keys fs)
+accessors_shown [] = tt
+accessors_shown (f ∷ fs) = (
+  or_first (has_part (codes "__Getter$") (getter_name f)) (has_part (codes "__Setter$") (getter_name f)) (ends_in (codes "__Getter$") refl f.name),
+  (or_later (has_part (codes "__Getter$") (setter_name f)) (has_part (codes "__Setter$") (setter_name f)) (ends_in (codes "__Setter$") refl f.name), accessors_shown fs),
 )
 
 -- the accessors by their names and descriptors
@@ -99,18 +114,18 @@ accessors_keyed own Z n (f ∷ fs) (a ∷ A) h =
 
 -- the name and the descriptor of a duplicate
 abbrev copy_key : Method → Key
-copy_key k = (k.name.name, with_context k.name.descriptor)
+copy_key k = (duplicate_name k.name.name, with_context k.name.descriptor)
 
 -- those of all duplicates
 abbrev copy_keys : List Method → List Key
 copy_keys ks = map copy_key ks
 
 -- a duplicate differs from those of other methods
-none_copy : (k : Method) (ks : List Method) → list_any (λ (j : Method). same_method j k) ks ≡ false → IsNone (copy_keys ks) (copy_key k)
-none_copy k [] h = tt
-none_copy k (j ∷ ks) h =
+none_copy : (k : Method) (ks : List Method) → is_reserved k.name.name ≡ false → AreUnreserved ks → list_any (λ (j : Method). same_method j k) ks ≡ false → IsNone (copy_keys ks) (copy_key k)
+none_copy k [] free others h = tt
+none_copy k (j ∷ ks) free others h =
     let t = or_false (same_method j k) (list_any (λ (j : Method). same_method j k) ks) h in
-    (λ e. differs t.0 (ap (λ (y : Key). y.0) e) (context_apart k.name.descriptor j.name.descriptor (ap (λ (y : Key). y.1) e)), none_copy k ks t.1)
+    (λ e. differs t.0 (duplicate_apart k.name.name j.name.name free others.0 (ap (λ (y : Key). y.0) e)) (context_apart k.name.descriptor j.name.descriptor (ap (λ (y : Key). y.1) e)), none_copy k ks free others.1 t.1)
   where
     differs : same_method j k ≡ false → k.name.name ≡ j.name.name → k.name.descriptor ≡ j.name.descriptor → ⊥
     differs f n d =
@@ -119,9 +134,18 @@ none_copy k (j ∷ ks) h =
         let t : same_method j k ≡ true = both_pass _ _ name type in absurd (cc (t, f))
 
 -- the duplicates differ
-copies_unlike : (ks : List Method) → AreApartMethods ks → AreUnlike (copy_keys ks)
-copies_unlike [] h = tt
-copies_unlike (k ∷ ks) h = (none_copy k ks h.0, copies_unlike ks h.1)
+copies_unlike : (ks : List Method) → AreUnreserved ks → AreApartMethods ks → AreUnlike (copy_keys ks)
+copies_unlike [] u h = tt
+copies_unlike (k ∷ ks) u h = (none_copy k ks u.0 u.1 h.0, copies_unlike ks u.1 h.1)
+
+-- the names of duplicates have no part that accessors' names have
+copies_named : (ks : List Method) → AreUnreserved ks → AllByRecursion IsCopyNamed (copy_keys ks)
+copies_named [] u = tt
+copies_named (k ∷ ks) u = (
+  neither (has_part (codes "__Getter$") (duplicate_name k.name.name)) (has_part (codes "__Setter$") (duplicate_name k.name.name))
+      (duplicate_shows (codes "__Getter$") k.name.name refl (no_getter k.name.name u.0)) (duplicate_shows (codes "__Setter$") k.name.name refl (no_setter k.name.name u.0)),
+  copies_named ks u.1,
+)
 
 -- the descriptors of duplicates have a reserved part
 copies_typed : (ks : List Method) → AllByRecursion IsTypedReserved (copy_keys ks)
@@ -131,21 +155,9 @@ copies_typed (k ∷ ks) = (shows_context (with_context k.name.descriptor) (conte
 -- the descriptors of accessors have a reserved part
 accessors_typed : (fs : List Field) → AllByRecursion IsTypedReserved (accessor_keys fs)
 accessors_typed [] = tt
-accessors_typed (f ∷ fs) = (shows_context getter_type refl, (shows_context setter_type refl, accessors_typed fs))
+accessors_typed (f ∷ fs) = (shows_context (getter_type f.type) (getter_shows f.type), (shows_context (setter_type f.type) (setter_shows f.type), accessors_typed fs))
 
 module _ (c new : ClassFile) (P : Program) (K : Known c new P) where
-  -- the names of duplicates have no reserved part
-  copies_named : (ms : List Member) (ks : List Method) → AllOld c P.fields ms ks → AreBoth c.pool ms → AllByRecursion IsNamedFree (copy_keys ks)
-  copies_named [] [] h a = tt
-  copies_named [] (k ∷ ks) h a = absurd h
-  copies_named (m ∷ ms) [] h a = absurd h
-  copies_named (m ∷ ms) (k ∷ ks) h a =
-      let name : a.0.0 ≡ k.name.name = sym (ap (λ (y : MethodName). y.name) h.0.name ∙ ap text_or_none a.0.2) in
-      (subst (λ (y : List ℕ). is_free y) name (free_text c.pool m.name a.0.0 (form c new P K).pool a.0.2), copies_named ms ks h.1 a.1)
-    where
-      is_free : List ℕ → Type 0
-      is_free y = IsNamedFree (y, [])
-
   -- the duplicates by their names and descriptors
   copies_keyed : (names : Names) (n : ℕ) (ms D : List Member) (ks : List Method) → Each (λ Z n p x. IsCopyOf c names Z p x) new.pool n (zip ks ms) D → AllOld c P.fields ms ks
       → AreBoth c.pool ms → AreKeyed new.pool D (copy_keys ks)
@@ -154,15 +166,13 @@ module _ (c new : ClassFile) (P : Program) (K : Known c new P) where
   copies_keyed names n [] (x ∷ D) [] w h a = absurd w
   copies_keyed names n (m ∷ ms) D [] w h a = absurd h
   copies_keyed names n (m ∷ ms) [] (k ∷ ks) w h a = absurd w
-  copies_keyed names n (m ∷ ms) (x ∷ D) (k ∷ ks) w h a =
-      let name : a.0.0 ≡ k.name.name = sym (ap (λ (y : MethodName). y.name) h.0.name ∙ ap text_or_none a.0.2) in
-      let there = utf8_grown c.pool new.pool K.rewritten.grown m.name a.0.0 a.0.2 in (
-        record {
-          named = ap (λ (y : Member). utf8 new.pool y.name) w.0.copy.is ∙ there ∙ ap Some name;
-          typed = ap (λ (y : Member). utf8 new.pool y.descriptor) w.0.copy.is ∙ w.0.copy.typed;
-        },
-        copies_keyed names (n + 1) ms D ks w.1 h.1 a.1,
-      )
+  copies_keyed names n (m ∷ ms) (x ∷ D) (k ∷ ks) w h a = (
+    record {
+      named = ap (λ (y : Member). utf8 new.pool y.name) w.0.copy.is ∙ w.0.copy.named;
+      typed = ap (λ (y : Member). utf8 new.pool y.descriptor) w.0.copy.is ∙ w.0.copy.typed;
+    },
+    copies_keyed names (n + 1) ms D ks w.1 h.1 a.1,
+  )
 
   -- ---- old methods
 
@@ -202,9 +212,9 @@ module _ (c new : ClassFile) (P : Program) (K : Known c new P) where
       let d = copies_keyed N.copied.names 0 (program_methods c) N.copies P.methods N.copied.each (olds c new P K) (both c new P K) in
       let back = subst (λ (ms : List Member). AreKeyed new.pool ms added) (sym N.are) (keyed_append new.pool (flat_map both_of N.accessors) N.copies (accessor_keys P.fields) (copy_keys P.methods) a d) in
       let keyed = keyed_append new.pool M.olds M.added old_keys added front back in
-      let added_unlike = unlike_append (accessor_keys P.fields) (copy_keys P.methods) (accessors_unlike P.fields (fields_apart c new P K)) (copies_unlike P.methods (methods_apart c new P K))
-      (kinds_apart IsNamedReserved IsNamedFree reserved_apart (accessor_keys P.fields) (copy_keys P.methods) (accessors_reserved P.fields)
-      (copies_named (program_methods c) P.methods (olds c new P K) (both c new P K))) in
+      let added_unlike = unlike_append (accessor_keys P.fields) (copy_keys P.methods) (accessors_unlike P.fields (fields_apart c new P K)) (copies_unlike P.methods (unreserved c new P K) (methods_apart c new P K))
+      (kinds_apart IsAccessorNamed IsCopyNamed names_differ (accessor_keys P.fields) (copy_keys P.methods) (accessors_shown P.fields)
+      (copies_named P.methods (unreserved c new P K))) in
       let away = kinds_apart IsTypedFree IsTypedReserved types_apart old_keys added (types_free c.pool (form c new P K).pool c.methods old_keys old)
       (all_append IsTypedReserved (accessor_keys P.fields) (copy_keys P.methods) (accessors_typed P.fields) (copies_typed P.methods)) in
       subst (AreDistinct new.pool) (sym M.are) (distinct new.pool (M.olds ++ M.added) (old_keys ++ added) keyed

@@ -20,7 +20,7 @@ use Rattle.jmodel.specs.Pool.{utf8, method_name}
 use Rattle.jmodel.specs.Program.{Method, Program}
 use Rattle.jmodel.specs.Layout.{text_or_none}
 use Rattle.jmodel.specs.Source.{IsSourceOp, IsSourceMethod}
-use Rattle.jmodel.specs.Rewriting.{getter, setter, duplicate, block as ops_of_block, block_len, block_at, blocks, moved_catch, duplicate_method, with_context, catch}
+use Rattle.jmodel.specs.Rewriting.{getter, setter, duplicate, block as ops_of_block, block_len, block_at, blocks, moved_catch, duplicate_method, with_context, catch, duplicate_name}
 use Rattle.jmodel.specs.TypeOrder.{context_class}
 use Rattle.jmodel.specs.Decoding.{Symbols, own_name, each, op_of, ops_of}
 use Rattle.jmodel.specs.InstructionReading.{instrs_of}
@@ -37,6 +37,7 @@ use Rattle.rewriter.proofs.Puts.{IsMethodAt}
 use Rattle.rewriter.proofs.Read.{IsLaid, shaped_all, LeadsIn}
 use Rattle.rewriter.proofs.Single.{plain_laid}
 use Rattle.rewriter.proofs.Pairs.{each_append, each_length, all_append, IsCalled, Calls, AreParts, sound, zip_blocks, blocks_are, all_solid, all_laid, all_lead, all_mean}
+use Rattle.rewriter.proofs.Renamed.{context_other}
 use Rattle.rewriter.proofs.Coded.{method_as, CodedFacts, coded_means, added_code, added_retries, same_methods}
 use Rattle.rewriter.proofs.Filed.{IsRead, decoded_is, IsFiled, filed, spelled, some_instr, parts_of}
 use Rattle.rewriter.proofs.Laid.{IsLaidCode, laid_is, stub_read, stub_rules, stub_catches}
@@ -94,6 +95,7 @@ block_length P p at (op.Increment i n) = refl
 block_length P p at (op.Branch t to) = refl
 block_length P p at (op.BranchInts t to) = refl
 block_length P p at (op.Goto to) = refl
+block_length P p at (op.Switch other cases) = refl
 block_length P p at o = refl
 
 blocks_length : (P : Program) (p : ℕ) (at : ℕ → ℕ) (os : List Op) → length (flat_map (ops_of_block P p at) os) ≡ sum_by block_len os
@@ -127,7 +129,7 @@ module _ (c new : ClassFile) (P : Program) (K : Known c new P) (L : linked c ≡
       let yes : some_op (gets (0 + f)) P ≡ true = subst (λ (i : ℕ). some_op (gets i) P ≡ true) zero_is (used (gets f) n j k (op.GetStatic f) e t (eq-eqb f f refl)) in
       let index : x.0.getter ≡ getter_in (slice_get names.accessors f) = ap getter_in (sym x.1) in
       subst (λ (i : ℕ). IsCalled (symbols_of new P.fields (rewritten_methods P new)) i (getter P f)) index
-      (record { name = wanted (own_name c) (getter_name F.0) getter_type; few = (x.2.getter yes).1; is = (x.2.getter yes).0; means = calls_getter c new P K f F.0 F.1 })
+      (record { name = wanted (own_name c) (getter_name F.0) (getter_type F.0.type); few = (x.2.getter yes).1; is = (x.2.getter yes).0; means = calls_getter c new P K f F.0 F.1 })
   calls_one n k e j (op.PutStatic f) t =
       let F = some_at P.fields f (source_op n k e j (op.PutStatic f) t) in
       let x = each_at (λ Z n f x. AreCalls P (own_name c) n f Z x) new.pool 0 P.fields names.accessors f F.0 N.accessors F.1 in
@@ -135,18 +137,18 @@ module _ (c new : ClassFile) (P : Program) (K : Known c new P) (L : linked c ≡
       let yes : some_op (puts (0 + f)) P ≡ true = subst (λ (i : ℕ). some_op (puts i) P ≡ true) zero_is (used (puts f) n j k (op.PutStatic f) e t (eq-eqb f f refl)) in
       let index : x.0.setter ≡ setter_in (slice_get names.accessors f) = ap setter_in (sym x.1) in
       subst (λ (i : ℕ). IsCalled (symbols_of new P.fields (rewritten_methods P new)) i (setter P f)) index
-      (record { name = wanted (own_name c) (setter_name F.0) setter_type; few = (x.2.setter yes).1; is = (x.2.setter yes).0; means = calls_setter c new P K f F.0 F.1 })
+      (record { name = wanted (own_name c) (setter_name F.0) (setter_type F.0.type); few = (x.2.setter yes).1; is = (x.2.setter yes).0; means = calls_setter c new P K f F.0 F.1 })
   calls_one n k e j (op.InvokeStatic m) t =
       let M = some_at P.methods m (source_op n k e j (op.InvokeStatic m) t) in
-      let x = each_at (λ Z n k i. some_op (calls n) P ≡ true → IsMethodAt k.name.class k.name.name (with_context k.name.descriptor) Z i) new.pool 0 P.methods names.duplicates m M.0 N.duplicates M.1 in
+      let x = each_at (λ Z n k i. some_op (calls n) P ≡ true → IsMethodAt k.name.class (duplicate_name k.name.name) (with_context k.name.descriptor) Z i) new.pool 0 P.methods names.duplicates m M.0 N.duplicates M.1 in
       let zero_is : m ≡ 0 + m = omega arith in
       let yes : some_op (calls (0 + m)) P ≡ true = subst (λ (i : ℕ). some_op (calls i) P ≡ true) zero_is (used (calls m) n j k (op.InvokeStatic m) e t (eq-eqb m m refl)) in
       let index : x.0 ≡ slice_index names.duplicates m = sym (get_or_from_slice_get names.duplicates m x.0 0 x.1) in
       let there = x.2 yes in
       let owner = in_class m M.0 M.1 in
-      let is : method_name new.pool x.0 ≡ Some (wanted (own_name c) M.0.name.name (with_context M.0.name.descriptor)) = there.0 ∙ ap (λ (t : List ℕ). Some (wanted t M.0.name.name (with_context M.0.name.descriptor))) owner in
+      let is : method_name new.pool x.0 ≡ Some (wanted (own_name c) (duplicate_name M.0.name.name) (with_context M.0.name.descriptor)) = there.0 ∙ ap (λ (t : List ℕ). Some (wanted t (duplicate_name M.0.name.name) (with_context M.0.name.descriptor))) owner in
       subst (λ (i : ℕ). IsCalled (symbols_of new P.fields (rewritten_methods P new)) i (duplicate P m)) index
-      (record { name = wanted (own_name c) M.0.name.name (with_context M.0.name.descriptor); few = there.1; is = is; means = calls_copy c new P K m M.0 M.1 })
+      (record { name = wanted (own_name c) (duplicate_name M.0.name.name) (with_context M.0.name.descriptor); few = there.1; is = is; means = calls_copy c new P K m M.0 M.1 })
   calls_one n k e j (op.Constant v) t = tt
   calls_one n k e j (op.Load i) t = tt
   calls_one n k e j (op.Store i) t = tt
@@ -157,6 +159,7 @@ module _ (c new : ClassFile) (P : Program) (K : Known c new P) (L : linked c ≡
   calls_one n k e j (op.Branch q to) t = tt
   calls_one n k e j (op.BranchInts q to) t = tt
   calls_one n k e j (op.Goto to) t = tt
+  calls_one n k e j (op.Switch other cases) t = tt
   calls_one n k e j o t = tt
 
   pub all_called : (n : ℕ) (k : Method) → slice_get P.methods n ≡ Some k → AllByRecursion (Calls (symbols_of new P.fields (rewritten_methods P new)) P names) k.ops
@@ -290,29 +293,28 @@ module _ (c new : ClassFile) (P : Program) (K : Known c new P) (L : linked c ≡
 
     pub copy_is : method_of (symbols_of new P.fields (rewritten_methods P new)) true x ≡ Some (duplicate_method P k)
     copy_is =
-        let facts : CodedFacts (symbols_of new P.fields (rewritten_methods P new)) (added_method (duplicate_flags m.flags) m.name copy.t copy.c (code_spelling copy.body.code)) copy.body.code (relocated zipped (plain 191 ∷ [])) t (with_context k.name.descriptor) (wider h.shape)
+        let facts : CodedFacts (symbols_of new P.fields (rewritten_methods P new)) (added_method (duplicate_flags m.flags) copy.n copy.t copy.c (code_spelling copy.body.code)) copy.body.code (relocated zipped (plain 191 ∷ [])) (duplicate_name k.name.name) (with_context k.name.descriptor) (wider h.shape)
         (blocks P k.params k.ops ++ op.Throw ∷ []) (catch 0 (length (all_instrs zipped)) (length (all_instrs zipped)) Conflict ∷ []) None = record {
-          code = added_code new.pool (duplicate_flags m.flags) m.name copy.t copy.c copy.body.code copy.coded_is code_rules;
+          code = added_code new.pool (duplicate_flags m.flags) copy.n copy.t copy.c copy.body.code copy.coded_is code_rules;
           read = code_read;
-          named = utf8_grown c.pool new.pool K.rewritten.grown m.name t named;
+          named = copy.named;
           typed = copy.typed;
           shaped = shape;
           ops_are = means;
           catches_are = code_catches;
-          retries_are = added_retries new.pool (duplicate_flags m.flags) m.name copy.t copy.c (code_spelling copy.body.code) copy.coded_is;
+          retries_are = added_retries new.pool (duplicate_flags m.flags) copy.n copy.t copy.c (code_spelling copy.body.code) (with_context k.name.descriptor) copy.typed (context_other k.name.descriptor) copy.coded_is;
         } in
-        let it = coded_means (symbols_of new P.fields (rewritten_methods P new)) true (added_method (duplicate_flags m.flags) m.name copy.t copy.c (code_spelling copy.body.code)) copy.body.code (relocated zipped (plain 191 ∷ [])) t (with_context k.name.descriptor) (wider h.shape)
+        let it = coded_means (symbols_of new P.fields (rewritten_methods P new)) true (added_method (duplicate_flags m.flags) copy.n copy.t copy.c (code_spelling copy.body.code)) copy.body.code (relocated zipped (plain 191 ∷ [])) (duplicate_name k.name.name) (with_context k.name.descriptor) (wider h.shape)
         (blocks P k.params k.ops ++ op.Throw ∷ []) (catch 0 (length (all_instrs zipped)) (length (all_instrs zipped)) Conflict ∷ []) None facts in
         let owner : own_name new ≡ k.name.class = own_same c new P K ∙ sym (in_class n k at) in
-        let own_text : t ≡ k.name.name = sym (ap (λ (y : MethodName). y.name) h.name ∙ ap text_or_none named) in
-        let name_is : record { class = own_name new; name = t; descriptor = with_context k.name.descriptor } ≡ record { class = k.name.class; name = k.name.name; descriptor = with_context k.name.descriptor } =
-        ap (λ (y : List ℕ). name_of_parts y t (with_context k.name.descriptor)) owner ∙ ap (λ (y : List ℕ). name_of_parts k.name.class y (with_context k.name.descriptor)) own_text in
+        let name_is : record { class = own_name new; name = duplicate_name k.name.name; descriptor = with_context k.name.descriptor } ≡ record { class = k.name.class; name = duplicate_name k.name.name; descriptor = with_context k.name.descriptor } =
+        ap (λ (y : List ℕ). name_of_parts y (duplicate_name k.name.name) (with_context k.name.descriptor)) owner in
         let catches_are : catch 0 (length (all_instrs zipped)) (length (all_instrs zipped)) Conflict ∷ [] ≡ catch 0 (block_at k.ops (length k.ops)) (block_at k.ops (length k.ops)) Conflict ∷ map (moved_catch (block_at k.ops)) k.catches =
         ap (λ (y : ℕ). catch 0 y y Conflict ∷ []) many ∙ ap (λ (y : List Catch). catch 0 (block_at k.ops (length k.ops)) (block_at k.ops (length k.ops)) Conflict ∷ map (moved_catch (block_at k.ops)) y) (sym h.no_catches) in
-        let same : method_as true (record { class = own_name new; name = t; descriptor = with_context k.name.descriptor }) (h.shape.takes ++ Ref context_class ∷ []) (h.shape.params + 1) copy.body.code.max_locals copy.body.code.max_stack h.shape.gives None (blocks P k.params k.ops ++ op.Throw ∷ [])
+        let same : method_as true (record { class = own_name new; name = duplicate_name k.name.name; descriptor = with_context k.name.descriptor }) (h.shape.takes ++ Ref context_class ∷ []) (h.shape.params + 1) copy.body.code.max_locals copy.body.code.max_stack h.shape.gives None (blocks P k.params k.ops ++ op.Throw ∷ [])
         (catch 0 (length (all_instrs zipped)) (length (all_instrs zipped)) Conflict ∷ []) ≡ duplicate_method P k =
-        same_methods true (record { class = own_name new; name = t; descriptor = with_context k.name.descriptor }) (record { class = k.name.class; name = k.name.name; descriptor = with_context k.name.descriptor })
+        same_methods true (record { class = own_name new; name = duplicate_name k.name.name; descriptor = with_context k.name.descriptor }) (record { class = k.name.class; name = duplicate_name k.name.name; descriptor = with_context k.name.descriptor })
         (h.shape.takes ++ Ref context_class ∷ []) (k.takes ++ Ref context_class ∷ []) (h.shape.params + 1) (k.params + 1) copy.body.code.max_locals (k.locals + 1) copy.body.code.max_stack (k.max_stack + 1) h.shape.gives k.gives None (blocks P k.params k.ops ++ op.Throw ∷ []) (blocks P k.params k.ops ++ op.Throw ∷ [])
         (catch 0 (length (all_instrs zipped)) (length (all_instrs zipped)) Conflict ∷ []) (catch 0 (block_at k.ops (length k.ops)) (block_at k.ops (length k.ops)) Conflict ∷ map (moved_catch (block_at k.ops)) k.catches)
         name_is (ap (λ (y : List VType). y ++ Ref context_class ∷ []) (sym h.takes)) (ap (λ (y : ℕ). y + 1) (sym h.params)) (laid.locals ∙ ap (λ (y : ℕ). y + 1) (sym h.locals)) (laid.stack ∙ ap (λ (y : ℕ). y + 1) (sym h.max_stack)) (sym h.gives) refl catches_are in
-        ap (method_of (symbols_of new P.fields (rewritten_methods P new)) true) (copy.is ∙ ap (added_method (duplicate_flags m.flags) m.name copy.t copy.c) copy.body.is) ∙ it ∙ ap (λ (y : Method). Some y) same
+        ap (method_of (symbols_of new P.fields (rewritten_methods P new)) true) (copy.is ∙ ap (added_method (duplicate_flags m.flags) copy.n copy.t copy.c) copy.body.is) ∙ it ∙ ap (λ (y : Method). Some y) same

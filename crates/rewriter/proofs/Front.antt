@@ -11,12 +11,13 @@ use Rattle.jmodel.specs.declared.refusal.Halt.{Halt}
 use Rattle.jmodel.specs.ClassFile.{Pool, Member, ClassFile, Code}
 use Rattle.jmodel.specs.Program.{Field, Method, Program}
 use Rattle.jmodel.specs.Reading.{◌>>=◌, Gives}
-use Rattle.jmodel.specs.Linking.{Coded, decoded, is_marked, program_methods}
+use Rattle.jmodel.specs.Linking.{Coded, decoded, is_root, program_methods, retries_of}
 use Rattle.jmodel.specs.Relocation.{Block}
-use Rattle.jmodel.specs.Rewriting.{with_context}
+use Rattle.jmodel.specs.Rewriting.{with_context, duplicate_name}
 use Rattle.jmodel.specs.Name.{printed}
 use Rattle.jmodel.specs.Decoding.{own_name}
 use Rattle.rewriter.specs.Adding.{index_of, put, put_wide, is_utf8, put_utf8, utf8_if, add_utf8, is_integer, integer_if, add_integer, is_long, long_if, add_long, is_class, put_class, class_if, add_class, is_pair, put_pair, pair_if, add_pair, is_field, put_field, field_if, add_field, is_method, put_method, method_if, add_method}
+use Rattle.jmodel.specs.WordTypes.{type_descriptor, read_descriptor, write_descriptor}
 use Rattle.rewriter.specs.Members.{context_class, getter_type, setter_type, getter_name, setter_name, address_name, typed_name, constant_value, address_member, base_member, place_refs, look_refs, read_refs, getter_body, setter_body, accessor, getter_of, setter_of, accessors_of, Names, getter_code, setter_code, straight_bytes, gets, puts, calls, some_op, method_if_needed, getter_call, setter_call, calls_of, duplicate_call, blocks_from, duplicate_body, laid_bytes, of_method, stub, coded_duplicate, duplicate_of, opening_of, ending_of, wrapper_bytes, wrapper_of, with_code}
 use Rattle.rewriter.specs.Rewritten.{grow_from, wrapper_if, replaced, number_behind, id_behind, old_from, bases, added_fields, names_of, duplicates, added_methods, new_methods, rewritten_class, Keeps}
 
@@ -210,8 +211,8 @@ look_refs_grows own f pool =
 read_refs_grows : (own : List ℕ) (f : Field) (pool : Pool) → Grown pool (read_refs own f pool)
 unfolding read_refs
 read_refs_grows own f pool =
-    after pool (add_field own f.name (codes "I") pool) _ (add_field_grows own f.name (codes "I") pool) (λ a.
-    after a.1 (add_method context_class (codes "onReadAccess") (codes "(Ljava/lang/Object;IJ)I") a.1) _ (add_method_grows context_class (codes "onReadAccess") (codes "(Ljava/lang/Object;IJ)I") a.1) (λ b.
+    after pool (add_field own f.name (type_descriptor f.type) pool) _ (add_field_grows own f.name (type_descriptor f.type) pool) (λ a.
+    after a.1 (add_method context_class (codes "onReadAccess") (read_descriptor f.type) a.1) _ (add_method_grows context_class (codes "onReadAccess") (read_descriptor f.type) a.1) (λ b.
     given _ b.1))
 
 getter_body_grows : (own : List ℕ) (f : Field) (pool : Pool) → Grown pool (getter_body own f pool)
@@ -225,7 +226,7 @@ setter_body_grows : (own : List ℕ) (f : Field) (pool : Pool) → Grown pool (s
 unfolding setter_body
 setter_body_grows own f pool =
     after pool (place_refs own f pool) _ (place_refs_grows own f pool) (λ a.
-    after a.1 (add_method context_class (codes "onWriteAccess") (codes "(Ljava/lang/Object;IJ)V") a.1) _ (add_method_grows context_class (codes "onWriteAccess") (codes "(Ljava/lang/Object;IJ)V") a.1) (λ b.
+    after a.1 (add_method context_class (codes "onWriteAccess") (write_descriptor f.type) a.1) _ (add_method_grows context_class (codes "onWriteAccess") (write_descriptor f.type) a.1) (λ b.
     kept b.1 (straight_bytes 5 2 (setter_code a.0 b.0)) (λ x. x)))
 
 accessor_grows : (name type bytes : List ℕ) (pool : Pool) → Grown pool (accessor name type bytes pool)
@@ -239,13 +240,13 @@ getter_of_grows : (own : List ℕ) (f : Field) (pool : Pool) → Grown pool (get
 unfolding getter_of
 getter_of_grows own f pool =
     after pool (getter_body own f pool) _ (getter_body_grows own f pool) (λ a.
-    accessor_grows (getter_name f) getter_type a.0 a.1)
+    accessor_grows (getter_name f) (getter_type f.type) a.0 a.1)
 
 setter_of_grows : (own : List ℕ) (f : Field) (pool : Pool) → Grown pool (setter_of own f pool)
 unfolding setter_of
 setter_of_grows own f pool =
     after pool (setter_body own f pool) _ (setter_body_grows own f pool) (λ a.
-    accessor_grows (setter_name f) setter_type a.0 a.1)
+    accessor_grows (setter_name f) (setter_type f.type) a.0 a.1)
 
 accessors_of_grows : (own : List ℕ) (f : Field) (pool : Pool) → Grown pool (accessors_of own f pool)
 unfolding accessors_of
@@ -260,11 +261,11 @@ method_if_needed_grows needed class name descriptor pool = either pool needed _ 
 
 getter_call_grows : (P : Program) (own : List ℕ) (n : ℕ) (f : Field) (pool : Pool) → Grown pool (getter_call P own n f pool)
 unfolding getter_call
-getter_call_grows P own n f pool = method_if_needed_grows (some_op (gets n) P) own (getter_name f) getter_type pool
+getter_call_grows P own n f pool = method_if_needed_grows (some_op (gets n) P) own (getter_name f) (getter_type f.type) pool
 
 setter_call_grows : (P : Program) (own : List ℕ) (n : ℕ) (f : Field) (pool : Pool) → Grown pool (setter_call P own n f pool)
 unfolding setter_call
-setter_call_grows P own n f pool = method_if_needed_grows (some_op (puts n) P) own (setter_name f) setter_type pool
+setter_call_grows P own n f pool = method_if_needed_grows (some_op (puts n) P) own (setter_name f) (setter_type f.type) pool
 
 calls_of_grows : (P : Program) (own : List ℕ) (n : ℕ) (f : Field) (pool : Pool) → Grown pool (calls_of P own n f pool)
 unfolding calls_of
@@ -275,7 +276,7 @@ calls_of_grows P own n f pool =
 
 duplicate_call_grows : (P : Program) (n : ℕ) (k : Method) (pool : Pool) → Grown pool (duplicate_call P n k pool)
 unfolding duplicate_call
-duplicate_call_grows P n k pool = method_if_needed_grows (some_op (calls n) P) k.name.class k.name.name (with_context k.name.descriptor) pool
+duplicate_call_grows P n k pool = method_if_needed_grows (some_op (calls n) P) k.name.class (duplicate_name k.name.name) (with_context k.name.descriptor) pool
 
 duplicate_body_grows : (name : List ℕ) (k : Code) (blocks : List Block) (pool : Pool) → Grown pool (duplicate_body name k blocks pool)
 unfolding duplicate_body
@@ -288,36 +289,37 @@ coded_duplicate_grows : (names : Names) (k : Method) (m : Member) (coded : Coded
 unfolding coded_duplicate
 coded_duplicate_grows names k m coded pool =
     after pool (duplicate_body (printed k.name) coded.code (blocks_from names k.params k.ops 0 coded.instrs) pool) _ (duplicate_body_grows (printed k.name) coded.code (blocks_from names k.params k.ops 0 coded.instrs) pool) (λ a.
-    after a.1 (add_utf8 (with_context k.name.descriptor) a.1) _ (add_utf8_grows (with_context k.name.descriptor) a.1) (λ b.
+    after a.1 (add_utf8 (duplicate_name k.name.name) a.1) _ (add_utf8_grows (duplicate_name k.name.name) a.1) (λ n.
+    after n.1 (add_utf8 (with_context k.name.descriptor) n.1) _ (add_utf8_grows (with_context k.name.descriptor) n.1) (λ b.
     after b.1 (add_utf8 (codes "Code") b.1) _ (add_utf8_grows (codes "Code") b.1) (λ d.
-    given _ d.1)))
+    given _ d.1))))
 
 duplicate_of_grows : (c : ClassFile) (names : Names) (k : Method) (m : Member) (pool : Pool) → Grown pool (duplicate_of c names k m pool)
 unfolding duplicate_of
 duplicate_of_grows c names k m pool = instead pool (decoded c m) (λ coded. coded_duplicate names k m coded pool) (λ coded. coded_duplicate_grows names k m coded pool)
 
-opening_of_grows : (n : ℕ) (pool : Pool) → Grown pool (opening_of n pool)
+opening_of_grows : (n : ℕ) (attempts : ℤ) (pool : Pool) → Grown pool (opening_of n attempts pool)
 unfolding opening_of
-opening_of_grows n pool =
+opening_of_grows n attempts pool =
     after pool (add_method (codes "org/deuce/transaction/ContextDelegator") (codes "getInstance") (codes "()Lorg/deuce/transaction/Context;") pool) _ (add_method_grows (codes "org/deuce/transaction/ContextDelegator") (codes "getInstance") (codes "()Lorg/deuce/transaction/Context;") pool) (λ a.
     after a.1 (add_integer (pos n) a.1) _ (add_integer_grows (pos n) a.1) (λ b.
-    after b.1 (add_integer (pos 2147483647) b.1) _ (add_integer_grows (pos 2147483647) b.1) (λ d.
+    after b.1 (add_integer attempts b.1) _ (add_integer_grows attempts b.1) (λ d.
     after d.1 (add_method context_class (codes "init") (codes "(II)V") d.1) _ (add_method_grows context_class (codes "init") (codes "(II)V") d.1) (λ e.
     given _ e.1))))
 
 ending_of_grows : (k : Method) (pool : Pool) → Grown pool (ending_of k pool)
 unfolding ending_of
 ending_of_grows k pool =
-    after pool (add_method k.name.class k.name.name (with_context k.name.descriptor) pool) _ (add_method_grows k.name.class k.name.name (with_context k.name.descriptor) pool) (λ a.
+    after pool (add_method k.name.class (duplicate_name k.name.name) (with_context k.name.descriptor) pool) _ (add_method_grows k.name.class (duplicate_name k.name.name) (with_context k.name.descriptor) pool) (λ a.
     after a.1 (add_method context_class (codes "commit") (codes "()Z") a.1) _ (add_method_grows context_class (codes "commit") (codes "()Z") a.1) (λ b.
     after b.1 (add_method context_class (codes "rollback") (codes "()V") b.1) _ (add_method_grows context_class (codes "rollback") (codes "()V") b.1) (λ d.
     after d.1 (add_class (codes "org/deuce/transaction/TransactionException") d.1) _ (add_class_grows (codes "org/deuce/transaction/TransactionException") d.1) (λ e.
     given _ e.1))))
 
-wrapper_of_grows : (c : ClassFile) (n : ℕ) (k : Method) (m : Member) (pool : Pool) → Grown pool (wrapper_of c n k m pool)
+wrapper_of_grows : (c : ClassFile) (n : ℕ) (attempts : ℤ) (k : Method) (m : Member) (pool : Pool) → Grown pool (wrapper_of c n attempts k m pool)
 unfolding wrapper_of
-wrapper_of_grows c n k m pool =
-    either pool (nat_lt 65535 n) _ _ (fails _ pool) (after pool (opening_of n pool) _ (opening_of_grows n pool) (λ a.
+wrapper_of_grows c n attempts k m pool =
+    either pool (nat_lt 65535 n) _ _ (fails _ pool) (after pool (opening_of n attempts pool) _ (opening_of_grows n attempts pool) (λ a.
     after a.1 (ending_of k a.1) _ (ending_of_grows k a.1) (λ b. kept b.1 (wrapper_bytes k a.0 b.0) (λ bytes. with_code c.pool bytes m))))
 
 -- ---- the class
@@ -355,12 +357,13 @@ added_methods_grow P c pool =
     after pool (grow_from (λ n f. accessors_of (own_name c) f) 0 P.fields pool) _ (grow_from_grows (λ n f. accessors_of (own_name c) f) (λ n f q. accessors_of_grows (own_name c) f q) 0 P.fields pool) (λ a.
     after a.1 (duplicates P c a.1) _ (duplicates_grow P c a.1) (λ b. given _ b.1))
 
-wrapper_if_grows : (c : ClassFile) (n : ℕ) (o : Option Method) (m : Member) (pool : Pool) → Grown pool (wrapper_if c n o m pool)
-wrapper_if_grows c n None m pool = given m pool
-wrapper_if_grows c n (Some k) m pool = wrapper_of_grows c n k m pool
+wrapper_if_grows : (c : ClassFile) (n : ℕ) (a : Option ℤ) (o : Option Method) (m : Member) (pool : Pool) → Grown pool (wrapper_if c n a o m pool)
+wrapper_if_grows c n None o m pool = given m pool
+wrapper_if_grows c n (Some attempts) None m pool = given m pool
+wrapper_if_grows c n (Some attempts) (Some k) m pool = wrapper_of_grows c n attempts k m pool
 
 replaced_grows : (P : Program) (c : ClassFile) (n id : ℕ) (m : Member) (pool : Pool) → Grown pool (replaced P c n id m pool)
-replaced_grows P c n id m pool = either pool (is_marked c.pool m) _ _ (wrapper_if_grows c id (slice_get P.methods n) m pool) (given m pool)
+replaced_grows P c n id m pool = wrapper_if_grows c id (retries_of c.pool m) (slice_get P.methods n) m pool
 
 old_from_grows : (P : Program) (c : ClassFile) (n id : ℕ) (ms : List Member) (pool : Pool) → Grown pool (old_from P c n id ms pool)
 old_from_grows P c n id [] pool = given [] pool

@@ -1,7 +1,8 @@
 -- Instructions that a duplicate keeps: what they mean there, and that they can be laid.
 use Rattle.std.proofs.Common.{◌≡◌, ℕ, ℤ, Bool, true, false, ◌&&◌, ◌||◌, List, [], ◌∷◌, Option, Some, None, refl, sym, ap, ◌∙◌, subst, arith, eqb-true}
-use Rattle.std.specs.Prelude.{if◌then◌else◌, option_map, option_and_then, nat_le, ◌==◌, FitsSigned}
-use Rattle.std.specs.Int.{w8, w16}
+use Rattle.std.specs.Prelude.{if◌then◌else◌, map, pos, int_lt, option_map, option_and_then, nat_le, ◌==◌, FitsSigned}
+use Rattle.std.specs.Int.{w8, w16, w32, int_wrapping_add}
+use Rattle.std.specs.List.{AllByRecursion}
 use Rattle.std.proofs.lemmas.Int.{ints}
 use Rattle.jmodel.specs.declared.class_file.Constant.{Constant}
 use Rattle.jmodel.specs.declared.value.Value.{Value}
@@ -19,19 +20,22 @@ use Rattle.jmodel.specs.declared.instruction.Operands.TheVariants as operands
 use Rattle.jmodel.specs.declared.instruction.Instr.{Instr}
 use Rattle.jmodel.specs.declared.op.Op.{Op}
 use Rattle.jmodel.specs.declared.op.Op.TheVariants as op
-use Rattle.jmodel.specs.declared.op.WordType.TheVariants as word
+use Rattle.jmodel.specs.WordTypes.{read_descriptor, write_descriptor, type_with}
 use Rattle.jmodel.specs.declared.op.Test.{Test}
 use Rattle.jmodel.specs.declared.op.ContextCall.TheVariants as context
 use Rattle.jmodel.specs.ClassFile.{Pool}
 use Rattle.jmodel.specs.Pool.{entry, MemberName, field_name, method_name}
 use Rattle.jmodel.specs.Constants.{integer}
 use Rattle.jmodel.specs.Layout.{base_of}
-use Rattle.jmodel.specs.Instruction.{form_of, IsSizedAs, is_kind_in, FitsWide, Names, Counts, FitPoolAs, IsInstrOver}
+use Rattle.jmodel.specs.Instruction.{form_of, targets_of, ascend, ascend_after, IsSizedAs, is_kind_in, FitsWide, Names, Counts, FitPoolAs, IsInstrOver}
+use Rattle.jmodel.specs.Rewriting.{moved_cases}
 use Rattle.jmodel.specs.Relocation.{retarget, IsShapedAs}
-use Rattle.jmodel.specs.Decoding.{number_at, Symbols, field_number, method_number, long_field, simple_op, number_op, local_op, wide_op, test_of, jump_to, jump_op, get_op, put_op, static_call_op, context_op, virtual_call_op, pool_op, meaning, op_of}
+use Rattle.jmodel.specs.Decoding.{number_at, Symbols, field_number, method_number, long_field, simple_op, number_op, local_op, wide_op, test_of, jump_to, jump_op, in_front, each, table_cases, numbered_case, ascending_op, switch_op, get_op, put_op, static_call_op, context_op, virtual_call_op, pool_op, meaning, op_of}
 use Rattle.rewriter.proofs.Grown.{Grown, entry_grown, integer_grown}
 use Rattle.jmodel.specs.Relocation.{Block}
-use Rattle.rewriter.proofs.Read.{IsSimple, IsLaid, LeadsIn}
+use Rattle.rewriter.proofs.Positions.{At}
+use Rattle.rewriter.proofs.Lay.{is_block}
+use Rattle.rewriter.proofs.Read.{IsLaid, LeadsIn}
 use Rattle.rewriter.proofs.Single.{Means}
 
 -- what stands in the duplicate as it stood, and leads nowhere
@@ -91,6 +95,15 @@ jump_to_other c to =
 jump_other : (is : List Instr) (c t : ℕ) → None_of is_same (jump_op is c t)
 jump_other is c t = chained is_same (jump_to c) (number_at is t) (λ n. jump_to_other c n)
 
+-- nor are switches
+switch_other : (p : Op → Bool) → ((o : ℕ) (cs : List (ℤ × ℕ)) → p (op.Switch o cs) ≡ false) → (is : List Instr) (other : ℕ) (cases : List (ℤ × ℕ)) → None_of p (switch_op is other cases)
+switch_other p h is other cases = go (number_at is other) (each (numbered_case is) cases)
+  where
+    go : (o : Option ℕ) (cs : Option (List (ℤ × ℕ))) → None_of p (ascending_op o cs)
+    go (Some o) (Some cs) = either p (ascend cs) (Some (op.Switch o cs)) None (leaf p (op.Switch o cs) (h o cs)) (nothing p)
+    go (Some o) None = nothing p
+    go None cs = nothing p
+
 local_other : (p : Op → Bool) (c n : ℕ) → p (op.Load n) ≡ false → p (op.Store n) ≡ false → None_of p (local_op c n)
 local_other p c n h k = either p ((c == 21) || (c == 25)) (Some (op.Load n)) _ (leaf p (op.Load n) h) (either p ((c == 54) || (c == 58)) (Some (op.Store n)) None (leaf p (op.Store n) k) (nothing p))
 
@@ -100,15 +113,15 @@ get_other s m =
     (either is_same _ (Some (op.Constant (value.Ref (base_of (s.class ∷ []) 0)))) None (leaf is_same _ refl) (nothing is_same)))
 
 put_other : (s : Symbols) (m : MemberName) → None_of is_same (put_op s m)
-put_other s m = either is_same _ _ None (mapped is_same op.PutStatic (field_number s.fields m) (λ x. refl)) (nothing is_same)
+put_other s m = mapped is_same op.PutStatic (field_number s.fields m) (λ x. refl)
 
 static_other : (s : Symbols) (m : MemberName) → None_of is_same (static_call_op s m)
 static_other s m = either is_same _ (Some op.GetContext) _ (leaf is_same _ refl) (mapped is_same op.InvokeStatic (method_number s.methods m) (λ x. refl))
 
 context_other : (m : MemberName) → None_of is_same (context_op m)
 context_other m =
-    either is_same _ (Some (op.Context context.Init)) _ (leaf is_same _ refl) (either is_same _ (Some (op.Context context.BeforeRead)) _ (leaf is_same _ refl) (either is_same _ (Some (op.Context (context.OnRead word.Int))) _ (leaf is_same _ refl)
-    (either is_same _ (Some (op.Context (context.OnWrite word.Int))) _ (leaf is_same _ refl) (either is_same _ (Some (op.Context context.Commit)) _ (leaf is_same _ refl) (either is_same _ (Some (op.Context context.Rollback)) None (leaf is_same _ refl) (nothing is_same))))))
+    either is_same _ (Some (op.Context context.Init)) _ (leaf is_same _ refl) (either is_same _ (Some (op.Context context.BeforeRead)) _ (leaf is_same _ refl) (either is_same _ _ _ (mapped is_same (λ t. op.Context (context.OnRead t)) (type_with read_descriptor m.descriptor) (λ t. refl))
+    (either is_same _ _ _ (mapped is_same (λ t. op.Context (context.OnWrite t)) (type_with write_descriptor m.descriptor) (λ t. refl)) (either is_same _ (Some (op.Context context.Commit)) _ (leaf is_same _ refl) (either is_same _ (Some (op.Context context.Rollback)) None (leaf is_same _ refl) (nothing is_same))))))
 
 virtual_other : (m : MemberName) → None_of is_same (virtual_call_op m)
 virtual_other m = either is_same _ _ None (context_other m) (nothing is_same)
@@ -149,8 +162,8 @@ module _ (s0 s : Symbols) (G : Grown s0.class.pool s.class.pool) (is0 is : List 
   meaning_kept c (operands.Wide w n a) = kept_refl _
   meaning_kept c (operands.Interface i n) = kept_other _ _ (nothing is_same)
   meaning_kept c (operands.Dimensions i n) = kept_other _ _ (nothing is_same)
-  meaning_kept c (operands.Table other low ts) = kept_other _ _ (nothing is_same)
-  meaning_kept c (operands.Lookup other ps) = kept_other _ _ (nothing is_same)
+  meaning_kept c (operands.Table other low ts) = kept_other _ _ (switch_other is_same (λ o cs. refl) is0 other (table_cases low ts))
+  meaning_kept c (operands.Lookup other ps) = kept_other _ _ (switch_other is_same (λ o cs. refl) is0 other ps)
 
   pub same_means : (i : Instr) (o : Op) → is_same o ≡ true → op_of s0 is0 i ≡ Some o → Means s place is o i
   same_means i o h e at = (meaning_kept i.op i.operands).kept o e h
@@ -180,7 +193,8 @@ module _ (p : Op → Bool) (F : IsFar p) where
       either p (nat_le 2 c && nat_le c 8) _ _ (leaf p _ (F.constant _))
       (either p ((c == 0) || (nat_le 87 c && nat_le c 95)) _ _
       (either p (c == 0) _ _ (leaf p _ (F.rearrange _)) (either p (c == 87) _ _ (leaf p _ (F.rearrange _)) (either p (c == 88) _ _ (leaf p _ (F.rearrange _)) (either p (c == 89) _ _ (leaf p _ (F.rearrange _))
-      (either p (c == 90) _ _ (leaf p _ (F.rearrange _)) (either p (c == 92) _ _ (leaf p _ (F.rearrange _)) (either p (c == 95) _ None (leaf p _ (F.rearrange _)) (nothing p))))))))
+      (either p (c == 90) _ _ (leaf p _ (F.rearrange _)) (either p (c == 91) _ _ (leaf p _ (F.rearrange _)) (either p (c == 92) _ _ (leaf p _ (F.rearrange _)) (either p (c == 93) _ _ (leaf p _ (F.rearrange _))
+      (either p (c == 94) _ _ (leaf p _ (F.rearrange _)) (either p (c == 95) _ None (leaf p _ (F.rearrange _)) (nothing p)))))))))))
       (either p (nat_le 96 c && nat_le c 147) _ _
       (either p (c == 96) _ _ (leaf p _ (F.binary _)) (either p (c == 100) _ _ (leaf p _ (F.binary _)) (either p (c == 104) _ _ (leaf p _ (F.binary _)) (either p (c == 116) _ _ (leaf p _ (F.unary _))
       (either p (c == 120) _ _ (leaf p _ (F.binary _)) (either p (c == 122) _ _ (leaf p _ (F.binary _)) (either p (c == 124) _ _ (leaf p _ (F.binary _)) (either p (c == 126) _ _ (leaf p _ (F.binary _))
@@ -202,10 +216,10 @@ module _ (p : Op → Bool) (F : IsFar p) where
       either p ((c == 18) || (c == 19)) _ _ (mapped p (λ n. op.Constant (value.Int n)) (integer s.class.pool i) (λ x. F.constant _))
       (either p (c == 178) _ _ (chained p (get_op s) (field_name s.class.pool i) (λ m. either p _ _ _ (mapped p op.GetStatic (field_number s.fields m) (λ x. F.get x)) (either p _ _ _ (mapped p (λ x. op.Constant (value.Long x)) (long_field s.class m) (λ x. F.constant _))
       (either p _ (Some (op.Constant (value.Ref (base_of (s.class ∷ []) 0)))) None (leaf p _ (F.constant _)) (nothing p)))))
-      (either p (c == 179) _ _ (chained p (put_op s) (field_name s.class.pool i) (λ m. either p _ _ None (mapped p op.PutStatic (field_number s.fields m) (λ x. F.put x)) (nothing p)))
+      (either p (c == 179) _ _ (chained p (put_op s) (field_name s.class.pool i) (λ m. mapped p op.PutStatic (field_number s.fields m) (λ x. F.put x)))
       (either p (c == 182) _ _ (chained p virtual_call_op (method_name s.class.pool i) (λ m. either p _ _ None
-      (either p _ (Some (op.Context context.Init)) _ (leaf p _ (F.context _)) (either p _ (Some (op.Context context.BeforeRead)) _ (leaf p _ (F.context _)) (either p _ (Some (op.Context (context.OnRead word.Int))) _ (leaf p _ (F.context _))
-      (either p _ (Some (op.Context (context.OnWrite word.Int))) _ (leaf p _ (F.context _)) (either p _ (Some (op.Context context.Commit)) _ (leaf p _ (F.context _)) (either p _ (Some (op.Context context.Rollback)) None (leaf p _ (F.context _)) (nothing p)))))))
+      (either p _ (Some (op.Context context.Init)) _ (leaf p _ (F.context _)) (either p _ (Some (op.Context context.BeforeRead)) _ (leaf p _ (F.context _)) (either p _ _ _ (mapped p (λ t. op.Context (context.OnRead t)) (type_with read_descriptor m.descriptor) (λ t. F.context _))
+      (either p _ _ _ (mapped p (λ t. op.Context (context.OnWrite t)) (type_with write_descriptor m.descriptor) (λ t. F.context _)) (either p _ (Some (op.Context context.Commit)) _ (leaf p _ (F.context _)) (either p _ (Some (op.Context context.Rollback)) None (leaf p _ (F.context _)) (nothing p)))))))
       (nothing p)))
       (either p (c == 184) _ None (chained p (static_call_op s) (method_name s.class.pool i) (λ m. either p _ (Some op.GetContext) _ (leaf p _ F.begin) (mapped p op.InvokeStatic (method_number s.methods m) (λ x. F.call x)))) (nothing p)))))
 
@@ -291,8 +305,8 @@ adds_little s is c (operands.Wide w n a) pc m b e h = go (form_of c) h
     go (Some f) h = absurd h
 adds_little s is c (operands.Interface i n) pc m b e h = absurd cc
 adds_little s is c (operands.Dimensions i n) pc m b e h = absurd cc
-adds_little s is c (operands.Table other low ts) pc m b e h = absurd cc
-adds_little s is c (operands.Lookup other ps) pc m b e h = absurd cc
+adds_little s is c (operands.Table other low ts) pc m b e h = absurd ((switch_other is_increment (λ o cs. refl) is other (table_cases low ts)).other (op.Increment m b) e refl)
+adds_little s is c (operands.Lookup other ps) pc m b e h = absurd ((switch_other is_increment (λ o cs. refl) is other ps).other (op.Increment m b) e refl)
 
 -- ---- what leads nowhere
 
@@ -320,8 +334,8 @@ jump_is s is c (operands.Pool i) o h e = absurd ((pool_far is_jump far_jump s c 
 jump_is s is c (operands.Wide w n a) o h e = absurd ((wide_jumps_not w n a).other o e h)
 jump_is s is c (operands.Interface i n) o h e = absurd cc
 jump_is s is c (operands.Dimensions i n) o h e = absurd cc
-jump_is s is c (operands.Table other low ts) o h e = absurd cc
-jump_is s is c (operands.Lookup other ps) o h e = absurd cc
+jump_is s is c (operands.Table other low ts) o h e = absurd ((switch_other is_jump (λ o cs. refl) is other (table_cases low ts)).other o e h)
+jump_is s is c (operands.Lookup other ps) o h e = absurd ((switch_other is_jump (λ o cs. refl) is other ps).other o e h)
 jump_is s is c (operands.Target t) o h e = target_jumps is c t o e
 
 -- the same jump to another instruction
@@ -341,6 +355,145 @@ jump_moved at c n o h = go (nat_le 153 c && nat_le c 158) (test_of 153 c) (nat_l
 pub jump_means : (s : Symbols) (is0 is : List Instr) (place at : ℕ → ℕ) (i : Instr) (o : Op) (j : Jumps is0 i.op i.operands o) → number_at is (place j.target) ≡ Some (at j.number) → Means s place is (jump_by at o) i
 jump_means s is0 is place at i o j e where_at =
     ap (λ (x : Operands). meaning s is i.op (retarget place x)) j.is_target ∙ ap (option_and_then (jump_to i.op)) e ∙ jump_moved at i.op j.number o j.means
+
+-- ---- switches
+
+abbrev is_switch : Op → Bool
+is_switch (op.Switch other cases) = true
+is_switch o = false
+
+far_switch : IsFar is_switch
+far_switch = record {
+  constant = λ v. refl;
+  rearrange = λ r. refl;
+  binary = λ b. refl;
+  unary = λ u. refl;
+  gives = refl;
+  returns = refl;
+  throws = refl;
+  load = λ n. refl;
+  store = λ n. refl;
+  get = λ f. refl;
+  put = λ f. refl;
+  call = λ m. refl;
+  begin = refl;
+  context = λ c. refl;
+}
+
+jump_switches_not : (is : List Instr) (c t : ℕ) → None_of is_switch (jump_op is c t)
+jump_switches_not is c t =
+    chained is_switch (jump_to c) (number_at is t) (λ n. either is_switch (nat_le 153 c && nat_le c 158) _ _ (mapped is_switch (λ (q : Test). op.Branch q n) (test_of 153 c) (λ x. refl))
+    (either is_switch (nat_le 159 c && nat_le c 164) _ _ (mapped is_switch (λ (q : Test). op.BranchInts q n) (test_of 159 c) (λ x. refl))
+    (either is_switch ((c == 167) || (c == 200)) (Some (op.Goto n)) None (leaf is_switch (op.Goto n) refl) (nothing is_switch))))
+
+-- the cases of operands
+pub record Switches (is : List Instr) (operand : Operands) (o : Op) : Type 0 where
+  pub other : ℕ
+  pub cases : List (ℤ × ℕ)
+  pub means : switch_op is other cases ≡ Some o
+  pub targets : targets_of operand ≡ other ∷ map (λ (c : ℤ × ℕ). c.1) cases
+  pub moves : (s : Symbols) (is' : List Instr) (c : ℕ) (place : ℕ → ℕ) → meaning s is' c (retarget place operand) ≡ switch_op is' (place other) (moved_cases place cases)
+
+table_targets : (key : ℤ) (ts : List ℕ) → ts ≡ map (λ (c : ℤ × ℕ). c.1) (table_cases key ts)
+table_targets key [] = refl
+table_targets key (t ∷ ts) = ap (λ (l : List ℕ). t ∷ l) (table_targets (int_wrapping_add w32 key (pos 1)) ts)
+
+table_moved : (place : ℕ → ℕ) (key : ℤ) (ts : List ℕ) → table_cases key (map place ts) ≡ moved_cases place (table_cases key ts)
+table_moved place key [] = refl
+table_moved place key (t ∷ ts) = ap (λ (l : List (ℤ × ℕ)). (key, place t) ∷ l) (table_moved place (int_wrapping_add w32 key (pos 1)) ts)
+
+pub switch_is : (s : Symbols) (is : List Instr) (c : ℕ) (operand : Operands) (other : ℕ) (cases : List (ℤ × ℕ)) → meaning s is c operand ≡ Some (op.Switch other cases) → Switches is operand (op.Switch other cases)
+switch_is s is c operands.Nothing o cs e = absurd ((simple_far is_switch far_switch c).other _ e refl)
+switch_is s is c (operands.Number n) o cs e = absurd ((number_far is_switch far_switch c n).other _ e refl)
+switch_is s is c (operands.Local n) o cs e = absurd ((local_far is_switch far_switch c n).other _ e refl)
+switch_is s is c (operands.LocalAdd n a) o cs e = absurd ((leaf is_switch (op.Increment n a) refl).other _ e refl)
+switch_is s is c (operands.Pool i) o cs e = absurd ((pool_far is_switch far_switch s c i).other _ e refl)
+switch_is s is c (operands.Target t) o cs e = absurd ((jump_switches_not is c t).other _ e refl)
+switch_is s is c (operands.Wide w n a) o cs e = absurd ((either is_switch (w == 132) (Some (op.Increment n a)) _ (leaf is_switch _ refl) (local_far is_switch far_switch w n)).other _ e refl)
+switch_is s is c (operands.Interface i n) o cs e = absurd cc
+switch_is s is c (operands.Dimensions i n) o cs e = absurd cc
+switch_is s is c (operands.Table other low ts) o cs e = record {
+  other = other;
+  cases = table_cases low ts;
+  means = e;
+  targets = ap (λ (l : List ℕ). other ∷ l) (table_targets low ts);
+  moves = λ s is c place. ap (switch_op is (place other)) (table_moved place low ts);
+}
+switch_is s is c (operands.Lookup other ps) o cs e = record { other = other; cases = ps; means = e; targets = refl; moves = λ s is c place. refl }
+
+ascend_moved : (at : ℕ → ℕ) (k : Option ℤ) (cs : List (ℤ × ℕ)) → ascend_after k (moved_cases at cs) ≡ ascend_after k cs
+ascend_moved at k [] = refl
+ascend_moved at None (c ∷ cs) = ascend_moved at (Some c.0) cs
+ascend_moved at (Some k) (c ∷ cs) = ap (λ (b : Bool). int_lt k c.0 && b) (ascend_moved at (Some c.0) cs)
+
+-- in code in which each target's instruction has moved
+module _ (is0 is : List Instr) (place at : ℕ → ℕ) (moves : (t n : ℕ) → number_at is0 t ≡ Some n → number_at is (place t) ≡ Some (at n)) where
+  case_moved : (c d : ℤ × ℕ) → numbered_case is0 c ≡ Some d → numbered_case is (c.0, place c.1) ≡ Some (d.0, at d.1)
+  case_moved c d e = go (number_at is0 c.1) refl e
+    where
+      go : (o : Option ℕ) → number_at is0 c.1 ≡ o → option_map (λ (n : ℕ). (c.0, n)) o ≡ Some d → numbered_case is (c.0, place c.1) ≡ Some (d.0, at d.1)
+      go None q h = cc
+      go (Some n) q h = let there = moves c.1 n q in let pair : ℤ × ℕ = (c.0, n) in let same : pair ≡ d = cc in rw there (ap (λ (x : ℤ × ℕ). Some (x.0, at x.1)) same)
+
+  cases_moved : (cs ns : List (ℤ × ℕ)) → each (numbered_case is0) cs ≡ Some ns → each (numbered_case is) (moved_cases place cs) ≡ Some (moved_cases at ns)
+  cases_moved [] ns e = let none : ns ≡ [] = cc in rw none refl
+  cases_moved (c ∷ cs) ns e = go (numbered_case is0 c) refl (each (numbered_case is0) cs) refl e (λ ms h. cases_moved cs ms h)
+    where
+      go : (o : Option (ℤ × ℕ)) → numbered_case is0 c ≡ o → (os : Option (List (ℤ × ℕ))) → each (numbered_case is0) cs ≡ os → in_front o os ≡ Some ns
+          → ((ms : List (ℤ × ℕ)) → each (numbered_case is0) cs ≡ Some ms → each (numbered_case is) (moved_cases place cs) ≡ Some (moved_cases at ms)) → each (numbered_case is) (moved_cases place (c ∷ cs)) ≡ Some (moved_cases at ns)
+      go None q os r h more = cc
+      go (Some d) q None r h more = cc
+      go (Some d) q (Some ms) r h more =
+          let list : ns ≡ d ∷ ms = cc in
+          let first = case_moved c d q in
+          let rest = more ms r in
+          rw (list, first, rest) refl
+
+  switch_moved : (other : ℕ) (cases : List (ℤ × ℕ)) (o : ℕ) (cs : List (ℤ × ℕ)) → switch_op is0 other cases ≡ Some (op.Switch o cs) → switch_op is (place other) (moved_cases place cases) ≡ Some (op.Switch (at o) (moved_cases at cs))
+  switch_moved other cases o cs e = go (number_at is0 other) refl (each (numbered_case is0) cases) refl e
+    where
+      kept : (b : Bool) (m : ℕ) (ns : List (ℤ × ℕ)) → (if b then Some (op.Switch m ns) else None) ≡ Some (op.Switch o cs) → (if b then Some (op.Switch (at m) (moved_cases at ns)) else None) ≡ Some (op.Switch (at o) (moved_cases at cs))
+      kept true m ns h = let x : m ≡ o = cc in let y : ns ≡ cs = cc in rw (x, y) refl
+      kept false m ns h = cc
+
+      go : (m : Option ℕ) → number_at is0 other ≡ m → (ns : Option (List (ℤ × ℕ))) → each (numbered_case is0) cases ≡ ns → ascending_op m ns ≡ Some (op.Switch o cs)
+          → switch_op is (place other) (moved_cases place cases) ≡ Some (op.Switch (at o) (moved_cases at cs))
+      go None q ns r h = cc
+      go (Some m) q None r h = cc
+      go (Some m) q (Some ns) r h =
+          let first = moves other m q in
+          let rest = cases_moved cases ns r in
+          let up = ascend_moved at None ns in
+          rw (first, rest, up) (kept (ascend ns) m ns h)
+
+  pub switch_means : (s : Symbols) (i : Instr) (o : ℕ) (cs : List (ℤ × ℕ)) → Switches is0 i.operands (op.Switch o cs) → Means s place is (op.Switch (at o) (moved_cases at cs)) i
+  switch_means s i o cs w a = w.moves s is i.op place ∙ switch_moved w.other w.cases o cs w.means
+
+  -- each target has an instruction
+  case_there : (P : ℕ → Type 0) → ((t n : ℕ) → number_at is0 t ≡ Some n → P t) → (c d : ℤ × ℕ) → numbered_case is0 c ≡ Some d → P c.1
+  case_there P f c d e = go (number_at is0 c.1) refl e
+    where
+      go : (o : Option ℕ) → number_at is0 c.1 ≡ o → option_map (λ (n : ℕ). (c.0, n)) o ≡ Some d → P c.1
+      go None q h = cc
+      go (Some n) q h = f c.1 n q
+
+  cases_there : (P : ℕ → Type 0) → ((t n : ℕ) → number_at is0 t ≡ Some n → P t) → (cs ns : List (ℤ × ℕ)) → each (numbered_case is0) cs ≡ Some ns → AllByRecursion P (map (λ (c : ℤ × ℕ). c.1) cs)
+  cases_there P f [] ns e = tt
+  cases_there P f (c ∷ cs) ns e = go (numbered_case is0 c) refl (each (numbered_case is0) cs) refl e (λ ms h. cases_there P f cs ms h)
+    where
+      go : (o : Option (ℤ × ℕ)) → numbered_case is0 c ≡ o → (os : Option (List (ℤ × ℕ))) → each (numbered_case is0) cs ≡ os → in_front o os ≡ Some ns
+          → ((ms : List (ℤ × ℕ)) → each (numbered_case is0) cs ≡ Some ms → AllByRecursion P (map (λ (c : ℤ × ℕ). c.1) cs)) → AllByRecursion P (map (λ (c : ℤ × ℕ). c.1) (c ∷ cs))
+      go None q os r h more = cc
+      go (Some d) q None r h more = cc
+      go (Some d) q (Some ms) r h more = (case_there P f c d q, more ms r)
+
+  pub switch_there : (P : ℕ → Type 0) → ((t n : ℕ) → number_at is0 t ≡ Some n → P t) → (operand : Operands) (o : Op) → Switches is0 operand o → AllByRecursion P (targets_of operand)
+  switch_there P f operand o w = subst (AllByRecursion P) (sym w.targets) (go (number_at is0 w.other) refl (each (numbered_case is0) w.cases) refl w.means)
+    where
+      go : (m : Option ℕ) → number_at is0 w.other ≡ m → (ns : Option (List (ℤ × ℕ))) → each (numbered_case is0) w.cases ≡ ns → ascending_op m ns ≡ Some o → AllByRecursion P (w.other ∷ map (λ (c : ℤ × ℕ). c.1) w.cases)
+      go None q ns r h = cc
+      go (Some m) q None r h = cc
+      go (Some m) q (Some ns) r h = (f w.other m q, cases_there P f w.cases ns r)
 
 -- ---- that they can be laid
 
@@ -400,27 +553,18 @@ fit_any a b G (Some form.Wide) o m h = tt
 fit_any a b G (Some form.Table) o m h = tt
 fit_any a b G (Some form.Lookup) o m h = tt
 
-simple_meant : (s : Symbols) (is : List Instr) (c : ℕ) (o : Operands) (x : Op) → meaning s is c o ≡ Some x → IsSimple o × IsMeant o
-simple_meant s is c (operands.Interface i n) x e = absurd cc
-simple_meant s is c (operands.Table other low ts) x e = absurd cc
-simple_meant s is c (operands.Lookup other ps) x e = absurd cc
-simple_meant s is c operands.Nothing x e = (tt, tt)
-simple_meant s is c (operands.Number n) x e = (tt, tt)
-simple_meant s is c (operands.Local n) x e = (tt, tt)
-simple_meant s is c (operands.LocalAdd n a) x e = (tt, tt)
-simple_meant s is c (operands.Pool i) x e = (tt, tt)
-simple_meant s is c (operands.Dimensions i n) x e = (tt, tt)
-simple_meant s is c (operands.Target t) x e = (tt, tt)
-simple_meant s is c (operands.Wide w n a) x e = (tt, tt)
+meant_not : (s : Symbols) (is : List Instr) (c : ℕ) (o : Operands) (x : Op) → meaning s is c o ≡ Some x → IsMeant o
+meant_not s is c (operands.Interface i n) x e = absurd cc
+meant_not s is c o x e = tt
 
 pub kept_laid : (s0 : Symbols) (is0 : List Instr) (Z : Pool) → Grown s0.class.pool Z → (i : Instr) (o : Op) → IsInstrOver s0.class.pool i → op_of s0 is0 i ≡ Some o → IsLaid Z i
 kept_laid s0 is0 Z G i o h e =
-    let m = simple_meant s0 is0 i.op i.operands o e in
-    record { shaped = record { op = h.instr.op; operands = shaped_of i.pc (form_of i.op) i.operands h.instr.operands }; simple = m.0; fits = fit_any s0.class.pool Z G (form_of i.op) i.operands m.1 h.entry }
+    let m = meant_not s0 is0 i.op i.operands o e in
+    record { shaped = record { op = h.instr.op; operands = shaped_of i.pc (form_of i.op) i.operands h.instr.operands }; fits = fit_any s0.class.pool Z G (form_of i.op) i.operands m h.entry }
 
 -- an instruction that means something is one over a pool that has grown
 pub over_grown : (s0 : Symbols) (is0 : List Instr) (Z : Pool) → Grown s0.class.pool Z → (i : Instr) (o : Op) → IsInstrOver s0.class.pool i → op_of s0 is0 i ≡ Some o → IsInstrOver Z i
-over_grown s0 is0 Z G i o h e = record { instr = h.instr; entry = fit_any s0.class.pool Z G (form_of i.op) i.operands (simple_meant s0 is0 i.op i.operands o e).1 h.entry }
+over_grown s0 is0 Z G i o h e = record { instr = h.instr; entry = fit_any s0.class.pool Z G (form_of i.op) i.operands (meant_not s0 is0 i.op i.operands o e) h.entry }
 
 -- what leads nowhere has no target
 leads_other : (is : List Instr) (c : ℕ) (x : Operands) → (o : Op) → is_same o ≡ true → (s : Symbols) → meaning s is c x ≡ Some o → (t : ℕ) → x ≡ operands.Target t → ⊥
@@ -438,6 +582,6 @@ leads_not s is bs i o h e = go i.operands refl
     go (operands.Pool j) q = tt
     go (operands.Interface j n) q = tt
     go (operands.Dimensions j n) q = tt
-    go (operands.Table other low ts) q = tt
-    go (operands.Lookup other ps) q = tt
+    go (operands.Table other low ts) q = absurd ((switch_other is_same (λ o cs. refl) is other (table_cases low ts)).other o (sym (ap (meaning s is i.op) q) ∙ e) h)
+    go (operands.Lookup other ps) q = absurd ((switch_other is_same (λ o cs. refl) is other ps).other o (sym (ap (meaning s is i.op) q) ∙ e) h)
     go (operands.Wide w n a) q = tt

@@ -10,6 +10,7 @@ pub mod Marks
 pub mod Contexts
 pub mod Whole
 pub mod Old
+pub mod Renamed
 pub mod Numbers
 pub mod Tables
 pub mod Single

@@ -114,6 +114,7 @@ module _ (names : Names) (small : AreSmallNames names) (p : ℕ) (few : p < 6000
   block_stands (op.Branch t to) i s h = (h, tt)
   block_stands (op.BranchInts t to) i s h = (h, tt)
   block_stands (op.Goto to) i s h = (h, tt)
+  block_stands (op.Switch other cases) i s h = (h, tt)
   block_stands op.Return i s h = (h, tt)
   block_stands op.ReturnValue i s h = (h, tt)
   block_stands op.Throw i s h = (h, tt)
@@ -184,6 +185,7 @@ small_op s0 is0 locals gives (op.Unary u) i few h = tt
 small_op s0 is0 locals gives (op.Branch t to) i few h = tt
 small_op s0 is0 locals gives (op.BranchInts t to) i few h = tt
 small_op s0 is0 locals gives (op.Goto to) i few h = tt
+small_op s0 is0 locals gives (op.Switch other cases) i few h = tt
 small_op s0 is0 locals gives (op.GetStatic f) i few h = tt
 small_op s0 is0 locals gives (op.PutStatic f) i few h = tt
 small_op s0 is0 locals gives (op.InvokeStatic m) i few h = tt
@@ -234,7 +236,7 @@ all_small c fields (m ∷ ms) [] h = absurd h
 all_small c fields (m ∷ ms) (k ∷ ks) h = (small_method c fields m k h.0, all_small c fields ms ks h.1)
 
 old_of : (c : ClassFile) (P : Program) → linked c ≡ Some P → AllOld c (original_fields c) (program_methods c) P.methods
-old_of c P h = let o = original c P h in all_old c (original_fields c) (program_methods c) o.code P.methods o.decodes o.methods
+old_of c P h = let o = original c P h in all_old c (original_fields c) (program_methods c) o.form.code P.methods o.form.decodes o.methods
 
 pub methods_small : (c : ClassFile) (P : Program) → linked c ≡ Some P → AllByRecursion IsSmallMethod P.methods
 methods_small c P h = all_small c (original_fields c) (program_methods c) P.methods (old_of c P h)

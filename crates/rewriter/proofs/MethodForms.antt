@@ -11,7 +11,7 @@ use Rattle.jmodel.specs.ClassRules.{IsPool, IsMethod}
 use Rattle.jmodel.specs.Decoding.{own_name}
 use Rattle.jmodel.specs.Linking.{program_methods, linked, descriptor_of}
 use Rattle.jmodel.specs.Program.{Field, Method, Program}
-use Rattle.jmodel.specs.Rewriting.{with_context}
+use Rattle.jmodel.specs.Rewriting.{with_context, duplicate_name}
 use Rattle.jmodel.specs.Taken.{is_taken}
 use Rattle.const_pool.proofs.Signatures.{is_method}
 use Rattle.rewriter.specs.declared.accessors.Accessors.{Accessors}
@@ -44,8 +44,8 @@ module _ (c new : ClassFile) (P : Program) (K : Known c new P) (p : IsPool new.p
       let t = the_some (utf8 c.pool m.name) h.member.named in
       let d = the_and (utf8 c.pool m.descriptor) _ h.member.typed in
       let each = h.member.attributes.each in
-      let L = loop c new P K w.number w.id m x w.method t.0 d.0 t.1 d.1 w.at w.old each w.marked w.wrapped in
-      let rules = loop_rules c new P K w.number w.id m x w.method t.0 d.0 t.1 d.1 w.at w.old each w.marked w.wrapped in
+      let L = loop c new P K w.number w.id m x w.method t.0 d.0 t.1 d.1 w.at w.old each w.attempts w.marked w.wrapped in
+      let rules = loop_rules c new P K w.number w.id m x w.method t.0 d.0 t.1 d.1 w.at w.old each w.attempts w.marked w.wrapped in
       let old = (decoded_is c m w.old.coded w.old.decodes).code in
       subst (IsMethod new.pool) (sym w.wrapped.is) (swapped_form c.pool new.pool K.rewritten.grown w.wrapped.bytes m w.old.coded.code L.code h old L.bytes_are rules L.laid.attributes)
 
@@ -67,7 +67,7 @@ module _ (c new : ClassFile) (P : Program) (K : Known c new P) (p : IsPool new.p
   getter_form f m g =
       let A = g.method in
       let R = getter_run (own_name c) f new.pool m g in
-      added_form new.pool 0x1009 (getter_name f) getter_type m p (record {
+      added_form new.pool 0x1009 (getter_name f) (getter_type f.type) m p (record {
         n = A.n;
         t = A.t;
         c = A.c;
@@ -78,14 +78,14 @@ module _ (c new : ClassFile) (P : Program) (K : Known c new P) (p : IsPool new.p
         coded = A.coded;
         rules = getter_rules (own_name c) f new.pool m g;
         alone = R.laid.attributes;
-      }) (omega arith) refl (is_method getter_type (ap is_some getter_signature))
+      }) (omega arith) refl (is_method (getter_type f.type) (ap is_some (getter_signature f.type)))
 
   -- a setter is a method
   setter_form : (f : Field) (m : Member) → IsSetter (own_name c) f new.pool m → IsMethod new.pool m
   setter_form f m g =
       let A = g.method in
       let R = setter_run (own_name c) f new.pool m g in
-      added_form new.pool 0x1009 (setter_name f) setter_type m p (record {
+      added_form new.pool 0x1009 (setter_name f) (setter_type f.type) m p (record {
         n = A.n;
         t = A.t;
         c = A.c;
@@ -96,7 +96,7 @@ module _ (c new : ClassFile) (P : Program) (K : Known c new P) (p : IsPool new.p
         coded = A.coded;
         rules = setter_rules (own_name c) f new.pool m g;
         alone = R.laid.attributes;
-      }) (omega arith) refl (is_method setter_type (ap is_some setter_signature))
+      }) (omega arith) refl (is_method (setter_type f.type) (ap is_some (setter_signature f.type)))
 
   -- the accessors are methods
   accessors_forms : (n : ℕ) (fs : List Field) (A : List Accessors) → Each (λ Z n f a. AreAccessors (own_name c) f Z a) new.pool n fs A → AllByRecursion (IsMethod new.pool) (flat_map both_of A)
@@ -118,13 +118,13 @@ module _ (c new : ClassFile) (P : Program) (K : Known c new P) (p : IsPool new.p
         let old = (decoded_is c m h.coded h.decodes).code in
         let type_is : k.name.descriptor ≡ descriptor_of c.pool m = ap (λ (y : MethodName). y.descriptor) h.name in
         let fits = subst (λ (y : List ℕ). IsMethodDescriptor (with_context y)) (sym type_is) (context_method (descriptor_of c.pool m) h.shape h.shaped (few_params c new P K m k h)) in
-        added_form new.pool (duplicate_flags m.flags) t.0 (with_context k.name.descriptor) x p (record {
-          n = m.name;
+        added_form new.pool (duplicate_flags m.flags) (duplicate_name k.name.name) (with_context k.name.descriptor) x p (record {
+          n = A.n;
           t = A.t;
           c = A.c;
           code = A.body.code;
-          is = A.is ∙ ap (added_method (duplicate_flags m.flags) m.name A.t A.c) A.body.is;
-          named = utf8_grown c.pool new.pool K.rewritten.grown m.name t.0 t.1;
+          is = A.is ∙ ap (added_method (duplicate_flags m.flags) A.n A.t A.c) A.body.is;
+          named = A.named;
           typed = A.typed;
           coded = A.coded_is;
           rules = code_rules c new P K L names N n m x k t.0 t.1 at h held w d.0 d.1;

@@ -9,13 +9,15 @@ use Rattle.jmodel.specs.Pool.{MemberName}
 use Rattle.jmodel.specs.Program.{Field, Method}
 use Rattle.jmodel.specs.Constants.{long_value}
 use Rattle.jmodel.specs.Decoding.{is_field_of, field_number, is_method_of, method_number, is_member}
-use Rattle.jmodel.specs.Linking.{has_part}
+use Rattle.jmodel.specs.Linking.{has_part, is_reserved}
+use Rattle.jmodel.specs.WordTypes.{type_descriptor}
 use Rattle.rewriter.specs.Members.{getter_name, setter_name, getter_type, setter_type, address_name}
 use Rattle.rewriter.proofs.Positions.{At, at_position, at_here, at_next, at_behind, at_front, same, differ, apart, first_fails, second_fails, all_pass, ends_differ, no_such_end}
-use Rattle.jmodel.specs.Rewriting.{with_context}
-use Rattle.rewriter.proofs.Contexts.{marker, context_apart, context_shows}
+use Rattle.jmodel.specs.Rewriting.{with_context, duplicate_name}
+use Rattle.rewriter.proofs.Contexts.{marker, context_apart, context_shows, getter_shows, setter_shows, getter_no_setter, setter_no_getter}
 use Rattle.rewriter.proofs.Old.{AreApart, same_method, AreApartMethods}
 use Rattle.rewriter.proofs.Puts.{IsAddress}
+use Rattle.rewriter.proofs.Renamed.{duplicate_apart}
 use Rattle.rewriter.proofs.Whole.{Each}
 
 abbrev pub field_names : List Field → List (List ℕ)
@@ -25,6 +27,16 @@ field_names fs = map (λ (f : Field). f.name) fs
 abbrev pub AreFree : List Method → Type 0
 AreFree [] = Unit {0}
 AreFree (k ∷ ks) = (has_part marker k.name.descriptor ≡ false) × AreFree ks
+
+-- names without reserved parts
+abbrev pub AreUnreserved : List Method → Type 0
+AreUnreserved [] = Unit {0}
+AreUnreserved (k ∷ ks) = (is_reserved k.name.name ≡ false) × AreUnreserved ks
+
+unreserved_at : (ks : List Method) (n : ℕ) (k : Method) → AreUnreserved ks → slice_get ks n ≡ Some k → is_reserved k.name.name ≡ false
+unreserved_at [] n k u e = cc
+unreserved_at (j ∷ ks) zero k u e = let s : j ≡ k = cc in subst (λ (x : Method). is_reserved x.name.name ≡ false) s u.0
+unreserved_at (j ∷ ks) (suc n) k u e = unreserved_at ks n k u.1 e
 
 or_parts : (a b : Bool) → (a || b) ≡ false → (a ≡ false) × (b ≡ false)
 or_parts true b h = absurd cc
@@ -74,10 +86,10 @@ module _ (own : List ℕ) where
 
   abbrev pub accessor_names : List Field → List MethodName
   accessor_names [] = []
-  accessor_names (f ∷ fs) = name_as (getter_name f) getter_type ∷ name_as (setter_name f) setter_type ∷ accessor_names fs
+  accessor_names (f ∷ fs) = name_as (getter_name f) (getter_type f.type) ∷ name_as (setter_name f) (setter_type f.type) ∷ accessor_names fs
 
   abbrev pub copy_names : List Method → List MethodName
-  copy_names ks = map (λ (k : Method). name_as k.name.name (with_context k.name.descriptor)) ks
+  copy_names ks = map (λ (k : Method). name_as (duplicate_name k.name.name) (with_context k.name.descriptor)) ks
 
   abbrev pub all_names : List Field → List Method → List MethodName
   all_names fs ks = old_names ks ++ (accessor_names fs ++ copy_names ks)
@@ -90,41 +102,42 @@ module _ (own : List ℕ) where
       let other = differ k.name.descriptor d (λ e. let t : has_part marker d ≡ false = ap (has_part marker) (sym e) ∙ free in absurd cc) in
       or_false _ _ (second_fails (bytes_eq k.name.name name) (bytes_eq k.name.descriptor d) (bytes_eq own own) other) (none_old name d h ks F.1)
 
-  getter_at : (fs : List Field) (i : ℕ) (f : Field) → AreApart (field_names fs) → slice_get fs i ≡ Some f → At (is_method_of (wanted (getter_name f) getter_type)) (accessor_names fs) (2 * i)
+  getter_at : (fs : List Field) (i : ℕ) (f : Field) → AreApart (field_names fs) → slice_get fs i ≡ Some f → At (is_method_of (wanted (getter_name f) (getter_type f.type))) (accessor_names fs) (2 * i)
   getter_at [] i f a e = absurd cc
   getter_at (g ∷ fs) zero f a e =
       let s : g ≡ f = cc in
-      subst (λ (z : Field). At (is_method_of (wanted (getter_name z) getter_type)) (accessor_names (g ∷ fs)) 0) s (at_here (is_method_of (wanted (getter_name g) getter_type)) _ _ (all_pass _ _ _ (same (getter_name g)) refl (same own)))
+      subst (λ (z : Field). At (is_method_of (wanted (getter_name z) (getter_type z.type))) (accessor_names (g ∷ fs)) 0) s (at_here (is_method_of (wanted (getter_name g) (getter_type g.type))) _ _ (all_pass _ _ _ (same (getter_name g)) (same (getter_type g.type)) (same own)))
   getter_at (g ∷ fs) (suc i) f a e =
       let n : suc (suc (2 * i)) ≡ 2 * suc i = omega arith in
-      let p = is_method_of (wanted (getter_name f) getter_type) in
+      let p = is_method_of (wanted (getter_name f) (getter_type f.type)) in
       let d = apart_at (λ (x : Field). x.name) g.name fs i f a.0 e in
-      subst (At (is_method_of (wanted (getter_name f) getter_type)) (accessor_names (g ∷ fs))) n
-      (at_next (is_method_of (wanted (getter_name f) getter_type)) (name_as (getter_name g) getter_type) (name_as (setter_name g) setter_type ∷ accessor_names fs) (suc (2 * i)) (first_fails _ _ _ (ends_differ g.name f.name (codes "__Getter$") d))
-      (at_next (is_method_of (wanted (getter_name f) getter_type)) (name_as (setter_name g) setter_type) (accessor_names fs) (2 * i) (second_fails (bytes_eq (setter_name g) (getter_name f)) _ _ refl) (getter_at fs i f a.1 e)))
+      subst (At (is_method_of (wanted (getter_name f) (getter_type f.type))) (accessor_names (g ∷ fs))) n
+      (at_next (is_method_of (wanted (getter_name f) (getter_type f.type))) (name_as (getter_name g) (getter_type g.type)) (name_as (setter_name g) (setter_type g.type) ∷ accessor_names fs) (suc (2 * i)) (first_fails _ _ _ (ends_differ g.name f.name (codes "__Getter$") d))
+      (at_next (is_method_of (wanted (getter_name f) (getter_type f.type))) (name_as (setter_name g) (setter_type g.type)) (accessor_names fs) (2 * i) (second_fails (bytes_eq (setter_name g) (getter_name f)) _ _ (setter_no_getter g.type f.type)) (getter_at fs i f a.1 e)))
 
-  setter_at : (fs : List Field) (i : ℕ) (f : Field) → AreApart (field_names fs) → slice_get fs i ≡ Some f → At (is_method_of (wanted (setter_name f) setter_type)) (accessor_names fs) (2 * i + 1)
+  setter_at : (fs : List Field) (i : ℕ) (f : Field) → AreApart (field_names fs) → slice_get fs i ≡ Some f → At (is_method_of (wanted (setter_name f) (setter_type f.type))) (accessor_names fs) (2 * i + 1)
   setter_at [] i f a e = absurd cc
   setter_at (g ∷ fs) zero f a e =
       let s : g ≡ f = cc in
-      subst (λ (z : Field). At (is_method_of (wanted (setter_name z) setter_type)) (accessor_names (g ∷ fs)) 1) s
-      (at_next (is_method_of (wanted (setter_name g) setter_type)) (name_as (getter_name g) getter_type) (name_as (setter_name g) setter_type ∷ accessor_names fs) 0 (second_fails (bytes_eq (getter_name g) (setter_name g)) _ _ refl)
-      (at_here (is_method_of (wanted (setter_name g) setter_type)) _ _ (all_pass _ _ _ (same (setter_name g)) refl (same own))))
+      subst (λ (z : Field). At (is_method_of (wanted (setter_name z) (setter_type z.type))) (accessor_names (g ∷ fs)) 1) s
+      (at_next (is_method_of (wanted (setter_name g) (setter_type g.type))) (name_as (getter_name g) (getter_type g.type)) (name_as (setter_name g) (setter_type g.type) ∷ accessor_names fs) 0 (second_fails (bytes_eq (getter_name g) (setter_name g)) _ _ (getter_no_setter g.type g.type))
+      (at_here (is_method_of (wanted (setter_name g) (setter_type g.type))) _ _ (all_pass _ _ _ (same (setter_name g)) (same (setter_type g.type)) (same own))))
   setter_at (g ∷ fs) (suc i) f a e =
       let n : suc (suc (2 * i + 1)) ≡ 2 * suc i + 1 = omega arith in
       let d = apart_at (λ (x : Field). x.name) g.name fs i f a.0 e in
-      subst (At (is_method_of (wanted (setter_name f) setter_type)) (accessor_names (g ∷ fs))) n
-      (at_next (is_method_of (wanted (setter_name f) setter_type)) (name_as (getter_name g) getter_type) (name_as (setter_name g) setter_type ∷ accessor_names fs) (suc (2 * i + 1)) (second_fails (bytes_eq (getter_name g) (setter_name f)) _ _ refl)
-      (at_next (is_method_of (wanted (setter_name f) setter_type)) (name_as (setter_name g) setter_type) (accessor_names fs) (2 * i + 1) (first_fails _ _ _ (ends_differ g.name f.name (codes "__Setter$") d)) (setter_at fs i f a.1 e)))
+      subst (At (is_method_of (wanted (setter_name f) (setter_type f.type))) (accessor_names (g ∷ fs))) n
+      (at_next (is_method_of (wanted (setter_name f) (setter_type f.type))) (name_as (getter_name g) (getter_type g.type)) (name_as (setter_name g) (setter_type g.type) ∷ accessor_names fs) (suc (2 * i + 1)) (second_fails (bytes_eq (getter_name g) (setter_name f)) _ _ (getter_no_setter g.type f.type))
+      (at_next (is_method_of (wanted (setter_name f) (setter_type f.type))) (name_as (setter_name g) (setter_type g.type)) (accessor_names fs) (2 * i + 1) (first_fails _ _ _ (ends_differ g.name f.name (codes "__Setter$") d)) (setter_at fs i f a.1 e)))
 
   -- methods that are apart have duplicates that are apart
-  copies_differ : (g k : Method) → same_method k g ≡ false → is_method_of (wanted k.name.name (with_context k.name.descriptor)) (name_as g.name.name (with_context g.name.descriptor)) ≡ false
-  copies_differ g k h = by_name (bytes_eq k.name.name g.name.name) refl h
+  copies_differ : (g k : Method) → is_reserved g.name.name ≡ false → is_reserved k.name.name ≡ false → same_method k g ≡ false → is_method_of (wanted (duplicate_name k.name.name) (with_context k.name.descriptor)) (name_as (duplicate_name g.name.name) (with_context g.name.descriptor)) ≡ false
+  copies_differ g k free also h = by_name (bytes_eq k.name.name g.name.name) refl h
     where
       by_name : (b : Bool) → bytes_eq k.name.name g.name.name ≡ b → (b && bytes_eq k.name.descriptor g.name.descriptor) ≡ false
-          → is_method_of (wanted k.name.name (with_context k.name.descriptor)) (name_as g.name.name (with_context g.name.descriptor)) ≡ false
-      by_name false e h = first_fails _ _ _ (flipped k.name.name g.name.name e)
-      by_name true e h = second_fails (bytes_eq g.name.name k.name.name) _ _
+          → is_method_of (wanted (duplicate_name k.name.name) (with_context k.name.descriptor)) (name_as (duplicate_name g.name.name) (with_context g.name.descriptor)) ≡ false
+      by_name false e h = first_fails _ _ _
+          (differ (duplicate_name g.name.name) (duplicate_name k.name.name) (λ same. apart k.name.name g.name.name e (sym (duplicate_apart g.name.name k.name.name free also same))))
+      by_name true e h = second_fails (bytes_eq (duplicate_name g.name.name) (duplicate_name k.name.name)) _ _
           (differ (with_context g.name.descriptor) (with_context k.name.descriptor) (λ same. apart k.name.descriptor g.name.descriptor h (sym (context_apart g.name.descriptor k.name.descriptor same))))
 
   not_at : (g : Method) (ks : List Method) (n : ℕ) (k : Method) → list_any (λ (j : Method). same_method j g) ks ≡ false → slice_get ks n ≡ Some k → same_method k g ≡ false
@@ -132,14 +145,14 @@ module _ (own : List ℕ) where
   not_at g (j ∷ ks) zero k h e = let s : j ≡ k = cc in subst (λ (x : Method). same_method x g ≡ false) s (or_parts (same_method j g) (list_any (λ (j : Method). same_method j g) ks) h).0
   not_at g (j ∷ ks) (suc n) k h e = not_at g ks n k (or_parts (same_method j g) (list_any (λ (j : Method). same_method j g) ks) h).1 e
 
-  copy_at : (ks : List Method) (n : ℕ) (k : Method) → AreApartMethods ks → slice_get ks n ≡ Some k → At (is_method_of (wanted k.name.name (with_context k.name.descriptor))) (copy_names ks) n
-  copy_at [] n k a e = absurd cc
-  copy_at (g ∷ ks) zero k a e =
+  copy_at : (ks : List Method) (n : ℕ) (k : Method) → AreUnreserved ks → AreApartMethods ks → slice_get ks n ≡ Some k → At (is_method_of (wanted (duplicate_name k.name.name) (with_context k.name.descriptor))) (copy_names ks) n
+  copy_at [] n k u a e = absurd cc
+  copy_at (g ∷ ks) zero k u a e =
       let s : g ≡ k = cc in
-      subst (λ (z : Method). At (is_method_of (wanted z.name.name (with_context z.name.descriptor))) (copy_names (g ∷ ks)) 0) s
-      (at_here (is_method_of (wanted g.name.name (with_context g.name.descriptor))) _ _ (all_pass _ _ _ (same g.name.name) (same (with_context g.name.descriptor)) (same own)))
-  copy_at (g ∷ ks) (suc n) k a e =
-      at_next (is_method_of (wanted k.name.name (with_context k.name.descriptor))) (name_as g.name.name (with_context g.name.descriptor)) (copy_names ks) n (copies_differ g k (not_at g ks n k a.0 e)) (copy_at ks n k a.1 e)
+      subst (λ (z : Method). At (is_method_of (wanted (duplicate_name z.name.name) (with_context z.name.descriptor))) (copy_names (g ∷ ks)) 0) s
+      (at_here (is_method_of (wanted (duplicate_name g.name.name) (with_context g.name.descriptor))) _ _ (all_pass _ _ _ (same (duplicate_name g.name.name)) (same (with_context g.name.descriptor)) (same own)))
+  copy_at (g ∷ ks) (suc n) k u a e =
+      at_next (is_method_of (wanted (duplicate_name k.name.name) (with_context k.name.descriptor))) (name_as (duplicate_name g.name.name) (with_context g.name.descriptor)) (copy_names ks) n (copies_differ g k u.0 (unreserved_at ks n k u.1 e) (not_at g ks n k a.0 e)) (copy_at ks n k u.1 a.1 e)
 
   none_accessor : (name d : List ℕ) → has_part (codes "__Getter$") name ≡ false → has_part (codes "__Setter$") name ≡ false → (fs : List Field) → list_any (is_method_of (wanted name d)) (accessor_names fs) ≡ false
   none_accessor name d h k [] = refl
@@ -159,28 +172,29 @@ module _ (own : List ℕ) where
     olds_length : length (old_names ks) ≡ length ks
     olds_length = names_length ks
 
-    pub getter_number : (i : ℕ) (f : Field) → AreApart (field_names fs) → slice_get fs i ≡ Some f → method_number (all_names fs ks) (wanted (getter_name f) getter_type) ≡ Some (length ks + 2 * i)
+    pub getter_number : (i : ℕ) (f : Field) → AreApart (field_names fs) → slice_get fs i ≡ Some f → method_number (all_names fs ks) (wanted (getter_name f) (getter_type f.type)) ≡ Some (length ks + 2 * i)
     getter_number i f a e =
-        let p = is_method_of (wanted (getter_name f) getter_type) in
-        at_position (is_method_of (wanted (getter_name f) getter_type)) (all_names fs ks) (length ks + 2 * i)
-        (at_behind (is_method_of (wanted (getter_name f) getter_type)) (old_names ks) (accessor_names fs ++ copy_names ks) (2 * i) (length ks + 2 * i) (none_old (getter_name f) getter_type refl ks F) (omega (arith, olds_length))
-        (at_front (is_method_of (wanted (getter_name f) getter_type)) (accessor_names fs) (copy_names ks) (2 * i) (getter_at fs i f a e)))
+        let p = is_method_of (wanted (getter_name f) (getter_type f.type)) in
+        at_position (is_method_of (wanted (getter_name f) (getter_type f.type))) (all_names fs ks) (length ks + 2 * i)
+        (at_behind (is_method_of (wanted (getter_name f) (getter_type f.type))) (old_names ks) (accessor_names fs ++ copy_names ks) (2 * i) (length ks + 2 * i) (none_old (getter_name f) (getter_type f.type) (getter_shows f.type) ks F) (omega (arith, olds_length))
+        (at_front (is_method_of (wanted (getter_name f) (getter_type f.type))) (accessor_names fs) (copy_names ks) (2 * i) (getter_at fs i f a e)))
 
-    pub setter_number : (i : ℕ) (f : Field) → AreApart (field_names fs) → slice_get fs i ≡ Some f → method_number (all_names fs ks) (wanted (setter_name f) setter_type) ≡ Some (length ks + 2 * i + 1)
+    pub setter_number : (i : ℕ) (f : Field) → AreApart (field_names fs) → slice_get fs i ≡ Some f → method_number (all_names fs ks) (wanted (setter_name f) (setter_type f.type)) ≡ Some (length ks + 2 * i + 1)
     setter_number i f a e =
-        at_position (is_method_of (wanted (setter_name f) setter_type)) (all_names fs ks) (length ks + 2 * i + 1)
-        (at_behind (is_method_of (wanted (setter_name f) setter_type)) (old_names ks) (accessor_names fs ++ copy_names ks) (2 * i + 1) (length ks + 2 * i + 1) (none_old (setter_name f) setter_type refl ks F) (omega (arith, olds_length))
-        (at_front (is_method_of (wanted (setter_name f) setter_type)) (accessor_names fs) (copy_names ks) (2 * i + 1) (setter_at fs i f a e)))
+        at_position (is_method_of (wanted (setter_name f) (setter_type f.type))) (all_names fs ks) (length ks + 2 * i + 1)
+        (at_behind (is_method_of (wanted (setter_name f) (setter_type f.type))) (old_names ks) (accessor_names fs ++ copy_names ks) (2 * i + 1) (length ks + 2 * i + 1) (none_old (setter_name f) (setter_type f.type) (setter_shows f.type) ks F) (omega (arith, olds_length))
+        (at_front (is_method_of (wanted (setter_name f) (setter_type f.type))) (accessor_names fs) (copy_names ks) (2 * i + 1) (setter_at fs i f a e)))
 
-    pub copy_number : (n : ℕ) (k : Method) → AreApartMethods ks → has_part (codes "__Getter$") k.name.name ≡ false → has_part (codes "__Setter$") k.name.name ≡ false → slice_get ks n ≡ Some k
-        → method_number (all_names fs ks) (wanted k.name.name (with_context k.name.descriptor)) ≡ Some (length ks + 2 * length fs + n)
-    copy_number n k a free also e =
+    pub copy_number : (n : ℕ) (k : Method) → AreUnreserved ks → AreApartMethods ks → has_part (codes "__Getter$") (duplicate_name k.name.name) ≡ false
+        → has_part (codes "__Setter$") (duplicate_name k.name.name) ≡ false → slice_get ks n ≡ Some k
+        → method_number (all_names fs ks) (wanted (duplicate_name k.name.name) (with_context k.name.descriptor)) ≡ Some (length ks + 2 * length fs + n)
+    copy_number n k u a free also e =
         let d : List ℕ = with_context k.name.descriptor in
-        at_position (is_method_of (wanted k.name.name (with_context k.name.descriptor))) (all_names fs ks) (length ks + 2 * length fs + n)
-        (at_behind (is_method_of (wanted k.name.name (with_context k.name.descriptor))) (old_names ks) (accessor_names fs ++ copy_names ks) (2 * length fs + n) (length ks + 2 * length fs + n)
-        (none_old k.name.name (with_context k.name.descriptor) (context_shows k.name.descriptor) ks F) (omega (arith, olds_length))
-        (at_behind (is_method_of (wanted k.name.name (with_context k.name.descriptor))) (accessor_names fs) (copy_names ks) n (2 * length fs + n) (none_accessor k.name.name (with_context k.name.descriptor) free also fs) (omega (arith, accessors_length fs))
-        (copy_at ks n k a e)))
+        at_position (is_method_of (wanted (duplicate_name k.name.name) (with_context k.name.descriptor))) (all_names fs ks) (length ks + 2 * length fs + n)
+        (at_behind (is_method_of (wanted (duplicate_name k.name.name) (with_context k.name.descriptor))) (old_names ks) (accessor_names fs ++ copy_names ks) (2 * length fs + n) (length ks + 2 * length fs + n)
+        (none_old (duplicate_name k.name.name) (with_context k.name.descriptor) (context_shows k.name.descriptor) ks F) (omega (arith, olds_length))
+        (at_behind (is_method_of (wanted (duplicate_name k.name.name) (with_context k.name.descriptor))) (accessor_names fs) (copy_names ks) n (2 * length fs + n) (none_accessor (duplicate_name k.name.name) (with_context k.name.descriptor) free also fs) (omega (arith, accessors_length fs))
+        (copy_at ks n k u a e)))
 
   -- ---- fields
 
@@ -188,18 +202,19 @@ module _ (own : List ℕ) where
   AreOwn [] = Unit {0}
   AreOwn (f ∷ fs) = (f.class ≡ own) × AreOwn fs
 
-  field_at : (d : List ℕ) (fs : List Field) (i : ℕ) (f : Field) → AreOwn fs → AreApart (field_names fs) → slice_get fs i ≡ Some f → At (is_field_of (wanted f.name d)) fs i
-  field_at d [] i f o a e = absurd cc
-  field_at d (g ∷ fs) zero f o a e =
+  field_at : (fs : List Field) (i : ℕ) (f : Field) → AreOwn fs → AreApart (field_names fs) → slice_get fs i ≡ Some f → At (is_field_of (wanted f.name (type_descriptor f.type))) fs i
+  field_at [] i f o a e = absurd cc
+  field_at (g ∷ fs) zero f o a e =
       let s : g ≡ f = cc in
       let c : bytes_eq g.class own ≡ true = let q = o.0 in rw q (same own) in
-      subst (λ (z : Field). At (is_field_of (wanted z.name d)) (g ∷ fs) 0) s (at_here (is_field_of (wanted g.name d)) g fs (both_pass _ _ (same g.name) c))
-  field_at d (g ∷ fs) (suc i) f o a e =
+      subst (λ (z : Field). At (is_field_of (wanted z.name (type_descriptor z.type))) (g ∷ fs) 0) s
+      (at_here (is_field_of (wanted g.name (type_descriptor g.type))) g fs (both_pass _ _ (both_pass _ _ (same g.name) (same (type_descriptor g.type))) c))
+  field_at (g ∷ fs) (suc i) f o a e =
       let t = apart_at (λ (x : Field). x.name) g.name fs i f a.0 e in
-      at_next (is_field_of (wanted f.name d)) g fs i (left_fails _ _ t) (field_at d fs i f o.1 a.1 e)
+      at_next (is_field_of (wanted f.name (type_descriptor f.type))) g fs i (left_fails _ _ (left_fails _ _ t)) (field_at fs i f o.1 a.1 e)
 
-  pub number_of_field : (d : List ℕ) (fs : List Field) (i : ℕ) (f : Field) → AreOwn fs → AreApart (field_names fs) → slice_get fs i ≡ Some f → field_number fs (wanted f.name d) ≡ Some i
-  number_of_field d fs i f o a e = at_position (is_field_of (wanted f.name d)) fs i (field_at d fs i f o a e)
+  pub number_of_field : (fs : List Field) (i : ℕ) (f : Field) → AreOwn fs → AreApart (field_names fs) → slice_get fs i ≡ Some f → field_number fs (wanted f.name (type_descriptor f.type)) ≡ Some i
+  number_of_field fs i f o a e = at_position (is_field_of (wanted f.name (type_descriptor f.type))) fs i (field_at fs i f o a e)
 
 -- ---- constants of address fields
 

@@ -12,14 +12,15 @@ use Rattle.jmodel.specs.ClassFile.{Member, Pool, ClassFile}
 use Rattle.jmodel.specs.Pool.{utf8, text_in}
 use Rattle.jmodel.specs.Program.{Field, Method, Program}
 use Rattle.jmodel.specs.Reading.{◌>>=◌}
-use Rattle.jmodel.specs.Layout.{text_or_none}
+use Rattle.jmodel.specs.Layout.{text_or_none, statics}
 use Rattle.jmodel.specs.ClassRules.{IsSameMember, AreDistinct}
 use Rattle.jmodel.specs.Decoding.{name_of, in_front, each, ops_of}
-use Rattle.jmodel.specs.Linking.{Shape, shape_of, catch_of, descriptor_of, Coded, decoded, all_decoded, make_method, coded_method, is_form_class, is_form_field, is_form_constant, is_form_method, is_reserved, retries_of, program_methods, is_empty, is_form_instr, is_form_op, is_form_method_of, if_form, form_method, symbols_of, original_fields, form_methods, form_program, program_in, linked, is_name}
+use Rattle.jmodel.specs.Linking.{Shape, shape_of, catch_of, descriptor_of, Coded, decoded, all_decoded, make_method, coded_method, are_distinct, field_name_of, is_form_constant, is_form_method, is_reserved, retries_of, program_methods, is_empty, is_form_instr, is_form_op, is_form_method_of, if_form, form_method, symbols_of, original_fields, form_methods, form_program, program_in, linked, is_name, is_form_field}
 use Rattle.std.proofs.lemmas.Slice.Eq.{bytes_eq-Decides}
 use Rattle.jmodel.specs.declared.name.MethodName.{MethodName}
+use Rattle.jmodel.proofs.Formed.{Formed, formed}
 use Rattle.rewriter.proofs.Added.{two_true}
-use Rattle.rewriter.proofs.Positions.{differ}
+use Rattle.rewriter.proofs.Positions.{differ, apart}
 
 abbrev some : {A : Type 0} → A → Option A
 some x = Some x
@@ -32,29 +33,18 @@ chosen true x y h = (refl, h)
 chosen false x y h = cc
 
 pub record Original (c : ClassFile) (P : Program) : Type 0 where
-  pub form : is_form_class c ≡ true
-  pub code : List Coded
-  pub decodes : all_decoded c (program_methods c) ≡ Ok code
-  pub methods : form_methods c code ≡ Some P.methods
+  pub form : Formed c P
+  pub methods : form_methods c form.code ≡ Some P.methods
   pub fields : P.fields ≡ original_fields c
 
 pub original : (c : ClassFile) (P : Program) → linked c ≡ Some P → Original c P
-original c P h = choose (is_form_class c) refl h
+original c P h = let f = formed c P h in made f (form_methods c f.code) refl f.program
   where
-    made : (ks : List Coded) → is_form_class c ≡ true → all_decoded c (program_methods c) ≡ Ok ks → (o : Option (List Method)) → form_methods c ks ≡ o
-        → option_map (λ ms. record { fields = original_fields c; methods = ms }) o ≡ Some P → Original c P
-    made ks f d None e h = cc
-    made ks f d (Some ms) e h =
+    made : (f : Formed c P) (o : Option (List Method)) → form_methods c f.code ≡ o → option_map (λ ms. record { fields = original_fields c; methods = ms }) o ≡ Some P → Original c P
+    made f None e h = absurd cc
+    made f (Some ms) e h =
         let same : record { fields = original_fields c; methods = ms } ≡ P = some_is _ P h in
-        record { form = f; code = ks; decodes = d; methods = e ∙ ap (λ (p : Program). Some p.methods) same; fields = sym (ap (λ (p : Program). p.fields) same) }
-
-    decode : (r : Result (List Coded) Refusal) → is_form_class c ≡ true → all_decoded c (program_methods c) ≡ r → program_in (r >>= λ ks. Ok (form_program c ks)) ≡ Some P → Original c P
-    decode (Err e) f d h = cc
-    decode (Ok ks) f d h = made ks f d (form_methods c ks) refl h
-
-    choose : (b : Bool) → is_form_class c ≡ b → program_in (if b then (all_decoded c (program_methods c) >>= λ ks. Ok (form_program c ks)) else Ok None) ≡ Some P → Original c P
-    choose true f h = decode (all_decoded c (program_methods c)) f refl h
-    choose false f h = cc
+        record { form = f; methods = e ∙ ap (λ (p : Program). Some p.methods) same; fields = sym (ap (λ (p : Program). p.fields) same) }
 
 -- ---- the parts of the form
 
@@ -63,17 +53,16 @@ at_most n m t = grind (arith, nat_tests)
 
 pub record Form (c : ClassFile) : Type 0 where
   pub pool : list_all is_form_constant c.pool ≡ true
-  pub fields : list_all (is_form_field c.pool) c.fields ≡ true
+  pub own_names : are_distinct (map (field_name_of c.pool) (statics c)) ≡ true
   pub few : length (program_methods c) ≤ 100
   pub methods : list_all (is_form_method c) c.methods ≡ true
 
-pub form_of : (c : ClassFile) → is_form_class c ≡ true → Form c
-form_of c h =
-    let e = two_true _ _ h in
-    let d = two_true _ _ e.0 in
+pub form_of : (c : ClassFile) (P : Program) → Formed c P → Form c
+form_of c P h =
+    let d = two_true _ _ h.outside in
     let b = two_true _ _ d.0 in
-    let m = two_true (nat_le (length (program_methods c)) 100) (list_all (is_form_method c) c.methods) e.1 in
-    record { pool = b.0; fields = (two_true _ _ d.1).1; few = at_most (length (program_methods c)) 100 m.0; methods = m.1 }
+    let m = two_true (nat_le (length (program_methods c)) 100) (list_all (is_form_method c) c.methods) h.methods in
+    record { pool = b.0; own_names = (two_true _ _ d.1).1; few = at_most (length (program_methods c)) 100 m.0; methods = m.1 }
 
 -- ---- texts of the pool
 
@@ -114,7 +103,7 @@ pub record IsOld (c : ClassFile) (fields : List Field) (m : Member) (k : Method)
   pub no_catches : k.catches ≡ []
   pub few : coded.code.max_locals ≤ 200
   pub room : k.params ≤ k.locals
-  pub instrs : list_all is_form_instr coded.instrs ≡ true
+  pub instrs : list_all (is_form_instr c.pool) coded.instrs ≡ true
   pub fits : list_all (is_form_op k.locals k.gives) k.ops ≡ true
 
 none_left : {A : Type 0} (xs : List A) → is_empty xs ≡ true → xs ≡ []
@@ -125,7 +114,7 @@ old_of : (c : ClassFile) (fields : List Field) (m : Member) (k : Method) (coded 
 old_of c fields m k coded d h = go (coded_method (symbols_of c fields (program_methods c)) true m coded) refl h
   where
     parts : (s : Option Shape) (os : Option (List Op)) (cs : Option (List Catch)) → shape_of (descriptor_of c.pool m) ≡ s → ops_of (symbols_of c fields (program_methods c)) coded.instrs ≡ os
-        → each (catch_of c.pool coded.instrs (length coded.code.code)) coded.code.handlers ≡ cs → make_method (symbols_of c fields (program_methods c)) true m coded.code s os cs ≡ Some k → is_form_method_of coded k ≡ true → IsOld c fields m k
+        → each (catch_of c.pool coded.instrs (length coded.code.code)) coded.code.handlers ≡ cs → make_method (symbols_of c fields (program_methods c)) true m coded.code s os cs ≡ Some k → is_form_method_of c.pool coded k ≡ true → IsOld c fields m k
     parts None os cs es eo ec h f = cc
     parts (Some s) None cs es eo ec h f = cc
     parts (Some s) (Some os) None es eo ec h f = cc
@@ -159,13 +148,13 @@ old_of c fields m k coded d h = go (coded_method (symbols_of c fields (program_m
           fits = x.1;
         }
 
-    go : (o : Option Method) → coded_method (symbols_of c fields (program_methods c)) true m coded ≡ o → if_form coded o ≡ Some k → IsOld c fields m k
+    go : (o : Option Method) → coded_method (symbols_of c fields (program_methods c)) true m coded ≡ o → if_form c.pool coded o ≡ Some k → IsOld c fields m k
     go None e h = cc
     go (Some p) e h =
-        let t = chosen (is_form_method_of coded p) (Some p) k h in
+        let t = chosen (is_form_method_of c.pool coded p) (Some p) k h in
         let same : p ≡ k = some_is p k t.1 in
         parts (shape_of (descriptor_of c.pool m)) (ops_of (symbols_of c fields (program_methods c)) coded.instrs) (each (catch_of c.pool coded.instrs (length coded.code.code)) coded.code.handlers) refl refl refl (e ∙ ap some same)
-        (subst (λ (y : Method). is_form_method_of coded y ≡ true) same t.0)
+        (subst (λ (y : Method). is_form_method_of c.pool coded y ≡ true) same t.0)
 
 abbrev pub AllOld : ClassFile → List Field → List Member → List Method → Type 0
 AllOld c fields [] [] = Unit {0}
@@ -212,33 +201,24 @@ abbrev pub AreNamed : Pool → List Member → Type 0
 AreNamed pool [] = Unit {0}
 AreNamed pool (m ∷ ms) = ((t : List ℕ) × (utf8 pool m.name ≡ Some t)) × AreNamed pool ms
 
-abbrev pub AreTyped : List ℕ → Pool → List Member → Type 0
-AreTyped d pool [] = Unit {0}
-AreTyped d pool (m ∷ ms) = (utf8 pool m.descriptor ≡ Some d) × AreTyped d pool ms
-
 or_none : (a b : Bool) → a ≡ false → b ≡ false → (a || b) ≡ false
 or_none true b h k = h
 or_none false b h k = k
 
-module _ (pool : Pool) (d : List ℕ) where
-  none_named : (m : Member) (t : List ℕ) → utf8 pool m.name ≡ Some t → utf8 pool m.descriptor ≡ Some d → (ms : List Member)
-      → ((j : ℕ) (e : Member) → j < length ms → IsSameMember pool m (slice_index_or ms j e) → ⊥) → AreTyped d pool ms → AreNamed pool ms
-      → list_any (λ y. bytes_eq y (text_name pool m)) (map (text_name pool) ms) ≡ false
-  none_named m t named typed [] D T N = refl
-  none_named m t named typed (x ∷ ms) D T N =
-      let there : text_name pool x ≡ N.0.0 = ap text_or_none N.0.1 in
-      let here : text_name pool m ≡ t = ap text_or_none named in
-      or_none _ _
-      (differ (text_name pool x) (text_name pool m) (λ same. let texts : t ≡ N.0.0 = sym here ∙ sym same ∙ there in D 0 x (omega arith) (named ∙ ap Some texts ∙ sym N.0.1, typed ∙ sym T.0)))
-      (none_named m t named typed ms (λ j e less. D (suc j) e (omega (arith, less))) T.1 N.1)
+or_parts : (a b : Bool) → (a || b) ≡ false → (a ≡ false) × (b ≡ false)
+or_parts true b h = absurd cc
+or_parts false b h = (refl, h)
 
-  -- members of one descriptor have names of their own
-  pub own_apart : (ms : List Member) → AreDistinct pool ms → AreTyped d pool ms → AreNamed pool ms → AreApart (map (text_name pool) ms)
-  own_apart [] D T N = tt
-  own_apart (m ∷ ms) D T N = (
-    none_named m N.0.0 N.0.1 T.0 ms (λ j e less. D 0 (suc j) e (omega arith) (omega (arith, less))) T.1 N.1,
-    own_apart ms (λ i j e less last. D (suc i) (suc j) e (omega (arith, less)) (omega (arith, last))) T.1 N.1,
-  )
+none_flipped : (x : List ℕ) (xs : List (List ℕ)) → list_any (bytes_eq x) xs ≡ false → list_any (λ y. bytes_eq y x) xs ≡ false
+none_flipped x [] h = refl
+none_flipped x (y ∷ ys) h =
+    let t = or_parts (bytes_eq x y) (list_any (bytes_eq x) ys) h in
+    or_none _ _ (differ y x (λ e. apart x y t.0 (sym e))) (none_flipped x ys t.1)
+
+-- names that differ by the test of the form are apart
+pub names_apart : (xs : List (List ℕ)) → are_distinct xs ≡ true → AreApart xs
+names_apart [] h = tt
+names_apart (x ∷ xs) h = let t = two_true _ _ h in (none_flipped x xs (not_true _ t.0), names_apart xs t.1)
 
 -- ---- methods that are apart by their names and descriptors
 

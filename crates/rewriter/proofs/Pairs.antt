@@ -12,7 +12,7 @@ use Rattle.jmodel.specs.declared.op.Op.{Op}
 use Rattle.jmodel.specs.declared.op.Op.TheVariants as op
 use Rattle.jmodel.specs.Pool.{MemberName, method_name}
 use Rattle.jmodel.specs.Program.{Program}
-use Rattle.jmodel.specs.Rewriting.{getter, setter, duplicate, moved, block as ops_of_block, block_len, block_at}
+use Rattle.jmodel.specs.Rewriting.{getter, setter, duplicate, moved, moved_cases, block as ops_of_block, block_len, block_at}
 use Rattle.jmodel.specs.Instruction.{IsInstrOver}
 use Rattle.jmodel.specs.Decoding.{number_at, Symbols, in_front, each, op_of, static_call_op}
 use Rattle.jmodel.specs.Linking.{is_form_op}
@@ -23,7 +23,7 @@ use Rattle.rewriter.proofs.Positions.{At, at_position, at_here, at_next}
 use Rattle.rewriter.proofs.Lay.{is_at, is_block, laid_to_append, IsSolid, many_before, all_cons, block_begins, at_no, at_found, at_first}
 use Rattle.rewriter.proofs.Read.{IsLaid, shaped_all, LeadsIn}
 use Rattle.rewriter.proofs.Single.{local_cases, increment_cases, Means, load_means, store_means, load_reference_means, call_static_means, increment_means, load_laid, store_laid, load_reference_laid, call_static_laid, increment_laid}
-use Rattle.rewriter.proofs.Kept.{is_same, is_jump, jump_by, same_means, leads_not, Jumps, jump_is, jump_means, adds_little, kept_laid}
+use Rattle.rewriter.proofs.Kept.{is_same, is_jump, jump_by, same_means, leads_not, Jumps, jump_is, jump_means, switch_is, switch_means, switch_there, adds_little, kept_laid}
 
 -- ---- lists
 
@@ -134,6 +134,7 @@ module _ (s0 s : Symbols) (G : Grown s0.class.pool s.class.pool) (P : Program) (
   sound (op.Branch t to) i h c = record { some = omega arith; count = refl; laid = (same_sound (op.Branch t to) i h, tt) }
   sound (op.BranchInts t to) i h c = record { some = omega arith; count = refl; laid = (same_sound (op.BranchInts t to) i h, tt) }
   sound (op.Goto to) i h c = record { some = omega arith; count = refl; laid = (same_sound (op.Goto to) i h, tt) }
+  sound (op.Switch other cases) i h c = record { some = omega arith; count = refl; laid = (same_sound (op.Switch other cases) i h, tt) }
   sound op.Return i h c = record { some = omega arith; count = refl; laid = (same_sound op.Return i h, tt) }
   sound op.ReturnValue i h c = record { some = omega arith; count = refl; laid = (same_sound op.ReturnValue i h, tt) }
   sound (op.Constant (value.Long n)) i h c = absurd (let f = h.form in absurd cc)
@@ -206,7 +207,7 @@ module _ (s0 s : Symbols) (G : Grown s0.class.pool s.class.pool) (P : Program) (
         at_position (is_at (place_of (zip_blocks ops is0) t)) (relocated (zip_blocks ops is0) stub) (many_before (zip_blocks ops is0) n) b ∙ ap (λ (k : ℕ). Some k) (before_is ops is0 n parts calls)
 
     lead_there : (o : Op) (i : Instr) → (j : Jumps is0 i.op i.operands o) → LeadsIn (zip_blocks ops is0) i.operands
-    lead_there o i j = subst (LeadsIn (zip_blocks ops is0)) (sym j.is_target) (j.number, block_there ops is0 j.target j.number parts (position_at (is_at j.target) is0 j.number j.leads))
+    lead_there o i j = subst (LeadsIn (zip_blocks ops is0)) (sym j.is_target) ((j.number, block_there ops is0 j.target j.number parts (position_at (is_at j.target) is0 j.number j.leads)), tt)
 
     pub record IsGood (o : Op) (i : Instr) : Type 0 where
       pub leads : AllByRecursion (λ (x : Instr). LeadsIn (zip_blocks ops is0) x.operands) (block_instrs names p (Some o) i)
@@ -229,6 +230,16 @@ module _ (s0 s : Symbols) (G : Grown s0.class.pool s.class.pool) (P : Program) (
               ∙ one_means s (place_of (zip_blocks ops is0)) (relocated (zip_blocks ops is0) stub) i (jump_by (block_at ops) o)
               (jump_means s is0 (relocated (zip_blocks ops is0) stub) (place_of (zip_blocks ops is0)) (block_at ops) i o j (number_of j.target j.number j.leads)) a
               ∙ ap (λ (l : List Op). Some l) (sym bo);
+        }
+
+    switch_good : (other : ℕ) (cases : List (ℤ × ℕ)) (i : Instr) → IsPart s0 is0 locals gives (op.Switch other cases) i → IsGood (op.Switch other cases) i
+    switch_good other cases i h =
+        let w = switch_is s0 is0 i.op i.operands other cases h.means in
+        let there : (t n : ℕ) → number_at is0 t ≡ Some n → (k : ℕ) × At (is_block t) (zip_blocks ops is0) k = λ t n e. (n, block_there ops is0 t n parts (position_at (is_at t) is0 n e)) in
+        record {
+          leads = (switch_there is0 (relocated (zip_blocks ops is0) stub) (place_of (zip_blocks ops is0)) (block_at ops) number_of (λ t. (k : ℕ) × At (is_block t) (zip_blocks ops is0) k) there i.operands (op.Switch other cases) w, tt);
+          means = λ a. one_means s (place_of (zip_blocks ops is0)) (relocated (zip_blocks ops is0) stub) i (op.Switch (block_at ops other) (moved_cases (block_at ops) cases))
+              (switch_means is0 (relocated (zip_blocks ops is0) stub) (place_of (zip_blocks ops is0)) (block_at ops) number_of s i other cases w) a;
         }
 
     leads_none : (x : Instr) → (y : Operands) → x.operands ≡ y → LeadsIn (zip_blocks ops is0) y → LeadsIn (zip_blocks ops is0) x.operands
@@ -273,6 +284,7 @@ module _ (s0 s : Symbols) (G : Grown s0.class.pool s.class.pool) (P : Program) (
     good (op.Branch t to) i h c = jump_good (op.Branch t to) i refl h refl refl
     good (op.BranchInts t to) i h c = jump_good (op.BranchInts t to) i refl h refl refl
     good (op.Goto to) i h c = jump_good (op.Goto to) i refl h refl refl
+    good (op.Switch other cases) i h c = switch_good other cases i h
     good (op.Constant (value.Long n)) i h c = absurd (let f = h.form in absurd cc)
     good (op.Constant (value.Ref n)) i h c = absurd (let f = h.form in absurd cc)
     good op.Throw i h c = absurd (let f = h.form in absurd cc)

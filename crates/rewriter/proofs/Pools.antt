@@ -1,7 +1,7 @@
 -- The pool of a rewritten class keeps the rules of every pool.
 use Rattle.std.proofs.Common.{◌≡◌, ℕ, zero, suc, ◌+◌, ◌<◌, ◌≤◌, Bool, true, false, List, [], ◌∷◌, ◌++◌, Option, Some, None, Result, Ok, refl, subst, arith, length, sym}
-use Rattle.std.specs.Prelude.{codes, pos, nat_lt, nat_eq, slice_get, zip, if◌then◌else◌}
-use Rattle.std.specs.Int.{w64, cast_signed}
+use Rattle.std.specs.Prelude.{codes, pos, nat_lt, nat_eq, slice_get, zip, bytes_eq, if◌then◌else◌, ℤ, FitsSigned}
+use Rattle.std.specs.Int.{w64, cast_signed, w32}
 use Rattle.std.specs.List.{flat_map, AllByRecursion}
 use Rattle.std.proofs.lemmas.Bool.Decides.{nat_tests}
 use Rattle.jmodel.specs.declared.refusal.Refusal.{Refusal}
@@ -11,8 +11,8 @@ use Rattle.jmodel.specs.Program.{Field, Method, Program}
 use Rattle.jmodel.specs.Decoding.{own_name}
 use Rattle.jmodel.specs.Name.{printed}
 use Rattle.jmodel.specs.Relocation.{Block}
-use Rattle.jmodel.specs.Rewriting.{with_context}
-use Rattle.jmodel.specs.Linking.{Coded, decoded, is_marked, program_methods, descriptor_of}
+use Rattle.jmodel.specs.Rewriting.{with_context, duplicate_name}
+use Rattle.jmodel.specs.Linking.{Coded, decoded, is_root, program_methods, descriptor_of, retries_of}
 use Rattle.jmodel.specs.declared.name.MethodName.{MethodName}
 use Rattle.jmodel.specs.Pool.{utf8, class_name}
 use Rattle.jmodel.specs.Layout.{text_or_none, is_static, statics, fields_from}
@@ -22,10 +22,12 @@ use Rattle.rewriter.specs.declared.accessors.Accessors.{Accessors}
 use Rattle.rewriter.specs.declared.names.Calls.{Calls}
 use Rattle.rewriter.specs.declared.wrappers.Opening.{Opening}
 use Rattle.rewriter.specs.declared.wrappers.Ending.{Ending}
+use Rattle.jmodel.specs.WordTypes.{type_descriptor, read_descriptor, write_descriptor}
 use Rattle.rewriter.specs.Members.{high, low, typed_name, constant_value, address_name, address_member, base_member, place_refs, look_refs, read_refs, getter_code, getter_body, setter_code, setter_body, straight_bytes, accessor, added_method, getter_of, setter_of, accessors_of, getter_name, setter_name, getter_type, setter_type, context_class, Names, gets, puts, calls, some_op, method_if_needed, getter_call, setter_call, calls_of, duplicate_call, blocks_from, stub, laid_bytes, of_method, duplicate_body, duplicate_flags, coded_duplicate, duplicate_of, opening_of, ending_of, wrapper_bytes, with_code, wrapper_of}
 use Rattle.rewriter.specs.Rewritten.{grow_from, wrapper_if, replaced, number_behind, id_behind, old_from, bases, both_of, added_fields, names_of, duplicates, added_methods, new_methods, rewritten_class}
 use Rattle.rewriter.proofs.Lawful.{IsText, pool_is, utf8_pool, integer_pool, long_pool, IsClassText, class_pool, IsMethodText, field_pool, method_pool}
-use Rattle.rewriter.proofs.Texts.{text_good, text_append, conflict_lawful, long_field, int_field, object_field, before_method, read_method, write_method, instance_method, init_method, commit_method, rollback_method, getter_method, setter_method, place_fits, number_fits, pool_text, pool_class, context_text, context_method}
+use Rattle.rewriter.proofs.Texts.{text_good, text_append, conflict_lawful, long_field, word_field, object_field, before_method, read_method, write_method, instance_method, init_method, commit_method, rollback_method, getter_method, setter_method, place_fits, number_fits, pool_text, pool_class, context_text, context_method}
+use Rattle.rewriter.proofs.Marks.{attempts_fit}
 use Rattle.rewriter.proofs.Old.{IsOld, AllOld}
 use Rattle.rewriter.proofs.Tables.{Known, olds, few_params}
 
@@ -108,7 +110,7 @@ module _ (own : List ℕ) (O : IsClassText own) (f : Field) (F : IsLawfulField f
       let a = bind_ok _ _ r e in
       let b = bind_ok _ _ r a.2 in
       pool_is (a.0.0, b.0.0) b.0.1 r b.2
-      (method_pool context_class (codes "onReadAccess") (codes "(Ljava/lang/Object;IJ)I") a.0.1 b.0 read_method b.1 (field_pool own f.name (codes "I") pool a.0 (int_field own f.name O F.name) a.1 p))
+      (method_pool context_class (codes "onReadAccess") (read_descriptor f.type) a.0.1 b.0 (read_method f.type) b.1 (field_pool own f.name (type_descriptor f.type) pool a.0 (word_field f.type own f.name O F.name) a.1 p))
 
   getter_body_pool : (pool : Pool) (r : List ℕ × Pool) → getter_body own f pool ≡ Ok r → IsPool pool → IsPool r.1
   unfolding getter_body
@@ -124,21 +126,21 @@ module _ (own : List ℕ) (O : IsClassText own) (f : Field) (F : IsLawfulField f
       let a = bind_ok _ _ r e in
       let b = bind_ok _ _ r a.2 in
       let d = bind_ok (straight_bytes 5 2 (setter_code a.0.0 b.0.0)) (λ bytes. Ok (bytes, b.0.1)) r b.2 in
-      pool_is d.0 b.0.1 r d.2 (method_pool context_class (codes "onWriteAccess") (codes "(Ljava/lang/Object;IJ)V") a.0.1 b.0 write_method b.1 (places_pool pool a.0 a.1 p))
+      pool_is d.0 b.0.1 r d.2 (method_pool context_class (codes "onWriteAccess") (write_descriptor f.type) a.0.1 b.0 (write_method f.type) b.1 (places_pool pool a.0 a.1 p))
 
   getter_pool : (pool : Pool) (r : Member × Pool) → getter_of own f pool ≡ Ok r → IsPool pool → IsPool r.1
   unfolding getter_of
   getter_pool pool r e p =
       let a = bind_ok _ _ r e in
-      let m = getter_method own (getter_name f) O (getter_text f F) in
-      accessor_pool (getter_name f) getter_type a.0.0 a.0.1 r m.named m.text a.2 (getter_body_pool pool a.0 a.1 p)
+      let m = getter_method f.type own (getter_name f) O (getter_text f F) in
+      accessor_pool (getter_name f) (getter_type f.type) a.0.0 a.0.1 r m.named m.text a.2 (getter_body_pool pool a.0 a.1 p)
 
   setter_pool : (pool : Pool) (r : Member × Pool) → setter_of own f pool ≡ Ok r → IsPool pool → IsPool r.1
   unfolding setter_of
   setter_pool pool r e p =
       let a = bind_ok _ _ r e in
-      let m = setter_method own (setter_name f) O (setter_text f F) in
-      accessor_pool (setter_name f) setter_type a.0.0 a.0.1 r m.named m.text a.2 (setter_body_pool pool a.0 a.1 p)
+      let m = setter_method f.type own (setter_name f) O (setter_text f F) in
+      accessor_pool (setter_name f) (setter_type f.type) a.0.0 a.0.1 r m.named m.text a.2 (setter_body_pool pool a.0 a.1 p)
 
   accessors_pool : (pool : Pool) (r : Accessors × Pool) → accessors_of own f pool ≡ Ok r → IsPool pool → IsPool r.1
   unfolding accessors_of
@@ -161,16 +163,24 @@ calls_pool P own n f pool r O F e p =
     let a = bind_ok _ _ r e in
     let b = bind_ok _ _ r a.2 in
     pool_is (record { getter = a.0.0; setter = b.0.0 }) b.0.1 r b.2
-    (needed_pool (some_op (puts n) P) own (setter_name f) setter_type a.0.1 b.0 (setter_method own (setter_name f) O (setter_text f F)) b.1
-    (needed_pool (some_op (gets n) P) own (getter_name f) getter_type pool a.0 (getter_method own (getter_name f) O (getter_text f F)) a.1 p))
+    (needed_pool (some_op (puts n) P) own (setter_name f) (setter_type f.type) a.0.1 b.0 (setter_method f.type own (setter_name f) O (setter_text f F)) b.1
+    (needed_pool (some_op (gets n) P) own (getter_name f) (getter_type f.type) pool a.0 (getter_method f.type own (getter_name f) O (getter_text f F)) a.1 p))
+
+-- the name of a duplicate is a text
+renamed_text : (n : List ℕ) → IsText n → IsText (duplicate_name n)
+renamed_text n own = go (bytes_eq n (codes "<clinit>"))
+  where
+    go : (b : Bool) → IsText (if b then codes "__CLINIT__" else n)
+    go true = text_good (codes "__CLINIT__") refl
+    go false = own
 
 -- what is known of a method of the program: the texts of its duplicate
 abbrev IsLawfulMethod : Method → Type 0
-IsLawfulMethod k = IsMethodText k.name.class k.name.name (with_context k.name.descriptor)
+IsLawfulMethod k = IsMethodText k.name.class (duplicate_name k.name.name) (with_context k.name.descriptor)
 
 duplicate_call_pool : (P : Program) (n : ℕ) (k : Method) (pool : Pool) (r : ℕ × Pool) → IsLawfulMethod k → duplicate_call P n k pool ≡ Ok r → IsPool pool → IsPool r.1
 unfolding duplicate_call
-duplicate_call_pool P n k pool r K e p = needed_pool (some_op (calls n) P) k.name.class k.name.name (with_context k.name.descriptor) pool r K e p
+duplicate_call_pool P n k pool r K e p = needed_pool (some_op (calls n) P) k.name.class (duplicate_name k.name.name) (with_context k.name.descriptor) pool r K e p
 
 -- ---- duplicates
 
@@ -187,11 +197,13 @@ copy_pool : (names : Names) (k : Method) (m : Member) (coded : Coded) (pool : Po
 unfolding coded_duplicate
 copy_pool names k m coded pool r K e p =
     let a = bind_ok _ _ r e in
-    let b = bind_ok _ _ r a.2 in
+    let n = bind_ok _ _ r a.2 in
+    let b = bind_ok _ _ r n.2 in
     let c = bind_ok _ _ r b.2 in
-    pool_is (added_method (duplicate_flags m.flags) m.name b.0.0 c.0.0 a.0.0) c.0.1 r c.2
+    pool_is (added_method (duplicate_flags m.flags) n.0.0 b.0.0 c.0.0 a.0.0) c.0.1 r c.2
     (utf8_pool (codes "Code") b.0.1 c.0 (text_good (codes "Code") refl) c.1
-    (utf8_pool (with_context k.name.descriptor) a.0.1 b.0 K.text b.1 (copy_body_pool (printed k.name) coded.code (blocks_from names k.params k.ops 0 coded.instrs) pool a.0 a.1 p)))
+    (utf8_pool (with_context k.name.descriptor) n.0.1 b.0 K.text b.1
+    (utf8_pool (duplicate_name k.name.name) a.0.1 n.0 K.named n.1 (copy_body_pool (printed k.name) coded.code (blocks_from names k.params k.ops 0 coded.instrs) pool a.0 a.1 p))))
 
 copy_of_pool : (c : ClassFile) (names : Names) (k : Method) (m : Member) (pool : Pool) (r : Member × Pool) → IsLawfulMethod k → duplicate_of c names k m pool ≡ Ok r → IsPool pool → IsPool r.1
 unfolding duplicate_of
@@ -199,16 +211,16 @@ copy_of_pool c names k m pool r K e p = let a = bind_ok (decoded c m) (λ coded.
 
 -- ---- wrappers
 
-opening_pool : (n : ℕ) (pool : Pool) (r : Opening × Pool) → n ≤ 65535 → opening_of n pool ≡ Ok r → IsPool pool → IsPool r.1
+opening_pool : (n : ℕ) (attempts : ℤ) (pool : Pool) (r : Opening × Pool) → n ≤ 65535 → FitsSigned w32 attempts → opening_of n attempts pool ≡ Ok r → IsPool pool → IsPool r.1
 unfolding opening_of
-opening_pool n pool r few e p =
+opening_pool n attempts pool r few fits e p =
     let a = bind_ok _ _ r e in
     let b = bind_ok _ _ r a.2 in
     let c = bind_ok _ _ r b.2 in
     let d = bind_ok _ _ r c.2 in
     pool_is (record { get = a.0.0; number = b.0.0; retries = c.0.0; init = d.0.0 }) d.0.1 r d.2
     (method_pool context_class (codes "init") (codes "(II)V") c.0.1 d.0 init_method d.1
-    (integer_pool (pos 2147483647) b.0.1 c.0 (number_fits 2147483647 (omega arith)) c.1
+    (integer_pool attempts b.0.1 c.0 fits c.1
     (integer_pool (pos n) a.0.1 b.0 (number_fits n (omega (arith, few))) b.1
     (method_pool (codes "org/deuce/transaction/ContextDelegator") (codes "getInstance") (codes "()Lorg/deuce/transaction/Context;") pool a.0 instance_method a.1 p))))
 
@@ -223,18 +235,18 @@ ending_pool k pool r K e p =
     (class_pool (codes "org/deuce/transaction/TransactionException") c.0.1 d.0 conflict_lawful d.1
     (method_pool context_class (codes "rollback") (codes "()V") b.0.1 c.0 rollback_method c.1
     (method_pool context_class (codes "commit") (codes "()Z") a.0.1 b.0 commit_method b.1
-    (method_pool k.name.class k.name.name (with_context k.name.descriptor) pool a.0 K a.1 p))))
+    (method_pool k.name.class (duplicate_name k.name.name) (with_context k.name.descriptor) pool a.0 K a.1 p))))
 
-wrapper_pool : (c : ClassFile) (n : ℕ) (k : Method) (m : Member) (pool : Pool) (r : Member × Pool) → IsLawfulMethod k → wrapper_of c n k m pool ≡ Ok r → IsPool pool → IsPool r.1
+wrapper_pool : (c : ClassFile) (n : ℕ) (attempts : ℤ) (k : Method) (m : Member) (pool : Pool) (r : Member × Pool) → IsLawfulMethod k → FitsSigned w32 attempts → wrapper_of c n attempts k m pool ≡ Ok r → IsPool pool → IsPool r.1
 unfolding wrapper_of
-wrapper_pool c n k m pool r K e p =
+wrapper_pool c n attempts k m pool r K fits e p =
     let x = guard_ok (nat_lt 65535 n) _ _ r e in
     let t = x.0 in
     let few : n ≤ 65535 = grind (arith, nat_tests) in
     let a = bind_ok _ _ r x.1 in
     let b = bind_ok _ _ r a.2 in
     let d = bind_ok (wrapper_bytes k a.0.0 b.0.0) (λ bytes. Ok (with_code c.pool bytes m, b.0.1)) r b.2 in
-    pool_is (with_code c.pool d.0 m) b.0.1 r d.2 (ending_pool k a.0.1 b.0 K b.1 (opening_pool n pool a.0 few a.1 p))
+    pool_is (with_code c.pool d.0 m) b.0.1 r d.2 (ending_pool k a.0.1 b.0 K b.1 (opening_pool n attempts pool a.0 few fits a.1 p))
 
 -- ---- lists of what is put
 
@@ -275,6 +287,7 @@ fields_pool P pool r F e p =
 
 -- what is known of the texts of a program and its class
 record AreLawful (P : Program) (c : ClassFile) : Type 0 where
+  pub pool : IsPool c.pool
   pub own : IsClassText (own_name c)
   pub fields : AllByRecursion IsLawfulField P.fields
   pub methods : AllByRecursion IsLawfulMethod P.methods
@@ -305,15 +318,12 @@ module _ (P : Program) (c : ClassFile) (L : AreLawful P c) where
       (copies_pool a.0.1 b.0 b.1 (grow_pool IsLawfulField (λ n f. accessors_of (own_name c) f) (λ n f pool r g. accessors_pool (own_name c) L.own f g pool r) 0 P.fields pool a.0 L.fields a.1 p))
 
   replaced_pool : (n id : ℕ) (m : Member) (pool : Pool) (r : Member × Pool) → replaced P c n id m pool ≡ Ok r → IsPool pool → IsPool r.1
-  replaced_pool n id m pool r e p = go (is_marked c.pool m) e
+  replaced_pool n id m pool r e p = go (retries_of c.pool m) refl (slice_get P.methods n) refl e
     where
-      wrapped : (o : Option Method) → slice_get P.methods n ≡ o → wrapper_if c id o m pool ≡ Ok r → IsPool r.1
-      wrapped None q h = pool_is m pool r h p
-      wrapped (Some k) q h = wrapper_pool c id k m pool r (all_at IsLawfulMethod P.methods n k L.methods q) h p
-
-      go : (b : Bool) → (if b then wrapper_if c id (slice_get P.methods n) m pool else Ok (m, pool)) ≡ Ok r → IsPool r.1
-      go true h = wrapped (slice_get P.methods n) refl h
-      go false h = pool_is m pool r h p
+      go : (a : Option ℤ) → retries_of c.pool m ≡ a → (o : Option Method) → slice_get P.methods n ≡ o → wrapper_if c id a o m pool ≡ Ok r → IsPool r.1
+      go None s o q h = pool_is m pool r h p
+      go (Some attempts) s None q h = pool_is m pool r h p
+      go (Some attempts) s (Some k) q h = wrapper_pool c id attempts k m pool r (all_at IsLawfulMethod P.methods n k L.methods q) (attempts_fit c.pool L.pool.entries m attempts s) h p
 
   olds_pool : (n id : ℕ) (ms : List Member) (pool : Pool) (r : List Member × Pool) → old_from P c n id ms pool ≡ Ok r → IsPool pool → IsPool r.1
   olds_pool n id [] pool r e p = pool_is [] pool r e p
@@ -353,9 +363,9 @@ module _ (c new : ClassFile) (P : Program) (K : Known c new P) where
   method_lawful : (m : Member) (k : Method) → IsOld c P.fields m k → IsLawfulMethod k
   method_lawful m k h =
       let p = K.rules.pool in
-      subst (λ (n : MethodName). IsMethodText n.class n.name (with_context n.descriptor)) (sym h.name) (record {
+      subst (λ (n : MethodName). IsMethodText n.class (duplicate_name n.name) (with_context n.descriptor)) (sym h.name) (record {
         owner = own_lawful c p;
-        named = some_text (utf8 c.pool m.name) (pool_text c.pool p m.name);
+        named = renamed_text (text_or_none (utf8 c.pool m.name)) (some_text (utf8 c.pool m.name) (pool_text c.pool p m.name));
         text = context_text (descriptor_of c.pool m) (some_text (utf8 c.pool m.descriptor) (pool_text c.pool p m.descriptor));
         typed = context_method (descriptor_of c.pool m) h.shape h.shaped (few_params c new P K m k h);
       })
@@ -369,7 +379,7 @@ module _ (c new : ClassFile) (P : Program) (K : Known c new P) where
   all_lawful : AreLawful P c
   all_lawful =
       let fields = fields_lawful c K.rules.pool 1 (statics c) (omega (arith, filter_few is_static c.fields, K.rules.few_fields)) in
-      record { own = own_lawful c K.rules.pool; fields = subst (AllByRecursion IsLawfulField) (sym K.original.fields) fields; methods = methods_lawful (program_methods c) P.methods (olds c new P K) }
+      record { pool = K.rules.pool; own = own_lawful c K.rules.pool; fields = subst (AllByRecursion IsLawfulField) (sym K.original.fields) fields; methods = methods_lawful (program_methods c) P.methods (olds c new P K) }
 
 -- a rewritten class's constant pool keeps the rules of every pool
 pub pool_kept : (c new : ClassFile) (P : Program) → Known c new P → rewritten_class P c ≡ Ok new → IsPool new.pool

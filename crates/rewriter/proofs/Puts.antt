@@ -6,7 +6,7 @@ use Rattle.std.proofs.lemmas.Int.{ints}
 use Rattle.jmodel.specs.ClassFile.{Pool, Attribute, Member}
 use Rattle.jmodel.specs.Pool.{utf8}
 use Rattle.jmodel.specs.Program.{Field, Method}
-use Rattle.jmodel.specs.Rewriting.{with_context}
+use Rattle.jmodel.specs.Rewriting.{with_context, duplicate_name}
 use Rattle.jmodel.specs.Constants.{pair_number, as_int, integer, long_in, named_entry, long_value}
 use Rattle.jmodel.proofs.Moved.{narrow}
 use Rattle.const_pool.proofs.Takes.{bind_ok, ok_is, fine}
@@ -14,6 +14,7 @@ use Rattle.rewriter.specs.declared.accessors.Accessors.{Accessors}
 use Rattle.rewriter.specs.declared.wrappers.Opening.{Opening}
 use Rattle.rewriter.specs.declared.wrappers.Ending.{Ending}
 use Rattle.rewriter.specs.Adding.{add_utf8, add_integer, add_long, add_class, add_field, add_method}
+use Rattle.jmodel.specs.WordTypes.{type_descriptor, read_descriptor, write_descriptor}
 use Rattle.rewriter.specs.Members.{high, low, typed_name, constant_value, address_name, address_member, base_member, place_refs, look_refs, read_refs, getter_code, getter_body, setter_code, setter_body, straight_bytes, accessor, added_method, getter_of, setter_of, accessors_of, getter_name, setter_name, getter_type, setter_type, context_class, opening_of, ending_of}
 use Rattle.rewriter.proofs.Grown.{Grown, grown_trans, utf8_grown, class_grown, field_grown, method_grown, integer_grown, long_grown}
 use Rattle.rewriter.proofs.Added.{Says, utf8_added, Counts, integer_added, Measures, long_added, NamesClass, class_added, IsFieldName, field_added, IsMethodName, method_added}
@@ -146,7 +147,7 @@ module _ (own : List ℕ) (f : Field) where
       (puts_more ArePlaces (IsMethodAt context_class (codes "beforeReadAccess") (codes "(Ljava/lang/Object;J)V")) pool a.0 b.0 (places_put pool a.0 a.1) (method_puts _ _ _ a.0.1 b.0 b.1)) b.2
 
   abbrev pub IsRead : Pool → ℕ × ℕ → Type 0
-  IsRead Z x = IsFieldAt own f.name (codes "I") Z x.0 × IsMethodAt context_class (codes "onReadAccess") (codes "(Ljava/lang/Object;IJ)I") Z x.1
+  IsRead Z x = IsFieldAt own f.name (type_descriptor f.type) Z x.0 × IsMethodAt context_class (codes "onReadAccess") (read_descriptor f.type) Z x.1
 
   read_puts : (pool : Pool) (r : (ℕ × ℕ) × Pool) → read_refs own f pool ≡ Ok r → Puts IsRead pool r
   unfolding read_refs
@@ -154,7 +155,7 @@ module _ (own : List ℕ) (f : Field) where
       let a = bind_ok _ _ r e in
       let b = bind_ok _ _ r a.2 in
       puts_end _ IsRead pool b.0 (a.0.0, b.0.0) r (λ Z h. h)
-      (puts_more (IsFieldAt own f.name (codes "I")) (IsMethodAt context_class (codes "onReadAccess") (codes "(Ljava/lang/Object;IJ)I")) pool a.0 b.0 (field_puts _ _ _ pool a.0 a.1) (method_puts _ _ _ a.0.1 b.0 b.1)) b.2
+      (puts_more (IsFieldAt own f.name (type_descriptor f.type)) (IsMethodAt context_class (codes "onReadAccess") (read_descriptor f.type)) pool a.0 b.0 (field_puts _ _ _ pool a.0 a.1) (method_puts _ _ _ a.0.1 b.0 b.1)) b.2
 
   pub record IsGetterBody (Z : Pool) (bytes : List ℕ) : Type 0 where
     pub look : (ℕ × ℕ) × ℕ
@@ -177,7 +178,7 @@ module _ (own : List ℕ) (f : Field) where
     pub write : ℕ
     pub is : straight_bytes 5 2 (setter_code places write) ≡ Ok bytes
     pub are : ArePlaces Z places
-    pub writes : IsMethodAt context_class (codes "onWriteAccess") (codes "(Ljava/lang/Object;IJ)V") Z write
+    pub writes : IsMethodAt context_class (codes "onWriteAccess") (write_descriptor f.type) Z write
 
   setter_body_puts : (pool : Pool) (r : List ℕ × Pool) → setter_body own f pool ≡ Ok r → Puts IsSetterBody pool r
   unfolding setter_body
@@ -186,7 +187,7 @@ module _ (own : List ℕ) (f : Field) where
       let b = bind_ok _ _ r a.2 in
       let d = bind_ok (straight_bytes 5 2 (setter_code a.0.0 b.0.0)) (λ bytes. Ok (bytes, b.0.1)) r b.2 in
       puts_end _ IsSetterBody pool b.0 d.0 r (λ Z h. record { places = a.0.0; write = b.0.0; is = d.1; are = h.0; writes = h.1 })
-      (puts_more ArePlaces (IsMethodAt context_class (codes "onWriteAccess") (codes "(Ljava/lang/Object;IJ)V")) pool a.0 b.0 (places_put pool a.0 a.1) (method_puts _ _ _ a.0.1 b.0 b.1)) d.2
+      (puts_more ArePlaces (IsMethodAt context_class (codes "onWriteAccess") (write_descriptor f.type)) pool a.0 b.0 (places_put pool a.0 a.1) (method_puts _ _ _ a.0.1 b.0 b.1)) d.2
 
 pub record IsAccessor (name type bytes : List ℕ) (Z : Pool) (m : Member) : Type 0 where
   pub n : ℕ
@@ -209,25 +210,25 @@ module _ (own : List ℕ) (f : Field) where
   pub record IsGetter (Z : Pool) (m : Member) : Type 0 where
     pub bytes : List ℕ
     pub body : IsGetterBody own f Z bytes
-    pub method : IsAccessor (getter_name f) getter_type bytes Z m
+    pub method : IsAccessor (getter_name f) (getter_type f.type) bytes Z m
 
   getter_puts : (pool : Pool) (r : Member × Pool) → getter_of own f pool ≡ Ok r → Puts IsGetter pool r
   unfolding getter_of
   getter_puts pool r e =
       let a = bind_ok _ _ r e in
-      let p = puts_more (IsGetterBody own f) (IsAccessor (getter_name f) getter_type a.0.0) pool a.0 r (getter_body_puts own f pool a.0 a.1) (accessor_puts (getter_name f) getter_type a.0.0 a.0.1 r a.2) in
+      let p = puts_more (IsGetterBody own f) (IsAccessor (getter_name f) (getter_type f.type) a.0.0) pool a.0 r (getter_body_puts own f pool a.0 a.1) (accessor_puts (getter_name f) (getter_type f.type) a.0.0 a.0.1 r a.2) in
       record { grown = p.grown; facts = λ Z g. let h = p.facts Z g in record { bytes = a.0.0; body = h.0; method = h.1 } }
 
   pub record IsSetter (Z : Pool) (m : Member) : Type 0 where
     pub bytes : List ℕ
     pub body : IsSetterBody own f Z bytes
-    pub method : IsAccessor (setter_name f) setter_type bytes Z m
+    pub method : IsAccessor (setter_name f) (setter_type f.type) bytes Z m
 
   setter_puts : (pool : Pool) (r : Member × Pool) → setter_of own f pool ≡ Ok r → Puts IsSetter pool r
   unfolding setter_of
   setter_puts pool r e =
       let a = bind_ok _ _ r e in
-      let p = puts_more (IsSetterBody own f) (IsAccessor (setter_name f) setter_type a.0.0) pool a.0 r (setter_body_puts own f pool a.0 a.1) (accessor_puts (setter_name f) setter_type a.0.0 a.0.1 r a.2) in
+      let p = puts_more (IsSetterBody own f) (IsAccessor (setter_name f) (setter_type f.type) a.0.0) pool a.0 r (setter_body_puts own f pool a.0 a.1) (accessor_puts (setter_name f) (setter_type f.type) a.0.0 a.0.1 r a.2) in
       record { grown = p.grown; facts = λ Z g. let h = p.facts Z g in record { bytes = a.0.0; body = h.0; method = h.1 } }
 
   pub record AreAccessors (Z : Pool) (a : Accessors) : Type 0 where
@@ -244,31 +245,31 @@ module _ (own : List ℕ) (f : Field) where
 
 -- ---- what wrappers name
 
-pub record IsOpening (n : ℕ) (Z : Pool) (a : Opening) : Type 0 where
+pub record IsOpening (n : ℕ) (attempts : ℤ) (Z : Pool) (a : Opening) : Type 0 where
   pub get_is : IsMethodAt (codes "org/deuce/transaction/ContextDelegator") (codes "getInstance") (codes "()Lorg/deuce/transaction/Context;") Z a.get
   pub number_is : integer Z a.number ≡ Some (pos n)
   pub number_few : a.number < 65535
-  pub retries_is : integer Z a.retries ≡ Some (pos 2147483647)
+  pub retries_is : integer Z a.retries ≡ Some attempts
   pub retries_few : a.retries < 65535
   pub init_is : IsMethodAt context_class (codes "init") (codes "(II)V") Z a.init
 
 small_number : (n : ℕ) → n ≤ 2147483647 → as_int (pos n) ≡ pos n
 small_number n h = narrow (pos n) (omega (arith, ints, h))
 
-pub opening_puts : (n : ℕ) (pool : Pool) (r : Opening × Pool) → n ≤ 65535 → opening_of n pool ≡ Ok r → Puts (IsOpening n) pool r
+pub opening_puts : (n : ℕ) (attempts : ℤ) (pool : Pool) (r : Opening × Pool) → n ≤ 65535 → opening_of n attempts pool ≡ Ok r → Puts (IsOpening n (as_int attempts)) pool r
 unfolding opening_of
-opening_puts n pool r few e =
+opening_puts n attempts pool r few e =
     let a = bind_ok _ _ r e in
     let b = bind_ok _ _ r a.2 in
     let c = bind_ok _ _ r b.2 in
     let d = bind_ok _ _ r c.2 in
-    puts_end _ (IsOpening n) pool d.0 (record { get = a.0.0; number = b.0.0; retries = c.0.0; init = d.0.0 }) r (λ Z h. record { get_is = h.0; number_is = h.1.0.0 ∙ ap Some (small_number n (omega (arith, few))); number_few = h.1.0.1; retries_is = h.1.1.0.0 ∙ ap Some (small_number 2147483647 (omega arith)); retries_few = h.1.1.0.1; init_is = h.1.1.1 })
+    puts_end _ (IsOpening n (as_int attempts)) pool d.0 (record { get = a.0.0; number = b.0.0; retries = c.0.0; init = d.0.0 }) r (λ Z h. record { get_is = h.0; number_is = h.1.0.0 ∙ ap Some (small_number n (omega (arith, few))); number_few = h.1.0.1; retries_is = h.1.1.0.0; retries_few = h.1.1.0.1; init_is = h.1.1.1 })
     (puts_more (IsMethodAt (codes "org/deuce/transaction/ContextDelegator") (codes "getInstance") (codes "()Lorg/deuce/transaction/Context;")) _ pool a.0 d.0 (method_puts _ _ _ pool a.0 a.1)
     (puts_more (IsCountAt (pos n)) _ a.0.1 b.0 d.0 (integer_puts _ a.0.1 b.0 b.1)
-    (puts_more (IsCountAt (pos 2147483647)) (IsMethodAt context_class (codes "init") (codes "(II)V")) b.0.1 c.0 d.0 (integer_puts _ b.0.1 c.0 c.1) (method_puts _ _ _ c.0.1 d.0 d.1)))) d.2
+    (puts_more (IsCountAt attempts) (IsMethodAt context_class (codes "init") (codes "(II)V")) b.0.1 c.0 d.0 (integer_puts _ b.0.1 c.0 c.1) (method_puts _ _ _ c.0.1 d.0 d.1)))) d.2
 
 pub record IsEnding (k : Method) (Z : Pool) (a : Ending) : Type 0 where
-  pub duplicate_is : IsMethodAt k.name.class k.name.name (with_context k.name.descriptor) Z a.duplicate
+  pub duplicate_is : IsMethodAt k.name.class (duplicate_name k.name.name) (with_context k.name.descriptor) Z a.duplicate
   pub commit_is : IsMethodAt context_class (codes "commit") (codes "()Z") Z a.commit
   pub rollback_is : IsMethodAt context_class (codes "rollback") (codes "()V") Z a.rollback
   pub conflict_is : IsClassAt (codes "org/deuce/transaction/TransactionException") Z a.conflict
@@ -281,6 +282,6 @@ ending_puts k pool r e =
     let c = bind_ok _ _ r b.2 in
     let d = bind_ok _ _ r c.2 in
     puts_end _ (IsEnding k) pool d.0 (record { duplicate = a.0.0; commit = b.0.0; rollback = c.0.0; conflict = d.0.0 }) r (λ Z h. record { duplicate_is = h.0; commit_is = h.1.0; rollback_is = h.1.1.0; conflict_is = h.1.1.1 })
-    (puts_more (IsMethodAt k.name.class k.name.name (with_context k.name.descriptor)) _ pool a.0 d.0 (method_puts _ _ _ pool a.0 a.1)
+    (puts_more (IsMethodAt k.name.class (duplicate_name k.name.name) (with_context k.name.descriptor)) _ pool a.0 d.0 (method_puts _ _ _ pool a.0 a.1)
     (puts_more (IsMethodAt context_class (codes "commit") (codes "()Z")) _ a.0.1 b.0 d.0 (method_puts _ _ _ a.0.1 b.0 b.1)
     (puts_more (IsMethodAt context_class (codes "rollback") (codes "()V")) (IsClassAt (codes "org/deuce/transaction/TransactionException")) b.0.1 c.0 d.0 (method_puts _ _ _ b.0.1 c.0 c.1) (class_puts _ c.0.1 d.0 d.1)))) d.2

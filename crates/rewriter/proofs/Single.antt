@@ -87,31 +87,31 @@ increment_means s place is i n = increment_cases (Means s place is (op.Increment
 
 module _ (pool : Pool) where
   pub plain_laid : (c : ℕ) → c < 256 → IsShapedAs (form_of c) operands.Nothing → FitPoolAs pool (form_of c) operands.Nothing → IsLaid pool (plain c)
-  plain_laid c h s f = record { shaped = record { op = h; operands = s }; simple = tt; fits = f }
+  plain_laid c h s f = record { shaped = record { op = h; operands = s }; fits = f }
 
   pub load_laid : (i : ℕ) → i < 65536 → IsLaid pool (load_int i)
   load_laid i h = local_cases (IsLaid pool) 21 26 i
       (λ k. below_four (λ j. IsLaid pool (plain (26 + j))) (plain_laid 26 (omega arith) tt tt) (plain_laid 27 (omega arith) tt tt) (plain_laid 28 (omega arith) tt tt) (plain_laid 29 (omega arith) tt tt) i k)
-      (λ k. record { shaped = record { op = omega arith; operands = k }; simple = tt; fits = tt }) (record { shaped = record { op = omega arith; operands = (omega arith, h, refl) }; simple = tt; fits = tt })
+      (λ k. record { shaped = record { op = omega arith; operands = k }; fits = tt }) (record { shaped = record { op = omega arith; operands = (omega arith, h, refl) }; fits = tt })
 
   pub store_laid : (i : ℕ) → i < 65536 → IsLaid pool (store_int i)
   store_laid i h = local_cases (IsLaid pool) 54 59 i
       (λ k. below_four (λ j. IsLaid pool (plain (59 + j))) (plain_laid 59 (omega arith) tt tt) (plain_laid 60 (omega arith) tt tt) (plain_laid 61 (omega arith) tt tt) (plain_laid 62 (omega arith) tt tt) i k)
-      (λ k. record { shaped = record { op = omega arith; operands = k }; simple = tt; fits = tt }) (record { shaped = record { op = omega arith; operands = (omega arith, h, refl) }; simple = tt; fits = tt })
+      (λ k. record { shaped = record { op = omega arith; operands = k }; fits = tt }) (record { shaped = record { op = omega arith; operands = (omega arith, h, refl) }; fits = tt })
 
   pub load_reference_laid : (i : ℕ) → i < 65536 → IsLaid pool (load_reference i)
   load_reference_laid i h = local_cases (IsLaid pool) 25 42 i
       (λ k. below_four (λ j. IsLaid pool (plain (42 + j))) (plain_laid 42 (omega arith) tt tt) (plain_laid 43 (omega arith) tt tt) (plain_laid 44 (omega arith) tt tt) (plain_laid 45 (omega arith) tt tt) i k)
-      (λ k. record { shaped = record { op = omega arith; operands = k }; simple = tt; fits = tt }) (record { shaped = record { op = omega arith; operands = (omega arith, h, refl) }; simple = tt; fits = tt })
+      (λ k. record { shaped = record { op = omega arith; operands = k }; fits = tt }) (record { shaped = record { op = omega arith; operands = (omega arith, h, refl) }; fits = tt })
 
   pub store_reference_laid : (i : ℕ) → i < 65536 → IsLaid pool (store_reference i)
   store_reference_laid i h = local_cases (IsLaid pool) 58 75 i
       (λ k. below_four (λ j. IsLaid pool (plain (75 + j))) (plain_laid 75 (omega arith) tt tt) (plain_laid 76 (omega arith) tt tt) (plain_laid 77 (omega arith) tt tt) (plain_laid 78 (omega arith) tt tt) i k)
-      (λ k. record { shaped = record { op = omega arith; operands = k }; simple = tt; fits = tt }) (record { shaped = record { op = omega arith; operands = (omega arith, h, refl) }; simple = tt; fits = tt })
+      (λ k. record { shaped = record { op = omega arith; operands = k }; fits = tt }) (record { shaped = record { op = omega arith; operands = (omega arith, h, refl) }; fits = tt })
 
   pub increment_laid : (i : ℕ) (n : ℤ) → i < 65536 → FitsSigned w16 n → IsLaid pool (increment i n)
-  increment_laid i n h f = increment_cases (IsLaid pool) i n (λ k g. record { shaped = record { op = omega arith; operands = (k, g) }; simple = tt; fits = tt })
-      (record { shaped = record { op = omega arith; operands = (omega arith, h, f) }; simple = tt; fits = tt })
+  increment_laid i n h f = increment_cases (IsLaid pool) i n (λ k g. record { shaped = record { op = omega arith; operands = (k, g) }; fits = tt })
+      (record { shaped = record { op = omega arith; operands = (omega arith, h, f) }; fits = tt })
 
   in_kind : {X : Type 0} (f : Constant → Option X) (k : EntryKind) → ((c : Constant) (x : X) → f c ≡ Some x → is_kind_in k (Some c) ≡ true) → (o : Option Constant) (x : X) → option_and_then f o ≡ Some x → is_kind_in k o ≡ true
   in_kind f k h None x e = cc
@@ -130,13 +130,13 @@ module _ (pool : Pool) where
   int_kind c x h = cc
 
   pub call_static_laid : (i : ℕ) (m : MemberName) → i < 65535 → method_name pool i ≡ Some m → IsLaid pool (call_static i)
-  call_static_laid i m h e = record { shaped = record { op = omega arith; operands = omega (arith, h) }; simple = tt; fits = in_kind (method_in pool) kind.Method method_kind (entry pool i) m e }
+  call_static_laid i m h e = record { shaped = record { op = omega arith; operands = omega (arith, h) }; fits = in_kind (method_in pool) kind.Method method_kind (entry pool i) m e }
 
   pub call_virtual_laid : (i : ℕ) (m : MemberName) → i < 65535 → method_name pool i ≡ Some m → IsLaid pool (call_virtual i)
-  call_virtual_laid i m h e = record { shaped = record { op = omega arith; operands = omega (arith, h) }; simple = tt; fits = in_kind (method_in pool) kind.Method method_kind (entry pool i) m e }
+  call_virtual_laid i m h e = record { shaped = record { op = omega arith; operands = omega (arith, h) }; fits = in_kind (method_in pool) kind.Method method_kind (entry pool i) m e }
 
   pub get_static_laid : (i : ℕ) (m : MemberName) → i < 65535 → field_name pool i ≡ Some m → IsLaid pool (get_static i)
-  get_static_laid i m h e = record { shaped = record { op = omega arith; operands = omega (arith, h) }; simple = tt; fits = in_kind (field_in pool) kind.Field field_kind (entry pool i) m e }
+  get_static_laid i m h e = record { shaped = record { op = omega arith; operands = omega (arith, h) }; fits = in_kind (field_in pool) kind.Field field_kind (entry pool i) m e }
 
   pub int_laid : (i : ℕ) (n : ℤ) → i < 65535 → integer pool i ≡ Some n → IsLaid pool (naming 19 i)
-  int_laid i n h e = record { shaped = record { op = omega arith; operands = omega (arith, h) }; simple = tt; fits = in_kind integer_in kind.Single int_kind (entry pool i) n e }
+  int_laid i n h e = record { shaped = record { op = omega arith; operands = omega (arith, h) }; fits = in_kind integer_in kind.Single int_kind (entry pool i) n e }

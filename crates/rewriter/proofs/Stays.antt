@@ -113,7 +113,7 @@ module _ (locals : ℕ) (gives : Bool) where
         stays_when _ _ _ _ _ (mapped op.GetStatic (field_number s0.fields m) (field_number s.fields m) (field_stays m)) (never _ (is_base s0.class m) (long_field s0.class m) (base_of (s0.class ∷ []) 0) _)
 
     put_stays : (m : MemberName) → Stays (put_op s0 m) (put_op s m)
-    put_stays m = stays_when _ _ _ None None (mapped op.PutStatic (field_number s0.fields m) (field_number s.fields m) (field_stays m)) (stays_refl None)
+    put_stays m = mapped op.PutStatic (field_number s0.fields m) (field_number s.fields m) (field_stays m)
 
     static_stays : (m : MemberName) → Stays (static_call_op s0 m) (static_call_op s m)
     static_stays m = stays_when (is_get_context m) _ _ _ _ (stays_refl (Some op.GetContext)) (mapped op.InvokeStatic (method_number s0.methods m) (method_number s.methods m) (method_stays m))

@@ -1,8 +1,9 @@
 -- What names stand for in a rewritten class.
-use Rattle.std.proofs.Common.{◌≡◌, ◌⊎◌, inl, inr, get_or, ℕ, zero, suc, ◌+◌, Bool, true, false, not, ◌&&◌, ◌||◌, List, [], ◌∷◌, ◌++◌, length, map, Some, refl, sym, ap, ◌∙◌, subst, ◌<◌, ◌≤◌, arith}
-use Rattle.std.specs.Prelude.{codes, bytes_eq, slice_get, find, filter, zip, nat_le, option_and_then}
+use Rattle.std.proofs.Common.{◌≡◌, ◌⊎◌, inl, inr, get_or, ℕ, zero, suc, ◌+◌, Bool, true, false, not, ◌&&◌, ◌||◌, List, [], ◌∷◌, ◌++◌, length, map, Some, refl, sym, ap, ◌∙◌, subst, ◌<◌, ◌≤◌, arith, Option, None, Result, Ok, Err, ℤ}
+use Rattle.std.specs.Prelude.{codes, bytes_eq, slice_get, find, filter, zip, is_some, option_and_then, nat_le}
 use Rattle.std.specs.Int.{w64, cast_signed}
 use Rattle.std.specs.List.{list_any, list_all, flat_map, AllByRecursion}
+use Rattle.std.specs.Option.{option_or}
 use Rattle.std.proofs.lemmas.List.Concat.{flat_map-cons}
 use Rattle.std.proofs.lemmas.List.Kept.{AllPairs-filter}
 use Rattle.std.proofs.lemmas.List.Folds.{list_all-append}
@@ -10,31 +11,39 @@ use Rattle.std.proofs.lemmas.List.Elements.{filter-append}
 use Rattle.std.proofs.lemmas.Option.{get_or_from_slice_get}
 use Rattle.jmodel.specs.declared.name.MethodName.{MethodName}
 use Rattle.jmodel.specs.declared.op.Op.TheVariants as op
+use Rattle.jmodel.specs.declared.op.WordType.{WordType}
 use Rattle.jmodel.specs.declared.op.WordType.TheVariants as word
+use Rattle.jmodel.specs.WordTypes.{type_descriptor, word_type}
+use Rattle.jmodel.specs.declared.mark.Atomic.{Atomic}
+use Rattle.jmodel.specs.declared.mark.AnnotationFault.{AnnotationFault}
+use Rattle.jmodel.specs.declared.mark.AnnotationFault.TheVariants.{Bad, Retries}
+use Rattle.jmodel.specs.Mark.{mark_of}
+use Rattle.jmodel.specs.Name.{printed}
 use Rattle.jmodel.specs.ClassFile.{Member, Pool, ClassFile}
 use Rattle.jmodel.specs.Pool.{utf8, class_name, MemberName}
 use Rattle.jmodel.specs.ClassRules.{IsAttribute, IsClassFile, IsField, IsMethod, IsSameMember, same_text}
 use Rattle.jmodel.specs.Program.{Field, Method, Program}
 use Rattle.jmodel.specs.Layout.{text_or_none, fields_from, is_static, statics}
 use Rattle.jmodel.specs.DescriptorReading.{signature_of}
-use Rattle.jmodel.specs.Rewriting.{with_context, base, offset, getter, setter, duplicate}
+use Rattle.jmodel.specs.Rewriting.{with_context, base, offset, getter, setter, duplicate, duplicate_name}
 use Rattle.jmodel.specs.Constants.{long_value}
 use Rattle.jmodel.specs.Decoding.{Symbols, own_name, name_of, is_method_of, method_number, get_op, static_call_op, is_member}
-use Rattle.jmodel.specs.Linking.{descriptor_of, has_context, has_part, symbols_of, original_fields, is_marked, takes_context, program_methods, is_name, is_rewritten_method, rewritten_methods, is_form_field, is_form_method, is_form_attribute, is_reserved}
+use Rattle.jmodel.specs.Linking.{descriptor_of, has_context, has_part, symbols_of, original_fields, is_marked, takes_context, program_methods, is_name, is_context, is_rewritten_method, rewritten_methods, is_form_method, is_reserved, is_root, is_form_field, retries_of, may_be_marked, fault_in, mark_fault, marks_fault}
 use Rattle.jmodel.specs.Taken.{calls, is_found, is_taken}
 use Rattle.rewriter.specs.declared.accessors.Accessors.{Accessors}
 use Rattle.rewriter.specs.Members.{Names, getter_name, setter_name, getter_type, setter_type, address_name}
-use Rattle.rewriter.proofs.Contexts.{marker, context_taken, no_context, not_plain, getter_signature, setter_signature}
+use Rattle.rewriter.proofs.Contexts.{marker, context_taken, no_context, not_plain, field_of, getter_signature, setter_signature}
 use Rattle.rewriter.specs.Rewritten.{number_behind, id_behind, both_of}
 use Rattle.rewriter.proofs.Grown.{the_some, the_and, utf8_grown, class_grown}
 use Rattle.rewriter.proofs.Added.{two_true, same_text_is}
 use Rattle.rewriter.proofs.Positions.{at_position, at_front, all_pass, same, find_behind, no_such_end}
 use Rattle.rewriter.proofs.Pairs.{position_at}
-use Rattle.rewriter.proofs.Old.{Original, Form, form_of, IsOld, AllOld, all_old, AreNamed, AreTyped, AreBoth, AreApart, AreApartMethods, own_apart, methods_apart, text_name, free_text, none_called}
+use Rattle.rewriter.proofs.Old.{Original, Form, form_of, IsOld, AllOld, all_old, AreNamed, AreBoth, AreApart, AreApartMethods, names_apart, methods_apart, text_name, free_text, none_called}
 use Rattle.rewriter.proofs.Puts.{AreAccessors}
-use Rattle.rewriter.proofs.Marks.{or_false, or_first, or_later, neither, context_same}
+use Rattle.rewriter.proofs.Marks.{or_false, or_first, or_later, neither, context_same, HasMark, not_some}
 use Rattle.rewriter.proofs.Whole.{Each, IsReplaced, EachReplaced, IsCopyOf, Rewrites}
-use Rattle.rewriter.proofs.Numbers.{wanted, name_as, old_names, accessor_names, copy_names, all_names, field_names, AreFree, getter_number, setter_number, copy_number, number_of_field, AreOwn, address_found}
+use Rattle.rewriter.proofs.Numbers.{wanted, name_as, old_names, accessor_names, copy_names, all_names, field_names, AreFree, getter_number, setter_number, copy_number, number_of_field, AreOwn, address_found, AreUnreserved}
+use Rattle.rewriter.proofs.Renamed.{duplicate_shows}
 
 filter_keeps : {A : Type 0} (p : A → Bool) (x : A) (xs : List A) → p x ≡ true → filter p (x ∷ xs) ≡ x ∷ filter p xs
 filter_keeps p x xs e = rw e refl
@@ -74,15 +83,6 @@ lawful_methods : (pool : Pool) (ms : List Member) → AllByRecursion (IsMethod p
 lawful_methods pool [] h = tt
 lawful_methods pool (m ∷ ms) h = (h.0.member.attributes.each, lawful_methods pool ms h.1)
 
-typed_statics : (pool : Pool) (ms : List Member) → list_all (is_form_field pool) ms ≡ true → AreTyped (codes "I") pool (filter is_static ms)
-typed_statics pool [] h = tt
-typed_statics pool (m ∷ ms) h = let a = two_true _ _ h in go (is_static m) refl a.0 (typed_statics pool ms a.1)
-  where
-    go : (b : Bool) → is_static m ≡ b → (not b || same_text (utf8 pool m.descriptor) (codes "I") && nat_le (length (text_or_none (utf8 pool m.name))) 1000) ≡ true
-        → AreTyped (codes "I") pool (filter is_static ms) → AreTyped (codes "I") pool (filter is_static (m ∷ ms))
-    go true e t r = rw e (same_text_is (utf8 pool m.descriptor) (codes "I") (two_true _ _ t).0, r)
-    go false e t r = rw e r
-
 both_methods : (pool : Pool) (ms : List Member) → AllByRecursion (IsMethod pool) ms → AreBoth pool ms
 both_methods pool [] h = tt
 both_methods pool (m ∷ ms) h =
@@ -98,19 +98,30 @@ both_where pool p (m ∷ ms) h = go (p m) refl (both_where pool p ms h.1)
     go true e rest = rw e (h.0, rest)
     go false e rest = rw e rest
 
--- the attributes of each are of the form
-abbrev pub AreFormal : Pool → List Member → Type 0
-AreFormal pool ms = AllByRecursion (λ (m : Member). list_all (is_form_attribute pool) m.attributes ≡ true) ms
+-- the annotations and the mark of each have no fault
+abbrev pub AreSound : Pool → List Member → Type 0
+AreSound pool ms = AllByRecursion (HasMark pool) ms
 
-formal_methods : (c : ClassFile) (ms : List Member) → list_all (is_form_method c) ms ≡ true → AreFormal c.pool ms
-formal_methods c [] h = tt
-formal_methods c (m ∷ ms) h = let t = two_true _ _ h in ((two_true (list_all (is_form_attribute c.pool) m.attributes) _ t.0).0, formal_methods c ms t.1)
+unfaulted : (name : List ℕ) (may : Bool) (r : Result (Option Atomic) AnnotationFault) → fault_in name may r ≡ None → (found : Option Atomic) × (r ≡ Ok found)
+unfaulted name may (Ok found) h = (found, refl)
+unfaulted name may (Err (Bad at)) h = absurd cc
+unfaulted name may (Err (Retries n)) h = absurd cc
 
-formal_where : (pool : Pool) (p : Member → Bool) (ms : List Member) → AreFormal pool ms → AreFormal pool (filter p ms)
-formal_where pool p [] h = tt
-formal_where pool p (m ∷ ms) h = go (p m) refl (formal_where pool p ms h.1)
+neither_some : {A : Type 0} (o p : Option A) → option_or o p ≡ None → (o ≡ None) × (p ≡ None)
+neither_some None p h = (refl, h)
+neither_some (Some x) p h = absurd cc
+
+sound_methods : (c : ClassFile) (ms : List Member) → marks_fault c ms ≡ None → AreSound c.pool ms
+sound_methods c [] h = tt
+sound_methods c (m ∷ ms) h =
+    let t = neither_some (mark_fault c m) (marks_fault c ms) h in
+    (unfaulted (printed (name_of c m)) (may_be_marked c.pool m) (mark_of c.pool m) t.0, sound_methods c ms t.1)
+
+sound_where : (pool : Pool) (p : Member → Bool) (ms : List Member) → AreSound pool ms → AreSound pool (filter p ms)
+sound_where pool p [] h = tt
+sound_where pool p (m ∷ ms) h = go (p m) refl (sound_where pool p ms h.1)
   where
-    go : (b : Bool) → p m ≡ b → AreFormal pool (filter p ms) → AreFormal pool (filter p (m ∷ ms))
+    go : (b : Bool) → p m ≡ b → AreSound pool (filter p ms) → AreSound pool (filter p (m ∷ ms))
     go true e rest = rw e (h.0, rest)
     go false e rest = rw e rest
 
@@ -133,13 +144,33 @@ kept_all Q p (m ∷ ms) h = go (p m) refl (kept_all Q p ms (λ j x e t. h (suc j
     go true e rest = rw e (h 0 m refl e, rest)
     go false e rest = rw e rest
 
+any_behind : (a : Bool) → (a || true) ≡ true
+any_behind true = refl
+any_behind false = refl
+
+-- a setter's descriptor is not that of a method that gives the context
+setter_not_plain : (t : WordType) → bytes_eq (setter_type t) (codes "()Lorg/deuce/transaction/Context;") ≡ false
+setter_not_plain word.Boolean = refl
+setter_not_plain word.Byte = refl
+setter_not_plain word.Char = refl
+setter_not_plain word.Short = refl
+setter_not_plain word.Int = refl
+
+-- the descriptor of a type is one
+is_word : (t : WordType) → is_some (word_type (type_descriptor t)) ≡ true
+is_word word.Boolean = refl
+is_word word.Byte = refl
+is_word word.Char = refl
+is_word word.Short = refl
+is_word word.Int = refl
+
 abbrev pub AreGood : List Field → Type 0
 AreGood [] = Unit {0}
-AreGood (f ∷ fs) = (f.type ≡ word.Int) × (f.place.object ≡ 2) × AreGood fs
+AreGood (f ∷ fs) = (f.place.object ≡ 2) × AreGood fs
 
 good_from : (c : ClassFile) (j : ℕ) (ms : List Member) → AreGood (fields_from (c ∷ []) 0 c j ms ++ [])
 good_from c j [] = tt
-good_from c j (m ∷ ms) = (refl, refl, good_from c (suc j) ms)
+good_from c j (m ∷ ms) = (refl, good_from c (suc j) ms)
 
 own_from : (c : ClassFile) (j : ℕ) (ms : List Member) → AreOwn (own_name c) (fields_from (c ∷ []) 0 c j ms ++ [])
 own_from c j [] = tt
@@ -170,10 +201,10 @@ no_marker text h = (or_false _ _ (or_false _ _ (or_false _ _ (or_false _ _ (or_f
 no_address : (text : List ℕ) → is_reserved text ≡ false → has_part (codes "__ADDRESS__") text ≡ false
 no_address text h = (or_false _ _ (or_false _ _ (or_false _ _ (or_false _ _ (or_false _ _ h).0).0).0).0).1
 
-no_getter : (text : List ℕ) → is_reserved text ≡ false → has_part (codes "__Getter$") text ≡ false
+pub no_getter : (text : List ℕ) → is_reserved text ≡ false → has_part (codes "__Getter$") text ≡ false
 no_getter text h = (or_false _ _ (or_false _ _ (or_false _ _ (or_false _ _ h).0).0).0).1
 
-no_setter : (text : List ℕ) → is_reserved text ≡ false → has_part (codes "__Setter$") text ≡ false
+pub no_setter : (text : List ℕ) → is_reserved text ≡ false → has_part (codes "__Setter$") text ≡ false
 no_setter text h = (or_false _ _ (or_false _ _ (or_false _ _ h).0).0).1
 
 -- what is known of the class, its program and the rewritten class
@@ -190,7 +221,7 @@ module _ (c new : ClassFile) (P : Program) (K : Known c new P) where
   table = symbols_of new P.fields (rewritten_methods P new)
 
   pub form : Form c
-  form = form_of c K.original.form
+  form = form_of c P K.original.form
 
   pub own_same : own_name new ≡ own_name c
   own_same =
@@ -214,9 +245,7 @@ module _ (c new : ClassFile) (P : Program) (K : Known c new P) where
 
   pub fields_apart : AreApart (field_names P.fields)
   fields_apart =
-      let pairs = AllPairs-filter (λ a b. ¬ IsSameMember c.pool a b) is_static c.fields K.rules.distinct_fields in
-      subst AreApart (names_from c 1 (statics c) ∙ ap field_names (sym fields_are))
-      (own_apart c.pool (codes "I") (statics c) pairs (typed_statics c.pool c.fields form.fields) (named_where c.pool is_static c.fields all_fields_named))
+      subst AreApart (names_from c 1 (statics c) ∙ ap field_names (sym fields_are)) (names_apart (map (text_name c.pool) (statics c)) form.own_names)
 
   pub named : AreNamed c.pool (program_methods c)
   named = named_where c.pool (is_taken c) c.methods (named_methods c.pool c.methods K.rules.methods)
@@ -227,7 +256,7 @@ module _ (c new : ClassFile) (P : Program) (K : Known c new P) where
   pub olds : AllOld c P.fields (program_methods c) P.methods
   olds =
       let e = K.original.fields in
-      subst (λ (fs : List Field). AllOld c fs (program_methods c) P.methods) (sym e) (all_old c (original_fields c) (program_methods c) K.original.code P.methods K.original.decodes K.original.methods)
+      subst (λ (fs : List Field). AllOld c fs (program_methods c) P.methods) (sym e) (all_old c (original_fields c) (program_methods c) K.original.form.code P.methods K.original.form.decodes K.original.methods)
 
   pub both : AreBoth c.pool (program_methods c)
   both = both_where c.pool (is_taken c) c.methods (both_methods c.pool c.methods K.rules.methods)
@@ -237,8 +266,8 @@ module _ (c new : ClassFile) (P : Program) (K : Known c new P) where
       let pairs = AllPairs-filter (λ a b. ¬ IsSameMember c.pool a b) (is_taken c) c.methods K.rules.distinct_methods in
       methods_apart c P.fields (program_methods c) P.methods pairs both olds
 
-  pub formal : AreFormal c.pool (program_methods c)
-  formal = formal_where c.pool (is_taken c) c.methods (formal_methods c c.methods form.methods)
+  pub sound : AreSound c.pool (program_methods c)
+  sound = sound_where c.pool (is_taken c) c.methods (sound_methods c c.methods K.original.form.marks)
 
   all_free : (ms : List Member) (ks : List Method) → AllOld c P.fields ms ks → AreBoth c.pool ms → AreFree ks
   all_free [] [] h b = tt
@@ -274,6 +303,19 @@ module _ (c new : ClassFile) (P : Program) (K : Known c new P) where
   pub method_class : (n : ℕ) (k : Method) → slice_get P.methods n ≡ Some k → k.name.class ≡ own_name c
   method_class n k e = class_at (program_methods c) P.methods olds n k e
 
+  all_unreserved : (ms : List Member) (ks : List Method) → AllOld c P.fields ms ks → AreNamed c.pool ms → AreUnreserved ks
+  all_unreserved [] [] h a = tt
+  all_unreserved [] (k ∷ ks) h a = absurd h
+  all_unreserved (m ∷ ms) [] h a = absurd h
+  all_unreserved (m ∷ ms) (k ∷ ks) h a =
+      let t = a.0.1 in
+      let name : k.name.name ≡ a.0.0 = ap (λ (x : MethodName). x.name) h.0.name ∙ rw t refl in
+      (rw name (free_text c.pool m.name a.0.0 form.pool t), all_unreserved ms ks h.1 a.1)
+
+  -- the names of the program's methods have no reserved parts
+  pub unreserved : AreUnreserved P.methods
+  unreserved = all_unreserved (program_methods c) P.methods olds named
+
   pub free_name : (n : ℕ) (k : Method) → slice_get P.methods n ≡ Some k → is_reserved k.name.name ≡ false
   free_name n k e = free_at (program_methods c) P.methods olds named n k e
 
@@ -305,11 +347,11 @@ module _ (c new : ClassFile) (P : Program) (K : Known c new P) where
   taker_in : (x : Member) → takes_context new.pool x ≡ true → is_rewritten_method P new x ≡ true
   taker_in x h = or_first (takes_context new.pool x) (list_any (λ (j : Method). is_name (name_of new x) j.name) P.methods) h
 
-  pub getter_takes : (x : Member) → utf8 new.pool x.descriptor ≡ Some getter_type → takes_context new.pool x ≡ true
-  getter_takes x h = let s = getter_signature in rw h (rw s refl)
+  pub getter_takes : (t : WordType) (x : Member) → utf8 new.pool x.descriptor ≡ Some (getter_type t) → takes_context new.pool x ≡ true
+  getter_takes t x h = let s = getter_signature t in rw h (rw s refl)
 
-  pub setter_takes : (x : Member) → utf8 new.pool x.descriptor ≡ Some setter_type → takes_context new.pool x ≡ true
-  setter_takes x h = let s = setter_signature in rw h (rw s refl)
+  pub setter_takes : (t : WordType) (x : Member) → utf8 new.pool x.descriptor ≡ Some (setter_type t) → takes_context new.pool x ≡ true
+  setter_takes t x h = let s = setter_signature t in rw h (rw s (any_behind (is_context (field_of t))))
 
   -- an old method takes no context
   pub takes_none : (m : Member) (d : List ℕ) → utf8 c.pool m.descriptor ≡ Some d → takes_context new.pool m ≡ false
@@ -317,12 +359,12 @@ module _ (c new : ClassFile) (P : Program) (K : Known c new P) where
       context_same c.pool new.pool K.rewritten.grown m d typed ∙ (rw typed (no_context d (no_marker d (free_text c.pool m.descriptor d form.pool typed))))
 
   -- a marked method is taken
-  pub marked_taken : (i : ℕ) (m : Member) → slice_get c.methods i ≡ Some m → is_marked c.pool m ≡ true → is_taken c m ≡ true
+  pub marked_taken : (i : ℕ) (m : Member) → slice_get c.methods i ≡ Some m → is_root c.pool m ≡ true → is_taken c m ≡ true
   marked_taken i m at marked = go (length c.methods) (below_at c.methods i m at)
     where
       go : (n : ℕ) → i < n → is_found c n m ≡ true
       go zero h = absurd (omega (arith, h))
-      go (suc n) h = or_first (is_marked c.pool m) (list_any (λ k. calls c k m) (filter (is_found c n) c.methods)) marked
+      go (suc n) h = or_first (is_root c.pool m) (list_any (λ k. calls c k m) (filter (is_found c n) c.methods)) marked
 
   -- members of which the one is taken and the other isn't have other names or descriptors
   apart_members : (i j : ℕ) (m x : Member) → slice_get c.methods i ≡ Some m → slice_get c.methods j ≡ Some x → is_taken c m ≡ false → is_taken c x ≡ true → IsSameMember c.pool m x → ⊥
@@ -362,11 +404,11 @@ module _ (c new : ClassFile) (P : Program) (K : Known c new P) where
 
   -- what stands in the place of a method has its name
   replaced_names : (n id : ℕ) (k : Method) (m x : Member) → slice_get P.methods n ≡ Some k → IsReplaced P c new.pool n id m x → (x.name ≡ m.name) × (x.descriptor ≡ m.descriptor)
-  replaced_names n id k m x at h = go (is_marked c.pool m) refl
+  replaced_names n id k m x at h = go (retries_of c.pool m) refl
     where
-      go : (b : Bool) → is_marked c.pool m ≡ b → (x.name ≡ m.name) × (x.descriptor ≡ m.descriptor)
-      go true e = let w = h.wrapped e k at in (ap (λ (y : Member). y.name) w.is, ap (λ (y : Member). y.descriptor) w.is)
-      go false e = let s = h.kept e in (ap (λ (y : Member). y.name) s, ap (λ (y : Member). y.descriptor) s)
+      go : (a : Option ℤ) → retries_of c.pool m ≡ a → (x.name ≡ m.name) × (x.descriptor ≡ m.descriptor)
+      go (Some attempts) e = let w = h.wrapped attempts e k at in (ap (λ (y : Member). y.name) w.is, ap (λ (y : Member). y.descriptor) w.is)
+      go None e = let s = h.kept e in (ap (λ (y : Member). y.name) s, ap (λ (y : Member). y.descriptor) s)
 
   -- what the taken methods became, before which so many are taken and so many are marked
   abbrev pub EachTaken : ℕ → ℕ → List Member → List Member → Type 0
@@ -415,16 +457,16 @@ module _ (c new : ClassFile) (P : Program) (K : Known c new P) where
       go false e ks old numbers rest s =
           let dropped = filter_drops (is_taken c) m ms e in
           let count : number_behind c n m ≡ n = rw e refl in
-          let unmarked : is_marked c.pool m ≡ false = unmarked_of (is_marked c.pool m) refl in
+          let unmarked : is_root c.pool m ≡ false = unmarked_of (is_root c.pool m) refl in
           let same_id : id_behind c.pool id m ≡ id = rw unmarked refl in
           let from_next = subst (λ (b : ℕ). EachReplaced P c new.pool n b ms xs) same_id (subst (λ (a : ℕ). EachReplaced P c new.pool a (id_behind c.pool id m) ms xs) count s) in
           let t = the_some (utf8 c.pool m.name) rules.0.member.named in
           let d = the_and (utf8 c.pool m.descriptor) _ rules.0.member.typed in
-          let outside : is_rewritten_method P new x ≡ false = ap (is_rewritten_method P new) (h.0.kept unmarked) ∙ others_out i m t.0 d.0 here t.1 d.1 e in
+          let outside : is_rewritten_method P new x ≡ false = ap (is_rewritten_method P new) (h.0.kept (not_some (retries_of c.pool m) unmarked)) ∙ others_out i m t.0 d.0 here t.1 d.1 e in
           subst (λ (us : List Member). EachTaken n id us (filter (is_rewritten_method P new) (x ∷ xs))) (sym dropped)
           (subst (EachTaken n id (filter (is_taken c) ms)) (sym (filter_drops (is_rewritten_method P new) x xs outside)) (rest n id ks (subst (λ (us : List Member). AllOld c P.fields us ks) dropped old) numbers from_next))
         where
-          unmarked_of : (v : Bool) → is_marked c.pool m ≡ v → is_marked c.pool m ≡ false
+          unmarked_of : (v : Bool) → is_root c.pool m ≡ v → is_root c.pool m ≡ false
           unmarked_of true q = let t = marked_taken i m here q in absurd (cc (t, e))
           unmarked_of false q = q
 
@@ -439,8 +481,8 @@ module _ (c new : ClassFile) (P : Program) (K : Known c new P) where
   accessors_in n (f ∷ fs) (a ∷ A) h =
       let g = h.0.getter.method in
       let s = h.0.setter.method in
-      let one = taker_in a.getter (getter_takes a.getter (ap (λ (y : Member). utf8 new.pool y.descriptor) g.is ∙ g.typed)) in
-      let two = taker_in a.setter (setter_takes a.setter (ap (λ (y : Member). utf8 new.pool y.descriptor) s.is ∙ s.typed)) in
+      let one = taker_in a.getter (getter_takes f.type a.getter (ap (λ (y : Member). utf8 new.pool y.descriptor) g.is ∙ g.typed)) in
+      let two = taker_in a.setter (setter_takes f.type a.setter (ap (λ (y : Member). utf8 new.pool y.descriptor) s.is ∙ s.typed)) in
       ap (list_all (is_rewritten_method P new)) (flat_map-cons both_of a A) ∙ and_true _ _ one (and_true _ _ two (accessors_in (n + 1) fs A h.1))
 
   pub few_params : (m : Member) (k : Method) (h : IsOld c P.fields m k) → h.shape.params ≤ 254
@@ -509,14 +551,14 @@ module _ (c new : ClassFile) (P : Program) (K : Known c new P) where
       let g = h.0.getter.method in
       let s = h.0.setter.method in
       let gn : text_or_none (utf8 new.pool a.getter.name) ≡ getter_name f = ap (λ (y : Member). text_or_none (utf8 new.pool y.name)) g.is ∙ ap text_or_none g.named in
-      let gt : text_or_none (utf8 new.pool a.getter.descriptor) ≡ getter_type = ap (λ (y : Member). text_or_none (utf8 new.pool y.descriptor)) g.is ∙ ap text_or_none g.typed in
+      let gt : text_or_none (utf8 new.pool a.getter.descriptor) ≡ getter_type f.type = ap (λ (y : Member). text_or_none (utf8 new.pool y.descriptor)) g.is ∙ ap text_or_none g.typed in
       let sn : text_or_none (utf8 new.pool a.setter.name) ≡ setter_name f = ap (λ (y : Member). text_or_none (utf8 new.pool y.name)) s.is ∙ ap text_or_none s.named in
-      let st : text_or_none (utf8 new.pool a.setter.descriptor) ≡ setter_type = ap (λ (y : Member). text_or_none (utf8 new.pool y.descriptor)) s.is ∙ ap text_or_none s.typed in
+      let st : text_or_none (utf8 new.pool a.setter.descriptor) ≡ setter_type f.type = ap (λ (y : Member). text_or_none (utf8 new.pool y.descriptor)) s.is ∙ ap text_or_none s.typed in
       let rest = accessors_names (n + 1) fs A h.1 in
       ap (map (name_of new)) (flat_map-cons both_of a A) ∙
       (ap (λ (t : MethodName). t ∷ name_of new a.setter ∷ map (name_of new) (flat_map both_of A)) (as_names _ _ _ _ gn gt)
-      ∙ ap (λ (t : MethodName). name_as (own_name c) (getter_name f) getter_type ∷ t ∷ map (name_of new) (flat_map both_of A)) (as_names _ _ _ _ sn st)
-      ∙ ap (λ (l : List MethodName). name_as (own_name c) (getter_name f) getter_type ∷ name_as (own_name c) (setter_name f) setter_type ∷ l) rest)
+      ∙ ap (λ (t : MethodName). name_as (own_name c) (getter_name f) (getter_type f.type) ∷ t ∷ map (name_of new) (flat_map both_of A)) (as_names _ _ _ _ sn st)
+      ∙ ap (λ (l : List MethodName). name_as (own_name c) (getter_name f) (getter_type f.type) ∷ name_as (own_name c) (setter_name f) (setter_type f.type) ∷ l) rest)
 
   copies_names : (names : Names) (n : ℕ) (ms D : List Member) (ks : List Method) → Each (λ Z n p x. IsCopyOf c names Z p x) new.pool n (zip ks ms) D → AllOld c P.fields ms ks → AreNamed c.pool ms
       → map (name_of new) D ≡ copy_names (own_name c) ks
@@ -526,14 +568,10 @@ module _ (c new : ClassFile) (P : Program) (K : Known c new P) where
   copies_names names n (m ∷ ms) D [] w h a = absurd h
   copies_names names n (m ∷ ms) [] (k ∷ ks) w h a = absurd w
   copies_names names n (m ∷ ms) (x ∷ D) (k ∷ ks) w h a =
-      let G = K.rewritten.grown in
-      let old_name = a.0.1 in
-      let new_name = utf8_grown c.pool new.pool G m.name a.0.0 a.0.1 in
-      let k_name : k.name.name ≡ a.0.0 = ap (λ (x : MethodName). x.name) h.0.name ∙ rw old_name refl in
-      let x_name : text_or_none (utf8 new.pool x.name) ≡ k.name.name = ap (λ (y : Member). text_or_none (utf8 new.pool y.name)) w.0.copy.is ∙ ap text_or_none new_name ∙ sym k_name in
+      let x_name : text_or_none (utf8 new.pool x.name) ≡ duplicate_name k.name.name = ap (λ (y : Member). text_or_none (utf8 new.pool y.name)) w.0.copy.is ∙ ap text_or_none w.0.copy.named in
       let x_type : text_or_none (utf8 new.pool x.descriptor) ≡ with_context k.name.descriptor = ap (λ (y : Member). text_or_none (utf8 new.pool y.descriptor)) w.0.copy.is ∙ ap text_or_none w.0.copy.typed in
       let first = as_names _ _ _ _ x_name x_type in
-      ap (λ (t : MethodName). t ∷ map (name_of new) D) first ∙ ap (λ (l : List MethodName). name_as (own_name c) k.name.name (with_context k.name.descriptor) ∷ l) (copies_names names (n + 1) ms D ks w.1 h.1 a.1)
+      ap (λ (t : MethodName). t ∷ map (name_of new) D) first ∙ ap (λ (l : List MethodName). name_as (own_name c) (duplicate_name k.name.name) (with_context k.name.descriptor) ∷ l) (copies_names names (n + 1) ms D ks w.1 h.1 a.1)
 
   pub names_are : (symbols_of new P.fields (rewritten_methods P new)).methods ≡ all_names (own_name c) P.fields P.methods
   names_are =
@@ -556,31 +594,32 @@ module _ (c new : ClassFile) (P : Program) (K : Known c new P) where
       let front = at_front (is_method_of w) (old_names (own_name c) P.methods) (accessor_names (own_name c) P.fields ++ copy_names (own_name c) P.methods) i (position_at (is_method_of w) (old_names (own_name c) P.methods) i told) in
       ap (λ (l : List MethodName). method_number l w) names_are ∙ at_position (is_method_of w) (all_names (own_name c) P.fields P.methods) i front
 
-  pub calls_getter : (i : ℕ) (f : Field) → slice_get P.fields i ≡ Some f → static_call_op (symbols_of new P.fields (rewritten_methods P new)) (wanted (own_name c) (getter_name f) getter_type) ≡ Some (op.InvokeStatic (getter P i))
+  pub calls_getter : (i : ℕ) (f : Field) → slice_get P.fields i ≡ Some f → static_call_op (symbols_of new P.fields (rewritten_methods P new)) (wanted (own_name c) (getter_name f) (getter_type f.type)) ≡ Some (op.InvokeStatic (getter P i))
   calls_getter i f e =
       let n = names_are in
       let no = third_fails (bytes_eq (own_name c) (codes "org/deuce/transaction/ContextDelegator")) (bytes_eq (getter_name f) (codes "getInstance")) false refl in
       let x = getter_number (own_name c) P.fields P.methods free i f fields_apart e in
       rw no (rw n (rw x refl))
 
-  pub calls_setter : (i : ℕ) (f : Field) → slice_get P.fields i ≡ Some f → static_call_op (symbols_of new P.fields (rewritten_methods P new)) (wanted (own_name c) (setter_name f) setter_type) ≡ Some (op.InvokeStatic (setter P i))
+  pub calls_setter : (i : ℕ) (f : Field) → slice_get P.fields i ≡ Some f → static_call_op (symbols_of new P.fields (rewritten_methods P new)) (wanted (own_name c) (setter_name f) (setter_type f.type)) ≡ Some (op.InvokeStatic (setter P i))
   calls_setter i f e =
       let n = names_are in
-      let no = third_fails (bytes_eq (own_name c) (codes "org/deuce/transaction/ContextDelegator")) (bytes_eq (setter_name f) (codes "getInstance")) false refl in
+      let no = third_fails (bytes_eq (own_name c) (codes "org/deuce/transaction/ContextDelegator")) (bytes_eq (setter_name f) (codes "getInstance")) (bytes_eq (setter_type f.type) (codes "()Lorg/deuce/transaction/Context;")) (setter_not_plain f.type) in
       let x = setter_number (own_name c) P.fields P.methods free i f fields_apart e in
       rw no (rw n (rw x refl))
 
-  pub calls_copy : (n : ℕ) (k : Method) → slice_get P.methods n ≡ Some k → static_call_op (symbols_of new P.fields (rewritten_methods P new)) (wanted (own_name c) k.name.name (with_context k.name.descriptor)) ≡ Some (op.InvokeStatic (duplicate P n))
+  pub calls_copy : (n : ℕ) (k : Method) → slice_get P.methods n ≡ Some k → static_call_op (symbols_of new P.fields (rewritten_methods P new)) (wanted (own_name c) (duplicate_name k.name.name) (with_context k.name.descriptor)) ≡ Some (op.InvokeStatic (duplicate P n))
   calls_copy n k e =
       let m = names_are in
       let r = free_name n k e in
       let other : bytes_eq (with_context k.name.descriptor) (codes "()Lorg/deuce/transaction/Context;") ≡ false = not_plain k.name.descriptor in
-      let no = third_fails (bytes_eq (own_name c) (codes "org/deuce/transaction/ContextDelegator")) (bytes_eq k.name.name (codes "getInstance")) (bytes_eq (with_context k.name.descriptor) (codes "()Lorg/deuce/transaction/Context;")) other in
-      let x = copy_number (own_name c) P.fields P.methods free n k apart (no_getter k.name.name r) (no_setter k.name.name r) e in
+      let no = third_fails (bytes_eq (own_name c) (codes "org/deuce/transaction/ContextDelegator")) (bytes_eq (duplicate_name k.name.name) (codes "getInstance")) (bytes_eq (with_context k.name.descriptor) (codes "()Lorg/deuce/transaction/Context;")) other in
+      let x = copy_number (own_name c) P.fields P.methods free n k unreserved apart
+      (duplicate_shows (codes "__Getter$") k.name.name refl (no_getter k.name.name r)) (duplicate_shows (codes "__Setter$") k.name.name refl (no_setter k.name.name r)) e in
       rw no (rw m (rw x refl))
 
-  pub gets_field : (i : ℕ) (f : Field) → slice_get P.fields i ≡ Some f → get_op (symbols_of new P.fields (rewritten_methods P new)) (wanted (own_name c) f.name (codes "I")) ≡ Some (op.GetStatic i)
-  gets_field i f e = let x = number_of_field (own_name c) (codes "I") P.fields i f owned fields_apart e in rw x refl
+  pub gets_field : (i : ℕ) (f : Field) → slice_get P.fields i ≡ Some f → get_op (symbols_of new P.fields (rewritten_methods P new)) (wanted (own_name c) f.name (type_descriptor f.type)) ≡ Some (op.GetStatic i)
+  gets_field i f e = let x = number_of_field (own_name c) P.fields i f owned fields_apart e in let t = is_word f.type in rw t (rw x refl)
 
   pub gets_base : (f : Field) → f.place.object ≡ 2 → get_op (symbols_of new P.fields (rewritten_methods P new)) (wanted (own_name c) (codes "__CLASS_BASE__") (codes "Ljava/lang/Object;")) ≡ Some (base f)
   gets_base f e = let o = own_same in let t = same (own_name c) in rw o (rw t (rw e refl))

@@ -9,6 +9,9 @@ use Rattle.jmodel.specs.declared.class_file.Constant.{Constant}
 use Rattle.jmodel.specs.declared.class_file.Constant.TheVariants as constants
 use Rattle.jmodel.specs.ClassFile.{Pool}
 use Rattle.jmodel.specs.Pool.{utf8, text_in, class_name, name_in}
+use Rattle.jmodel.specs.declared.op.WordType.{WordType}
+use Rattle.jmodel.specs.declared.op.WordType.TheVariants as word
+use Rattle.jmodel.specs.WordTypes.{type_descriptor, read_descriptor, write_descriptor}
 use Rattle.jmodel.specs.Descriptor.{IsMethodDescriptor}
 use Rattle.jmodel.specs.DescriptorReading.{element_rest, type_rest, is_field_descriptor, type_of, types_at, result_of, signature_of}
 use Rattle.jmodel.specs.ClassRules.{IsTextByte, IsConstant, IsPool}
@@ -124,9 +127,13 @@ pub long_field : (class name : List ℕ) → IsClassText class → IsText name �
 unfolding element_rest type_rest is_field_descriptor
 long_field class name c n = field_text class name (codes "J") c n refl refl
 
-pub int_field : (class name : List ℕ) → IsClassText class → IsText name → IsFieldText class name (codes "I")
+pub word_field : (t : WordType) (class name : List ℕ) → IsClassText class → IsText name → IsFieldText class name (type_descriptor t)
 unfolding element_rest type_rest is_field_descriptor
-int_field class name c n = field_text class name (codes "I") c n refl refl
+word_field word.Boolean class name c n = field_text class name (type_descriptor word.Boolean) c n refl refl
+word_field word.Byte class name c n = field_text class name (type_descriptor word.Byte) c n refl refl
+word_field word.Char class name c n = field_text class name (type_descriptor word.Char) c n refl refl
+word_field word.Short class name c n = field_text class name (type_descriptor word.Short) c n refl refl
+word_field word.Int class name c n = field_text class name (type_descriptor word.Int) c n refl refl
 
 pub object_field : (class name : List ℕ) → IsClassText class → IsText name → IsFieldText class name (codes "Ljava/lang/Object;")
 unfolding element_rest type_rest is_field_descriptor
@@ -144,13 +151,21 @@ pub before_method : IsMethodText context_class (codes "beforeReadAccess") (codes
 unfolding element_rest type_rest is_field_descriptor type_of types_at result_of signature_of
 before_method = context_call (codes "beforeReadAccess") (codes "(Ljava/lang/Object;J)V") refl refl (is_method (codes "(Ljava/lang/Object;J)V") refl)
 
-pub read_method : IsMethodText context_class (codes "onReadAccess") (codes "(Ljava/lang/Object;IJ)I")
-unfolding element_rest type_rest is_field_descriptor type_of types_at result_of signature_of
-read_method = context_call (codes "onReadAccess") (codes "(Ljava/lang/Object;IJ)I") refl refl (is_method (codes "(Ljava/lang/Object;IJ)I") refl)
+pub read_method : (t : WordType) → IsMethodText context_class (codes "onReadAccess") (read_descriptor t)
+unfolding element_rest type_rest is_field_descriptor type_of types_at result_of signature_of read_descriptor
+read_method word.Boolean = context_call (codes "onReadAccess") (read_descriptor word.Boolean) refl refl (is_method (read_descriptor word.Boolean) refl)
+read_method word.Byte = context_call (codes "onReadAccess") (read_descriptor word.Byte) refl refl (is_method (read_descriptor word.Byte) refl)
+read_method word.Char = context_call (codes "onReadAccess") (read_descriptor word.Char) refl refl (is_method (read_descriptor word.Char) refl)
+read_method word.Short = context_call (codes "onReadAccess") (read_descriptor word.Short) refl refl (is_method (read_descriptor word.Short) refl)
+read_method word.Int = context_call (codes "onReadAccess") (read_descriptor word.Int) refl refl (is_method (read_descriptor word.Int) refl)
 
-pub write_method : IsMethodText context_class (codes "onWriteAccess") (codes "(Ljava/lang/Object;IJ)V")
-unfolding element_rest type_rest is_field_descriptor type_of types_at result_of signature_of
-write_method = context_call (codes "onWriteAccess") (codes "(Ljava/lang/Object;IJ)V") refl refl (is_method (codes "(Ljava/lang/Object;IJ)V") refl)
+pub write_method : (t : WordType) → IsMethodText context_class (codes "onWriteAccess") (write_descriptor t)
+unfolding element_rest type_rest is_field_descriptor type_of types_at result_of signature_of write_descriptor
+write_method word.Boolean = context_call (codes "onWriteAccess") (write_descriptor word.Boolean) refl refl (is_method (write_descriptor word.Boolean) refl)
+write_method word.Byte = context_call (codes "onWriteAccess") (write_descriptor word.Byte) refl refl (is_method (write_descriptor word.Byte) refl)
+write_method word.Char = context_call (codes "onWriteAccess") (write_descriptor word.Char) refl refl (is_method (write_descriptor word.Char) refl)
+write_method word.Short = context_call (codes "onWriteAccess") (write_descriptor word.Short) refl refl (is_method (write_descriptor word.Short) refl)
+write_method word.Int = context_call (codes "onWriteAccess") (write_descriptor word.Int) refl refl (is_method (write_descriptor word.Int) refl)
 
 pub init_method : IsMethodText context_class (codes "init") (codes "(II)V")
 unfolding element_rest type_rest is_field_descriptor type_of types_at result_of signature_of
@@ -170,13 +185,21 @@ instance_method =
     method_text (codes "org/deuce/transaction/ContextDelegator") (codes "getInstance") (codes "()Lorg/deuce/transaction/Context;") delegator_lawful (text_good (codes "getInstance") refl) refl
     (is_method (codes "()Lorg/deuce/transaction/Context;") refl)
 
-pub getter_method : (class name : List ℕ) → IsClassText class → IsText name → IsMethodText class name getter_type
+pub getter_method : (t : WordType) (class name : List ℕ) → IsClassText class → IsText name → IsMethodText class name (getter_type t)
 unfolding element_rest type_rest is_field_descriptor type_of types_at result_of signature_of
-getter_method class name c n = method_text class name getter_type c n refl (is_method getter_type refl)
+getter_method word.Boolean class name c n = method_text class name (getter_type word.Boolean) c n refl (is_method (getter_type word.Boolean) refl)
+getter_method word.Byte class name c n = method_text class name (getter_type word.Byte) c n refl (is_method (getter_type word.Byte) refl)
+getter_method word.Char class name c n = method_text class name (getter_type word.Char) c n refl (is_method (getter_type word.Char) refl)
+getter_method word.Short class name c n = method_text class name (getter_type word.Short) c n refl (is_method (getter_type word.Short) refl)
+getter_method word.Int class name c n = method_text class name (getter_type word.Int) c n refl (is_method (getter_type word.Int) refl)
 
-pub setter_method : (class name : List ℕ) → IsClassText class → IsText name → IsMethodText class name setter_type
+pub setter_method : (t : WordType) (class name : List ℕ) → IsClassText class → IsText name → IsMethodText class name (setter_type t)
 unfolding element_rest type_rest is_field_descriptor type_of types_at result_of signature_of
-setter_method class name c n = method_text class name setter_type c n refl (is_method setter_type refl)
+setter_method word.Boolean class name c n = method_text class name (setter_type word.Boolean) c n refl (is_method (setter_type word.Boolean) refl)
+setter_method word.Byte class name c n = method_text class name (setter_type word.Byte) c n refl (is_method (setter_type word.Byte) refl)
+setter_method word.Char class name c n = method_text class name (setter_type word.Char) c n refl (is_method (setter_type word.Char) refl)
+setter_method word.Short class name c n = method_text class name (setter_type word.Short) c n refl (is_method (setter_type word.Short) refl)
+setter_method word.Int class name c n = method_text class name (setter_type word.Int) c n refl (is_method (setter_type word.Int) refl)
 
 -- ---- numbers
 

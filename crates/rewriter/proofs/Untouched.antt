@@ -1,5 +1,6 @@
 -- What the taken methods without a mark mean in a rewritten class: what they meant.
 use Rattle.std.proofs.Common.{◌≡◌, ℕ, Bool, true, false, ℤ, Option, List, [], length, Some, None, Ok, refl, sym, ap, ◌∙◌}
+use Rattle.std.specs.Prelude.{pos, if◌then◌else◌}
 use Rattle.std.specs.List.{AllByRecursion, list_all}
 use Rattle.jmodel.specs.declared.name.MethodName.{MethodName}
 use Rattle.jmodel.specs.ClassFile.{Member, ClassFile}
@@ -10,10 +11,10 @@ use Rattle.jmodel.specs.ClassRules.{IsAttribute}
 use Rattle.jmodel.specs.Instruction.{IsInstrOver}
 use Rattle.jmodel.specs.InstructionReading.{instrs_of}
 use Rattle.jmodel.specs.Decoding.{own_name, each, ops_of}
-use Rattle.jmodel.specs.Linking.{catch_of, code_in, shape_of, is_marked, is_form_attribute, program_methods, rewritten_methods, symbols_of, method_of}
+use Rattle.jmodel.specs.Linking.{catch_of, code_in, shape_of, is_root, program_methods, rewritten_methods, symbols_of, method_of, retries_of}
 use Rattle.rewriter.specs.Meaning.{HasBytes}
 use Rattle.rewriter.proofs.Grown.{utf8_grown}
-use Rattle.rewriter.proofs.Marks.{stays_unmarked}
+use Rattle.rewriter.proofs.Marks.{HasMark, retries_stay}
 use Rattle.rewriter.proofs.Pairs.{AreParts}
 use Rattle.rewriter.proofs.Stays.{code_found, ops_stay, over_stays, read_stays}
 use Rattle.rewriter.proofs.Coded.{method_as, CodedFacts, coded_means, same_methods}
@@ -25,7 +26,7 @@ abbrev name_of_parts : List ℕ → List ℕ → List ℕ → MethodName
 name_of_parts class name descriptor = record { class = class; name = name; descriptor = descriptor }
 
 module _ (c new : ClassFile) (P : Program) (K : Known c new P) (m : Member) (k : Method) (t d : List ℕ) (named : utf8 c.pool m.name ≡ Some t) (described : utf8 c.pool m.descriptor ≡ Some d) (h : IsOld c P.fields m k)
-    (lawful : AllByRecursion (IsAttribute c.pool) m.attributes) (formal : list_all (is_form_attribute c.pool) m.attributes ≡ true) (held : HasBytes m) (unmarked : is_marked c.pool m ≡ false) where
+    (lawful : AllByRecursion (IsAttribute c.pool) m.attributes) (sound : HasMark c.pool m) (held : HasBytes m) (unmarked : retries_of c.pool m ≡ None) where
   read : IsRead c m h.coded
   read = decoded_is c m h.coded h.decodes
 
@@ -62,7 +63,7 @@ module _ (c new : ClassFile) (P : Program) (K : Known c new P) (m : Member) (k :
   pub untouched_is : method_of (symbols_of new P.fields (rewritten_methods P new)) true m ≡ Some k
   untouched_is =
       let s = symbols_of new P.fields (rewritten_methods P new) in
-      let mark = stays_unmarked c.pool new.pool K.rewritten.grown m lawful formal unmarked in
+      let mark = retries_stay c.pool new.pool K.rewritten.grown m t d named described lawful sound in
       let facts : CodedFacts (symbols_of new P.fields (rewritten_methods P new)) m h.coded.code h.coded.instrs t d h.shape k.ops [] None = record {
         code = code_there;
         read = read_there;
@@ -71,10 +72,10 @@ module _ (c new : ClassFile) (P : Program) (K : Known c new P) (m : Member) (k :
         shaped = ap shape_of (sym (ap text_or_none described)) ∙ h.shaped;
         ops_are = mean;
         catches_are = catches_none;
-        retries_are = rw mark refl;
+        retries_are = mark ∙ unmarked;
       } in
       let it = coded_means (symbols_of new P.fields (rewritten_methods P new)) true m h.coded.code h.coded.instrs t d h.shape k.ops [] None facts in
-      let retries : k.retries ≡ None = h.retries ∙ rw unmarked refl in
+      let retries : k.retries ≡ None = h.retries ∙ unmarked in
       let name_is : name_of_parts (own_name new) t d ≡ k.name =
       ap (λ (y : List ℕ). name_of_parts y t d) (sym owner) ∙ ap (λ (y : List ℕ). name_of_parts k.name.class y d) (sym own_text) ∙ ap (λ (y : List ℕ). name_of_parts k.name.class k.name.name y) (sym descriptor_is) in
       let same = same_methods true (name_of_parts (own_name new) t d) k.name h.shape.takes k.takes h.shape.params k.params h.coded.code.max_locals k.locals h.coded.code.max_stack k.max_stack h.shape.gives k.gives None k.ops k.ops [] k.catches

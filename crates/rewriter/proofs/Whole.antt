@@ -1,5 +1,5 @@
 -- What the members of a rewritten class name in its pool.
-use Rattle.std.proofs.Common.{◌≡◌, ℕ, ◌+◌, ◌≤◌, Bool, true, false, List, [], ◌∷◌, ◌++◌, Option, Some, None, Result, Ok, Err, ◌≢◌, refl, sym, subst, arith, eq-eqb}
+use Rattle.std.proofs.Common.{◌≡◌, ℕ, ℤ, ◌+◌, ◌≤◌, Bool, true, false, List, [], ◌∷◌, ◌++◌, Option, Some, None, Result, Ok, Err, ◌≢◌, refl, sym, ◌∙◌, subst, arith, eq-eqb}
 use Rattle.std.specs.Prelude.{codes, nat_lt, nat_eq, slice_get, zip, if◌then◌else◌}
 use Rattle.std.specs.List.{flat_map}
 use Rattle.std.proofs.lemmas.Bool.Decides.{nat_tests}
@@ -7,17 +7,18 @@ use Rattle.jmodel.specs.declared.refusal.Refusal.{Refusal}
 use Rattle.jmodel.specs.ClassFile.{Pool, Member, ClassFile, Code, code_spelling}
 use Rattle.jmodel.specs.Pool.{utf8}
 use Rattle.jmodel.specs.Program.{Field, Method, Program}
+use Rattle.jmodel.specs.Constants.{as_int}
 use Rattle.jmodel.specs.Decoding.{own_name}
 use Rattle.jmodel.specs.Name.{printed}
 use Rattle.jmodel.specs.Relocation.{Block}
-use Rattle.jmodel.specs.Rewriting.{with_context}
-use Rattle.jmodel.specs.Linking.{Coded, decoded, is_marked, program_methods}
+use Rattle.jmodel.specs.Rewriting.{with_context, duplicate_name}
+use Rattle.jmodel.specs.Linking.{Coded, decoded, is_root, program_methods, retries_of}
 use Rattle.const_pool.proofs.Takes.{bind_ok, guard_ok, ok_is, fine}
 use Rattle.rewriter.specs.declared.accessors.Accessors.{Accessors}
 use Rattle.rewriter.specs.declared.names.Calls.{Calls}
 use Rattle.rewriter.specs.declared.wrappers.Opening.{Opening}
 use Rattle.rewriter.specs.declared.wrappers.Ending.{Ending}
-use Rattle.rewriter.specs.Members.{added_method, address_member, accessors_of, getter_name, setter_name, getter_type, Names, gets, puts, calls, some_op, method_if_needed, getter_call, setter_call, calls_of, duplicate_call, blocks_from, plain, stub, laid_code, laid_bytes, of_method, duplicate_body, duplicate_flags, coded_duplicate, duplicate_of, wrapper_bytes, with_code, wrapper_of}
+use Rattle.rewriter.specs.Members.{added_method, address_member, accessors_of, getter_name, setter_name, getter_type, setter_type, Names, gets, puts, calls, some_op, method_if_needed, getter_call, setter_call, calls_of, duplicate_call, blocks_from, plain, stub, laid_code, laid_bytes, of_method, duplicate_body, duplicate_flags, coded_duplicate, duplicate_of, wrapper_bytes, with_code, wrapper_of}
 use Rattle.rewriter.specs.Rewritten.{grow_from, wrapper_if, replaced, number_behind, id_behind, old_from, bases, both_of, added_fields, names_of, duplicates, added_methods, new_methods, rewritten_class}
 use Rattle.rewriter.proofs.Grown.{Grown, grown_refl}
 use Rattle.rewriter.proofs.Added.{Says}
@@ -50,8 +51,8 @@ needed_puts false class name descriptor pool r e =
     subst (Puts (λ Z i. false ≡ true → IsMethodAt class name descriptor Z i) pool) (ok_is (0, pool) r e) (record { grown = grown_refl pool; facts = λ Z g t. absurd cc })
 
 pub record AreCalls (P : Program) (own : List ℕ) (n : ℕ) (f : Field) (Z : Pool) (c : Calls) : Type 0 where
-  pub getter : some_op (gets n) P ≡ true → IsMethodAt own (getter_name f) getter_type Z c.getter
-  pub setter : some_op (puts n) P ≡ true → IsMethodAt own (setter_name f) (codes "(ILorg/deuce/transaction/Context;)V") Z c.setter
+  pub getter : some_op (gets n) P ≡ true → IsMethodAt own (getter_name f) (getter_type f.type) Z c.getter
+  pub setter : some_op (puts n) P ≡ true → IsMethodAt own (setter_name f) (setter_type f.type) Z c.setter
 
 calls_put : (P : Program) (own : List ℕ) (n : ℕ) (f : Field) (pool : Pool) (r : Calls × Pool) → calls_of P own n f pool ≡ Ok r → Puts (λ Z c. AreCalls P own n f Z c) pool r
 unfolding calls_of getter_call setter_call
@@ -59,13 +60,13 @@ calls_put P own n f pool r e =
     let a = bind_ok _ _ r e in
     let b = bind_ok _ _ r a.2 in
     puts_end _ (λ Z c. AreCalls P own n f Z c) pool b.0 (record { getter = a.0.0; setter = b.0.0 }) r (λ Z h. record { getter = h.0; setter = h.1 })
-    (puts_more (λ Z i. some_op (gets n) P ≡ true → IsMethodAt own (getter_name f) getter_type Z i) (λ Z i. some_op (puts n) P ≡ true → IsMethodAt own (setter_name f) (codes "(ILorg/deuce/transaction/Context;)V") Z i) pool a.0 b.0
+    (puts_more (λ Z i. some_op (gets n) P ≡ true → IsMethodAt own (getter_name f) (getter_type f.type) Z i) (λ Z i. some_op (puts n) P ≡ true → IsMethodAt own (setter_name f) (setter_type f.type) Z i) pool a.0 b.0
     (needed_puts (some_op (gets n) P) _ _ _ pool a.0 a.1) (needed_puts (some_op (puts n) P) _ _ _ a.0.1 b.0 b.1)) b.2
 
 duplicate_call_puts : (P : Program) (n : ℕ) (k : Method) (pool : Pool) (r : ℕ × Pool) → duplicate_call P n k pool ≡ Ok r
-    → Puts (λ Z i. some_op (calls n) P ≡ true → IsMethodAt k.name.class k.name.name (with_context k.name.descriptor) Z i) pool r
+    → Puts (λ Z i. some_op (calls n) P ≡ true → IsMethodAt k.name.class (duplicate_name k.name.name) (with_context k.name.descriptor) Z i) pool r
 unfolding duplicate_call
-duplicate_call_puts P n k pool r e = needed_puts (some_op (calls n) P) k.name.class k.name.name (with_context k.name.descriptor) pool r e
+duplicate_call_puts P n k pool r e = needed_puts (some_op (calls n) P) k.name.class (duplicate_name k.name.name) (with_context k.name.descriptor) pool r e
 
 -- ---- duplicates
 
@@ -100,10 +101,12 @@ copy_body_puts name k blocks pool r e =
 
 pub record IsCopy (names : Names) (k : Method) (m : Member) (coded : Coded) (Z : Pool) (x : Member) : Type 0 where
   pub bytes : List ℕ
+  pub n : ℕ
   pub t : ℕ
   pub c : ℕ
-  pub is : x ≡ added_method (duplicate_flags m.flags) m.name t c bytes
+  pub is : x ≡ added_method (duplicate_flags m.flags) n t c bytes
   pub body : IsCopyBody (printed k.name) coded.code (blocks_from names k.params k.ops 0 coded.instrs) Z bytes
+  pub named : utf8 Z n ≡ Some (duplicate_name k.name.name)
   pub typed : utf8 Z t ≡ Some (with_context k.name.descriptor)
   pub coded_is : utf8 Z c ≡ Some (codes "Code")
 
@@ -111,12 +114,14 @@ copy_puts : (names : Names) (k : Method) (m : Member) (coded : Coded) (pool : Po
 unfolding coded_duplicate
 copy_puts names k m coded pool r e =
     let a = bind_ok _ _ r e in
-    let b = bind_ok _ _ r a.2 in
+    let n = bind_ok _ _ r a.2 in
+    let b = bind_ok _ _ r n.2 in
     let c = bind_ok _ _ r b.2 in
-    puts_end _ (λ Z x. IsCopy names k m coded Z x) pool c.0 (added_method (duplicate_flags m.flags) m.name b.0.0 c.0.0 a.0.0) r
-    (λ Z h. record { bytes = a.0.0; t = b.0.0; c = c.0.0; is = refl; body = h.0; typed = h.1.0; coded_is = h.1.1 })
+    puts_end _ (λ Z x. IsCopy names k m coded Z x) pool c.0 (added_method (duplicate_flags m.flags) n.0.0 b.0.0 c.0.0 a.0.0) r
+    (λ Z h. record { bytes = a.0.0; n = n.0.0; t = b.0.0; c = c.0.0; is = refl; body = h.0; named = h.1.0; typed = h.1.1.0; coded_is = h.1.1.1 })
     (puts_more (λ Z bytes. IsCopyBody (printed k.name) coded.code (blocks_from names k.params k.ops 0 coded.instrs) Z bytes) _ pool a.0 c.0 (copy_body_puts _ _ _ pool a.0 a.1)
-    (puts_more (Says (with_context k.name.descriptor)) (Says (codes "Code")) a.0.1 b.0 c.0 (utf8_puts _ a.0.1 b.0 b.1) (utf8_puts _ b.0.1 c.0 c.1))) c.2
+    (puts_more (Says (duplicate_name k.name.name)) _ a.0.1 n.0 c.0 (utf8_puts _ a.0.1 n.0 n.1)
+    (puts_more (Says (with_context k.name.descriptor)) (Says (codes "Code")) n.0.1 b.0 c.0 (utf8_puts _ n.0.1 b.0 b.1) (utf8_puts _ b.0.1 c.0 c.1)))) c.2
 
 -- the duplicate of a method, by its member
 pub record IsCopyOf (c : ClassFile) (names : Names) (Z : Pool) (p : Method × Member) (x : Member) : Type 0 where
@@ -133,34 +138,40 @@ copy_of_puts c names p pool r e =
 
 -- ---- wrappers
 
-pub record IsWrapped (c : ClassFile) (Z : Pool) (n : ℕ) (k : Method) (m x : Member) : Type 0 where
+pub record IsWrapped (c : ClassFile) (Z : Pool) (n : ℕ) (attempts : ℤ) (k : Method) (m x : Member) : Type 0 where
   pub opening : Opening
   pub ending : Ending
   pub bytes : List ℕ
   pub laid : wrapper_bytes k opening ending ≡ Ok bytes
   pub is : x ≡ with_code c.pool bytes m
-  pub opens : IsOpening n Z opening
+  pub opens : IsOpening n (as_int attempts) Z opening
   pub ends : IsEnding k Z ending
 
-wrapped_puts : (c : ClassFile) (n : ℕ) (k : Method) (m : Member) (pool : Pool) (r : Member × Pool) → wrapper_of c n k m pool ≡ Ok r → Puts (λ Z x. IsWrapped c Z n k m x) pool r
+wrapped_puts : (c : ClassFile) (n : ℕ) (attempts : ℤ) (k : Method) (m : Member) (pool : Pool) (r : Member × Pool) → wrapper_of c n attempts k m pool ≡ Ok r → Puts (λ Z x. IsWrapped c Z n attempts k m x) pool r
 unfolding wrapper_of
-wrapped_puts c n k m pool r e =
+wrapped_puts c n attempts k m pool r e =
     let x = guard_ok (nat_lt 65535 n) _ _ r e in
     let t = x.0 in
     let few : n ≤ 65535 = grind (arith, nat_tests) in
     let a = bind_ok _ _ r x.1 in
     let b = bind_ok _ _ r a.2 in
     let d = bind_ok (wrapper_bytes k a.0.0 b.0.0) (λ bytes. Ok (with_code c.pool bytes m, b.0.1)) r b.2 in
-    puts_end _ (λ Z y. IsWrapped c Z n k m y) pool b.0 (with_code c.pool d.0 m) r
+    puts_end _ (λ Z y. IsWrapped c Z n attempts k m y) pool b.0 (with_code c.pool d.0 m) r
     (λ Z h. record { opening = a.0.0; ending = b.0.0; bytes = d.0; laid = d.1; is = refl; opens = h.0; ends = h.1 })
-    (puts_more (IsOpening n) (IsEnding k) pool a.0 b.0 (opening_puts n pool a.0 few a.1) (ending_puts k a.0.1 b.0 b.1)) d.2
+    (puts_more (IsOpening n (as_int attempts)) (IsEnding k) pool a.0 b.0 (opening_puts n attempts pool a.0 few a.1) (ending_puts k a.0.1 b.0 b.1)) d.2
 
 -- ---- old methods
 
+no_some : {A : Type 0} (x : A) → None ≡ Some x → ⊥
+no_some x h = absurd cc
+
+one_some : {A : Type 0} (x y : A) → Some x ≡ Some y → x ≡ y
+one_some x y h = cc
+
 -- what stands in the place of an old method
 pub record IsReplaced (P : Program) (c : ClassFile) (Z : Pool) (n id : ℕ) (m x : Member) : Type 0 where
-  pub wrapped : is_marked c.pool m ≡ true → (k : Method) → slice_get P.methods n ≡ Some k → IsWrapped c Z id k m x
-  pub kept : is_marked c.pool m ≡ false → x ≡ m
+  pub wrapped : (attempts : ℤ) → retries_of c.pool m ≡ Some attempts → (k : Method) → slice_get P.methods n ≡ Some k → IsWrapped c Z id attempts k m x
+  pub kept : retries_of c.pool m ≡ None → x ≡ m
 
 abbrev pub EachReplaced : Program → ClassFile → Pool → ℕ → ℕ → List Member → List Member → Type 0
 EachReplaced P c Z n id [] [] = Unit {0}
@@ -168,18 +179,27 @@ EachReplaced P c Z n id [] (x ∷ xs) = ⊥
 EachReplaced P c Z n id (m ∷ ms) [] = ⊥
 EachReplaced P c Z n id (m ∷ ms) (x ∷ xs) = IsReplaced P c Z n id m x × EachReplaced P c Z (number_behind c n m) (id_behind c.pool id m) ms xs
 
-if_puts : (P : Program) (c : ClassFile) (n : ℕ) (m : Member) (o : Option Method) (pool : Pool) (r : Member × Pool) → wrapper_if c n o m pool ≡ Ok r → Puts (λ Z x. (k : Method) → o ≡ Some k → IsWrapped c Z n k m x) pool r
-if_puts P c n m None pool r e = subst (Puts (λ Z x. (k : Method) → None ≡ Some k → IsWrapped c Z n k m x) pool) (ok_is (m, pool) r e) (record { grown = grown_refl pool; facts = λ Z g k t. absurd (cc (t)) })
-if_puts P c n m (Some k) pool r e =
-    let q = wrapped_puts c n k m pool r e in
-    record { grown = q.grown; facts = λ Z g j t. let s : k ≡ j = cc (t) in subst (λ (y : Method). IsWrapped c Z n y m r.0) s (q.facts Z g) }
-
 replaced_puts : (P : Program) (c : ClassFile) (n id : ℕ) (m : Member) (pool : Pool) (r : Member × Pool) → replaced P c n id m pool ≡ Ok r → Puts (λ Z x. IsReplaced P c Z n id m x) pool r
-replaced_puts P c n id m pool r e = go (is_marked c.pool m) refl e
+replaced_puts P c n id m pool r e = go (retries_of c.pool m) refl (slice_get P.methods n) refl e
   where
-    go : (b : Bool) → is_marked c.pool m ≡ b → (if b then wrapper_if c id (slice_get P.methods n) m pool else Ok (m, pool)) ≡ Ok r → Puts (λ Z x. IsReplaced P c Z n id m x) pool r
-    go true p h = let q = if_puts P c id m (slice_get P.methods n) pool r h in record { grown = q.grown; facts = λ Z g. record { wrapped = λ t k at. q.facts Z g k at; kept = λ f. absurd (cc (p, f)) } }
-    go false p h = subst (Puts (λ Z x. IsReplaced P c Z n id m x) pool) (ok_is (m, pool) r h) (record { grown = grown_refl pool; facts = λ Z g. record { wrapped = λ t k at. absurd (cc (p, t)); kept = λ f. refl } })
+    stays : ((Z : Pool) → IsReplaced P c Z n id m m) → fine (m, pool) ≡ fine r → Puts (λ Z x. IsReplaced P c Z n id m x) pool r
+    stays is h = subst (Puts (λ Z x. IsReplaced P c Z n id m x) pool) (ok_is (m, pool) r h) (record { grown = grown_refl pool; facts = λ Z g. is Z })
+
+    go : (a : Option ℤ) → retries_of c.pool m ≡ a → (o : Option Method) → slice_get P.methods n ≡ o → wrapper_if c id a o m pool ≡ Ok r → Puts (λ Z x. IsReplaced P c Z n id m x) pool r
+    go None s o q h = stays (λ Z. record { wrapped = λ b t k at. absurd (no_some b (sym s ∙ t)); kept = λ f. refl }) h
+    go (Some attempts) s None q h = stays (λ Z. record { wrapped = λ b t k at. absurd (no_some k (sym q ∙ at)); kept = λ f. refl }) h
+    go (Some attempts) s (Some k) q h =
+        let p = wrapped_puts c id attempts k m pool r h in
+        record {
+          grown = p.grown;
+          facts = λ Z g. record {
+            wrapped = λ b t j at.
+                (let same_number : attempts ≡ b = one_some attempts b (sym s ∙ t) in
+                let same : k ≡ j = one_some k j (sym q ∙ at) in
+                subst (λ (a : ℤ). IsWrapped c Z id a j m r.0) same_number (subst (λ (y : Method). IsWrapped c Z id attempts y m r.0) same (p.facts Z g)));
+            kept = λ f. absurd (no_some attempts (sym f ∙ s));
+          };
+        }
 
 olds_put : (P : Program) (c : ClassFile) (n id : ℕ) (ms : List Member) (pool : Pool) (r : List Member × Pool) → old_from P c n id ms pool ≡ Ok r → Puts (λ Z xs. EachReplaced P c Z n id ms xs) pool r
 olds_put P c n id [] pool r e = subst (Puts (λ Z xs. EachReplaced P c Z n id [] xs) pool) (ok_is ([], pool) r e) (record { grown = grown_refl pool; facts = λ Z g. tt })
@@ -224,7 +244,7 @@ fields_put P pool r e =
 -- what duplicates name
 pub record AreNames (P : Program) (c : ClassFile) (Z : Pool) (names : Names) : Type 0 where
   pub accessors : Each (λ Z n f x. AreCalls P (own_name c) n f Z x) Z 0 P.fields names.accessors
-  pub duplicates : Each (λ Z n k i. some_op (calls n) P ≡ true → IsMethodAt k.name.class k.name.name (with_context k.name.descriptor) Z i) Z 0 P.methods names.duplicates
+  pub duplicates : Each (λ Z n k i. some_op (calls n) P ≡ true → IsMethodAt k.name.class (duplicate_name k.name.name) (with_context k.name.descriptor) Z i) Z 0 P.methods names.duplicates
 
 names_put : (P : Program) (c : ClassFile) (pool : Pool) (r : Names × Pool) → names_of P c pool ≡ Ok r → Puts (λ Z names. AreNames P c Z names) pool r
 unfolding names_of
@@ -232,9 +252,9 @@ names_put P c pool r e =
     let a = bind_ok _ _ r e in
     let b = bind_ok _ _ r a.2 in
     puts_end _ (λ Z names. AreNames P c Z names) pool b.0 (record { accessors = a.0.0; duplicates = b.0.0 }) r (λ Z h. record { accessors = h.0; duplicates = h.1 })
-    (puts_more (λ Z ys. Each (λ Z n f x. AreCalls P (own_name c) n f Z x) Z 0 P.fields ys) (λ Z ys. Each (λ Z n k i. some_op (calls n) P ≡ true → IsMethodAt k.name.class k.name.name (with_context k.name.descriptor) Z i) Z 0 P.methods ys) pool a.0 b.0
+    (puts_more (λ Z ys. Each (λ Z n f x. AreCalls P (own_name c) n f Z x) Z 0 P.fields ys) (λ Z ys. Each (λ Z n k i. some_op (calls n) P ≡ true → IsMethodAt k.name.class (duplicate_name k.name.name) (with_context k.name.descriptor) Z i) Z 0 P.methods ys) pool a.0 b.0
     (grow_puts (λ Z n f x. AreCalls P (own_name c) n f Z x) (calls_of P (own_name c)) (λ n f pool r. calls_put P (own_name c) n f pool r) 0 P.fields pool a.0 a.1)
-    (grow_puts (λ Z n k i. some_op (calls n) P ≡ true → IsMethodAt k.name.class k.name.name (with_context k.name.descriptor) Z i) (duplicate_call P) (λ n k pool r. duplicate_call_puts P n k pool r) 0 P.methods a.0.1 b.0 b.1)) b.2
+    (grow_puts (λ Z n k i. some_op (calls n) P ≡ true → IsMethodAt k.name.class (duplicate_name k.name.name) (with_context k.name.descriptor) Z i) (duplicate_call P) (λ n k pool r. duplicate_call_puts P n k pool r) 0 P.methods a.0.1 b.0 b.1)) b.2
 
 pub record AreCopies (P : Program) (c : ClassFile) (Z : Pool) (ms : List Member) : Type 0 where
   pub names : Names

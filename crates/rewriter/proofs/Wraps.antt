@@ -1,6 +1,6 @@
 -- What the wrappers of a rewritten class mean.
-use Rattle.std.proofs.Common.{◌≡◌, ℕ, ◌+◌, ◌<◌, ◌≤◌, max, true, false, ℤ, Option, List, [], ◌∷◌, Some, None, Ok, refl, sym, ap, ◌∙◌, arith}
-use Rattle.std.specs.Prelude.{pos, slice_get}
+use Rattle.std.proofs.Common.{◌≡◌, ℕ, ◌+◌, ◌<◌, ◌≤◌, max, Bool, true, false, ℤ, Option, List, [], ◌∷◌, Some, None, Ok, refl, sym, ap, ◌∙◌, arith}
+use Rattle.std.specs.Prelude.{pos, slice_get, if◌then◌else◌}
 use Rattle.std.specs.List.{AllByRecursion}
 use Rattle.std.proofs.lemmas.Bool.Decides.{nat_tests}
 use Rattle.jmodel.specs.declared.name.MethodName.{MethodName}
@@ -14,16 +14,18 @@ use Rattle.jmodel.specs.Program.{Method, Program}
 use Rattle.jmodel.specs.Layout.{text_or_none}
 use Rattle.jmodel.specs.ClassRules.{IsAttribute, IsCode}
 use Rattle.jmodel.specs.ClassReading.{code_of}
-use Rattle.jmodel.specs.Rewriting.{duplicate, with_context, wrapper_method, body_end, conflict_at, catch}
+use Rattle.jmodel.specs.Rewriting.{duplicate, with_context, wrapper_method, body_end, conflict_at, catch, duplicate_name}
 use Rattle.jmodel.specs.Decoding.{own_name}
-use Rattle.jmodel.specs.Linking.{shape_of, is_marked, rewritten_methods, symbols_of, method_of}
+use Rattle.jmodel.specs.Linking.{shape_of, is_root, rewritten_methods, symbols_of, method_of, retries_of}
+use Rattle.jmodel.specs.Constants.{as_int}
+use Rattle.jmodel.proofs.Moved.{narrow}
 use Rattle.jmodel.specs.Relocation.{relocated}
 use Rattle.const_pool.proofs.Takes.{bind_ok, ok_is}
 use Rattle.rewriter.specs.declared.wrappers.Opening.{Opening}
 use Rattle.rewriter.specs.declared.wrappers.Ending.{Ending}
 use Rattle.rewriter.specs.Members.{laid_code, laid_bytes, wrapper_blocks, wrapper_handlers, wrapper_bytes, with_code}
 use Rattle.rewriter.proofs.Grown.{utf8_grown}
-use Rattle.rewriter.proofs.Marks.{code_swapped, mark_swapped}
+use Rattle.rewriter.proofs.Marks.{code_swapped, HasMark, retries_swapped, attempts_fit}
 use Rattle.rewriter.proofs.Coded.{code_back, method_as, CodedFacts, coded_means, same_methods}
 use Rattle.rewriter.proofs.Filed.{decoded_is}
 use Rattle.rewriter.proofs.Laid.{IsLaidCode, laid_is}
@@ -53,7 +55,8 @@ greater : (n : ℕ) → n ≤ 1000 → max (n + 1) 3 < 65536
 greater n h = grind (arith, nat_tests)
 
 module _ (c new : ClassFile) (P : Program) (K : Known c new P) (n id : ℕ) (m x : Member) (k : Method) (t d : List ℕ) (named : utf8 c.pool m.name ≡ Some t) (described : utf8 c.pool m.descriptor ≡ Some d)
-    (at : slice_get P.methods n ≡ Some k) (h : IsOld c P.fields m k) (lawful : AllByRecursion (IsAttribute c.pool) m.attributes) (marked : is_marked c.pool m ≡ true) (w : IsWrapped c new.pool id k m x) where
+    (at : slice_get P.methods n ≡ Some k) (h : IsOld c P.fields m k) (lawful : AllByRecursion (IsAttribute c.pool) m.attributes)
+    (attempts : ℤ) (marked : retries_of c.pool m ≡ Some attempts) (w : IsWrapped c new.pool id attempts k m x) where
   few : k.params ≤ 1000
   few = let r = h.room in let l = h.locals in let f = h.few in omega (arith, r, l, f)
 
@@ -63,13 +66,13 @@ module _ (c new : ClassFile) (P : Program) (K : Known c new P) (n id : ℕ) (m x
   owner : k.name.class ≡ own_name c
   owner = method_class c new P K n k at
 
-  names : Named (symbols_of new P.fields (rewritten_methods P new)) id (duplicate P n) w.opening w.ending
+  names : Named (symbols_of new P.fields (rewritten_methods P new)) id (duplicate P n) (as_int attempts) w.opening w.ending
   names = record {
     opens = w.opens;
     duplicate = record {
-      name = wanted (own_name c) k.name.name (with_context k.name.descriptor);
+      name = wanted (own_name c) (duplicate_name k.name.name) (with_context k.name.descriptor);
       few = w.ends.duplicate_is.1;
-      is = w.ends.duplicate_is.0 ∙ ap (λ (y : List ℕ). Some (wanted y k.name.name (with_context k.name.descriptor))) owner;
+      is = w.ends.duplicate_is.0 ∙ ap (λ (y : List ℕ). Some (wanted y (duplicate_name k.name.name) (with_context k.name.descriptor))) owner;
       means = calls_copy c new P K n k at;
     };
     commit_is = w.ends.commit_is.0;
@@ -92,35 +95,37 @@ module _ (c new : ClassFile) (P : Program) (K : Known c new P) (n id : ℕ) (m x
 
   -- the code of a wrapper keeps the rules of code
   pub loop_rules : IsCode new.pool loop.code
-  loop_rules = wrapper_rules k.params k.gives w.opening w.ending (symbols_of new P.fields (rewritten_methods P new)) small id (duplicate P n) names
+  loop_rules = wrapper_rules k.params k.gives w.opening w.ending (symbols_of new P.fields (rewritten_methods P new)) small id (duplicate P n) (as_int attempts) names
       (max (k.params + 1) 3) (k.params + 2) loop.code loop.laid (greater k.params few) (omega (arith, few))
 
-  pub wrapper_is : method_of (symbols_of new P.fields (rewritten_methods P new)) false x ≡ Some (wrapper_method P id n (pos 2147483647) k)
-  wrapper_is =
+  pub wrapper_is : HasMark c.pool m → method_of (symbols_of new P.fields (rewritten_methods P new)) false x ≡ Some (wrapper_method P id n attempts k)
+  wrapper_is sound =
       let s = symbols_of new P.fields (rewritten_methods P new) in
       let L = relocated (wrapper_blocks k.params k.gives w.opening w.ending) [] in
       let swapped = code_swapped c.pool new.pool K.rewritten.grown w.bytes m.attributes h.coded.code lawful (decoded_is c m h.coded h.decodes).code in
-      let mark = mark_swapped c.pool new.pool K.rewritten.grown w.bytes m.attributes marked in
-      let ops : List Op = wrapper_ops k.params k.gives w.opening w.ending s small id (duplicate P n) names in
-      let facts : CodedFacts s (with_code c.pool w.bytes m) loop.code L t d h.shape (wrapper_ops k.params k.gives w.opening w.ending s small id (duplicate P n) names)
-      (catch 6 (body_end k.params) (conflict_at k.gives k.params) Conflict ∷ catch 6 (body_end k.params) (conflict_at k.gives k.params + 4) Any ∷ []) (Some (pos 2147483647)) = record {
+      let mark = retries_swapped c.pool new.pool K.rewritten.grown w.bytes m t d named described lawful sound in
+      let fits : as_int attempts ≡ attempts = narrow attempts (attempts_fit c.pool K.rules.pool.entries m attempts marked) in
+      let ops : List Op = wrapper_ops k.params k.gives w.opening w.ending s small id (duplicate P n) (as_int attempts) names in
+      let facts : CodedFacts s (with_code c.pool w.bytes m) loop.code L t d h.shape (wrapper_ops k.params k.gives w.opening w.ending s small id (duplicate P n) (as_int attempts) names)
+      (catch 6 (body_end k.params) (conflict_at k.gives k.params) Conflict ∷ catch 6 (body_end k.params) (conflict_at k.gives k.params + 4) Any ∷ []) (Some attempts) = record {
         code = swapped ∙ ap (code_of new.pool) loop.bytes_are ∙ code_back new.pool loop.code loop_rules;
-        read = wrapper_read k.params k.gives w.opening w.ending s small id (duplicate P n) names (max (k.params + 1) 3) (k.params + 2) loop.code loop.laid;
+        read = wrapper_read k.params k.gives w.opening w.ending s small id (duplicate P n) (as_int attempts) names (max (k.params + 1) 3) (k.params + 2) loop.code loop.laid;
         named = utf8_grown c.pool new.pool K.rewritten.grown m.name t named;
         typed = utf8_grown c.pool new.pool K.rewritten.grown m.descriptor d described;
         shaped = shaped;
-        ops_are = wrapper_means k.params k.gives w.opening w.ending s small id (duplicate P n) names;
-        catches_are = wrapper_catches k.params k.gives w.opening w.ending s small id (duplicate P n) names (max (k.params + 1) 3) (k.params + 2) loop.code loop.laid;
-        retries_are = rw mark refl;
+        ops_are = wrapper_means k.params k.gives w.opening w.ending s small id (duplicate P n) (as_int attempts) names;
+        catches_are = wrapper_catches k.params k.gives w.opening w.ending s small id (duplicate P n) (as_int attempts) names (max (k.params + 1) 3) (k.params + 2) loop.code loop.laid;
+        retries_are = mark ∙ marked;
       } in
-      let it = coded_means s false (with_code c.pool w.bytes m) loop.code L t d h.shape (wrapper_ops k.params k.gives w.opening w.ending s small id (duplicate P n) names)
-      (catch 6 (body_end k.params) (conflict_at k.gives k.params) Conflict ∷ catch 6 (body_end k.params) (conflict_at k.gives k.params + 4) Any ∷ []) (Some (pos 2147483647)) facts in
+      let it = coded_means s false (with_code c.pool w.bytes m) loop.code L t d h.shape (wrapper_ops k.params k.gives w.opening w.ending s small id (duplicate P n) (as_int attempts) names)
+      (catch 6 (body_end k.params) (conflict_at k.gives k.params) Conflict ∷ catch 6 (body_end k.params) (conflict_at k.gives k.params + 4) Any ∷ []) (Some attempts) facts in
       let own_text : t ≡ k.name.name = sym (ap (λ (y : MethodName). y.name) h.name ∙ ap text_or_none named) in
       let own_class : own_name new ≡ k.name.class = own_same c new P K ∙ sym owner in
       let name_is : record { class = own_name new; name = t; descriptor = d } ≡ record { class = k.name.class; name = k.name.name; descriptor = k.name.descriptor } =
       ap (λ (y : List ℕ). name_of_parts y t d) own_class ∙ ap (λ (y : List ℕ). name_of_parts k.name.class y d) own_text ∙ ap (λ (y : List ℕ). name_of_parts k.name.class k.name.name y) (sym descriptor_is) in
-      let retries : k.retries ≡ Some (pos 2147483647) = h.retries ∙ rw marked refl in
+      let retries : k.retries ≡ Some attempts = h.retries ∙ marked in
       let cs : List Catch = catch 6 (body_end k.params) (conflict_at k.gives k.params) Conflict ∷ catch 6 (body_end k.params) (conflict_at k.gives k.params + 4) Any ∷ [] in
       let same = same_methods false (record { class = own_name new; name = t; descriptor = d }) (record { class = k.name.class; name = k.name.name; descriptor = k.name.descriptor }) h.shape.takes k.takes h.shape.params k.params loop.code.max_locals (k.params + 2) loop.code.max_stack (max (k.params + 1) 3)
-      h.shape.gives k.gives (Some (pos 2147483647)) ops ops cs cs name_is (sym h.takes) (sym h.params) loop.laid.locals loop.laid.stack (sym h.gives) refl refl in
+      h.shape.gives k.gives (Some attempts) ops ops cs cs name_is (sym h.takes) (sym h.params) loop.laid.locals loop.laid.stack (sym h.gives) refl refl in
       ap (method_of s false) w.is ∙ it ∙ ap (λ (y : Method). Some y) same ∙ ap (λ (y : Option ℤ). Some (method_as false k.name k.takes k.params (k.params + 2) (max (k.params + 1) 3) k.gives y ops cs)) (sym retries)
+      ∙ ap (λ (z : ℤ). Some (wrapper_method P id n z k)) fits

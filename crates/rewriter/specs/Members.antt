@@ -1,5 +1,5 @@
 -- The members that rewriting adds to a class and replaces in it (Korland, Shavit, Felber, MULTIPROG 2010, in this project's
--- form), with the entries that they name. Methods are static, take ints and give an int or nothing.
+-- form), with the entries that they name. Methods are static, take values of one word and give one or nothing.
 use Rattle.std.specs.Prelude.{ℕ, ℤ, zero, suc, pos, negsuc, ◌+◌, ◌/◌, ◌%◌, max, List, [], ◌∷◌, ◌++◌, map, Option, Some, None, Result, Ok, Err, Bool, true, false, ◌&&◌, nat_eq, nat_lt, int_le, if◌then◌else◌, codes, bit_and, bit_or, slice_get, slice_index}
 use Rattle.std.specs.List.{list_any}
 use Rattle.std.specs.Int.{w64, cast_signed}
@@ -9,6 +9,7 @@ use Rattle.jmodel.specs.declared.refusal.Refusal.TheVariants.{CodeTooLarge, Bran
 use Rattle.jmodel.specs.declared.instruction.Operands.{Operands}
 use Rattle.jmodel.specs.declared.instruction.Operands.TheVariants as operands
 use Rattle.jmodel.specs.declared.instruction.Instr.{Instr}
+use Rattle.jmodel.specs.declared.op.WordType.{WordType}
 use Rattle.jmodel.specs.declared.op.Op.{Op}
 use Rattle.jmodel.specs.declared.op.Op.TheVariants.{Load, Store, Increment, GetStatic, PutStatic, InvokeStatic}
 use Rattle.jmodel.specs.ClassFile.{Attribute, Member, Pool, ClassFile, Code, code_spelling}
@@ -18,7 +19,8 @@ use Rattle.jmodel.specs.Program.{Field, Method, Program}
 use Rattle.jmodel.specs.Linking.{Coded, decoded}
 use Rattle.jmodel.specs.Reading.{◌>>=◌}
 use Rattle.jmodel.specs.Relocation.{Block, relocate}
-use Rattle.jmodel.specs.Rewriting.{moved, with_context}
+use Rattle.jmodel.specs.Rewriting.{context_type, moved, with_context, duplicate_name}
+use Rattle.jmodel.specs.WordTypes.{type_descriptor, read_descriptor, write_descriptor}
 pub use Rattle.jmodel.specs.TypeOrder.{context_class}
 use Rattle.rewriter.specs.declared.accessors.Accessors.{Accessors}
 use Rattle.rewriter.specs.declared.names.Calls.{Calls}
@@ -28,12 +30,12 @@ use Rattle.rewriter.specs.Adding.{add_utf8, add_integer, add_long, add_class, ad
 
 -- ---- names
 
--- the descriptor of a getter and of a duplicate
-abbrev pub getter_type : List ℕ
-getter_type = codes "(Lorg/deuce/transaction/Context;)I"
+-- the descriptors of a getter and of a setter of a field of a type
+abbrev pub getter_type : WordType → List ℕ
+getter_type t = codes "(" ++ context_type ++ codes ")" ++ type_descriptor t
 
-abbrev pub setter_type : List ℕ
-setter_type = codes "(ILorg/deuce/transaction/Context;)V"
+abbrev pub setter_type : WordType → List ℕ
+setter_type t = codes "(" ++ type_descriptor t ++ context_type ++ codes ")V"
 
 abbrev pub getter_name : Field → List ℕ
 getter_name f = f.name ++ codes "__Getter$"
@@ -172,8 +174,8 @@ look_refs own f pool = do
 -- the field, and the call after the read
 unfoldable pub read_refs : List ℕ → Field → Pool → Result ((ℕ × ℕ) × Pool) Refusal
 read_refs own f pool = do
-  field ← add_field own f.name (codes "I") pool
-  after ← add_method context_class (codes "onReadAccess") (codes "(Ljava/lang/Object;IJ)I") field.1
+  field ← add_field own f.name (type_descriptor f.type) pool
+  after ← add_method context_class (codes "onReadAccess") (read_descriptor f.type) field.1
   Ok ((field.0, after.0), after.1)
 
 unfoldable pub getter_body : List ℕ → Field → Pool → Result (List ℕ × Pool) Refusal
@@ -190,7 +192,7 @@ setter_code p write = load_reference 1 ∷ get_static p.0 ∷ load_int 0 ∷ get
 unfoldable pub setter_body : List ℕ → Field → Pool → Result (List ℕ × Pool) Refusal
 setter_body own f pool = do
   places ← place_refs own f pool
-  write ← add_method context_class (codes "onWriteAccess") (codes "(Ljava/lang/Object;IJ)V") places.1
+  write ← add_method context_class (codes "onWriteAccess") (write_descriptor f.type) places.1
   bytes ← straight_bytes 5 2 (setter_code places.0 write.0)
   Ok (bytes, write.1)
 
@@ -204,12 +206,12 @@ accessor name type bytes pool = do
 unfoldable pub getter_of : List ℕ → Field → Pool → Result (Member × Pool) Refusal
 getter_of own f pool = do
   body ← getter_body own f pool
-  accessor (getter_name f) getter_type body.0 body.1
+  accessor (getter_name f) (getter_type f.type) body.0 body.1
 
 unfoldable pub setter_of : List ℕ → Field → Pool → Result (Member × Pool) Refusal
 setter_of own f pool = do
   body ← setter_body own f pool
-  accessor (setter_name f) setter_type body.0 body.1
+  accessor (setter_name f) (setter_type f.type) body.0 body.1
 
 unfoldable pub accessors_of : List ℕ → Field → Pool → Result (Accessors × Pool) Refusal
 accessors_of own f pool = do
@@ -240,10 +242,10 @@ unfoldable pub method_if_needed : Bool → List ℕ → List ℕ → List ℕ �
 method_if_needed needed class name descriptor pool = if needed then add_method class name descriptor pool else Ok (0, pool)
 
 unfoldable pub getter_call : Program → List ℕ → ℕ → Field → Pool → Result (ℕ × Pool) Refusal
-getter_call P own n f pool = method_if_needed (some_op (gets n) P) own (getter_name f) getter_type pool
+getter_call P own n f pool = method_if_needed (some_op (gets n) P) own (getter_name f) (getter_type f.type) pool
 
 unfoldable pub setter_call : Program → List ℕ → ℕ → Field → Pool → Result (ℕ × Pool) Refusal
-setter_call P own n f pool = method_if_needed (some_op (puts n) P) own (setter_name f) setter_type pool
+setter_call P own n f pool = method_if_needed (some_op (puts n) P) own (setter_name f) (setter_type f.type) pool
 
 unfoldable pub calls_of : Program → List ℕ → ℕ → Field → Pool → Result (Calls × Pool) Refusal
 calls_of P own n f pool = do
@@ -253,7 +255,7 @@ calls_of P own n f pool = do
 
 -- the duplicate of a method, where some duplicate calls it
 unfoldable pub duplicate_call : Program → ℕ → Method → Pool → Result (ℕ × Pool) Refusal
-duplicate_call P n k pool = method_if_needed (some_op (calls n) P) k.name.class k.name.name (with_context k.name.descriptor) pool
+duplicate_call P n k pool = method_if_needed (some_op (calls n) P) k.name.class (duplicate_name k.name.name) (with_context k.name.descriptor) pool
 
 -- ---- duplicates
 
@@ -321,9 +323,10 @@ duplicate_flags flags = bit_or (bit_and flags 0xff7f) 0x1000
 unfoldable pub coded_duplicate : Names → Method → Member → Coded → Pool → Result (Member × Pool) Refusal
 coded_duplicate names k m coded pool = do
   body ← duplicate_body (printed k.name) coded.code (blocks_from names k.params k.ops 0 coded.instrs) pool
-  typed ← add_utf8 (with_context k.name.descriptor) body.1
+  named ← add_utf8 (duplicate_name k.name.name) body.1
+  typed ← add_utf8 (with_context k.name.descriptor) named.1
   code ← add_utf8 (codes "Code") typed.1
-  Ok (added_method (duplicate_flags m.flags) m.name typed.0 code.0 body.0, code.1)
+  Ok (added_method (duplicate_flags m.flags) named.0 typed.0 code.0 body.0, code.1)
 
 -- the duplicate of a method, which the class's file has as this member
 unfoldable pub duplicate_of : ClassFile → Names → Method → Member → Pool → Result (Member × Pool) Refusal
@@ -331,17 +334,17 @@ duplicate_of c names k m pool = decoded c m >>= λ coded. coded_duplicate names 
 
 -- ---- wrappers
 
-unfoldable pub opening_of : ℕ → Pool → Result (Opening × Pool) Refusal
-opening_of n pool = do
+unfoldable pub opening_of : ℕ → ℤ → Pool → Result (Opening × Pool) Refusal
+opening_of n attempts pool = do
   get ← add_method (codes "org/deuce/transaction/ContextDelegator") (codes "getInstance") (codes "()Lorg/deuce/transaction/Context;") pool
   number ← add_integer (pos n) get.1
-  retries ← add_integer (pos 2147483647) number.1
+  retries ← add_integer attempts number.1
   init ← add_method context_class (codes "init") (codes "(II)V") retries.1
   Ok (record { get = get.0; number = number.0; retries = retries.0; init = init.0 }, init.1)
 
 unfoldable pub ending_of : Method → Pool → Result (Ending × Pool) Refusal
 ending_of k pool = do
-  duplicate ← add_method k.name.class k.name.name (with_context k.name.descriptor) pool
+  duplicate ← add_method k.name.class (duplicate_name k.name.name) (with_context k.name.descriptor) pool
   commit ← add_method context_class (codes "commit") (codes "()Z") duplicate.1
   rollback ← add_method context_class (codes "rollback") (codes "()V") commit.1
   conflict ← add_class (codes "org/deuce/transaction/TransactionException") rollback.1
@@ -399,10 +402,10 @@ with_bytes pool bytes a = if is_named pool (codes "Code") a then record { name =
 abbrev pub with_code : Pool → List ℕ → Member → Member
 with_code pool bytes m = record { flags = m.flags; name = m.name; descriptor = m.descriptor; attributes = map (with_bytes pool bytes) m.attributes }
 
--- the wrapper of a method, with its number among the wrappers
-unfoldable pub wrapper_of : ClassFile → ℕ → Method → Member → Pool → Result (Member × Pool) Refusal
-wrapper_of c n k m pool = if nat_lt 65535 n then Err (too_many (printed k.name) (codes "Methods")) else do
-  opening ← opening_of n pool
+-- the wrapper of a method, with its number among the wrappers, for so many attempts
+unfoldable pub wrapper_of : ClassFile → ℕ → ℤ → Method → Member → Pool → Result (Member × Pool) Refusal
+wrapper_of c n attempts k m pool = if nat_lt 65535 n then Err (too_many (printed k.name) (codes "Methods")) else do
+  opening ← opening_of n attempts pool
   ending ← ending_of k opening.1
   bytes ← wrapper_bytes k opening.0 ending.0
   Ok (with_code c.pool bytes m, ending.1)

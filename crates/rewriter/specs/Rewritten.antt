@@ -1,12 +1,12 @@
 -- The rewriting of a class, part after part.
-use Rattle.std.specs.Prelude.{◌≡◌, ℕ, ◌+◌, List, [], ◌∷◌, ◌++◌, zip, Option, Some, None, Result, Ok, slice_get, if◌then◌else◌}
+use Rattle.std.specs.Prelude.{◌≡◌, ℕ, ℤ, ◌+◌, List, [], ◌∷◌, ◌++◌, zip, Option, Some, None, Result, Ok, slice_get, if◌then◌else◌}
 use Rattle.std.specs.List.{flat_map}
 use Rattle.jmodel.specs.declared.refusal.Refusal.{Refusal}
 use Rattle.jmodel.specs.ClassFile.{Member, Pool, ClassFile}
 use Rattle.jmodel.specs.Program.{Field, Method, Program}
 use Rattle.jmodel.specs.Decoding.{own_name}
 use Rattle.jmodel.specs.Taken.{is_taken}
-use Rattle.jmodel.specs.Linking.{is_marked, program_methods}
+use Rattle.jmodel.specs.Linking.{is_root, program_methods, retries_of, is_marked}
 use Rattle.jmodel.specs.Reading.{◌>>=◌}
 use Rattle.rewriter.specs.Members.{Names, address_member, base_member, accessors_of, calls_of, duplicate_call, duplicate_of, wrapper_of}
 use Rattle.rewriter.specs.declared.accessors.Accessors.{Accessors}
@@ -54,14 +54,16 @@ added_methods P c pool = do
   copies ← duplicates P c accessors.1
   Ok (flat_map both_of accessors.0 ++ copies.0, copies.1)
 
--- a marked method of the program gets its wrapper, where there is such a method
-abbrev pub wrapper_if : ClassFile → ℕ → Option Method → Member → Pool → Result (Member × Pool) Refusal
-wrapper_if c n None m pool = Ok (m, pool)
-wrapper_if c n (Some k) m pool = wrapper_of c n k m pool
+-- a method of the program that may make so many attempts gets its wrapper, any other stays as it is
+abbrev pub wrapper_if : ClassFile → ℕ → Option ℤ → Option Method → Member → Pool → Result (Member × Pool) Refusal
+wrapper_if c n (Some attempts) (Some k) m pool = wrapper_of c n attempts k m pool
+wrapper_if c n (Some attempts) None m pool = Ok (m, pool)
+wrapper_if c n None k m pool = Ok (m, pool)
 
--- an old method, before which so many are taken and so many are marked: the wrapper of a marked one, any other as it is
+-- an old method, before which so many are taken and so many get wrappers: the wrapper of one that is marked or a static initialiser, any
+-- other as it is
 abbrev pub replaced : Program → ClassFile → ℕ → ℕ → Member → Pool → Result (Member × Pool) Refusal
-replaced P c n id m pool = if is_marked c.pool m then wrapper_if c id (slice_get P.methods n) m pool else Ok (m, pool)
+replaced P c n id m pool = wrapper_if c id (retries_of c.pool m) (slice_get P.methods n) m pool
 
 -- the number of the next taken method
 abbrev pub number_behind : ClassFile → ℕ → Member → ℕ
@@ -69,7 +71,7 @@ number_behind c n m = if is_taken c m then n + 1 else n
 
 -- the number of the next wrapper
 abbrev pub id_behind : Pool → ℕ → Member → ℕ
-id_behind pool id m = if is_marked pool m then id + 1 else id
+id_behind pool id m = if is_root pool m then id + 1 else id
 
 abbrev pub old_from : Program → ClassFile → ℕ → ℕ → List Member → Pool → Result (List Member × Pool) Refusal
 old_from P c n id [] pool = Ok ([], pool)

@@ -1,5 +1,6 @@
-//! Accessors: a getter and a setter for each static int field, over the context.
-ghost use Rattle.std.specs.Prelude.{◌≡◌, IfOk, codes};
+//! Accessors: a getter and a setter for each static field, over the context.
+ghost use Rattle.std.specs.Prelude.{◌≡◌, IfOk};
+ghost use Rattle.jmodel.specs.WordTypes.{type_descriptor as descriptor_of};
 ghost use Rattle.rewriter.specs.Adding.{Grows, add_field as with_field, add_method as with_method};
 ghost use Rattle.rewriter.specs.Members.{place_refs as places, look_refs as looks, read_refs as reads, getter_body as getter_bytes, setter_body as setter_bytes, accessor as added_accessor, getter_of as getter, setter_of as setter, accessors_of as both, added_method as method_of, context_class, getter_code as code_of_getter, setter_code as code_of_setter};
 ghost use Rattle.std.specs.Prelude.{[]};
@@ -9,12 +10,13 @@ ghost use Rattle.jmodel.specs.Instruction.{targets_of};
 ghost use Rattle.jmodel.specs.Relocation.{IsShaped};
 
 use crate::adding::{add_field, add_method, add_utf8};
-use crate::fields::{address_name, getter_name, setter_name, typed_name};
+use crate::fields::{address_name, getter_name, getter_type, setter_name, setter_type, typed_name};
 use crate::instrs::{call_virtual, get_static, load_int, load_reference, plain};
 use crate::laying::straight_bytes;
 use bytecode::Instr;
 use const_pool::{Attribute, Member, Pool};
 use hierarchy::Field;
+use hierarchy::word_types::{read_descriptor, type_descriptor, write_descriptor};
 use jmodel::{Bytes, Halt};
 use std::alloc::{AllocError, Global};
 
@@ -76,9 +78,16 @@ fn place_refs(alloc: Global, pool: &mut Pool, own: &[u8], field: &Field) -> Resu
 }
 
 fn add_own_field(alloc: Global, pool: &mut Pool, own: &[u8], field: &Field) -> Result<u16, Halt>
-    ensures { Grows (λ n. n) result pool.new (with_field own.now field.now.name (codes "I") pool.old) }
+    ensures { Grows (λ n. n) result pool.new (with_field own.now field.now.name (descriptor_of field.now.type) pool.old) }
 {
-    add_field(alloc, pool, own, field.name().as_slice(), b"I")
+    let (_, word_type) = field.place();
+    add_field(
+        alloc,
+        pool,
+        own,
+        field.name().as_slice(),
+        type_descriptor(word_type),
+    )
 }
 
 // Before the read, the plain load, after the read.
@@ -128,7 +137,8 @@ fn read_refs(alloc: Global, pool: &mut Pool, own: &[u8], field: &Field) -> Resul
     ensures { Grows (λ p. p) result pool.new (reads own.now field.now pool.old) }
 {
     let loaded = add_own_field(alloc, pool, own, field)?;
-    let after = add_context_call(alloc, pool, b"onReadAccess", b"(Ljava/lang/Object;IJ)I")?;
+    let (_, word_type) = field.place();
+    let after = add_context_call(alloc, pool, b"onReadAccess", read_descriptor(word_type))?;
     Ok((loaded, after))
 }
 
@@ -163,7 +173,8 @@ fn setter_body(alloc: Global, pool: &mut Pool, own: &[u8], field: &Field) -> Res
     ensures { Grows (λ b. b) result pool.new (setter_bytes own.now field.now pool.old) }
 {
     let p = place_refs(alloc, pool, own, field)?;
-    let write = add_context_call(alloc, pool, b"onWriteAccess", b"(Ljava/lang/Object;IJ)V")?;
+    let (_, word_type) = field.place();
+    let write = add_context_call(alloc, pool, b"onWriteAccess", write_descriptor(word_type))?;
     let code = setter_code(alloc, p, write)?;
     straight_bytes(alloc, 5, 2, code)
 }
@@ -189,7 +200,7 @@ fn getter_of(alloc: Global, pool: &mut Pool, own: &[u8], field: &Field) -> Resul
 {
     let name = getter_name(alloc, field)?;
     let body = getter_body(alloc, pool, own, field)?;
-    let descriptor = b"(Lorg/deuce/transaction/Context;)I";
+    let descriptor = getter_type(field);
     accessor(alloc, pool, name.as_slice(), descriptor, body)
 }
 
@@ -199,7 +210,7 @@ fn setter_of(alloc: Global, pool: &mut Pool, own: &[u8], field: &Field) -> Resul
 {
     let name = setter_name(alloc, field)?;
     let body = setter_body(alloc, pool, own, field)?;
-    let descriptor = b"(ILorg/deuce/transaction/Context;)V";
+    let descriptor = setter_type(field);
     accessor(alloc, pool, name.as_slice(), descriptor, body)
 }
 

@@ -17,7 +17,7 @@ use crate::instrs::{
     alone, call_static, increment, load_int, load_reference, pair, plain, store_int,
 };
 use crate::laying::bytes_of_method;
-use crate::names::{Calls, Names};
+use crate::names::{Calls, Names, duplicate_name};
 use bytecode::{Block, Instr};
 use const_pool::{ClassFile, Code, Member, Pool};
 use hierarchy::Method;
@@ -77,31 +77,31 @@ fn block_instrs(
     alloc: Global,
     names: &Names,
     p: u16,
-    op: Option<Op>,
+    op: Option<&Op>,
     i: &Instr,
 ) -> Result<Vec<Instr>, AllocError>
-    requires { IfSome op IsSmallOp }
-    ensures { IfOk result (λ v. v.items ≡ instrs_of_block names.now p op i.now) }
+    requires { IfSome (option_copied op) IsSmallOp }
+    ensures { IfOk result (λ v. v.items ≡ instrs_of_block names.now p (option_copied op.entry) i.now) }
 {
     match op {
-        Some(Op::GetStatic(f)) => call(alloc, p, getter_in(names.accessors(), f)),
-        Some(Op::PutStatic(f)) => call(alloc, p, setter_in(names.accessors(), f)),
-        Some(Op::InvokeStatic(m)) => call(alloc, p, duplicate_in(names.duplicates(), m)),
-        Some(Op::Load(n)) => alone(alloc, load_int(moved(p, n))),
-        Some(Op::Store(n)) => alone(alloc, store_int(moved(p, n))),
-        Some(Op::Increment(n, add)) => alone(alloc, increment(moved(p, n), add)),
+        Some(Op::GetStatic(f)) => call(alloc, p, getter_in(names.accessors(), *f)),
+        Some(Op::PutStatic(f)) => call(alloc, p, setter_in(names.accessors(), *f)),
+        Some(Op::InvokeStatic(m)) => call(alloc, p, duplicate_in(names.duplicates(), *m)),
+        Some(Op::Load(n)) => alone(alloc, load_int(moved(p, *n))),
+        Some(Op::Store(n)) => alone(alloc, store_int(moved(p, *n))),
+        Some(Op::Increment(n, add)) => alone(alloc, increment(moved(p, *n), *add)),
         _ => alone(alloc, i.copy(alloc)?),
     }
 }
 
-ghost use Rattle.std.specs.Prelude.{IfSome};
+ghost use Rattle.std.specs.Prelude.{IfSome, option_copied};
 
-fn op_at(ops: &[Op], n: usize) -> Option<Op>
+fn op_at(ops: &[Op], n: usize) -> Option<&Op>
     requires { AllByRecursion IsSmallOp ops.now }
-    ensures op { result ≡ slice_get ops.now n }
-    ensures small { IfSome result IsSmallOp }
+    ensures op { option_copied result ≡ slice_get ops.now n }
+    ensures small { IfSome (option_copied result) IsSmallOp }
 {
-    ops.get(n).copied()
+    ops.get(n)
 }
 
 fn blocks_of(
@@ -187,11 +187,13 @@ fn coded_duplicate(
     let p = method.entry().params as u16;
     let blocks = blocks_of(alloc, names, p, method.ops(), coded.instrs.as_slice())?;
     let bytes = duplicate_body(alloc, pool, method.name(), &coded.code, blocks.as_slice())?;
+    let name = duplicate_name(method.name().name.as_slice());
+    let named = add_utf8(alloc, pool, name)?;
     let descriptor = with_context(alloc, method.name().descriptor.as_slice())?;
     let typed = add_utf8(alloc, pool, descriptor.as_slice())?;
     let text = add_utf8(alloc, pool, b"Code")?;
     let flags = duplicate_flags(member.flags);
-    Ok(added_method(alloc, flags, member.name, typed, text, bytes)?)
+    Ok(added_method(alloc, flags, named, typed, text, bytes)?)
 }
 
 ghost use Rattle.rewriter.specs.Made.{IsSmallMethod};

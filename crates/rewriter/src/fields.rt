@@ -1,12 +1,13 @@
 //! The fields that are added: for each static field its place, and one for the static base of the class.
 ghost use Rattle.std.specs.Prelude.{◌≡◌, [], ◌∷◌, IfOk};
 ghost use Rattle.rewriter.specs.Adding.{Grows};
-ghost use Rattle.rewriter.specs.Members.{address_name as name_of_address, getter_name as name_of_getter, setter_name as name_of_setter, typed_name as typed, constant_value as value, address_member as address, base_member as base};
+ghost use Rattle.rewriter.specs.Members.{address_name as name_of_address, getter_name as name_of_getter, setter_name as name_of_setter, getter_type as type_of_getter, setter_type as type_of_setter, typed_name as typed, constant_value as value, address_member as address, base_member as base};
 
 use crate::adding::{add_long, add_utf8};
 use crate::bytes::{high, joined, low};
 use const_pool::{Attribute, Member, Pool};
 use hierarchy::Field;
+use jmodel::op::WordType;
 use jmodel::{Bytes, Halt};
 use std::alloc::{AllocError, Global};
 
@@ -29,6 +30,34 @@ pub fn setter_name(alloc: Global, field: &Field) -> Result<Bytes, AllocError>
     ensures { IfOk result (λ t. t ≡ name_of_setter field.now) }
 {
     joined(alloc, field.name().as_slice(), b"__Setter$")
+}
+
+/// The descriptor of a field's getter.
+pub fn getter_type(field: &Field) -> &'static [u8]
+    ensures { result.now ≡ type_of_getter field.now.type }
+{
+    let (_, word_type) = field.place();
+    match word_type {
+        WordType::Boolean => b"(Lorg/deuce/transaction/Context;)Z",
+        WordType::Byte => b"(Lorg/deuce/transaction/Context;)B",
+        WordType::Char => b"(Lorg/deuce/transaction/Context;)C",
+        WordType::Short => b"(Lorg/deuce/transaction/Context;)S",
+        WordType::Int => b"(Lorg/deuce/transaction/Context;)I",
+    }
+}
+
+/// The descriptor of its setter.
+pub fn setter_type(field: &Field) -> &'static [u8]
+    ensures { result.now ≡ type_of_setter field.now.type }
+{
+    let (_, word_type) = field.place();
+    match word_type {
+        WordType::Boolean => b"(ZLorg/deuce/transaction/Context;)V",
+        WordType::Byte => b"(BLorg/deuce/transaction/Context;)V",
+        WordType::Char => b"(CLorg/deuce/transaction/Context;)V",
+        WordType::Short => b"(SLorg/deuce/transaction/Context;)V",
+        WordType::Int => b"(ILorg/deuce/transaction/Context;)V",
+    }
 }
 
 /// The texts of a name and a descriptor.

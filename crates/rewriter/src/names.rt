@@ -2,15 +2,16 @@
 ghost use Rattle.std.specs.Prelude.{◌≡◌};
 ghost use Rattle.std.specs.List.{list_any};
 ghost use Rattle.jmodel.specs.Decoding.{own_name as own_name_of};
+ghost use Rattle.jmodel.specs.Rewriting.{duplicate_name as name_of_duplicate};
 ghost use Rattle.rewriter.specs.Adding.{Grows};
 ghost use Rattle.rewriter.specs.Members.{gets as gets_field, puts as puts_field, calls as calls_method, some_op, method_if_needed as needed_method, getter_call as get_call, setter_call as set_call, calls_of as calls_for, duplicate_call as call_of_duplicate};
 ghost use Rattle.rewriter.specs.Rewritten.{grow_from, names_of as all_names};
 
 use crate::adding::add_method;
 use crate::descriptors::with_context;
-use crate::fields::{getter_name, setter_name};
+use crate::fields::{getter_name, getter_type, setter_name, setter_type};
 use const_pool::{ClassFile, Pool};
-use hierarchy::symbols::own_name;
+use hierarchy::symbols::{equal, own_name};
 use hierarchy::{Field, Method, Program};
 use jmodel::Halt;
 use jmodel::op::Op;
@@ -117,7 +118,7 @@ fn getter_call(
     ensures { Grows (λ n. n) result pool.new (get_call original.now own.now number field.now pool.old) }
 {
     let name = getter_name(alloc, field)?;
-    let descriptor = b"(Lorg/deuce/transaction/Context;)I";
+    let descriptor = getter_type(field);
     let needed = is_read(original, number);
     method_if_needed(alloc, pool, needed, own, name.as_slice(), descriptor)
 }
@@ -134,7 +135,7 @@ fn setter_call(
     ensures { Grows (λ n. n) result pool.new (set_call original.now own.now number field.now pool.old) }
 {
     let name = setter_name(alloc, field)?;
-    let descriptor = b"(ILorg/deuce/transaction/Context;)V";
+    let descriptor = setter_type(field);
     let needed = is_written(original, number);
     method_if_needed(alloc, pool, needed, own, name.as_slice(), descriptor)
 }
@@ -154,6 +155,17 @@ fn calls_of(
     let getter = getter_call(alloc, pool, original, own, number, field)?;
     let setter = setter_call(alloc, pool, original, own, number, field)?;
     Ok(Calls { getter, setter })
+}
+
+/// The name of a method's duplicate: its own. A method with the name of static initialisers can't be called, so that duplicate has another.
+pub fn duplicate_name(name: &[u8]) -> &[u8]
+    ensures { result.now ≡ name_of_duplicate name.now }
+{
+    if equal(name, b"<clinit>") {
+        b"__CLINIT__"
+    } else {
+        name
+    }
 }
 
 // The duplicate of the method of a number, where some duplicate calls it.
@@ -176,7 +188,7 @@ fn duplicate_call(
         pool,
         needed,
         class,
-        name.name.as_slice(),
+        duplicate_name(name.name.as_slice()),
         descriptor.as_slice(),
     )
 }

@@ -20,7 +20,7 @@ use crate::names::{Names, names_of};
 use crate::wrappers::wrapper_of;
 use const_pool::{ClassFile, Member, Pool};
 use hierarchy::symbols::own_name;
-use hierarchy::{Field, Method, Program, are_taken, is_marked, program_methods};
+use hierarchy::{Field, Method, Program, are_taken, is_root, program_methods, retries_of};
 use jmodel::Halt;
 use std::alloc::{AllocError, Global};
 
@@ -111,25 +111,27 @@ fn duplicates(
     )
 }
 
-// A marked method of the program gets its wrapper, where there is such a method.
+// A method of the program that may make so many attempts gets its wrapper, any other stays as it is.
 fn wrapper_if(
     alloc: Global,
     pool: &mut Pool,
     class: &ClassFile,
     number: usize,
+    attempts: Option<i32>,
     method: Option<&Method>,
     member: &Member,
 ) -> Result<Member, Halt>
     requires { IfSome (option_copied method) IsSmallMethod }
-    ensures { Grows (λ m. m) result pool.new (wrapper_of_some class.now number (option_copied method.entry) member.now pool.old) }
+    ensures { Grows (λ m. m) result pool.new (wrapper_of_some class.now number attempts (option_copied method.entry) member.now pool.old) }
 {
-    match method {
-        Some(k) => wrapper_of(alloc, pool, class, number, k, member),
-        None => Ok(copy_member(alloc, member)?),
+    match (attempts, method) {
+        (Some(n), Some(k)) => wrapper_of(alloc, pool, class, number, n, k, member),
+        _ => Ok(copy_member(alloc, member)?),
     }
 }
 
-// An old method, before which so many are taken and so many are marked: the wrapper of a marked one, any other as it is.
+// An old method, before which so many are taken and so many get wrappers: the wrapper of one that is marked or a static initialiser, any
+// other as it is.
 fn replaced(
     alloc: Global,
     pool: &mut Pool,
@@ -142,15 +144,12 @@ fn replaced(
     requires { AllByRecursion IsSmallMethod original.now.methods }
     ensures { Grows (λ m. m) result pool.new (replaced_method original.now class.now number wrapper member.now pool.old) }
 {
-    if is_marked(&class.pool, member) {
-        let method = original.methods().get(number);
-        wrapper_if(alloc, pool, class, wrapper, method, member)
-    } else {
-        Ok(copy_member(alloc, member)?)
-    }
+    let attempts = retries_of(&class.pool, member);
+    let method = original.methods().get(number);
+    wrapper_if(alloc, pool, class, wrapper, attempts, method, member)
 }
 
-// The old methods, with the wrapper of each marked one in its place. The flags say which methods are taken.
+// The old methods, with the wrapper of each marked one and each static initialiser in its place. The flags say which methods are taken.
 fn old_methods(
     alloc: Global,
     pool: &mut Pool,
@@ -168,7 +167,7 @@ fn old_methods(
     for (member, is_taken) in class.methods.iter().zip(flags) {
         members.push(replaced(alloc, pool, original, class, number, wrapper, member)?)?;
         number += usize::from(*is_taken);
-        wrapper += usize::from(is_marked(&class.pool, member));
+        wrapper += usize::from(is_root(&class.pool, member));
     }
     Ok(members)
 }
@@ -245,8 +244,8 @@ fn rewritten(alloc: Global, class: &ClassFile, original: &Program) -> Result<Cla
 }
 
 /// The rewriting of a class over the program that it means: a field for the place of each static field and one for the
-/// static base, accessors, a duplicate of each method of the program, and a wrapper in the place of each marked one. Every
-/// other method stays as it is. The old pool is a front of the new one, to which only needed entries are added. Refused, at the first member
+/// static base, accessors, a duplicate of each method of the program, and a wrapper in the place of each marked one and each static
+/// initialiser. Every other method stays as it is. The old pool is a front of the new one, to which only needed entries are added. Refused, at the first member
 /// that can't be made, as
 ///
 /// - `TooManyPlaces` with an old method's printed name and `Locals` or `Stack`, where its duplicate would have more than two

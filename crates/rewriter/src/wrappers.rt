@@ -1,4 +1,4 @@
-//! Wrappers: the loop of attempts that takes the place of a marked method's code.
+//! Wrappers: the loop of attempts that takes the place of the code of a marked method or a static initialiser.
 ghost use Rattle.std.specs.Prelude.{◌≡◌, ◌<◌, IfOk, map};
 ghost use Rattle.jmodel.specs.Name.{printed};
 ghost use Rattle.rewriter.specs.Adding.{Grows};
@@ -13,6 +13,7 @@ use crate::descriptors::with_context;
 use crate::duplicates::too_many;
 use crate::laying::bytes_of_method;
 use crate::loops::wrapper_blocks;
+use crate::names::duplicate_name;
 use const_pool::{Attribute, ClassFile, Handler, Member, Pool};
 use hierarchy::Method;
 use hierarchy::symbols::is_named;
@@ -38,14 +39,14 @@ pub struct Ending {
 }
 
 #[tactic(auto, unfolding(crate::specs::Members::opening_of))]
-fn opening_of(alloc: Global, pool: &mut Pool, number: u16) -> Result<Opening, Halt>
-    ensures { Grows (λ o. o) result pool.new (opening number pool.old) }
+fn opening_of(alloc: Global, pool: &mut Pool, number: u16, attempts: i32) -> Result<Opening, Halt>
+    ensures { Grows (λ o. o) result pool.new (opening number attempts pool.old) }
 {
     let class = b"org/deuce/transaction/ContextDelegator";
     let descriptor = b"()Lorg/deuce/transaction/Context;";
     let get = add_method(alloc, pool, class, b"getInstance", descriptor)?;
-    let number = add_integer(alloc, pool, number as i32)?;
-    let retries = add_integer(alloc, pool, i32::MAX)?;
+    let number = add_integer(alloc, pool, i32::from(number))?;
+    let retries = add_integer(alloc, pool, attempts)?;
     let init = add_context_call(alloc, pool, b"init", b"(II)V")?;
     Ok(Opening {
         get,
@@ -66,7 +67,7 @@ fn ending_of(alloc: Global, pool: &mut Pool, method: &Method) -> Result<Ending, 
         alloc,
         pool,
         class,
-        name.name.as_slice(),
+        duplicate_name(name.name.as_slice()),
         descriptor.as_slice(),
     )?;
     let commit = add_context_call(alloc, pool, b"commit", b"()Z")?;
@@ -169,7 +170,7 @@ fn with_code(
     })
 }
 
-/// The wrapper of a method, with its number among the wrappers. Refused as TooManyPlaces where the number has more than two
+/// The wrapper of a method, with its number among the wrappers, for so many attempts. Refused as TooManyPlaces where the number has more than two
 /// bytes, else as PoolFull, CodeTooLarge or BranchTooFar.
 #[tactic(auto, unfolding(crate::specs::Members::wrapper_of))]
 pub fn wrapper_of(
@@ -177,16 +178,17 @@ pub fn wrapper_of(
     pool: &mut Pool,
     class: &ClassFile,
     number: usize,
+    attempts: i32,
     method: &Method,
     member: &Member,
 ) -> Result<Member, Halt>
     requires { IsSmallMethod method.now }
-    ensures { Grows (λ m. m) result pool.new (wrapper class.now number method.now member.now pool.old) }
+    ensures { Grows (λ m. m) result pool.new (wrapper class.now number attempts method.now member.now pool.old) }
 {
     if number > 65535 {
         return Err(too_many(alloc, method.name(), b"Methods")?);
     }
-    let opening = opening_of(alloc, pool, number as u16)?;
+    let opening = opening_of(alloc, pool, number as u16, attempts)?;
     let ending = ending_of(alloc, pool, method)?;
     let bytes = wrapper_bytes(alloc, method, opening, ending)?;
     Ok(with_code(alloc, &class.pool, &bytes, member)?)

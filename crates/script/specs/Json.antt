@@ -1,5 +1,5 @@
 -- What is asked of JSON data, and the refusal where it isn't so.
-use Rattle.std.specs.Prelude.{◌≡◌, ℤ, ℕ, suc, List, [], ◌∷◌, ◌++◌, Option, Some, None, Result, Ok, Err, Bool, true, false, ◌&&◌, bytes_eq, option_map, option_and_then}
+use Rattle.std.specs.Prelude.{◌≡◌, ℤ, ℕ, suc, List, [], ◌∷◌, ◌++◌, Option, Some, None, Result, Ok, Err, Bool, true, false, ◌&&◌, bytes_eq, option_map, option_and_then, is_some}
 use Rattle.std.specs.List.{list_any}
 use Rattle.std.specs.Fmt.{decimal}
 use Rattle.serde_json.specs.Data.{Data, Items, no_items, item, Members, no_members, member}
@@ -65,6 +65,10 @@ if_only keys (Some ms) = has_only keys ms
 -- an object that has no other keys than these
 abbrev pub is_object_of : List (List ℕ) → Data → Bool
 is_object_of keys d = if_only keys (as_object d)
+
+-- an object that has this key and no other
+abbrev pub is_object_with : List ℕ → Data → Bool
+is_object_with key d = is_object_of (key ∷ []) d && is_some (get key d)
 
 -- the value of a key of an object at a path; where it isn't there, its path is told, too
 abbrev pub wanted : {A : Type 0} → (Data → Option A) → List ℕ → List ℕ → Data → Result A Refusal

@@ -1,14 +1,16 @@
 -- Which JSON is a script for a program: what each lane calls in each phase, and the turns and attempts that each call may take. A script
 -- that is none is refused, with the first of the rules below that it breaks, in their order.
-use Rattle.std.specs.Prelude.{◌≡◌, ◌⊎◌, ◌<◌, ◌≤◌, ℕ, ℤ, pos, negsuc, List, [], ◌∷◌, ◌++◌, length, map, sum_by, Option, Some, None, Result, Ok, Err, Bool, not, ◌&&◌, ◌==◌, nat_le, int_le, unsigned_abs, if◌then◌else◌, bytes_eq, codes, position, option_and_then, is_some}
+use Rattle.std.specs.Prelude.{◌≡◌, ◌⊎◌, ◌<◌, ◌≤◌, ℕ, ℤ, pos, negsuc, List, [], ◌∷◌, ◌++◌, length, map, sum_by, Option, Some, None, Result, Ok, Err, Bool, not, ◌&&◌, ◌==◌, nat_le, int_le, unsigned_abs, if◌then◌else◌, bytes_eq, codes, position, option_and_then, true, false, option_map, unwrap_or, slice_get, is_some}
 use Rattle.std.specs.List.{list_any}
 use Rattle.std.specs.Str.{IsUtf8}
 use Rattle.serde_json.specs.Data.{Data}
-use Rattle.serde_json.specs.Find.{as_str}
+use Rattle.serde_json.specs.Find.{as_str, as_bool}
 use Rattle.serde_json.specs.Read.{read}
 use Rattle.jmodel.specs.declared.name.MethodName.{MethodName}
 use Rattle.jmodel.specs.declared.refusal.Refusal.{Refusal}
 use Rattle.jmodel.specs.declared.refusal.Refusal.TheVariants.{NotJson, UnknownMethod, NotAtomic, BadArgs, OverLimit}
+use Rattle.jmodel.specs.declared.op.WordType.{WordType}
+use Rattle.jmodel.specs.declared.op.WordType.TheVariants as word
 use Rattle.jmodel.specs.declared.value.Value.{Value}
 use Rattle.jmodel.specs.declared.value.Value.TheVariants.{Int}
 use Rattle.jmodel.specs.Name.{printed}
@@ -16,13 +18,16 @@ use Rattle.jmodel.specs.ClassFile.{ClassFile}
 use Rattle.jmodel.specs.ClassRules.{same_text}
 use Rattle.jmodel.specs.Program.{Method, Program, method_at}
 use Rattle.jmodel.specs.Decoding.{name_of}
+use Rattle.jmodel.specs.Descriptor.{Signature}
+use Rattle.jmodel.specs.DescriptorReading.{signature_of}
+use Rattle.jmodel.specs.WordTypes.{as_word}
 use Rattle.jmodel.specs.Layout.{opening_words}
-use Rattle.jmodel.specs.Schedule.{Known, Phase, takes}
+use Rattle.jmodel.specs.Schedule.{Known, Phase, is_marked, takes, ScriptPhase, Lanes, Bag, lists_in}
 use Rattle.jmodel.specs.Reading.{◌>>=◌}
 use Rattle.script.specs.declared.head.Head.{Head}
 use Rattle.script.specs.declared.head.EngineKind.{EngineKind}
 use Rattle.script.specs.declared.head.EngineKind.TheVariants.{Tl2}
-use Rattle.script.specs.Json.{under, at, bad_shape, must, or_refused, each_from, as_list, as_whole, is_object_of, wanted, may_be}
+use Rattle.script.specs.Json.{under, at, bad_shape, must, or_refused, each_from, as_list, as_whole, is_object_of, is_object_with, wanted, may_be}
 
 -- ---- the shape of a script
 
@@ -51,15 +56,29 @@ list_in path l d = or_refused (bad_shape (at path l)) (as_list d)
 abbrev pub lists_of_lanes : ℤ → List ℕ → List Data → Result (List (List Data)) Refusal
 lists_of_lanes lanes path ls = must (int_le (pos (length ls)) lanes) (bad_shape path) (each_from (list_in path) 0 ls)
 
--- of the phase at a path
-abbrev pub lists_at : ℤ → List ℕ → Data → Result (List (List Data)) Refusal
-lists_at lanes path d = must (is_object_of (codes "lanes" ∷ []) d) (bad_shape path)
-    (wanted as_list path (codes "lanes") d >>= lists_of_lanes lanes (under path (codes "lanes")))
+-- the calls of a phase as data: a list for each of its lanes, or that of a bag
+pub data Listed : Type 0 where
+  InLanes : List (List Data) → Listed
+  InBag : List Data → Listed
 
-abbrev pub lists_of_phase : ℤ → ℕ → Data → Result (List (List Data)) Refusal
+-- the path of the list of calls of a bag
+abbrev pub bag_path : ℕ → List ℕ
+bag_path p = under (at (codes "/phases") p) (codes "bag")
+
+abbrev pub lanes_at : ℤ → List ℕ → Data → Result (List (List Data)) Refusal
+lanes_at lanes path d = wanted as_list path (codes "lanes") d >>= lists_of_lanes lanes (under path (codes "lanes"))
+
+-- of the phase at a path, which has one of two keys and no other
+abbrev pub lists_at : ℤ → List ℕ → Data → Result Listed Refusal
+lists_at lanes path d =
+    if is_object_with (codes "lanes") d then (lanes_at lanes path d >>= λ ls. Ok (InLanes ls))
+    else (if is_object_with (codes "bag") d then (wanted as_list path (codes "bag") d >>= λ cs. Ok (InBag cs))
+    else Err (bad_shape path))
+
+abbrev pub lists_of_phase : ℤ → ℕ → Data → Result Listed Refusal
 lists_of_phase lanes p d = lists_at lanes (at (codes "/phases") p) d
 
--- what a script is, as far as its calls: its head, and the lists of calls, by phase and lane
+-- what a script is, as far as its calls: its head, and the lists of calls, by phase
 abbrev pub head_of : Data → Result Head Refusal
 head_of d = do
   form ← wanted as_form [] (codes "form") d
@@ -70,7 +89,7 @@ head_of d = do
   region ← may_be as_whole (pos 65536) [] (codes "region") d
   Ok (record { engine = engine; lanes = lanes; budget = budget; attempts = attempts; region = region })
 
-abbrev pub lists_of : ℤ → Data → Result (List (List (List Data))) Refusal
+abbrev pub lists_of : ℤ → Data → Result (List Listed) Refusal
 lists_of lanes d = wanted as_list [] (codes "phases") d >>= each_from (lists_of_phase lanes) 0
 
 -- ---- limits: 1 to 16 lanes, at most 10000 phases, and for each call 1 to 1000000 turns and as many attempts; a region has room for
@@ -99,7 +118,7 @@ is_called text k = can_be_named k && bytes_eq (printed k) text
 
 -- the text that names a method which a script may call: a marked one
 abbrev pub call_text : Method → Option (List ℕ)
-call_text k = if is_some k.retries && can_be_named k.name then Some (printed k.name) else None
+call_text k = if is_marked k && can_be_named k.name then Some (printed k.name) else None
 
 -- the number of the method that a text names
 abbrev pub number_named : Program → List ℕ → Option ℕ
@@ -112,24 +131,61 @@ names_method file text = list_any (λ m. is_called text (name_of file m)) file.m
 abbrev pub not_callable : ClassFile → List ℕ → List ℕ → Refusal
 not_callable file path text = if names_method file text then NotAtomic path else UnknownMethod path
 
--- an int, as the methods take them
-abbrev pub as_int : Data → Option Value
-as_int d = option_and_then (λ n. if int_le (negsuc 2147483647) n && int_le n (pos 2147483647) then Some (Int n) else None) (as_whole d)
+-- the least and the greatest number of a type
+abbrev pub least : WordType → ℤ
+least word.Boolean = pos 0
+least word.Byte = negsuc 127
+least word.Char = pos 0
+least word.Short = negsuc 32767
+least word.Int = negsuc 2147483647
 
-abbrev pub int_in : List ℕ → ℕ → Data → Result Value Refusal
-int_in path i d = or_refused (BadArgs (at path i)) (as_int d)
+abbrev pub greatest : WordType → ℤ
+greatest word.Boolean = pos 1
+greatest word.Byte = pos 127
+greatest word.Char = pos 65535
+greatest word.Short = pos 32767
+greatest word.Int = pos 2147483647
 
-abbrev pub ints_of : List ℕ → List Data → Result (List Value) Refusal
-ints_of path args = each_from (int_in path) 0 args
+-- a boolean is passed as 1 or 0
+abbrev pub truth_value : Bool → Value
+truth_value true = Int (pos 1)
+truth_value false = Int (pos 0)
 
--- the call that stands at a path: a method of the program, with as many ints as it takes
+abbrev pub as_number_of : WordType → Data → Option Value
+as_number_of t d = option_and_then (λ n. if int_le (least t) n && int_le n (greatest t) then Some (Int n) else None) (as_whole d)
+
+-- a value of a type: a boolean is true or false, and each other a whole number of its type
+abbrev pub as_value : WordType → Data → Option Value
+as_value word.Boolean d = option_map truth_value (as_bool d)
+as_value word.Byte d = as_number_of word.Byte d
+as_value word.Char d = as_number_of word.Char d
+as_value word.Short d = as_number_of word.Short d
+as_value word.Int d = as_number_of word.Int d
+
+-- the types of the parameters of a method, by its descriptor
+abbrev pub types_in : Option Signature → List WordType
+types_in None = []
+types_in (Some s) = map (λ t. unwrap_or (as_word t) word.Int) s.parameters
+
+abbrev pub types_of : Option Method → List WordType
+types_of None = []
+types_of (Some k) = types_in (signature_of k.name.descriptor)
+
+-- the argument of a number, for a method whose parameters have these types
+abbrev pub value_in : List WordType → List ℕ → ℕ → Data → Result Value Refusal
+value_in types path i d = or_refused (BadArgs (at path i)) (as_value (unwrap_or (slice_get types i) word.Int) d)
+
+abbrev pub values_of : List WordType → List ℕ → List Data → Result (List Value) Refusal
+values_of types path args = each_from (value_in types path) 0 args
+
+-- the call that stands at a path: a method of the program, with as many values as it takes, of their types
 abbrev pub known_at : ClassFile → Program → List ℕ → Data → Result Known Refusal
 known_at file P path d = must (is_object_of (codes "call" ∷ codes "args" ∷ []) d) (bad_shape path) (do
   text ← wanted as_str path (codes "call") d
   args ← wanted as_list path (codes "args") d
   m ← or_refused (not_callable file (under path (codes "call")) text) (number_named P text)
   must (takes (method_at P m) (length args)) (BadArgs (under path (codes "args"))) (do
-    values ← ints_of (under path (codes "args")) args
+    values ← values_of (types_of (method_at P m)) (under path (codes "args")) args
     Ok (record { method = m; args = values })))
 
 -- a call of the lane at a path
@@ -140,32 +196,40 @@ call_in file P path i d = known_at file P (at path i) d
 abbrev pub lane_in : ClassFile → Program → List ℕ → ℕ → List Data → Result (List Known) Refusal
 lane_in file P path l calls = each_from (call_in file P (at path l)) 0 calls
 
-abbrev pub phase_of : ClassFile → Program → ℕ → List (List Data) → Result Phase Refusal
-phase_of file P p lanes = each_from (lane_in file P (lanes_path p)) 0 lanes
+abbrev pub lanes_of : ClassFile → Program → ℕ → List (List Data) → Result Phase Refusal
+lanes_of file P p lists = each_from (lane_in file P (lanes_path p)) 0 lists
+
+abbrev pub bag_of : ClassFile → Program → ℕ → List Data → Result (List Known) Refusal
+bag_of file P p calls = each_from (call_in file P (bag_path p)) 0 calls
+
+-- a phase of a script of so many lanes
+abbrev pub phase_of : ClassFile → Program → ℕ → ℕ → Listed → Result ScriptPhase Refusal
+phase_of file P lanes p (InLanes lists) = lanes_of file P p lists >>= λ ls. Ok (Lanes ls)
+phase_of file P lanes p (InBag calls) = bag_of file P p calls >>= λ cs. Ok (Bag lanes cs)
 
 -- ---- scripts
 
--- the turns and the attempts that each call may take, and what each lane calls in each phase
+-- the turns and the attempts that each call may take, and what each phase calls
 pub record Script : Type 0 where
   pub budget : ℕ
   pub attempts : ℕ
-  pub phases : List Phase
+  pub phases : List ScriptPhase
 
 -- how many calls a phase has
-abbrev pub calls_of : Phase → ℕ
-calls_of phase = sum_by length phase
+abbrev pub calls_of : ScriptPhase → ℕ
+calls_of phase = sum_by length (lists_in phase)
 
 -- with at most 100000 calls in all
-abbrev pub script_with : Head → List Phase → Result Script Refusal
+abbrev pub script_with : Head → List ScriptPhase → Result Script Refusal
 script_with h phases =
     must (nat_le (sum_by calls_of phases) 100000) (OverLimit (codes "calls") (pos (sum_by calls_of phases)))
     (Ok (record { budget = unsigned_abs h.budget; attempts = unsigned_abs h.attempts; phases = phases }))
 
 -- the script of a head and of the lists of its calls
-abbrev pub script_of : ClassFile → Program → Head → List (List (List Data)) → Result Script Refusal
+abbrev pub script_of : ClassFile → Program → Head → List Listed → Result Script Refusal
 script_of file P head lists = do
   h ← is_within file head (length lists)
-  phases ← each_from (phase_of file P) 0 lists
+  phases ← each_from (phase_of file P (unsigned_abs head.lanes)) 0 lists
   script_with h phases
 
 -- the script that data are for a program and its class file

@@ -6,15 +6,18 @@ ghost use Rattle.jmodel.specs.Reading.{Gives};
 ghost use Rattle.jmodel.specs.Program.{method_at};
 ghost use Rattle.jmodel.specs.Schedule.{takes as takes_them};
 ghost use Rattle.script.specs.Json.{or_refused, each_from, IsRefused};
-ghost use Rattle.script.specs.Script.{can_be_named as can_be_named_by, call_text as call_text_of, number_named, names_method as names_method_of, not_callable as not_callable_at, as_int, ints_of as ints_in, known_at, int_in, call_in, lane_in, phase_of as phase_in};
+ghost use Rattle.script.specs.Script.{can_be_named as can_be_named_by, call_text as call_text_of, number_named, names_method as names_method_of, not_callable as not_callable_at, known_at, call_in, lane_in, lanes_of as lanes_in, bag_of as bag_in, phase_of as phase_in, values_of as values_in, types_of as types_of_method};
 ghost use Rattle.script.specs.Seen.{values, lists as seen_lists};
 
+use crate::arguments::{parameter_types, values_of};
 use crate::json::{list_at, object_at, text_at};
-use crate::lists::{PhaseLists, lanes_path};
+use crate::lists::{PhaseLists, bag_path, lanes_path};
+use crate::phases::{Calls, PhaseCalls};
 use crate::refusals::{at, under};
 use const_pool::ClassFile;
 use hierarchy::symbols::name_of;
 use hierarchy::{Method, Program};
+use jmodel::op::WordType;
 use jmodel::{Bytes, Halt, MethodName, Refusal, Value};
 use std::alloc::{AllocError, Global};
 use std::marker::Model;
@@ -49,21 +52,6 @@ impl Model for LaneCalls {
     ghost view = { λ l. l.calls.items };
 }
 
-/// What the lanes call in a phase, from the first. Lanes that aren't there call nothing.
-#[derive(Debug, Drop)]
-pub struct PhaseCalls {
-    pub lanes: Vec<LaneCalls>,
-}
-
-impl Model for PhaseCalls {
-    ghost use Rattle.std.specs.Prelude.{List};
-    ghost use Rattle.jmodel.specs.Schedule.{Known};
-
-    ghost Value = { List (List Known) };
-
-    ghost view = { λ p. p.lanes.items };
-}
-
 /// The methods that a script may call, and those that it may not: a program and its class, and the texts that name the marked methods
 /// of the program, in order of their numbers.
 #[derive(Clone, Copy)]
@@ -86,7 +74,7 @@ fn can_be_named(name: &MethodName) -> bool
 fn call_text(alloc: Global, method: &Method) -> Result<Option<Bytes>, AllocError>
     ensures { IfOk result (λ text. text ≡ call_text_of method.now) }
 {
-    if method.retries().is_some() && can_be_named(method.name()) {
+    if method.is_marked() && can_be_named(method.name()) {
         Ok(Some(method.name().printed(alloc)?))
     } else {
         Ok(None)
@@ -144,44 +132,6 @@ fn not_callable(alloc: Global, class: &ClassFile, path: Bytes, text: &[u8]) -> H
     }
 }
 
-/// The int that a value is.
-fn int_of(value: &serde_json::Value) -> Option<Value>
-    ensures { result ≡ as_int (view value.now) }
-{
-    let number = value.as_i64()?;
-    if (-2_147_483_648..=2_147_483_647).contains(&number) {
-        Some(Value::Int(number as i32))
-    } else {
-        None
-    }
-}
-
-/// The argument at a path, of a method that takes ints.
-fn argument_at(
-    alloc: Global,
-    path: &[u8],
-    index: usize,
-    value: &serde_json::Value,
-) -> Result<Value, Halt>
-    ensures { Gives (λ v. v) result (int_in path.now index (view value.now)) }
-{
-    match int_of(value) {
-        Some(int) => Ok(int),
-        None => Err(Halt::Refused(Refusal::BadArgs(at(alloc, path, index)?))),
-    }
-}
-
-/// The ints that the items of a list at a path are.
-fn ints_of(alloc: Global, path: &[u8], values: &[serde_json::Value]) -> Result<Vec<Value>, Halt>
-    ensures { Gives (λ v. v.items) result (ints_in path.now (map view values.now)) }
-{
-    let mut ints = Vec::new(alloc);
-    for (index, value) in values.iter().enumerate() {
-        ints.push(argument_at(alloc, path, index, value)?)?;
-    }
-    Ok(ints)
-}
-
 impl<'a> Methods<'a> {
     /// The number of the method that the text at a path names.
     fn number_of(&self, alloc: Global, path: Bytes, text: &[u8]) -> Result<usize, Halt>
@@ -204,6 +154,30 @@ impl<'a> Methods<'a> {
         }
     }
 
+    /// The types of the parameters of the method of a number.
+    fn types_of(&self, alloc: Global, number: usize) -> Result<Vec<WordType>, AllocError>
+        ensures { IfOk result (λ v. v.items ≡ types_of_method (method_at self.now.program.now number)) }
+    {
+        match self.program.method(number) {
+            Some(method) => parameter_types(alloc, method.name().descriptor.as_slice()),
+            None => Ok(Vec::new(alloc)),
+        }
+    }
+
+    /// The values that the items of a list at a path are, for the method of a number.
+    fn values_of(
+        &self,
+        alloc: Global,
+        number: usize,
+        path: &[u8],
+        values: &[serde_json::Value],
+    ) -> Result<Vec<Value>, Halt>
+        ensures { Gives (λ v. v.items) result (values_in (types_of_method (method_at self.now.program.now number)) path.now (map view values.now)) }
+    {
+        let types = self.types_of(alloc, number)?;
+        values_of(alloc, types.as_slice(), path, values)
+    }
+
     /// The call that the value at a path is.
     fn call_at(&self, alloc: Global, path: &[u8], value: &serde_json::Value) -> Result<Known, Halt>
         requires { self.now.names.now ≡ map call_text_of self.now.program.now.methods }
@@ -218,7 +192,7 @@ impl<'a> Methods<'a> {
         if !self.takes(method, values.len()) {
             return Err(Halt::Refused(Refusal::BadArgs(place)));
         }
-        let args = ints_of(alloc, place.as_slice(), values)?;
+        let args = self.values_of(alloc, method, place.as_slice(), values)?;
         Ok(Known { method, args })
     }
 
@@ -275,43 +249,81 @@ impl<'a> Methods<'a> {
         alloc: Global,
         path: &[u8],
         lists: &[&[serde_json::Value]],
-    ) -> Result<PhaseCalls, Halt>
+    ) -> Result<Vec<LaneCalls>, Halt>
         requires { self.now.names.now ≡ map call_text_of self.now.program.now.methods }
-        ensures { Gives (λ p. p) result (each_from (lane_in self.now.class.now self.now.program.now path.now) 0 (map values lists.now)) }
+        ensures { Gives (λ v. v.items) result (each_from (lane_in self.now.class.now self.now.program.now path.now) 0 (map values lists.now)) }
     {
         let mut lanes = Vec::new(alloc);
         for (lane, values) in lists.iter().enumerate() {
             lanes.push(self.lane_of(alloc, path, lane, values)?)?;
         }
-        Ok(PhaseCalls { lanes })
+        Ok(lanes)
     }
 
     /// What the lanes of a phase call.
+    fn lanes_of(
+        &self,
+        alloc: Global,
+        phase: usize,
+        lists: &[&[serde_json::Value]],
+    ) -> Result<Vec<LaneCalls>, Halt>
+        requires { self.now.names.now ≡ map call_text_of self.now.program.now.methods }
+        ensures { Gives (λ v. v.items) result (lanes_in self.now.class.now self.now.program.now phase (map values lists.now)) }
+    {
+        let path = lanes_path(alloc, phase)?;
+        self.lanes_at(alloc, path.as_slice(), lists)
+    }
+
+    /// The calls of a phase that is a bag.
+    fn bag_of(
+        &self,
+        alloc: Global,
+        phase: usize,
+        calls: &[serde_json::Value],
+    ) -> Result<LaneCalls, Halt>
+        requires { self.now.names.now ≡ map call_text_of self.now.program.now.methods }
+        ensures { Gives (λ l. l) result (bag_in self.now.class.now self.now.program.now phase (map view calls.now)) }
+    {
+        let path = bag_path(alloc, phase)?;
+        self.lane_at(alloc, path.as_slice(), calls)
+    }
+
+    /// What a phase calls, of a script of so many lanes.
     fn phase_at(
         &self,
         alloc: Global,
+        lanes: u64,
         phase: usize,
         lists: &PhaseLists<'_>,
     ) -> Result<PhaseCalls, Halt>
         requires { self.now.names.now ≡ map call_text_of self.now.program.now.methods }
-        ensures { Gives (λ p. p) result (phase_in self.now.class.now self.now.program.now phase (seen_lists lists.now)) }
+        ensures { Gives (λ p. p) result (phase_in self.now.class.now self.now.program.now lanes phase (seen_lists lists.now)) }
     {
-        let path = lanes_path(alloc, phase)?;
-        self.lanes_at(alloc, path.as_slice(), lists.lanes.as_slice())
+        let calls = match lists {
+            PhaseLists::Lanes(lists) => {
+                Calls::Lanes(self.lanes_of(alloc, phase, lists.lanes.as_slice())?)
+            }
+            PhaseLists::Bag(calls) => Calls::Bag {
+                lanes,
+                calls: self.bag_of(alloc, phase, calls)?,
+            },
+        };
+        Ok(PhaseCalls { calls })
     }
 
-    /// What the phases of a script call.
+    /// What the phases of a script of so many lanes call.
     pub fn phases_of(
         &self,
         alloc: Global,
+        lanes: u64,
         lists: &[PhaseLists<'_>],
     ) -> Result<Vec<PhaseCalls>, Halt>
         requires { self.now.names.now ≡ map call_text_of self.now.program.now.methods }
-        ensures { Gives (λ v. v.items) result (each_from (phase_in self.now.class.now self.now.program.now) 0 (map seen_lists lists.now)) }
+        ensures { Gives (λ v. v.items) result (each_from (phase_in self.now.class.now self.now.program.now lanes) 0 (map seen_lists lists.now)) }
     {
         let mut phases = Vec::new(alloc);
         for (index, lists) in lists.iter().enumerate() {
-            phases.push(self.phase_at(alloc, index, lists)?)?;
+            phases.push(self.phase_at(alloc, lanes, index, lists)?)?;
         }
         Ok(phases)
     }

@@ -4,7 +4,7 @@ ghost use Rattle.std.specs.List.{list_all, list_any};
 ghost use Rattle.serde_json.specs.View.{view};
 ghost use Rattle.serde_json.specs.Find.{as_str};
 ghost use Rattle.jmodel.specs.Reading.{Gives};
-ghost use Rattle.script.specs.Json.{Tests, under, bad_shape as bad_shape_at, or_refused, as_list, as_whole, is_object_of as is_object_with, wanted, may_be};
+ghost use Rattle.script.specs.Json.{Tests, under, bad_shape as bad_shape_at, or_refused, as_list, as_whole, is_object_of as is_object_with_keys, is_object_with as is_object_with_one, wanted, may_be};
 ghost use Rattle.script.specs.Seen.{values};
 
 use crate::refusals::{bad_member, bad_shape};
@@ -31,7 +31,7 @@ fn has_only(members: &Map<String, Value>, keys: &[&str]) -> bool
 
 /// Whether a value is an object that has no other keys than these.
 pub fn is_object_of(value: &Value, keys: &[&str]) -> bool
-    ensures { result ≡ is_object_with (map (λ k. k.now) keys.now) (view value.now) }
+    ensures { result ≡ is_object_with_keys (map (λ k. k.now) keys.now) (view value.now) }
 {
     match value.as_object() {
         Some(members) => has_only(members, keys),
@@ -39,9 +39,16 @@ pub fn is_object_of(value: &Value, keys: &[&str]) -> bool
     }
 }
 
+/// Whether a value is an object that has this key and no other.
+pub fn is_object_with(value: &Value, key: &str) -> bool
+    ensures { result ≡ is_object_with_one key.now (view value.now) }
+{
+    is_object_of(value, &[key]) && value.get(key).is_some()
+}
+
 /// The value at a path is to be an object that has no other keys than these.
 pub fn object_at(alloc: Global, path: &[u8], value: &Value, keys: &[&str]) -> Result<(), Halt>
-    ensures { Tests result (is_object_with (map (λ k. k.now) keys.now) (view value.now)) (bad_shape_at path.now) }
+    ensures { Tests result (is_object_with_keys (map (λ k. k.now) keys.now) (view value.now)) (bad_shape_at path.now) }
 {
     if is_object_of(value, keys) {
         Ok(())

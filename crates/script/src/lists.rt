@@ -2,12 +2,12 @@
 ghost use Rattle.std.specs.Prelude.{◌≡◌, ◌<◌, ◌^◌, List, length, map, codes, IfOk};
 ghost use Rattle.serde_json.specs.View.{view};
 ghost use Rattle.jmodel.specs.Reading.{Gives};
-ghost use Rattle.script.specs.Script.{lanes_path as lanes_path_of, list_in, lists_of_lanes as lists_in_lanes, lists_at as lists_in_phase_at, lists_of_phase as lists_in_phase, lists_of as lists_in_script};
+ghost use Rattle.script.specs.Script.{lanes_path as lanes_path_of, bag_path as bag_path_of, lanes_at as lanes_in_phase_at, list_in, lists_of_lanes as lists_in_lanes, lists_at as lists_in_phase_at, lists_of_phase as lists_in_phase, lists_of as lists_in_script};
 ghost use Rattle.script.specs.Json.{each_from};
-ghost use Rattle.script.specs.Seen.{values, lists};
+ghost use Rattle.script.specs.Seen.{values, lane_lists, lists};
 
 use crate::head::Head;
-use crate::json::{list_at, list_of, object_at};
+use crate::json::{is_object_with, list_at, list_of};
 use crate::refusals::{at, bad_shape, under};
 use jmodel::{Bytes, Halt};
 use serde_json::Value;
@@ -15,8 +15,15 @@ use std::alloc::{AllocError, Global};
 
 /// The lists of calls of a phase, by lane.
 #[derive(Drop)]
-pub struct PhaseLists<'a> {
+pub struct LaneLists<'a> {
     pub lanes: Vec<&'a [Value]>,
+}
+
+/// The calls of a phase: a list for each lane, or that of a bag.
+#[derive(Drop)]
+pub enum PhaseLists<'a> {
+    Lanes(LaneLists<'a>),
+    Bag(&'a [Value]),
 }
 
 /// The path of the lists of calls of a phase.
@@ -25,6 +32,14 @@ pub fn lanes_path(alloc: Global, phase: usize) -> Result<Bytes, AllocError>
 {
     let path = at(alloc, b"/phases", phase)?;
     under(alloc, path.as_slice(), "lanes")
+}
+
+/// The path of the list of calls of a bag.
+pub fn bag_path(alloc: Global, phase: usize) -> Result<Bytes, AllocError>
+    ensures { IfOk result (λ path. path ≡ bag_path_of phase) }
+{
+    let path = at(alloc, b"/phases", phase)?;
+    under(alloc, path.as_slice(), "bag")
 }
 
 /// The list of calls that the value at a path is.
@@ -43,14 +58,14 @@ fn calls_at<'a>(
 }
 
 /// The lists of calls that the items of a list at a path are.
-fn lists_in<'a>(alloc: Global, path: &[u8], values: &'a [Value]) -> Result<PhaseLists<'a>, Halt>
-    ensures { Gives lists result (each_from (list_in path.now) 0 (map view values.now)) }
+fn lists_in<'a>(alloc: Global, path: &[u8], values: &'a [Value]) -> Result<LaneLists<'a>, Halt>
+    ensures { Gives lane_lists result (each_from (list_in path.now) 0 (map view values.now)) }
 {
     let mut lanes = Vec::new(alloc);
     for (lane, value) in values.iter().enumerate() {
         lanes.push(calls_at(alloc, path, lane, value)?)?;
     }
-    Ok(PhaseLists { lanes })
+    Ok(LaneLists { lanes })
 }
 
 /// The lists of calls that the items of a list at a path are, at most as many as a script has lanes.
@@ -59,8 +74,8 @@ fn lists_of_lanes<'a>(
     head: Head,
     path: &[u8],
     values: &'a [Value],
-) -> Result<PhaseLists<'a>, Halt>
-    ensures { Gives lists result (lists_in_lanes head.lanes path.now (map view values.now)) }
+) -> Result<LaneLists<'a>, Halt>
+    ensures { Gives lane_lists result (lists_in_lanes head.lanes path.now (map view values.now)) }
 {
     if values.len() as i64 > head.lanes {
         return Err(bad_shape(alloc, path));
@@ -68,7 +83,21 @@ fn lists_of_lanes<'a>(
     lists_in(alloc, path, values)
 }
 
-/// The lists of calls of the phase at a path, at most as many as the script has lanes.
+/// The lists of calls of the lanes of the phase at a path, at most as many as the script has lanes.
+fn lanes_at<'a>(
+    alloc: Global,
+    head: Head,
+    path: &[u8],
+    phase: &'a Value,
+) -> Result<LaneLists<'a>, Halt>
+    ensures { Gives lane_lists result (lanes_in_phase_at head.lanes path.now (view phase.now)) }
+{
+    let values = list_at(alloc, path, "lanes", phase)?;
+    let place = under(alloc, path, "lanes")?;
+    lists_of_lanes(alloc, head, place.as_slice(), values)
+}
+
+/// The lists of calls of the phase at a path, which has exactly the key `lanes` or exactly the key `bag`.
 fn lists_at<'a>(
     alloc: Global,
     head: Head,
@@ -77,10 +106,13 @@ fn lists_at<'a>(
 ) -> Result<PhaseLists<'a>, Halt>
     ensures { Gives lists result (lists_in_phase_at head.lanes path.now (view phase.now)) }
 {
-    object_at(alloc, path, phase, &["lanes"])?;
-    let values = list_at(alloc, path, "lanes", phase)?;
-    let place = under(alloc, path, "lanes")?;
-    lists_of_lanes(alloc, head, place.as_slice(), values)
+    if is_object_with(phase, "lanes") {
+        Ok(PhaseLists::Lanes(lanes_at(alloc, head, path, phase)?))
+    } else if is_object_with(phase, "bag") {
+        Ok(PhaseLists::Bag(list_at(alloc, path, "bag", phase)?))
+    } else {
+        Err(bad_shape(alloc, path))
+    }
 }
 
 /// The lists of calls of the phase of a number.

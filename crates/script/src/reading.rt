@@ -1,5 +1,5 @@
 //! Scripts.
-ghost use Rattle.std.specs.Prelude.{◌≡◌, Err, IfOk, IfSome, map, pos, sum_by};
+ghost use Rattle.std.specs.Prelude.{◌≡◌, Err, IfOk, IfSome, length, map, pos, sum_by};
 ghost use Rattle.serde_json.specs.View.{view};
 ghost use Rattle.jmodel.specs.declared.refusal.Halt.TheVariants as halts;
 ghost use Rattle.jmodel.specs.declared.refusal.Refusal.{Refusal as Why};
@@ -7,10 +7,11 @@ ghost use Rattle.jmodel.specs.Reading.{Gives};
 ghost use Rattle.script.specs.Script.{Script as Form, calls_of as calls_in, script_in, script_of as script_made_of, script_with as script_made_with, IsScript, IsFault};
 ghost use Rattle.script.specs.Seen.{lists as seen_lists};
 
-use crate::calls::{Methods, PhaseCalls, call_texts};
+use crate::calls::{LaneCalls, Methods, call_texts};
 use crate::head::{Head, head_of, limits_of};
 use crate::json::object_at;
 use crate::lists::{PhaseLists, lists_of};
+use crate::phases::{Calls, PhaseCalls};
 use crate::refusals::over_limit;
 use const_pool::ClassFile;
 use hierarchy::Program;
@@ -30,7 +31,7 @@ const KEYS: [&str; 7] = [
     "form", "engine", "lanes", "budget", "attempts", "region", "phases",
 ];
 
-/// A script: the turns and the attempts that each call may take, and what each lane calls in each phase.
+/// A script: the turns and the attempts that each call may take, and what each phase calls.
 #[derive(Debug, Drop)]
 pub struct Script {
     pub budget: u64,
@@ -46,16 +47,26 @@ impl Model for Script {
     ghost view = { λ s. record { budget = s.budget; attempts = s.attempts; phases = s.phases.items } };
 }
 
-/// How many calls a phase has, or None where a number doesn't hold as many.
-fn calls_in_phase(phase: &PhaseCalls) -> Option<i64>
-    ensures { IfSome result (λ n. n ≡ pos (calls_in phase.now)) }
+/// How many calls lanes have, or None where a number doesn't hold as many.
+fn calls_in_lanes(lanes: &[LaneCalls]) -> Option<i64>
+    ensures { IfSome result (λ n. n ≡ pos (sum_by length lanes.now)) }
 {
     let mut count = 0;
-    for lane in &phase.lanes {
+    for lane in lanes {
         let calls = i64::try_from(lane.calls.len()).ok()?;
         count = i64::checked_add(count, calls)?;
     }
     Some(count)
+}
+
+/// How many calls a phase has, or None where a number doesn't hold as many.
+fn calls_in_phase(phase: &PhaseCalls) -> Option<i64>
+    ensures { IfSome result (λ n. n ≡ pos (calls_in phase.now)) }
+{
+    match &phase.calls {
+        Calls::Lanes(lanes) => calls_in_lanes(lanes),
+        Calls::Bag { lanes: _, calls } => i64::try_from(calls.calls.len()).ok(),
+    }
 }
 
 /// How many calls there are in all, or None where a number doesn't hold as many.
@@ -103,7 +114,7 @@ fn script_of(
         program,
         names: names.as_slice(),
     };
-    let phases = methods.phases_of(alloc, lists)?;
+    let phases = methods.phases_of(alloc, head.lanes.unsigned_abs(), lists)?;
     script_with(alloc, head, phases)
 }
 

@@ -8,7 +8,7 @@ use std::alloc::{AllocError, Global};
 use std::test::*;
 
 // The texts of the pool: the class A under Object, and its methods f, which takes an int and gives one, g and h, which take and give
-// nothing. f and g are marked.
+// nothing. f and g are marked. In the program stands a third marked method, k, which takes a value of each narrower type.
 const TEXTS: [&str; 7] = ["A", "java/lang/Object", "f", "(I)I", "g", "()V", "h"];
 
 fn pool(alloc: Global) -> Result<Pool, AllocError> {
@@ -81,18 +81,21 @@ fn method(
 fn program(alloc: Global) -> Result<Program, AllocError> {
     let f = method(alloc, "f", "(I)I", vec![in alloc; VType::Int]?)?;
     let g = method(alloc, "g", "()V", Vec::new(alloc))?;
-    Ok(Program::new(Vec::new(alloc), vec![in alloc; f, g]?))
+    let four = vec![in alloc; VType::Int, VType::Int, VType::Int, VType::Int]?;
+    let k = method(alloc, "k", "(ZBCS)I", four)?;
+    Ok(Program::new(Vec::new(alloc), vec![in alloc; f, g, k]?))
 }
 
 fn read(alloc: Global, text: &[u8]) -> Result<Script, Halt> {
     read_script(alloc, &class(alloc)?, &program(alloc)?, text)
 }
 
-// Two phases: of two lanes, with the greatest and the least int, and of none.
-const TWO_PHASES: &[u8] = b"{ \"phases\": [ {\"lanes\":[\
+// Three phases: of two lanes, with the greatest and the least int, of none, and a bag.
+const THREE_PHASES: &[u8] = b"{ \"phases\": [ {\"lanes\":[\
     [{\"args\":[2147483647],\"call\":\"A.f(I)I\"},{\"call\":\"A.f(I)I\",\"args\":[-2147483648]}],\
     [{\"call\":\"A.g()V\",\"args\":[]}]]},\
-    {\"lanes\":[]} ],\
+    {\"lanes\":[]},\
+    {\"bag\":[{\"call\":\"A.g()V\",\"args\":[]},{\"call\":\"A.f(I)I\",\"args\":[5]}]} ],\
     \"region\":2,\"attempts\":7,\"budget\":1000000,\"lanes\":2,\"engine\":\"tl2\",\"form\":1 }\n";
 
 fn is_call(call: &Known, method: usize, args: &[i32]) -> bool {
@@ -105,7 +108,10 @@ fn is_call(call: &Known, method: usize, args: &[i32]) -> bool {
 }
 
 fn is_first_phase(phase: &PhaseCalls) -> bool {
-    match phase.lanes.as_slice() {
+    let Calls::Lanes(lanes) = &phase.calls else {
+        return false;
+    };
+    match lanes.as_slice() {
         [first, second] => match (first.calls.as_slice(), second.calls.as_slice()) {
             ([greatest, least], [none]) => {
                 is_call(greatest, 0, &[i32::MAX])
@@ -118,13 +124,32 @@ fn is_first_phase(phase: &PhaseCalls) -> bool {
     }
 }
 
+fn has_no_lanes(phase: &PhaseCalls) -> bool {
+    match &phase.calls {
+        Calls::Lanes(lanes) => lanes.is_empty(),
+        Calls::Bag { .. } => false,
+    }
+}
+
+fn is_bag(phase: &PhaseCalls) -> bool {
+    let Calls::Bag { lanes, calls } = &phase.calls else {
+        return false;
+    };
+    match calls.calls.as_slice() {
+        [first, second] => *lanes == 2 && is_call(first, 1, &[]) && is_call(second, 0, &[5]),
+        _ => false,
+    }
+}
+
 #[test]
 fn each_call_has_its_phase_and_lane(rt: HostRuntime) -> Result<(), Fail> {
-    let script = read(rt.alloc(), TWO_PHASES)?;
+    let script = read(rt.alloc(), THREE_PHASES)?;
     assert_eq!(rt; script.budget, 1_000_000);
     assert_eq!(rt; script.attempts, 7);
     match script.phases.as_slice() {
-        [first, second] => assert!(rt; is_first_phase(first) && second.lanes.is_empty()),
+        [first, second, third] => {
+            assert!(rt; is_first_phase(first) && has_no_lanes(second) && is_bag(third));
+        }
         _ => assert!(rt; false),
     }
     Ok(())
@@ -162,7 +187,7 @@ fn is_refused(alloc: Global, text: &[u8], number: u8, place: &str, count: i64) -
 
 #[test]
 fn refuses_the_shape(rt: HostRuntime) -> Result<(), Fail> {
-    let cases: [(&[u8], u8, &str); 14] = [
+    let cases: [(&[u8], u8, &str); 16] = [
         (b"", 25, ""),
         (b"{", 25, ""),
         (b"[]", 26, "/"),
@@ -178,14 +203,20 @@ fn refuses_the_shape(rt: HostRuntime) -> Result<(), Fail> {
         (b"{\"form\":1,\"lanes\":1,\"budget\":1.0}", 26, "/budget"),
         (b"{\"form\":1,\"lanes\":1}", 26, "/phases"),
         (
-            b"{\"form\":1,\"lanes\":1,\"phases\":[{\"lanes\":[]},{\"bag\":[]}]}",
+            b"{\"form\":1,\"lanes\":1,\"phases\":[{\"bag\":[]},{\"bag\":[],\"lanes\":[]}]}",
             26,
             "/phases/1",
         ),
+        (b"{\"form\":1,\"lanes\":1,\"phases\":[{}]}", 26, "/phases/0"),
         (
-            b"{\"form\":1,\"lanes\":1,\"phases\":[{}]}",
+            b"{\"form\":1,\"lanes\":1,\"phases\":[{\"bag\":{}}]}",
             26,
-            "/phases/0/lanes",
+            "/phases/0/bag",
+        ),
+        (
+            b"{\"form\":1,\"lanes\":1,\"phases\":[{\"bag\":[5]}]}",
+            26,
+            "/phases/0/bag/0",
         ),
         (
             b"{\"form\":1,\"lanes\":0,\"phases\":[{\"lanes\":[[]]}]}",
@@ -333,5 +364,54 @@ fn at_most_100_000_calls(rt: HostRuntime) -> Result<(), Fail> {
     let one_more = b",{\"lanes\":[[],[{\"call\":\"A.g()V\",\"args\":[]}]]}]}";
     let more = repeated(alloc, BEGIN, phase.as_slice(), 100, one_more)?;
     assert!(rt; is_refused(alloc, more.as_slice(), 30, "calls", 100_001));
+    Ok(())
+}
+
+fn is_narrow_call(script: &Script, args: &[i32]) -> bool {
+    match script.phases.as_slice() {
+        [phase] => match phase.lanes.as_slice() {
+            [lane] => match lane.calls.as_slice() {
+                [call] => is_call(call, 2, args),
+                _ => false,
+            },
+            _ => false,
+        },
+        _ => false,
+    }
+}
+
+#[test]
+fn arguments_at_the_limits_of_their_types(rt: HostRuntime) -> Result<(), Fail> {
+    let greatest =
+        b"{\"form\":1,\"lanes\":1,\"phases\":[{\"lanes\":[[{\"call\":\"A.k(ZBCS)I\",\"args\":[true,127,65535,32767]}]]}]}";
+    assert!(rt; is_narrow_call(&read(rt.alloc(), greatest)?, &[1, 127, 65535, 32767]));
+    let least =
+        b"{\"form\":1,\"lanes\":1,\"phases\":[{\"lanes\":[[{\"call\":\"A.k(ZBCS)I\",\"args\":[false,-128,0,-32768]}]]}]}";
+    assert!(rt; is_narrow_call(&read(rt.alloc(), least)?, &[0, -128, 0, -32768]));
+    Ok(())
+}
+
+#[test]
+fn arguments_past_the_limits_of_their_types(rt: HostRuntime) -> Result<(), Fail> {
+    let cases: [(&str, &str); 9] = [
+        ("[1,0,0,0]", "/phases/0/lanes/0/0/args/0"),
+        ("[0,0,0,0]", "/phases/0/lanes/0/0/args/0"),
+        ("[true,true,0,0]", "/phases/0/lanes/0/0/args/1"),
+        ("[true,128,0,0]", "/phases/0/lanes/0/0/args/1"),
+        ("[true,-129,0,0]", "/phases/0/lanes/0/0/args/1"),
+        ("[true,0,65536,0]", "/phases/0/lanes/0/0/args/2"),
+        ("[true,0,-1,0]", "/phases/0/lanes/0/0/args/2"),
+        ("[true,0,0,32768]", "/phases/0/lanes/0/0/args/3"),
+        ("[true,0,0,-32769]", "/phases/0/lanes/0/0/args/3"),
+    ];
+    for (args, place) in &cases {
+        let mut text = Vec::from_slice(
+            rt.alloc(),
+            b"{\"form\":1,\"lanes\":1,\"phases\":[{\"lanes\":[[{\"call\":\"A.k(ZBCS)I\",\"args\":",
+        )?;
+        text.extend_from_slice(args.as_bytes())?;
+        text.extend_from_slice(b"}]]}]}")?;
+        assert!(rt; is_refused(rt.alloc(), text.as_slice(), 29, place, 0));
+    }
     Ok(())
 }

@@ -24,21 +24,19 @@ use Rattle.std.proofs.Common.{
   ap,
   subst,
   arith,
-  lit<,
-  inl,
-  inr,
 }
-use Rattle.std.specs.Prelude.{slice_get, pos, is_some}
+use Rattle.std.specs.Prelude.{ℤ, pos, negsuc, ◌≤ℤ◌, slice_get, is_some, IfSome}
+use Rattle.std.proofs.lemmas.Int.{ints}
 use Rattle.std.specs.List.{AllByRecursion}
 use Rattle.jmodel.specs.declared.value.Answer.{Answer}
 use Rattle.jmodel.specs.declared.value.Answer.TheVariants.{Returned, Threw, Budget, Depth, Heap, Spent, NoMemory}
 use Rattle.jmodel.specs.declared.value.Stamp.{Stamp}
 use Rattle.jmodel.specs.declared.value.Value.{Value}
 use Rattle.jmodel.specs.Program.{Method, Program}
-use Rattle.jmodel.specs.Attempt.{Log, Ended, Stuck, run_start, Comes}
+use Rattle.jmodel.specs.Attempt.{Log, Ended, Stuck, run_start, Comes, count_of}
 use Rattle.jmodel.specs.History.{Call, Entry}
 use Rattle.jmodel.specs.Engine.{made}
-use Rattle.jmodel.specs.LinkedLaw.{IsPlainlyMarked}
+use Rattle.jmodel.specs.LinkedLaw.{MayAttempt}
 use Rattle.jmodel.specs.Schedule.{Known, takes}
 use Rattle.jmodel.proofs.Simulates.{simulation}
 use Rattle.jmodel.proofs.Typed.{soundness}
@@ -64,22 +62,29 @@ found_in : (o : Option Method) (n : ℕ) → takes o n ≡ true → (k : Method)
 found_in None n h = cc
 found_in (Some k) n h = let parts = two_true (is_some k.retries) (nat_eq n k.params) h in let same = parts.1 in (k, refl, grind (arith, nat_tests), parts.0)
 
--- a plain mark that is there
-mark_of : (k : Method) → is_some k.retries ≡ true → IsPlainlyMarked k → k.retries ≡ Some (pos 2147483647)
-mark_of k some (inl none) = absurd (let lost : is_some k.retries ≡ false = ap is_some none in cc)
-mark_of k some (inr is) = is
+count_some : (n : ℤ) → pos 1 ≤ℤ n → 0 < count_of n
+count_some (pos n) h = omega (arith, ints, h)
+count_some (negsuc n) h = absurd (omega (arith, ints, h))
+
+-- how many attempts a mark that is there grants: one at least
+granted : (k : Method) → is_some k.retries ≡ true → MayAttempt k → (n : ℤ) × (k.retries ≡ Some n) × (0 < count_of n)
+granted k some may = go k.retries refl some may
+  where
+    go : (o : Option ℤ) → k.retries ≡ o → is_some o ≡ true → IfSome o (λ n. pos 1 ≤ℤ n) → (n : ℤ) × (k.retries ≡ Some n) × (0 < count_of n)
+    go None e s m = absurd cc
+    go (Some n) e s m = (n, e, count_some n m)
 
 module _ (P Q : Program) (ready : IsReady P Q) (limits : Limits) (at : Place) (c : Known) (is : IsCallOf P c) where
   found : (k : Method) × (slice_get P.methods c.method ≡ Some k) × (length c.args ≡ k.params) × (is_some k.retries ≡ true)
   found = found_in (slice_get P.methods c.method) (length c.args) is.takes_them
 
-  marked : found.0.retries ≡ Some (pos 2147483647)
-  marked = mark_of found.0 found.3 (holds_at IsPlainlyMarked P.methods c.method found.0 ready.marked found.1)
+  marked : (n : ℤ) × (found.0.retries ≡ Some n) × (0 < count_of n)
+  marked = granted found.0 found.3 (holds_at MayAttempt P.methods c.method found.0 ready.marked found.1)
 
   -- each entry that the call may leave keeps to the rule
   pub may_run : (allows : Entry → Type 0) → ((e : Entry) → IsRuled P limits.budget e → allows e) → MayRun allows Q (bounds_of limits) (call_of at c) 0
   may_run allows rule = λ x stamp r w runs. rule (made (call_of at c) x 0 0 stamp r w) (record {
-    explained = simulation P ready.typed.source (bounds_of limits) region_words c.method found.0 (pos 2147483647) found.1 marked c.args is.ints found.2 0 x w r
+    explained = simulation P ready.typed.source (bounds_of limits) region_words c.method found.0 marked.0 found.1 marked.1 c.args is.ints found.2 0 x w r
         (rw ready.code at runs) (made (call_of at c) x 0 0 stamp r w)
         (record { method = refl; given = refl; answer = refl; reads = refl; writes = refl; used_before = refl; used_after = refl });
     of_lane = refl;
@@ -104,13 +109,13 @@ module _ (P Q : Program) (ready : IsReady P Q) (limits : Limits) (at : Place) (c
       subst (λ (i : ℕ). Starts i args) is_method (subst (Starts c.method) are_args own)
 
   pub never_stuck : Comes Q (bounds_of limits) (run_start Q c.method c.args 0) Stuck → ⊥
-  never_stuck (vs, e) = soundness P ready.typed (bounds_of limits) c.method found.0 (pos 2147483647) found.1 marked c.args is.ints found.2 0 vs (rw ready.code at e)
+  never_stuck (vs, e) = soundness P ready.typed (bounds_of limits) c.method found.0 marked.0 found.1 marked.1 c.args is.ints found.2 0 vs (rw ready.code at e)
 
   -- a call that is spent has made an attempt
   spent_tried : 1 ≤ limits.attempts → (M : _) → Comes Q (bounds_of limits) (run_start Q c.method c.args 0) (Ended Spent M [] []) → 0 < M.tried
   spent_tried some M (vs, e) =
       let e' = rw ready.code at e in
-      rw e' at (first_try P (bounds_of limits) c.method found.0 (pos 2147483647) found.1 marked c.args is.ints found.2 (lit< tt) (omega (arith, some)) 0 vs)
+      rw e' at (first_try P (bounds_of limits) c.method found.0 marked.0 found.1 marked.1 c.args is.ints found.2 marked.2 (omega (arith, some)) 0 vs)
 
   module _ (some : 1 ≤ limits.attempts) (S : List Entry → ℕ → Log → Log → Type 0) (h : List Entry) (n : ℕ) where
     one_more : (x : Answer) (stamp : Stamp) → AddsRunEntry Q (bounds_of limits) (call_of at c) 0 S h n x stamp

@@ -1,5 +1,6 @@
 -- The program that tests run is typed.
-use Rattle.std.proofs.Common.{◌≡◌, ℕ, zero, suc, [], ◌∷◌, Some, refl, subst, lit≤, inr}
+use Rattle.std.proofs.Common.{◌≡◌, ℕ, zero, suc, [], ◌∷◌, Some, refl, subst, lit≤, arith}
+use Rattle.std.proofs.lemmas.Int.{ints}
 use Rattle.jmodel.specs.Program.{Program}
 use Rattle.jmodel.specs.Typing.{Types, types_at, IsTypedAt}
 use Rattle.jmodel.specs.Rewriting.{rewritten}
@@ -28,8 +29,8 @@ unfolding empty
 idle_ready P Q is_original is_rewriting = rw (is_original, is_rewriting) (record {
   code = refl;
   typed = record {
-    source = record { fields = tt; methods = (record { counted = refl; takes = refl; room = lit≤ tt; no_entries = refl; each = (refl, tt) }, tt) };
+    source = record { fields = tt; shared = λ i j f g is js e. cc; methods = (record { counted = refl; takes = refl; room = lit≤ tt; no_entries = refl; each = (refl, tt) }, tt) };
     typed = (record { table = Some empty ∷ []; typing = record { first = refl; each = typed_at } }, tt);
   };
-  marked = (inr refl, tt);
+  marked = (omega (arith, ints), tt);
 })

@@ -11,7 +11,7 @@ use Rattle.jmodel.specs.Meaning.{Represents, Explains}
 use Rattle.jmodel.specs.Rewriting.{rewritten}
 use Rattle.jmodel.specs.Serial.{Serial}
 use Rattle.jmodel.specs.TypingLaw.{IsTypedProgram}
-use Rattle.jmodel.specs.LinkedLaw.{IsPlainlyMarked}
+use Rattle.jmodel.specs.LinkedLaw.{MayAttempt}
 use Rattle.jmodel.specs.Schedule.{Known, takes}
 use Rattle.tx_core.specs.Serial.{word_in}
 
@@ -26,11 +26,11 @@ pub record IsRuled (P : Program) (budget : ℕ) (e : Entry) : Type 0 where
   pub before : e.used_before ≡ 0
   pub after : e.used_after ≡ 0
 
--- the program that runs is the rewriting of one of typed methods, plainly marked or not
+-- the program that runs is the rewriting of one of typed methods, each of which may make an attempt where it is marked
 pub record IsReady (P Q : Program) : Type 0 where
   pub code : Q ≡ rewritten P
   pub typed : IsTypedProgram P
-  pub marked : AllByRecursion IsPlainlyMarked P.methods
+  pub marked : AllByRecursion MayAttempt P.methods
 
 -- a call of a marked method of the program, with as many ints as that takes
 pub record IsCallOf (P : Program) (c : Known) : Type 0 where

@@ -5,8 +5,6 @@ use Rattle.jmodel.specs.declared.value.Value.{Value}
 use Rattle.jmodel.specs.declared.value.Value.TheVariants as value
 use Rattle.jmodel.specs.declared.typing.VType.{VType}
 use Rattle.jmodel.specs.declared.typing.VType.TheVariants.{Int, Long, Second, Null, Ref}
-use Rattle.jmodel.specs.declared.op.WordType.{WordType}
-use Rattle.jmodel.specs.declared.op.WordType.TheVariants as word
 use Rattle.jmodel.specs.declared.op.Op.{Op}
 use Rattle.jmodel.specs.declared.op.Op.TheVariants as op
 use Rattle.jmodel.specs.declared.op.Rearrange.{Rearrange}
@@ -15,7 +13,7 @@ use Rattle.jmodel.specs.declared.op.ContextCall.{ContextCall}
 use Rattle.jmodel.specs.declared.op.ContextCall.TheVariants as call
 use Rattle.jmodel.specs.Program.{Field, Method, Program, method_at, place_at}
 use Rattle.jmodel.specs.TypeOrder.{is_within, type_of, object_class, context_class}
-use Rattle.jmodel.specs.Typing.{Types, Flow, Leads, Wrong, flow}
+use Rattle.jmodel.specs.Typing.{Types, Flow, Leads, Wrong, flow, exits}
 use Rattle.jmodel.specs.Typing as typed
 use Rattle.verifier.specs.declared.effect.Ways.{Ways}
 use Rattle.verifier.specs.declared.effect.Ways.TheVariants.{Following, Nowhere}
@@ -68,6 +66,23 @@ two_are (Null ∷ s) k = one_is s (k Null)
 two_are (Ref n ∷ s) k = one_is s (k (Ref n))
 two_are (t ∷ s) k = refl
 
+three_are : (s : List VType) (k : VType → VType → VType → List VType → Flow) → typed.on_one s (λ t r. typed.on_one r (λ u q. typed.on_one q (λ v p. k t u v p)))
+    ≡ (if is_one (slice_get s 0) && is_one (slice_get s 1) && is_one (slice_get s 2) then k (type_at s 0) (type_at s 1) (type_at s 2) (drop 3 s) else Wrong)
+three_are [] k = refl
+three_are (Int ∷ s) k = two_are s (k Int)
+three_are (Null ∷ s) k = two_are s (k Null)
+three_are (Ref n ∷ s) k = two_are s (k (Ref n))
+three_are (t ∷ s) k = refl
+
+four_are : (s : List VType) (k : VType → VType → VType → VType → List VType → Flow)
+    → typed.on_one s (λ t r. typed.on_one r (λ u q. typed.on_one q (λ v p. typed.on_one p (λ w o. k t u v w o))))
+    ≡ (if is_one (slice_get s 0) && is_one (slice_get s 1) && is_one (slice_get s 2) && is_one (slice_get s 3) then k (type_at s 0) (type_at s 1) (type_at s 2) (type_at s 3) (drop 4 s) else Wrong)
+four_are [] k = refl
+four_are (Int ∷ s) k = three_are s (k Int)
+four_are (Null ∷ s) k = three_are s (k Null)
+four_are (Ref n ∷ s) k = three_are s (k (Ref n))
+four_are (t ∷ s) k = refl
+
 one_in_is : (o : Option VType) (k : VType → Flow) → typed.one_in o k ≡ (if is_one o then k (or_top o) else Wrong)
 one_in_is None k = refl
 one_in_is (Some Int) k = refl
@@ -106,6 +121,21 @@ module _ (pc : ℕ) (h : Types) where
       go true = refl
       go false = refl
 
+  on_three_is : (ls : Leaves) → flow_of (effect.on_three h.stack ls) pc h ≡ (if is_one (slice_get h.stack 0) && is_one (slice_get h.stack 1) && is_one (slice_get h.stack 2) then leading ls Following (drop 3 h.stack) else Wrong)
+  on_three_is ls = go (is_one (slice_get h.stack 0) && is_one (slice_get h.stack 1) && is_one (slice_get h.stack 2))
+    where
+      go : (b : Bool) → flow_of (if b then Some (effect.on_stack 3 ls) else None) pc h ≡ (if b then leading ls Following (drop 3 h.stack) else Wrong)
+      go true = refl
+      go false = refl
+
+  on_four_is : (ls : Leaves) → flow_of (effect.on_four h.stack ls) pc h
+      ≡ (if is_one (slice_get h.stack 0) && is_one (slice_get h.stack 1) && is_one (slice_get h.stack 2) && is_one (slice_get h.stack 3) then leading ls Following (drop 4 h.stack) else Wrong)
+  on_four_is ls = go (is_one (slice_get h.stack 0) && is_one (slice_get h.stack 1) && is_one (slice_get h.stack 2) && is_one (slice_get h.stack 3))
+    where
+      go : (b : Bool) → flow_of (if b then Some (effect.on_stack 4 ls) else None) pc h ≡ (if b then leading ls Following (drop 4 h.stack) else Wrong)
+      go true = refl
+      go false = refl
+
   constant_is : (v : Value) → typed.leaves pc h (typed.constant_types v ++ h.stack) ≡ flow_of (Some (effect.on_stack 0 (effect.constant v))) pc h
   constant_is (value.Int n) = refl
   constant_is (value.Long n) = refl
@@ -140,15 +170,19 @@ module _ (pc : ℕ) (h : Types) where
   rearranged_is rearrange.PopTwo = two_are h.stack (λ t u s. typed.leaves pc h s) ∙ sym (on_two_is Nothing)
   rearranged_is rearrange.Duplicate = one_is h.stack (λ t s. typed.leaves pc h (t ∷ t ∷ s)) ∙ sym (on_one_is (leaves.Two (leave.Stacked 0) (leave.Stacked 0)))
   rearranged_is rearrange.DuplicateUnder = two_are h.stack (λ t u s. typed.leaves pc h (t ∷ u ∷ t ∷ s)) ∙ sym (on_two_is (leaves.Three (leave.Stacked 0) (leave.Stacked 1) (leave.Stacked 0)))
+  rearranged_is rearrange.DuplicateUnderTwo =
+      three_are h.stack (λ t u v s. typed.leaves pc h (t ∷ u ∷ v ∷ t ∷ s)) ∙ sym (on_three_is (leaves.Four (leave.Stacked 0) (leave.Stacked 1) (leave.Stacked 2) (leave.Stacked 0)))
   rearranged_is rearrange.DuplicateTwo = two_are h.stack (λ t u s. typed.leaves pc h (t ∷ u ∷ t ∷ u ∷ s)) ∙ sym (on_two_is (leaves.Four (leave.Stacked 0) (leave.Stacked 1) (leave.Stacked 0) (leave.Stacked 1)))
+  rearranged_is rearrange.DuplicateTwoUnder =
+      three_are h.stack (λ t u v s. typed.leaves pc h (t ∷ u ∷ v ∷ t ∷ u ∷ s)) ∙ sym (on_three_is (leaves.Five (leave.Stacked 0) (leave.Stacked 1) (leave.Stacked 2) (leave.Stacked 0) (leave.Stacked 1)))
+  rearranged_is rearrange.DuplicateTwoUnderTwo =
+      four_are h.stack (λ t u v w s. typed.leaves pc h (t ∷ u ∷ v ∷ w ∷ t ∷ u ∷ s))
+      ∙ sym (on_four_is (leaves.Six (leave.Stacked 0) (leave.Stacked 1) (leave.Stacked 2) (leave.Stacked 3) (leave.Stacked 0) (leave.Stacked 1)))
   rearranged_is rearrange.Swap = two_are h.stack (λ t u s. typed.leaves pc h (u ∷ t ∷ s)) ∙ sym (on_two_is (leaves.Two (leave.Stacked 1) (leave.Stacked 0)))
 
   get_is : (o : Option Field) → typed.field_in o (λ f. typed.leaves pc h (type_of f.type ∷ h.stack)) ≡ flow_of (effect.getting o) pc h
   get_is None = refl
-  get_is (Some f) = go f.type
-    where
-      go : (w : WordType) → typed.leaves pc h (type_of w ∷ h.stack) ≡ flow_of (Some (effect.on_stack 0 (One (effect.leave_of w)))) pc h
-      go word.Int = refl
+  get_is (Some f) = refl
 
   put_is : (o : Option Field) → typed.field_in o (λ f. typed.on (type_of f.type) h.stack (λ s. typed.leaves pc h s)) ≡ flow_of (effect.putting o h.stack) pc h
   put_is None = refl
@@ -178,10 +212,7 @@ module _ (pc : ℕ) (h : Types) where
   called_is : (c : ContextCall) → typed.called c pc h ≡ flow_of (effect.called c h.stack) pc h
   called_is call.Init = ints_are h.stack (λ s. typed.on_context s (λ r. typed.leaves pc h r)) ∙ sym (taking_is (Int ∷ Int ∷ Ref context_class ∷ []) Nothing Following)
   called_is call.BeforeRead = sym (taking_is (Second ∷ Long ∷ Ref object_class ∷ Ref context_class ∷ []) Nothing Following)
-  called_is (call.OnRead t) = go t
-    where
-      go : (t : WordType) → typed.called (call.OnRead t) pc h ≡ flow_of (effect.called (call.OnRead t) h.stack) pc h
-      go word.Int = sym (taking_is (Second ∷ Long ∷ Int ∷ Ref object_class ∷ Ref context_class ∷ []) (One leave.Int) Following)
+  called_is (call.OnRead t) = sym (taking_is (Second ∷ Long ∷ type_of t ∷ Ref object_class ∷ Ref context_class ∷ []) (One leave.Int) Following)
   called_is (call.OnWrite t) = sym (taking_is (Second ∷ Long ∷ type_of t ∷ Ref object_class ∷ Ref context_class ∷ []) Nothing Following)
   called_is call.Commit = sym (taking_is (Ref context_class ∷ []) (One leave.Int) Following)
   called_is call.Rollback = sym (taking_is (Ref context_class ∷ []) Nothing Following)
@@ -197,6 +228,7 @@ flow_is P k pc (op.Increment i n) h = increment_is pc h i
 flow_is P k pc (op.Branch t to) h = int_is h.stack (λ s. Leads (places (ways.Either to) pc) (typed.with_stack h s)) ∙ sym (taking_is pc h (Int ∷ []) Nothing (ways.Either to))
 flow_is P k pc (op.BranchInts t to) h = ints_are h.stack (λ s. Leads (places (ways.Either to) pc) (typed.with_stack h s)) ∙ sym (taking_is pc h (Int ∷ Int ∷ []) Nothing (ways.Either to))
 flow_is P k pc (op.Goto to) h = refl
+flow_is P k pc (op.Switch other cases) h = int_is h.stack (λ s. Leads (exits other cases) (typed.with_stack h s)) ∙ sym (taking_is pc h (Int ∷ []) Nothing (ways.Any (exits other cases)))
 flow_is P k pc (op.GetStatic n) h = get_is pc h (place_at P n)
 flow_is P k pc (op.PutStatic n) h = put_is pc h (place_at P n)
 flow_is P k pc (op.InvokeStatic m) h = invoke_is pc h (method_at P m)

@@ -1,12 +1,13 @@
 -- Flows to the places of a list, one by one.
-use Rattle.std.proofs.Common.{◌≡◌, ℕ, zero, suc, ◌+◌, ◌<◌, ◌≤◌, List, [], ◌∷◌, ◌++◌, length, drop, get_or, Bool, true, false, refl, sym, ap, subst, ◌∙◌, arith}
+use Rattle.std.proofs.Common.{◌≡◌, ℕ, zero, suc, ◌+◌, ◌<◌, ◌≤◌, List, [], ◌∷◌, ◌++◌, length, drop, get_or, Bool, true, false, refl, sym, ap, subst, ◌∙◌, arith, add-one, drop-cons}
+use Rattle.std.proofs.lemmas.List.{drop_all}
 use Rattle.std.specs.Prelude.{Result, Ok, Err, IfOk}
 use Rattle.jmodel.specs.declared.typing.VType.{VType}
 use Rattle.jmodel.specs.declared.op.Catch.{Catch}
 use Rattle.jmodel.specs.Program.{Method}
 use Rattle.jmodel.specs.Typing.{Types, caught_type, is_guarded}
 use Rattle.verifier.specs.declared.effect.Ways.{Ways}
-use Rattle.verifier.specs.declared.effect.Ways.TheVariants.{Following, Target, Either}
+use Rattle.verifier.specs.declared.effect.Ways.TheVariants.{Following, Target, Either, Any}
 use Rattle.verifier.specs.Effect.{places}
 use Rattle.verifier.specs.Search.{State, Demands, IsPour, Flows, caught, types_of, each_to, demands}
 use Rattle.verifier.proofs.Lists.{past}
@@ -48,6 +49,14 @@ caught_off (x ∷ cs) pc l (suc i) c h e g = let h' : i < length cs = omega arit
 pub caught_end : (cs : List Catch) (pc : ℕ) (l : List VType) (i : ℕ) → length cs ≤ i → caught (drop i cs) pc l ≡ []
 caught_end cs pc l i h = let x = past cs i h in rw x refl
 
+-- a place of a list
+pub each_on : (tos : List ℕ) (h : Types) (i : ℕ) → i < length tos → each_to (drop i tos) h ≡ (get_or tos i 0, h) ∷ each_to (drop (i + 1) tos) h
+each_on tos h i lt =
+    ap (λ (l : List ℕ). each_to l h) (drop-cons tos i 0 lt) ∙ ap (λ (k : ℕ). (get_or tos i 0, h) ∷ each_to (drop k tos) h) (sym (add-one i))
+
+pub each_end : (tos : List ℕ) (h : Types) (i : ℕ) → length tos ≤ i → each_to (drop i tos) h ≡ []
+each_end tos h i le = let x = drop_all i tos le in rw x refl
+
 -- for the code: what the calls that let types flow have answered
 alike : (l s : List VType) (h : Types) → l ≡ h.locals → s ≡ h.stack → types_of l s ≡ h
 alike l s h a b = ap (λ (x : List VType). types_of x s) a ∙ ap (types_of h.locals) b
@@ -74,6 +83,26 @@ pub either_stop : (w : Ways) (pc to : ℕ) (h : Types) (l s : List VType) (o n :
 either_stop w pc to h l s o n c e x y u p =
     let p' = pour_of (pc + 1) l s h o n false x y (subst (IsPour (pc + 1) (types_of l s) o n) u p) in
     subst (λ (v : Ways). Flows (each_to (places v pc) h) o n false) (sym e) (flows_stop (pc + 1, h) ((to, h) ∷ []) o n p')
+
+pub any_ok : {E : Type 0} (r : Result Bool E) (w : Ways) (pc : ℕ) (tos : List ℕ) (h : Types) (o n : State) → w ≡ Any tos → IfOk r (Flows (each_to tos h) o n) → IfOk r (Flows (each_to (places w pc) h) o n)
+any_ok (Ok b) w pc tos h o n e p = subst (λ (v : Ways). Flows (each_to (places v pc) h) o n b) (sym e) p
+any_ok (Err z) w pc tos h o n e p = p
+
+-- of the targets of a switch, one takes what flows to it, or can't
+pub exit_ok : (tos : List ℕ) (h : Types) (i to : ℕ) (l s : List VType) (o m : State) (c : Bool) → i < length tos → to ≡ get_or tos i 0 → l ≡ h.locals → s ≡ h.stack → c ≡ true → IsPour to (types_of l s) o m c
+    → (n : State) (b : Bool) → Flows (each_to (drop (i + 1) tos) h) m n b → Flows (each_to (drop i tos) h) o n b
+exit_ok tos h i to l s o m c lt e x y t p n b f =
+    let p' : IsPour (get_or tos i 0) h o m true = subst (λ (k : ℕ). IsPour k h o m true) e (pour_of to l s h o m true x y (subst (IsPour to (types_of l s) o m) t p)) in
+    subst (λ (ds : Demands). Flows ds o n b) (sym (each_on tos h i lt)) (flows_first (get_or tos i 0, h) (each_to (drop (i + 1) tos) h) o m n b p' f)
+
+pub exit_stop : (tos : List ℕ) (h : Types) (i to : ℕ) (l s : List VType) (o n : State) (c : Bool) → i < length tos → to ≡ get_or tos i 0 → l ≡ h.locals → s ≡ h.stack → c ≡ false → IsPour to (types_of l s) o n c
+    → Flows (each_to (drop i tos) h) o n false
+exit_stop tos h i to l s o n c lt e x y t p =
+    let p' : IsPour (get_or tos i 0) h o n false = subst (λ (k : ℕ). IsPour k h o n false) e (pour_of to l s h o n false x y (subst (IsPour to (types_of l s) o n) t p)) in
+    subst (λ (ds : Demands). Flows ds o n false) (sym (each_on tos h i lt)) (flows_stop (get_or tos i 0, h) (each_to (drop (i + 1) tos) h) o n p')
+
+pub follow_first : (k : Method) (pc : ℕ) (x : Types) (w : Ways) (l : List VType) (o n : State) (c : Bool) → c ≡ false → Flows (each_to (places w pc) x) o n c → Flows (demands k pc l x w) o n false
+follow_first k pc x w l o n c e p = flows_fail (each_to (places w pc) x) (caught k.catches pc l ++ caught k.catches pc x.locals) o n (subst (Flows (each_to (places w pc) x) o n) e p)
 
 pub follow_second : (k : Method) (pc : ℕ) (x : Types) (w : Ways) (l b : List VType) (cs : List Catch) (o m n : State) (c d : Bool) → cs ≡ k.catches → b ≡ l → c ≡ true → Flows (each_to (places w pc) x) o m c
     → d ≡ false → Flows (caught cs pc b) m n d → Flows (demands k pc l x w) o n false

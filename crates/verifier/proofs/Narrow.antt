@@ -13,7 +13,7 @@ use Rattle.jmodel.specs.declared.op.ContextCall.{ContextCall}
 use Rattle.jmodel.specs.declared.op.ContextCall.TheVariants as call
 use Rattle.jmodel.specs.Program.{Field, Method, Program, method_at, place_at}
 use Rattle.jmodel.specs.TypeOrder.{is_within, AreWithin, type_of, object_class, throwable_class, context_class}
-use Rattle.jmodel.specs.Typing.{Types, FitsIn}
+use Rattle.jmodel.specs.Typing.{Types, exits, FitsIn}
 use Rattle.verifier.specs.declared.effect.Ways.{Ways}
 use Rattle.verifier.specs.declared.effect.Ways.TheVariants as ways
 use Rattle.verifier.specs.declared.effect.Leave.{Leave}
@@ -74,6 +74,30 @@ module _ (h g : Types) (f : FitsIn h g) where
       (λ y. let p = both (is_one (slice_get g.stack 0)) (is_one (slice_get g.stack 1)) y in
       and_true (is_one (slice_get h.stack 0)) (is_one (slice_get h.stack 1)) (one_at h.stack g.stack 0 f.stack p.0) (one_at h.stack g.stack 1 f.stack p.1)) x
 
+  abbrev two : List VType → Bool
+  two s = is_one (slice_get s 0) && is_one (slice_get s 1)
+
+  two_narrow : two g.stack ≡ true → two h.stack ≡ true
+  two_narrow y =
+      let p = both (is_one (slice_get g.stack 0)) (is_one (slice_get g.stack 1)) y in
+      and_true (is_one (slice_get h.stack 0)) (is_one (slice_get h.stack 1)) (one_at h.stack g.stack 0 f.stack p.0) (one_at h.stack g.stack 1 f.stack p.1)
+
+  abbrev three : List VType → Bool
+  three s = two s && is_one (slice_get s 2)
+
+  three_narrow : three g.stack ≡ true → three h.stack ≡ true
+  three_narrow y =
+      let p = both (two g.stack) (is_one (slice_get g.stack 2)) y in
+      and_true (two h.stack) (is_one (slice_get h.stack 2)) (two_narrow p.0) (one_at h.stack g.stack 2 f.stack p.1)
+
+  on_three_narrow : (ls : Leaves) (e : Effect) → effect.on_three g.stack ls ≡ Some e → effect.on_three h.stack ls ≡ Some e
+  on_three_narrow ls e x = cond_some (three g.stack) (three h.stack) _ e three_narrow x
+
+  on_four_narrow : (ls : Leaves) (e : Effect) → effect.on_four g.stack ls ≡ Some e → effect.on_four h.stack ls ≡ Some e
+  on_four_narrow ls e x = cond_some (three g.stack && is_one (slice_get g.stack 3)) (three h.stack && is_one (slice_get h.stack 3)) _ e
+      (λ y. let p = both (three g.stack) (is_one (slice_get g.stack 3)) y in
+      and_true (three h.stack) (is_one (slice_get h.stack 3)) (three_narrow p.0) (one_at h.stack g.stack 3 f.stack p.1)) x
+
   storing_narrow : (i : ℕ) (e : Effect) → effect.storing_in g.locals g.stack i ≡ Some e → effect.storing_in h.locals h.stack i ≡ Some e
   storing_narrow i e x = cond_some (is_one (slice_get g.stack 0) && nat_lt i (length g.locals)) (is_one (slice_get h.stack 0) && nat_lt i (length h.locals)) _ e
       (λ y. let p = both (is_one (slice_get g.stack 0)) (nat_lt i (length g.locals)) y in
@@ -86,7 +110,10 @@ module _ (h g : Types) (f : FitsIn h g) where
   rearrangement_narrow rearrange.PopTwo e x = on_two_narrow leaves.Nothing e x
   rearrangement_narrow rearrange.Duplicate e x = on_one_narrow (leaves.Two (leave.Stacked 0) (leave.Stacked 0)) e x
   rearrangement_narrow rearrange.DuplicateUnder e x = on_two_narrow (leaves.Three (leave.Stacked 0) (leave.Stacked 1) (leave.Stacked 0)) e x
+  rearrangement_narrow rearrange.DuplicateUnderTwo e x = on_three_narrow (leaves.Four (leave.Stacked 0) (leave.Stacked 1) (leave.Stacked 2) (leave.Stacked 0)) e x
   rearrangement_narrow rearrange.DuplicateTwo e x = on_two_narrow (leaves.Four (leave.Stacked 0) (leave.Stacked 1) (leave.Stacked 0) (leave.Stacked 1)) e x
+  rearrangement_narrow rearrange.DuplicateTwoUnder e x = on_three_narrow (leaves.Five (leave.Stacked 0) (leave.Stacked 1) (leave.Stacked 2) (leave.Stacked 0) (leave.Stacked 1)) e x
+  rearrangement_narrow rearrange.DuplicateTwoUnderTwo e x = on_four_narrow (leaves.Six (leave.Stacked 0) (leave.Stacked 1) (leave.Stacked 2) (leave.Stacked 3) (leave.Stacked 0) (leave.Stacked 1)) e x
   rearrangement_narrow rearrange.Swap e x = on_two_narrow (leaves.Two (leave.Stacked 1) (leave.Stacked 0)) e x
 
   putting_narrow : (o : Option Field) (e : Effect) → effect.putting o g.stack ≡ Some e → effect.putting o h.stack ≡ Some e
@@ -122,6 +149,7 @@ module _ (h g : Types) (f : FitsIn h g) where
   effect_narrow P k (op.Increment i n) e x = cond_some (is_int (slice_get g.locals i)) (is_int (slice_get h.locals i)) _ e (int_at h.locals g.locals i f.locals) x
   effect_narrow P k (op.Branch t to) e x = taking_narrow (Int ∷ []) leaves.Nothing (ways.Either to) e x
   effect_narrow P k (op.BranchInts t to) e x = taking_narrow (Int ∷ Int ∷ []) leaves.Nothing (ways.Either to) e x
+  effect_narrow P k (op.Switch other cases) e x = taking_narrow (Int ∷ []) leaves.Nothing (ways.Any (exits other cases)) e x
   effect_narrow P k (op.PutStatic n) e x = putting_narrow (place_at P n) e x
   effect_narrow P k (op.InvokeStatic m) e x = invoking_narrow (method_at P m) e x
   effect_narrow P k op.ReturnValue e x = giving_narrow k.gives e x

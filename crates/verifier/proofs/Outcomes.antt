@@ -15,7 +15,7 @@ use Rattle.jmodel.specs.declared.op.ContextCall.TheVariants as call
 use Rattle.jmodel.specs.declared.op.Catch.{Catch}
 use Rattle.jmodel.specs.Program.{Field, Method, Program, method_at, place_at}
 use Rattle.jmodel.specs.TypeOrder.{is_within, IsStackUnder, type_of, object_class, throwable_class, context_class}
-use Rattle.jmodel.specs.Typing.{Types, Table, IsLocalType, IsStack, AreWithin, FitsIn, Leads, flow, caught_type, is_guarded, Covers, AreCaught, Keeps, KeepsFlow, KeepsAt, types_at}
+use Rattle.jmodel.specs.Typing.{Types, Table, exits, IsLocalType, IsStack, AreWithin, FitsIn, Leads, flow, caught_type, is_guarded, Covers, AreCaught, Keeps, KeepsFlow, KeepsAt, types_at}
 use Rattle.verifier.specs.declared.effect.Ways.{Ways}
 use Rattle.verifier.specs.declared.effect.Ways.TheVariants as ways
 use Rattle.verifier.specs.declared.effect.Leave.TheVariants as leave
@@ -264,7 +264,15 @@ module _ (h : Types) (local : AllByRecursion IsLocalType h.locals) (e : Effect) 
   rearranged_local rearrange.PopTwo x = stack_local (is_one (slice_get h.stack 0) && is_one (slice_get h.stack 1)) 2 leaves.Nothing x
   rearranged_local rearrange.Duplicate x = stack_local (is_one (slice_get h.stack 0)) 1 (leaves.Two (leave.Stacked 0) (leave.Stacked 0)) x
   rearranged_local rearrange.DuplicateUnder x = stack_local (is_one (slice_get h.stack 0) && is_one (slice_get h.stack 1)) 2 (leaves.Three (leave.Stacked 0) (leave.Stacked 1) (leave.Stacked 0)) x
+  rearranged_local rearrange.DuplicateUnderTwo x =
+      stack_local (is_one (slice_get h.stack 0) && is_one (slice_get h.stack 1) && is_one (slice_get h.stack 2)) 3 (leaves.Four (leave.Stacked 0) (leave.Stacked 1) (leave.Stacked 2) (leave.Stacked 0)) x
   rearranged_local rearrange.DuplicateTwo x = stack_local (is_one (slice_get h.stack 0) && is_one (slice_get h.stack 1)) 2 (leaves.Four (leave.Stacked 0) (leave.Stacked 1) (leave.Stacked 0) (leave.Stacked 1)) x
+  rearranged_local rearrange.DuplicateTwoUnder x =
+      stack_local (is_one (slice_get h.stack 0) && is_one (slice_get h.stack 1) && is_one (slice_get h.stack 2)) 3
+      (leaves.Five (leave.Stacked 0) (leave.Stacked 1) (leave.Stacked 2) (leave.Stacked 0) (leave.Stacked 1)) x
+  rearranged_local rearrange.DuplicateTwoUnderTwo x =
+      stack_local (is_one (slice_get h.stack 0) && is_one (slice_get h.stack 1) && is_one (slice_get h.stack 2) && is_one (slice_get h.stack 3)) 4
+      (leaves.Six (leave.Stacked 0) (leave.Stacked 1) (leave.Stacked 2) (leave.Stacked 3) (leave.Stacked 0) (leave.Stacked 1)) x
   rearranged_local rearrange.Swap x = stack_local (is_one (slice_get h.stack 0) && is_one (slice_get h.stack 1)) 2 (leaves.Two (leave.Stacked 1) (leave.Stacked 0)) x
 
   get_local : (o : Option Field) → effect.getting o ≡ Some e → Local
@@ -304,6 +312,7 @@ module _ (h : Types) (local : AllByRecursion IsLocalType h.locals) (e : Effect) 
   ints_local (op.Branch t to) x = taking_local (Int ∷ []) leaves.Nothing (ways.Either to) x
   ints_local (op.BranchInts t to) x = taking_local (Int ∷ Int ∷ []) leaves.Nothing (ways.Either to) x
   ints_local (op.Goto to) x = taking_local [] leaves.Nothing (ways.Target to) x
+  ints_local (op.Switch other cases) x = taking_local (Int ∷ []) leaves.Nothing (ways.Any (exits other cases)) x
   ints_local op.Throw x = taking_local (Ref throwable_class ∷ []) leaves.Nothing ways.Nowhere x
   ints_local o x = cc
 

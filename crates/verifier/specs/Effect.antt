@@ -5,7 +5,6 @@ use Rattle.jmodel.specs.declared.value.Value.TheVariants as value
 use Rattle.jmodel.specs.declared.typing.VType.{VType}
 use Rattle.jmodel.specs.declared.typing.VType.TheVariants as type
 use Rattle.jmodel.specs.declared.op.WordType.{WordType}
-use Rattle.jmodel.specs.declared.op.WordType.TheVariants as word
 use Rattle.jmodel.specs.declared.op.Op.{Op}
 use Rattle.jmodel.specs.declared.op.Op.TheVariants as op
 use Rattle.jmodel.specs.declared.op.Rearrange.{Rearrange}
@@ -14,15 +13,15 @@ use Rattle.jmodel.specs.declared.op.ContextCall.{ContextCall}
 use Rattle.jmodel.specs.declared.op.ContextCall.TheVariants as call
 use Rattle.jmodel.specs.Program.{Field, Method, Program, method_at, place_at}
 use Rattle.jmodel.specs.TypeOrder.{is_within, type_of, object_class, throwable_class, context_class}
-use Rattle.jmodel.specs.Typing.{Types, Flow, Leads, Wrong}
+use Rattle.jmodel.specs.Typing.{Types, Flow, Leads, Wrong, exits}
 use Rattle.verifier.specs.declared.effect.Ways.{Ways}
-use Rattle.verifier.specs.declared.effect.Ways.TheVariants.{Following, Target, Either, Nowhere}
+use Rattle.verifier.specs.declared.effect.Ways.TheVariants.{Following, Target, Either, Any, Nowhere}
 use Rattle.verifier.specs.declared.effect.Want.{Want}
 use Rattle.verifier.specs.declared.effect.Want.TheVariants as want
 use Rattle.verifier.specs.declared.effect.Leave.{Leave}
 use Rattle.verifier.specs.declared.effect.Leave.TheVariants.{Int, Long, Second, Null, Object, Context, Stacked, Local}
 use Rattle.verifier.specs.declared.effect.Leaves.{Leaves}
-use Rattle.verifier.specs.declared.effect.Leaves.TheVariants.{Nothing, One, Two, Three, Four}
+use Rattle.verifier.specs.declared.effect.Leaves.TheVariants.{Nothing, One, Two, Three, Four, Five, Six}
 use Rattle.verifier.specs.declared.effect.Effect.{Effect}
 
 -- a type of a list, top where there is none
@@ -42,7 +41,7 @@ want_type want.Throwable = type.Ref throwable_class
 want_type want.Context = type.Ref context_class
 
 abbrev pub wanted : WordType → Want
-wanted word.Int = want.Int
+wanted t = want.Int
 
 -- the topmost places have types within these
 abbrev pub are_taken : List VType → List VType → Bool
@@ -77,6 +76,12 @@ on_one s ls = if is_one (slice_get s 0) then Some (on_stack 1 ls) else None
 abbrev pub on_two : List VType → Leaves → Option Effect
 on_two s ls = if is_one (slice_get s 0) && is_one (slice_get s 1) then Some (on_stack 2 ls) else None
 
+abbrev pub on_three : List VType → Leaves → Option Effect
+on_three s ls = if is_one (slice_get s 0) && is_one (slice_get s 1) && is_one (slice_get s 2) then Some (on_stack 3 ls) else None
+
+abbrev pub on_four : List VType → Leaves → Option Effect
+on_four s ls = if is_one (slice_get s 0) && is_one (slice_get s 1) && is_one (slice_get s 2) && is_one (slice_get s 3) then Some (on_stack 4 ls) else None
+
 abbrev pub constant : Value → Leaves
 constant (value.Int n) = One Int
 constant (value.Long n) = Two Second Long
@@ -98,11 +103,14 @@ rearrangement rearrange.Pop s = on_one s Nothing
 rearrangement rearrange.PopTwo s = on_two s Nothing
 rearrangement rearrange.Duplicate s = on_one s (Two (Stacked 0) (Stacked 0))
 rearrangement rearrange.DuplicateUnder s = on_two s (Three (Stacked 0) (Stacked 1) (Stacked 0))
+rearrangement rearrange.DuplicateUnderTwo s = on_three s (Four (Stacked 0) (Stacked 1) (Stacked 2) (Stacked 0))
 rearrangement rearrange.DuplicateTwo s = on_two s (Four (Stacked 0) (Stacked 1) (Stacked 0) (Stacked 1))
+rearrangement rearrange.DuplicateTwoUnder s = on_three s (Five (Stacked 0) (Stacked 1) (Stacked 2) (Stacked 0) (Stacked 1))
+rearrangement rearrange.DuplicateTwoUnderTwo s = on_four s (Six (Stacked 0) (Stacked 1) (Stacked 2) (Stacked 3) (Stacked 0) (Stacked 1))
 rearrangement rearrange.Swap s = on_two s (Two (Stacked 1) (Stacked 0))
 
 abbrev pub leave_of : WordType → Leave
-leave_of word.Int = Int
+leave_of t = Int
 
 abbrev pub getting : Option Field → Option Effect
 getting None = None
@@ -147,6 +155,7 @@ effect_on_ints (op.Unary u) s = taking (type.Int ∷ []) s (One Int) Following
 effect_on_ints (op.Branch t to) s = taking (type.Int ∷ []) s Nothing (Either to)
 effect_on_ints (op.BranchInts t to) s = taking (type.Int ∷ type.Int ∷ []) s Nothing (Either to)
 effect_on_ints (op.Goto to) s = taking [] s Nothing (Target to)
+effect_on_ints (op.Switch other cases) s = taking (type.Int ∷ []) s Nothing (Any (exits other cases))
 effect_on_ints op.Throw s = taking (type.Ref throwable_class ∷ []) s Nothing Nowhere
 effect_on_ints o s = None
 
@@ -171,6 +180,7 @@ abbrev pub places : Ways → ℕ → List ℕ
 places Following pc = (pc + 1) ∷ []
 places (Target to) pc = to ∷ []
 places (Either to) pc = (pc + 1) ∷ to ∷ []
+places (Any tos) pc = tos
 places Nowhere pc = []
 
 abbrev pub leaves_of : Leaves → List Leave
@@ -179,6 +189,8 @@ leaves_of (One a) = a ∷ []
 leaves_of (Two a b) = a ∷ b ∷ []
 leaves_of (Three a b c) = a ∷ b ∷ c ∷ []
 leaves_of (Four a b c d) = a ∷ b ∷ c ∷ d ∷ []
+leaves_of (Five a b c d e) = a ∷ b ∷ c ∷ d ∷ e ∷ []
+leaves_of (Six a b c d e f) = a ∷ b ∷ c ∷ d ∷ e ∷ f ∷ []
 
 abbrev pub leave_type : Types → Leave → VType
 leave_type h Int = type.Int

@@ -15,7 +15,7 @@ use crate::order::{
 use crate::search::{caught_class, is_guarded, is_ready};
 use hierarchy::{Method, Program};
 use jmodel::op::{Catch, Catches};
-use jmodel::{TypeEntry, Typing, VType};
+use jmodel::{Exits, TypeEntry, Typing, VType};
 
 /// Whether all types are top.
 fn all_tops(types: &[VType]) -> bool
@@ -116,6 +116,21 @@ fn fit_each(entry: &TypeEntry, leaves: Leaves, wider: &[VType]) -> bool
                 && fits_leave(entry, c, wider, 2)
                 && fits_leave(entry, d, wider, 3)
         }
+        Leaves::Five(a, b, c, d, e) => {
+            fits_leave(entry, a, wider, 0)
+                && fits_leave(entry, b, wider, 1)
+                && fits_leave(entry, c, wider, 2)
+                && fits_leave(entry, d, wider, 3)
+                && fits_leave(entry, e, wider, 4)
+        }
+        Leaves::Six(a, b, c, d, e, f) => {
+            fits_leave(entry, a, wider, 0)
+                && fits_leave(entry, b, wider, 1)
+                && fits_leave(entry, c, wider, 2)
+                && fits_leave(entry, d, wider, 3)
+                && fits_leave(entry, e, wider, 4)
+                && fits_leave(entry, f, wider, 5)
+        }
     }
 }
 
@@ -187,6 +202,24 @@ fn covers_left(
     }
 }
 
+/// Whether each target of a switch has such types.
+fn covers_exits(
+    method: &Method,
+    typing: &Typing,
+    entry: &TypeEntry,
+    effect: &Effect,
+    exits: &Exits,
+) -> bool
+    ensures { result ≡ covers_each method.now typing.now (each_to exits.now (left effect.now entry.now)) }
+{
+    for number in 0..exits.count() {
+        if !covers_left(method, typing, entry, effect, exits.at(number)) {
+            return false;
+        }
+    }
+    true
+}
+
 /// Whether each place where an instruction goes on has such types.
 fn covers_ways(
     method: &Method,
@@ -198,13 +231,14 @@ fn covers_ways(
     requires { pc + 1 < 2 ^ 64 }
     ensures { result ≡ covers_each method.now typing.now (each_to (places effect.now.ways pc) (left effect.now entry.now)) }
 {
-    match effect.ways {
+    match &effect.ways {
         Ways::Following => covers_left(method, typing, entry, effect, pc + 1),
-        Ways::Target(to) => covers_left(method, typing, entry, effect, to),
+        Ways::Target(to) => covers_left(method, typing, entry, effect, *to),
         Ways::Either(to) => {
             covers_left(method, typing, entry, effect, pc + 1)
-                && covers_left(method, typing, entry, effect, to)
+                && covers_left(method, typing, entry, effect, *to)
         }
+        Ways::Any(exits) => covers_exits(method, typing, entry, effect, exits),
         Ways::Nowhere => true,
     }
 }
@@ -288,7 +322,7 @@ fn keeps(program: &Program, method: &Method, typing: &Typing, pc: usize, entry: 
     let Some(op) = method.ops().get(pc) else {
         return false;
     };
-    match effect_of(program, method, *op, entry) {
+    match effect_of(program, method, op, entry) {
         Some(effect) => keeps_effect(method, typing, pc, entry, &effect),
         None => false,
     }

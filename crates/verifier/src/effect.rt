@@ -2,22 +2,24 @@
 ghost use Rattle.std.specs.Prelude.{◌≡◌, length, map, reverse, slice_get};
 ghost use Rattle.jmodel.specs.Program.{method_at, place_at};
 ghost use Rattle.jmodel.specs.TypeOrder.{is_within};
-ghost use Rattle.verifier.specs.Effect.{accessing, are_taken, called, constant, effect_of, effect_on_ints, getting, given, giving, incrementing, invoking, is_int, is_one, leave_of, leaves_of, loading, on_one, on_stack, on_two, putting, rearrangement, returning, storing, storing_in, taking, want_type, wanted};
+ghost use Rattle.verifier.specs.Effect.{accessing, are_taken, called, constant, effect_of, effect_on_ints, getting, given, giving, incrementing, invoking, is_int, is_one, leave_of, leaves_of, loading, on_four, on_one, on_stack, on_three, on_two, putting, rearrangement, returning, storing, storing_in, taking, want_type, wanted};
 
 use crate::order::{context_class, is_below, is_within, object_class, throwable_class};
 use hierarchy::{Method, Program};
 use jmodel::op::{ContextCall, Op, Rearrange, WordType};
-use jmodel::{TypeEntry, VType, Value};
+use jmodel::{Exits, TypeEntry, VType, Value};
 
 /// Where an instruction goes on.
-#[derive(Clone, Copy, Debug)]
-pub enum Ways {
+#[derive(Debug, Drop)]
+pub enum Ways<'a> {
     /// At the next instruction.
     Following,
     /// At a target.
     Target(usize),
     /// At the next instruction or at a target.
     Either(usize),
+    /// At one of the targets of a switch.
+    Any(Exits<'a>),
     Nowhere,
 }
 
@@ -55,6 +57,8 @@ pub enum Leaves {
     Two(Leave, Leave),
     Three(Leave, Leave, Leave),
     Four(Leave, Leave, Leave, Leave),
+    Five(Leave, Leave, Leave, Leave, Leave),
+    Six(Leave, Leave, Leave, Leave, Leave, Leave),
 }
 
 impl Leaves {
@@ -68,23 +72,25 @@ impl Leaves {
             Leaves::Two(_, _) => 2,
             Leaves::Three(_, _, _) => 3,
             Leaves::Four(_, _, _, _) => 4,
+            Leaves::Five(_, _, _, _, _) => 5,
+            Leaves::Six(_, _, _, _, _, _) => 6,
         }
     }
 }
 
 /// What an instruction does to a frame.
-#[derive(Clone, Copy, Debug)]
-pub struct Effect {
+#[derive(Debug, Drop)]
+pub struct Effect<'a> {
     /// How many places it takes from the stack.
     pub takes: usize,
     /// What it leaves there in their place.
     pub leaves: Leaves,
     /// The local that gets the topmost type.
     pub stores: Option<usize>,
-    pub ways: Ways,
+    pub ways: Ways<'a>,
 }
 
-impl Effect {
+impl Effect<'static> {
     fn on_stack(takes: usize, leaves: Leaves) -> Self
         ensures { result ≡ on_stack takes leaves }
     {
@@ -170,8 +176,8 @@ fn are_passed(params: &[VType], stack: &[VType]) -> bool
 }
 
 /// The effect of an instruction that takes what is wanted.
-fn taking(stack: &[VType], wants: &[Want], leaves: Leaves, ways: Ways) -> Option<Effect>
-    ensures { result ≡ taking (map want_type wants.now) stack.now leaves ways }
+fn taking<'a>(stack: &[VType], wants: &[Want], leaves: Leaves, ways: Ways<'a>) -> Option<Effect<'a>>
+    ensures { result ≡ taking (map want_type wants.now) stack.now leaves ways.entry }
 {
     if are_wanted(wants, stack) {
         Some(Effect {
@@ -186,7 +192,7 @@ fn taking(stack: &[VType], wants: &[Want], leaves: Leaves, ways: Ways) -> Option
 }
 
 /// The effect of an instruction that takes a value of one place.
-fn on_one(stack: &[VType], leaves: Leaves) -> Option<Effect>
+fn on_one(stack: &[VType], leaves: Leaves) -> Option<Effect<'static>>
     ensures { result ≡ on_one stack.now leaves }
 {
     if is_one(stack, 0) {
@@ -197,11 +203,33 @@ fn on_one(stack: &[VType], leaves: Leaves) -> Option<Effect>
 }
 
 /// The effect of an instruction that takes two of them.
-fn on_two(stack: &[VType], leaves: Leaves) -> Option<Effect>
+fn on_two(stack: &[VType], leaves: Leaves) -> Option<Effect<'static>>
     ensures { result ≡ on_two stack.now leaves }
 {
     if is_one(stack, 0) && is_one(stack, 1) {
         Some(Effect::on_stack(2, leaves))
+    } else {
+        None
+    }
+}
+
+/// The effect of an instruction that takes three of them.
+fn on_three(stack: &[VType], leaves: Leaves) -> Option<Effect<'static>>
+    ensures { result ≡ on_three stack.now leaves }
+{
+    if is_one(stack, 0) && is_one(stack, 1) && is_one(stack, 2) {
+        Some(Effect::on_stack(3, leaves))
+    } else {
+        None
+    }
+}
+
+/// The effect of an instruction that takes four of them.
+fn on_four(stack: &[VType], leaves: Leaves) -> Option<Effect<'static>>
+    ensures { result ≡ on_four stack.now leaves }
+{
+    if is_one(stack, 0) && is_one(stack, 1) && is_one(stack, 2) && is_one(stack, 3) {
+        Some(Effect::on_stack(4, leaves))
     } else {
         None
     }
@@ -219,7 +247,7 @@ fn constant(value: Value) -> Leaves
     }
 }
 
-fn loading(locals: &[VType], local: usize) -> Option<Effect>
+fn loading(locals: &[VType], local: usize) -> Option<Effect<'static>>
     ensures { result ≡ loading locals.now local }
 {
     if is_one(locals, local) {
@@ -229,7 +257,7 @@ fn loading(locals: &[VType], local: usize) -> Option<Effect>
     }
 }
 
-fn storing(locals: &[VType], stack: &[VType], local: usize) -> Option<Effect>
+fn storing(locals: &[VType], stack: &[VType], local: usize) -> Option<Effect<'static>>
     ensures { result ≡ storing_in locals.now stack.now local }
 {
     if is_one(stack, 0) && local < locals.len() {
@@ -239,7 +267,7 @@ fn storing(locals: &[VType], stack: &[VType], local: usize) -> Option<Effect>
     }
 }
 
-fn incrementing(locals: &[VType], local: usize) -> Option<Effect>
+fn incrementing(locals: &[VType], local: usize) -> Option<Effect<'static>>
     ensures { result ≡ incrementing locals.now local }
 {
     if is_int(locals, local) {
@@ -249,18 +277,30 @@ fn incrementing(locals: &[VType], local: usize) -> Option<Effect>
     }
 }
 
-fn rearrangement(rearrange: Rearrange, stack: &[VType]) -> Option<Effect>
+fn rearrangement(rearrange: Rearrange, stack: &[VType]) -> Option<Effect<'static>>
     ensures { result ≡ rearrangement rearrange stack.now }
 {
     let first = Leave::Stacked(0);
     let second = Leave::Stacked(1);
+    let third = Leave::Stacked(2);
+    let fourth = Leave::Stacked(3);
     match rearrange {
         Rearrange::Nothing => Some(Effect::on_stack(0, Leaves::Nothing)),
         Rearrange::Pop => on_one(stack, Leaves::Nothing),
         Rearrange::PopTwo => on_two(stack, Leaves::Nothing),
         Rearrange::Duplicate => on_one(stack, Leaves::Two(first, first)),
         Rearrange::DuplicateUnder => on_two(stack, Leaves::Three(first, second, first)),
+        Rearrange::DuplicateUnderTwo => on_three(stack, Leaves::Four(first, second, third, first)),
         Rearrange::DuplicateTwo => on_two(stack, Leaves::Four(first, second, first, second)),
+        Rearrange::DuplicateTwoUnder => {
+            on_three(stack, Leaves::Five(first, second, third, first, second))
+        }
+        Rearrange::DuplicateTwoUnderTwo => {
+            on_four(
+                stack,
+                Leaves::Six(first, second, third, fourth, first, second),
+            )
+        }
         Rearrange::Swap => on_two(stack, Leaves::Two(second, first)),
     }
 }
@@ -270,7 +310,8 @@ fn wanted(word_type: WordType) -> Want
     ensures { result ≡ wanted word_type }
 {
     match word_type {
-        WordType::Int => Want::Int,
+        WordType::Boolean | WordType::Byte | WordType::Char | WordType::Short | WordType::Int =>
+            Want::Int,
     }
 }
 
@@ -279,18 +320,19 @@ fn leave_of(word_type: WordType) -> Leave
     ensures { result ≡ leave_of word_type }
 {
     match word_type {
-        WordType::Int => Leave::Int,
+        WordType::Boolean | WordType::Byte | WordType::Char | WordType::Short | WordType::Int =>
+            Leave::Int,
     }
 }
 
-fn getting(program: &Program, field: usize) -> Option<Effect>
+fn getting(program: &Program, field: usize) -> Option<Effect<'static>>
     ensures { result ≡ getting (place_at program.now field) }
 {
     let (_, word_type) = program.field(field)?;
     Some(Effect::on_stack(0, Leaves::One(leave_of(word_type))))
 }
 
-fn putting(program: &Program, field: usize, stack: &[VType]) -> Option<Effect>
+fn putting(program: &Program, field: usize, stack: &[VType]) -> Option<Effect<'static>>
     ensures { result ≡ putting (place_at program.now field) stack.now }
 {
     let (_, word_type) = program.field(field)?;
@@ -313,7 +355,7 @@ fn given(gives: bool) -> Leaves
     }
 }
 
-fn invoking(program: &Program, callee: usize, stack: &[VType]) -> Option<Effect>
+fn invoking(program: &Program, callee: usize, stack: &[VType]) -> Option<Effect<'static>>
     ensures { result ≡ invoking (method_at program.now callee) stack.now }
 {
     let callee = program.method(callee)?;
@@ -324,7 +366,7 @@ fn invoking(program: &Program, callee: usize, stack: &[VType]) -> Option<Effect>
     }
 }
 
-fn returning(gives: bool) -> Option<Effect>
+fn returning(gives: bool) -> Option<Effect<'static>>
     ensures { result ≡ returning gives }
 {
     if gives {
@@ -339,7 +381,7 @@ fn returning(gives: bool) -> Option<Effect>
     }
 }
 
-fn giving(gives: bool, stack: &[VType]) -> Option<Effect>
+fn giving(gives: bool, stack: &[VType]) -> Option<Effect<'static>>
     ensures { result ≡ giving gives stack.now }
 {
     if gives {
@@ -350,7 +392,7 @@ fn giving(gives: bool, stack: &[VType]) -> Option<Effect>
 }
 
 /// A read or a write, which take a value of the word's type under the place.
-fn accessing(word_type: WordType, stack: &[VType], leaves: Leaves) -> Option<Effect>
+fn accessing(word_type: WordType, stack: &[VType], leaves: Leaves) -> Option<Effect<'static>>
     ensures { result ≡ accessing word_type stack.now leaves }
 {
     let wants = [
@@ -364,29 +406,38 @@ fn accessing(word_type: WordType, stack: &[VType], leaves: Leaves) -> Option<Eff
 }
 
 /// The effect of a call of the context. Its arguments lie in order, the last topmost.
-fn called(call: ContextCall, stack: &[VType]) -> Option<Effect>
+fn called(call: ContextCall, stack: &[VType]) -> Option<Effect<'static>>
     ensures { result ≡ called call stack.now }
 {
     let none = Leaves::Nothing;
-    let next = Ways::Following;
     match call {
-        ContextCall::Init => taking(stack, &[Want::Int, Want::Int, Want::Context], none, next),
+        ContextCall::Init => taking(
+            stack,
+            &[Want::Int, Want::Int, Want::Context],
+            none,
+            Ways::Following,
+        ),
         ContextCall::BeforeRead => {
             let wants = [Want::Second, Want::Long, Want::Object, Want::Context];
-            taking(stack, &wants, none, next)
+            taking(stack, &wants, none, Ways::Following)
         }
         ContextCall::OnRead(word_type) => {
             accessing(word_type, stack, Leaves::One(leave_of(word_type)))
         }
         ContextCall::OnWrite(word_type) => accessing(word_type, stack, none),
-        ContextCall::Commit => taking(stack, &[Want::Context], Leaves::One(Leave::Int), next),
-        ContextCall::Rollback => taking(stack, &[Want::Context], none, next),
+        ContextCall::Commit => taking(
+            stack,
+            &[Want::Context],
+            Leaves::One(Leave::Int),
+            Ways::Following,
+        ),
+        ContextCall::Rollback => taking(stack, &[Want::Context], none, Ways::Following),
     }
 }
 
 /// The effect of an instruction that only computes with ints, jumps or throws.
-fn effect_on_ints(op: Op, stack: &[VType]) -> Option<Effect>
-    ensures { result ≡ effect_on_ints op stack.now }
+fn effect_on_ints<'a>(op: &'a Op, stack: &[VType]) -> Option<Effect<'a>>
+    ensures { result ≡ effect_on_ints op.now stack.now }
 {
     let none = Leaves::Nothing;
     match op {
@@ -400,31 +451,39 @@ fn effect_on_ints(op: Op, stack: &[VType]) -> Option<Effect>
             Leaves::One(Leave::Int),
             Ways::Following,
         ),
-        Op::Branch(_, to) => taking(stack, &[Want::Int], none, Ways::Either(to)),
-        Op::BranchInts(_, to) => taking(stack, &[Want::Int, Want::Int], none, Ways::Either(to)),
-        Op::Goto(to) => taking(stack, &[], none, Ways::Target(to)),
+        Op::Branch(_, to) => taking(stack, &[Want::Int], none, Ways::Either(*to)),
+        Op::BranchInts(_, to) => taking(stack, &[Want::Int, Want::Int], none, Ways::Either(*to)),
+        Op::Goto(to) => taking(stack, &[], none, Ways::Target(*to)),
+        Op::Switch { other, cases } => {
+            taking(stack, &[Want::Int], none, Ways::Any(cases.exits(*other)))
+        }
         Op::Throw => taking(stack, &[Want::Throwable], none, Ways::Nowhere),
         _ => None,
     }
 }
 
 /// The effect of an instruction over these types, or none where they don't fit it.
-pub fn effect_of(program: &Program, method: &Method, op: Op, entry: &TypeEntry) -> Option<Effect>
-    ensures { result ≡ effect_of program.now method.now op entry.now }
+pub fn effect_of<'a>(
+    program: &Program,
+    method: &Method,
+    op: &'a Op,
+    entry: &TypeEntry,
+) -> Option<Effect<'a>>
+    ensures { result ≡ effect_of program.now method.now op.now entry.now }
 {
     match op {
-        Op::Constant(value) => Some(Effect::on_stack(0, constant(value))),
-        Op::Load(i) => loading(entry.locals(), i),
-        Op::Store(i) => storing(entry.locals(), entry.stack(), i),
-        Op::Rearrange(rearrange) => rearrangement(rearrange, entry.stack()),
-        Op::Increment(i, _) => incrementing(entry.locals(), i),
-        Op::GetStatic(field) => getting(program, field),
-        Op::PutStatic(field) => putting(program, field, entry.stack()),
-        Op::InvokeStatic(callee) => invoking(program, callee, entry.stack()),
+        Op::Constant(value) => Some(Effect::on_stack(0, constant(*value))),
+        Op::Load(i) => loading(entry.locals(), *i),
+        Op::Store(i) => storing(entry.locals(), entry.stack(), *i),
+        Op::Rearrange(rearrange) => rearrangement(*rearrange, entry.stack()),
+        Op::Increment(i, _) => incrementing(entry.locals(), *i),
+        Op::GetStatic(field) => getting(program, *field),
+        Op::PutStatic(field) => putting(program, *field, entry.stack()),
+        Op::InvokeStatic(callee) => invoking(program, *callee, entry.stack()),
         Op::Return => returning(method.gives()),
         Op::ReturnValue => giving(method.gives(), entry.stack()),
         Op::GetContext => Some(Effect::on_stack(0, Leaves::One(Leave::Context))),
-        Op::Context(call) => called(call, entry.stack()),
+        Op::Context(call) => called(*call, entry.stack()),
         _ => effect_on_ints(op, entry.stack()),
     }
 }

@@ -11,7 +11,7 @@ use crate::order::{
 };
 use hierarchy::{Method, Program};
 use jmodel::op::{Catch, Catches, Op};
-use jmodel::{TypeEntry, Typing, VType};
+use jmodel::{Exits, TypeEntry, Typing, VType};
 use std::alloc::{AllocError, Global};
 use std::collections::BTreeSet;
 use std::marker::Model;
@@ -135,6 +135,21 @@ fn leave_types(alloc: Global, entry: &TypeEntry, leaves: Leaves) -> Result<Vec<V
             push_leave(alloc, &mut types, entry, b)?;
             push_leave(alloc, &mut types, entry, c)?;
             push_leave(alloc, &mut types, entry, d)?;
+        }
+        Leaves::Five(a, b, c, d, e) => {
+            push_leave(alloc, &mut types, entry, a)?;
+            push_leave(alloc, &mut types, entry, b)?;
+            push_leave(alloc, &mut types, entry, c)?;
+            push_leave(alloc, &mut types, entry, d)?;
+            push_leave(alloc, &mut types, entry, e)?;
+        }
+        Leaves::Six(a, b, c, d, e, f) => {
+            push_leave(alloc, &mut types, entry, a)?;
+            push_leave(alloc, &mut types, entry, b)?;
+            push_leave(alloc, &mut types, entry, c)?;
+            push_leave(alloc, &mut types, entry, d)?;
+            push_leave(alloc, &mut types, entry, e)?;
+            push_leave(alloc, &mut types, entry, f)?;
         }
     }
     Ok(types)
@@ -275,22 +290,22 @@ pub fn is_guarded(entry: &Catch, pc: usize) -> bool
 
 /// What the instruction of a place does to its frame: the locals before it, the types after it, and where it goes on.
 #[derive(Drop)]
-struct Outcome {
+struct Outcome<'a> {
     before: TypeEntry,
     after: TypeEntry,
-    ways: Ways,
+    ways: Ways<'a>,
 }
 
 /// The outcome of an effect, if it keeps within the stack.
-fn outcome_of(
+fn outcome_of<'a>(
     alloc: Global,
     method: &Method,
     entry: &TypeEntry,
-    effect: &Effect,
-) -> Result<Option<Outcome>, AllocError>
-    ensures { IfOk result (λ o. o ≡ outcome_of method.now entry.now (Some effect.now)) }
+    effect: Effect<'a>,
+) -> Result<Option<Outcome<'a>>, AllocError>
+    ensures { IfOk result (λ o. o ≡ outcome_of method.now entry.now (Some effect.entry)) }
 {
-    let after = left(alloc, entry, effect)?;
+    let after = left(alloc, entry, &effect)?;
     if after.stack().len() > method.max_stack() {
         return Ok(None);
     }
@@ -303,20 +318,20 @@ fn outcome_of(
 }
 
 /// The outcome of an instruction over these types, if its rules hold.
-fn outcome_in(
+fn outcome_in<'a>(
     alloc: Global,
     program: &Program,
     method: &Method,
-    op: Op,
+    op: &'a Op,
     entry: &TypeEntry,
-) -> Result<Option<Outcome>, AllocError>
-    ensures { IfOk result (λ o. o ≡ outcome_in program.now method.now entry.now (Some op)) }
+) -> Result<Option<Outcome<'a>>, AllocError>
+    ensures { IfOk result (λ o. o ≡ outcome_in program.now method.now entry.now (Some op.now)) }
 {
     if !is_ready(method, entry) {
         return Ok(None);
     }
     match effect_of(program, method, op, entry) {
-        Some(effect) => outcome_of(alloc, method, entry, &effect),
+        Some(effect) => outcome_of(alloc, method, entry, effect),
         None => Ok(None),
     }
 }
@@ -374,24 +389,42 @@ impl Search {
         &mut self,
         alloc: Global,
         pc: usize,
-        ways: Ways,
+        ways: &Ways,
         out: &TypeEntry,
     ) -> Result<bool, AllocError>
         requires { pc + 1 < 2 ^ 64 }
-        ensures { IfOk result (λ b. Flows (each_to (places ways pc) out.now) self.old self.new b) }
+        ensures { IfOk result (λ b. Flows (each_to (places ways.now pc) out.now) self.old self.new b) }
     {
         match ways {
             Ways::Following => self.flow_to(alloc, pc + 1, out.locals(), out.stack()),
-            Ways::Target(to) => self.flow_to(alloc, to, out.locals(), out.stack()),
+            Ways::Target(to) => self.flow_to(alloc, *to, out.locals(), out.stack()),
             Ways::Either(to) => {
                 if self.flow_to(alloc, pc + 1, out.locals(), out.stack())? {
-                    self.flow_to(alloc, to, out.locals(), out.stack())
+                    self.flow_to(alloc, *to, out.locals(), out.stack())
                 } else {
                     Ok(false)
                 }
             }
+            Ways::Any(exits) => self.flow_out(alloc, exits, out),
             Ways::Nowhere => Ok(true),
         }
+    }
+
+    /// Lets types flow to each target of a switch. False where one can't take them.
+    fn flow_out(
+        &mut self,
+        alloc: Global,
+        exits: &Exits,
+        out: &TypeEntry,
+    ) -> Result<bool, AllocError>
+        ensures { IfOk result (λ b. Flows (each_to exits.now out.now) self.old self.new b) }
+    {
+        for number in 0..exits.count() {
+            if !self.flow_to(alloc, exits.at(number), out.locals(), out.stack())? {
+                return Ok(false);
+            }
+        }
+        Ok(true)
     }
 
     /// Lets the exceptions of a place flow, over these locals, to the place of each entry that guards it. False where one
@@ -428,7 +461,7 @@ impl Search {
         requires { pc + 1 < 2 ^ 64 }
         ensures { IfOk result (λ b. Follows method.now pc (Some outcome.now) self.old self.new b) }
     {
-        if !self.flow_on(alloc, pc, outcome.ways, &outcome.after)? {
+        if !self.flow_on(alloc, pc, &outcome.ways, &outcome.after)? {
             return Ok(false);
         }
         if !self.flow_caught(alloc, method.catches(), pc, outcome.before.locals())? {
@@ -438,13 +471,13 @@ impl Search {
     }
 
     /// The outcome of the instruction of a place, if its rules hold.
-    fn outcome(
+    fn outcome<'a>(
         &self,
         alloc: Global,
         program: &Program,
-        method: &Method,
+        method: &'a Method,
         pc: usize,
-    ) -> Result<Option<Outcome>, AllocError>
+    ) -> Result<Option<Outcome<'a>>, AllocError>
         ensures { IfOk result (λ o. o ≡ outcome_at program.now method.now pc self.now.table) }
     {
         let Some(Some(entry)) = self.table.get(pc) else {
@@ -453,7 +486,7 @@ impl Search {
         let Some(op) = method.ops().get(pc) else {
             return Ok(None);
         };
-        outcome_in(alloc, program, method, *op, entry)
+        outcome_in(alloc, program, method, op, entry)
     }
 
     /// Looks at the instruction of a place. False where its rules fail.

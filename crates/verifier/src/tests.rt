@@ -3,7 +3,7 @@ ghost use Rattle.std.specs.Prelude.{◌≡◌, IfOk, length};
 use crate::{TypeEnd, check, infer};
 use hierarchy::{Field, Method, Program};
 use jmodel::op::{Binary, Catch, Catches, ContextCall, Op, Place, Rearrange, Test, WordType};
-use jmodel::{Bytes, MethodName, Typing, VType, Value};
+use jmodel::{Bytes, Cases, MethodName, Typing, VType, Value};
 use std::alloc::{AllocError, Global};
 
 const ONE: Op = Op::Constant(Value::Int(1));
@@ -120,12 +120,12 @@ fn field(alloc: Global) -> Field {
 }
 
 /// A method that gives an int.
-fn method(
+fn method<const N: usize>(
     alloc: Global,
     takes: Vec<VType>,
     locals: usize,
     max_stack: usize,
-    ops: &[Op],
+    ops: [Op; N],
     catches: &[Catch],
 ) -> Result<Method, AllocError> {
     let name = MethodName {
@@ -134,7 +134,7 @@ fn method(
         descriptor: Bytes::new(alloc),
     };
     let params = takes.len();
-    let code = Vec::from_slice(alloc, ops)?;
+    let code = Vec::from_array(alloc, ops)?;
     let catches = Vec::from_slice(alloc, catches)?;
     Ok(Method::new(
         name, takes, params, locals, max_stack, true, true, None, code, catches,
@@ -154,18 +154,22 @@ fn program(alloc: Global, method: Method) -> Result<Program, AllocError>
 }
 
 fn with_context(alloc: Global) -> Result<Method, AllocError> {
-    method(alloc, context(alloc)?, 1, 1, &[ONE, Op::ReturnValue], &[])
+    method(alloc, context(alloc)?, 1, 1, [ONE, Op::ReturnValue], &[])
 }
 
 /// A program of a method that takes an int, with two locals and a stack of two.
-fn int_program(alloc: Global, ops: &[Op], catches: &[Catch]) -> Result<Program, AllocError>
+fn int_program<const N: usize>(
+    alloc: Global,
+    ops: [Op; N],
+    catches: &[Catch],
+) -> Result<Program, AllocError>
     ensures { IfOk result (λ p. length p.methods ≡ 2) }
 {
     program(alloc, method(alloc, int(alloc)?, 2, 2, ops, catches)?)
 }
 
 /// The place for which code has no typing.
-fn untypable_with(alloc: Global, ops: &[Op], catches: &[Catch]) -> Option<usize> {
+fn untypable_with<const N: usize>(alloc: Global, ops: [Op; N], catches: &[Catch]) -> Option<usize> {
     let program = int_program(alloc, ops, catches).ok()?;
     match infer(alloc, &program, 0) {
         Err(TypeEnd::Untypable(place)) => Some(place),
@@ -173,7 +177,7 @@ fn untypable_with(alloc: Global, ops: &[Op], catches: &[Catch]) -> Option<usize>
     }
 }
 
-fn untypable(alloc: Global, ops: &[Op]) -> Option<usize> {
+fn untypable<const N: usize>(alloc: Global, ops: [Op; N]) -> Option<usize> {
     untypable_with(alloc, ops, &[])
 }
 
@@ -214,7 +218,7 @@ fn has_top(typing: &Typing, pc: usize, name: &[u8]) -> bool {
 #[test]
 fn a_loop_is_typed(rt: HostRuntime) {
     let alloc = rt.alloc();
-    let program = int_program(alloc, &LOOP, &[]).expect(&rt, "memory");
+    let program = int_program(alloc, LOOP, &[]).expect(&rt, "memory");
     let typing = infer(alloc, &program, 0).expect(&rt, "a typing");
     assert!(rt; has(&typing, 0, false, 0));
     assert!(rt; has(&typing, 2, true, 0));
@@ -234,7 +238,7 @@ fn a_merge_forgets_a_local(rt: HostRuntime) {
         Op::ReturnValue,
         Op::Load(1),
     ];
-    let program = int_program(alloc, &ops, &[]).expect(&rt, "memory");
+    let program = int_program(alloc, ops, &[]).expect(&rt, "memory");
     let typing = infer(alloc, &program, 0).expect(&rt, "a typing");
     assert!(rt; has(&typing, 2, false, 0));
     assert!(rt; has(&typing, 4, false, 0));
@@ -244,8 +248,8 @@ fn a_merge_forgets_a_local(rt: HostRuntime) {
 #[test]
 fn a_table_of_another_method_fails(rt: HostRuntime) {
     let alloc = rt.alloc();
-    let first = int_program(alloc, &LOOP, &[]).expect(&rt, "memory");
-    let second = int_program(alloc, &[ONE, POP, ONE, Op::ReturnValue], &[]).expect(&rt, "memory");
+    let first = int_program(alloc, LOOP, &[]).expect(&rt, "memory");
+    let second = int_program(alloc, [ONE, POP, ONE, Op::ReturnValue], &[]).expect(&rt, "memory");
     let typing = infer(alloc, &second, 0).expect(&rt, "a typing");
     assert!(rt; check(&second, 0, &typing));
     assert!(rt; !check(&first, 0, &typing));
@@ -255,11 +259,11 @@ fn a_table_of_another_method_fails(rt: HostRuntime) {
 fn rewritten_code_is_typed(rt: HostRuntime) {
     let alloc = rt.alloc();
     let takes = context(alloc).expect(&rt, "memory");
-    let getter = method(alloc, takes, 1, 5, &GETTER, &[]).expect(&rt, "memory");
+    let getter = method(alloc, takes, 1, 5, GETTER, &[]).expect(&rt, "memory");
     let getter = program(alloc, getter).expect(&rt, "memory");
     let typing = infer(alloc, &getter, 0).expect(&rt, "a typing");
     assert!(rt; check(&getter, 0, &typing));
-    let wrapper = method(alloc, Vec::new(alloc), 2, 3, &WRAPPER, &HANDLERS).expect(&rt, "memory");
+    let wrapper = method(alloc, Vec::new(alloc), 2, 3, WRAPPER, &HANDLERS).expect(&rt, "memory");
     let wrapper = program(alloc, wrapper).expect(&rt, "memory");
     let typing = infer(alloc, &wrapper, 0).expect(&rt, "a typing");
     assert!(rt; check(&wrapper, 0, &typing));
@@ -292,7 +296,7 @@ fn merges_to(
         ONE,
         Op::ReturnValue,
     ];
-    let program = program(alloc, method(alloc, takes, 4, 1, &ops, &[])?)?;
+    let program = program(alloc, method(alloc, takes, 4, 1, ops, &[])?)?;
     match infer(alloc, &program, 0) {
         Ok(typing) => Ok(has_local(&typing, 7, 3, name) && check(&program, 0, &typing)),
         Err(_) => Ok(false),
@@ -304,12 +308,12 @@ fn references_merge_to_the_nearest_class(rt: HostRuntime) {
     let alloc = rt.alloc();
     let exception = b"java/lang/Exception";
     let object = b"java/lang/Object";
-    let param = Op::Load(2);
-    assert!(rt; merges_to(alloc, b"A", param, b"A", b"A").expect(&rt, "memory"));
-    assert!(rt; merges_to(alloc, b"A", param, b"B", object).expect(&rt, "memory"));
-    assert!(rt; merges_to(alloc, b"A", param, THROWABLE, object).expect(&rt, "memory"));
-    assert!(rt; merges_to(alloc, CONFLICT, param, exception, exception).expect(&rt, "memory"));
-    assert!(rt; merges_to(alloc, exception, param, CONFLICT, exception).expect(&rt, "memory"));
+    let param = || Op::Load(2);
+    assert!(rt; merges_to(alloc, b"A", param(), b"A", b"A").expect(&rt, "memory"));
+    assert!(rt; merges_to(alloc, b"A", param(), b"B", object).expect(&rt, "memory"));
+    assert!(rt; merges_to(alloc, b"A", param(), THROWABLE, object).expect(&rt, "memory"));
+    assert!(rt; merges_to(alloc, CONFLICT, param(), exception, exception).expect(&rt, "memory"));
+    assert!(rt; merges_to(alloc, exception, param(), CONFLICT, exception).expect(&rt, "memory"));
     assert!(rt; merges_to(alloc, b"A", NULL, b"B", b"A").expect(&rt, "memory"));
     assert!(rt; merges_to(alloc, b"A", OBJECT, b"B", object).expect(&rt, "memory"));
 }
@@ -317,11 +321,11 @@ fn references_merge_to_the_nearest_class(rt: HostRuntime) {
 #[test]
 fn the_place_is_the_least(rt: HostRuntime) {
     let alloc = rt.alloc();
-    assert!(rt; untypable(alloc, &[]) == Some(0));
+    assert!(rt; untypable(alloc, []) == Some(0));
     // Nothing to pop, the end of the code, a stack of three.
-    assert!(rt; untypable(alloc, &[ONE, Op::Binary(Binary::Add)]) == Some(1));
-    assert!(rt; untypable(alloc, &[ONE, Op::Store(0)]) == Some(1));
-    assert!(rt; untypable(alloc, &[ONE, ONE, ONE, Op::ReturnValue]) == Some(2));
+    assert!(rt; untypable(alloc, [ONE, Op::Binary(Binary::Add)]) == Some(1));
+    assert!(rt; untypable(alloc, [ONE, Op::Store(0)]) == Some(1));
+    assert!(rt; untypable(alloc, [ONE, ONE, ONE, Op::ReturnValue]) == Some(2));
     // Two heights at 3.
     let heights = [
         Op::Load(0),
@@ -330,9 +334,9 @@ fn the_place_is_the_least(rt: HostRuntime) {
         ONE,
         Op::ReturnValue,
     ];
-    assert!(rt; untypable(alloc, &heights) == Some(2));
+    assert!(rt; untypable(alloc, heights) == Some(2));
     // A jump to the first place with a stack.
-    assert!(rt; untypable(alloc, &[ONE, Op::Goto(0)]) == Some(1));
+    assert!(rt; untypable(alloc, [ONE, Op::Goto(0)]) == Some(1));
     // The local is read at 4, and the jump at 6 leaves it without an int there.
     let late = [
         Op::Load(0),
@@ -343,9 +347,9 @@ fn the_place_is_the_least(rt: HostRuntime) {
         Op::ReturnValue,
         Op::Goto(4),
     ];
-    assert!(rt; untypable(alloc, &late) == Some(6));
+    assert!(rt; untypable(alloc, late) == Some(6));
     // Half a long.
-    assert!(rt; untypable(alloc, &[LONG, POP, ONE, Op::ReturnValue]) == Some(1));
+    assert!(rt; untypable(alloc, [LONG, POP, ONE, Op::ReturnValue]) == Some(1));
     // An int or null on the stack at 5.
     let unlike = [
         Op::Load(0),
@@ -357,31 +361,106 @@ fn the_place_is_the_least(rt: HostRuntime) {
         ONE,
         Op::ReturnValue,
     ];
-    assert!(rt; untypable(alloc, &unlike) == Some(5));
+    assert!(rt; untypable(alloc, unlike) == Some(5));
 }
+
+/// A local is stored to and loaded, and a handler stands behind.
+const GUARDED: [Op; 7] = [
+    ONE,
+    Op::Store(1),
+    Op::Load(1),
+    Op::ReturnValue,
+    POP,
+    Op::Load(1),
+    Op::ReturnValue,
+];
 
 #[test]
 fn a_handler_has_the_locals_before_and_after(rt: HostRuntime) {
     let alloc = rt.alloc();
-    let ops = [
-        ONE,
-        Op::Store(1),
-        Op::Load(1),
-        Op::ReturnValue,
-        POP,
-        Op::Load(1),
-        Op::ReturnValue,
-    ];
     let from = |from: usize| Catch {
         from,
         to: 3,
         at: 4,
         catches: Catches::Any,
     };
-    assert!(rt; untypable_with(alloc, &ops, &[from(1)]) == Some(5));
-    assert!(rt; untypable_with(alloc, &ops, &[from(2)]).is_none());
-    let program = int_program(alloc, &ops, &[from(2)]).expect(&rt, "memory");
+    assert!(rt; untypable_with(alloc, GUARDED, &[from(1)]) == Some(5));
+    assert!(rt; untypable_with(alloc, GUARDED, &[from(2)]).is_none());
+    let program = int_program(alloc, GUARDED, &[from(2)]).expect(&rt, "memory");
     let typing = infer(alloc, &program, 0).expect(&rt, "a typing");
     assert!(rt; has_top(&typing, 4, THROWABLE));
     assert!(rt; has(&typing, 4, true, 1));
+}
+
+/// What stands at 2 to 4 for the keys 0 and 3 and any other.
+fn switch(alloc: Global, targets: (usize, usize, usize)) -> Result<Op, AllocError> {
+    let pairs = vec![in alloc; (0, targets.0), (3, targets.1)]?;
+    match Cases::new(pairs) {
+        Some(cases) => Ok(Op::Switch {
+            other: targets.2,
+            cases,
+        }),
+        None => Err(AllocError),
+    }
+}
+
+#[test]
+fn a_switch_leads_to_each_target(rt: HostRuntime) {
+    let alloc = rt.alloc();
+    let ops = [
+        Op::Load(0),
+        switch(alloc, (4, 5, 2)).expect(&rt, "memory"),
+        ONE,
+        Op::ReturnValue,
+        Op::Goto(2),
+        Op::Load(0),
+        Op::ReturnValue,
+        ONE,
+    ];
+    let program = int_program(alloc, ops, &[]).expect(&rt, "memory");
+    let typing = infer(alloc, &program, 0).expect(&rt, "a typing");
+    assert!(rt; check(&program, 0, &typing));
+    for place in 0..7 {
+        assert!(rt; typing.at(place).is_some());
+    }
+    assert!(rt; typing.at(7).is_none());
+    // A target that is no place of the code, one after the other.
+    for targets in [(9, 5, 2), (4, 9, 2), (4, 5, 9)] {
+        let outside = switch(alloc, targets).expect(&rt, "memory");
+        let ops = [Op::Load(0), outside, ONE, Op::ReturnValue, ONE, ONE];
+        assert!(rt; untypable(alloc, ops) == Some(1));
+    }
+    // No int to switch on.
+    let bare = switch(alloc, (1, 1, 1)).expect(&rt, "memory");
+    assert!(rt; untypable(alloc, [bare, ONE, Op::ReturnValue]) == Some(0));
+}
+
+/// Whether copies of what lies deeper are typed, over a stack that they fill.
+#[test]
+fn copies_under_three_and_four_are_typed(rt: HostRuntime) {
+    let alloc = rt.alloc();
+    for (rearrange, many) in [
+        (Rearrange::DuplicateUnderTwo, 4),
+        (Rearrange::DuplicateTwoUnder, 5),
+        (Rearrange::DuplicateTwoUnderTwo, 6),
+    ] {
+        let ops = [
+            ONE,
+            ONE,
+            ONE,
+            ONE,
+            Op::Rearrange(rearrange),
+            Op::ReturnValue,
+        ];
+        let takes = int(alloc).expect(&rt, "memory");
+        let code = method(alloc, takes, 1, 7, ops, &[]).expect(&rt, "memory");
+        let program = program(alloc, code).expect(&rt, "memory");
+        let typing = infer(alloc, &program, 0).expect(&rt, "a typing");
+        assert!(rt; check(&program, 0, &typing));
+        let height = typing.at(5).map(|entry| entry.stack().len());
+        let beneath = if many == 6 { 0 } else { 1 };
+        assert!(rt; height == Some(many + beneath));
+    }
+    let three = [ONE, ONE, Op::Rearrange(Rearrange::DuplicateTwoUnder)];
+    assert!(rt; untypable(alloc, three) == Some(2));
 }

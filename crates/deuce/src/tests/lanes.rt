@@ -64,3 +64,14 @@ fn lanes_count_side_by_side(rt: HostRuntime) -> Result<(), Fail> {
     assert!(rt; counts(&rt, rt.alloc(), 16, 20)?);
     Ok(())
 }
+
+/// A bag of two calls.
+const TWO_IN_A_BAG: &[u8] =
+    b"{\"form\":1,\"lanes\":1,\"phases\":[{\"bag\":[{\"call\":\"Counter.inc()I\",\"args\":[]},{\"call\":\"Counter.inc()I\",\"args\":[]}]}]}";
+
+#[test]
+fn calls_of_a_bag_are_made_once(rt: HostRuntime) -> Result<(), Fail> {
+    let text = "history 2\n0 0 0 Counter.inc()I 1\n0 0 1 Counter.inc()I 2\nunplaced 0\n";
+    assert!(rt; runs(&rt, rt.alloc(), COUNTER.as_slice(), TWO_IN_A_BAG, 0, text)?);
+    Ok(())
+}

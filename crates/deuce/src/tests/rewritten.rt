@@ -3,6 +3,7 @@ ghost use Rattle.std.specs.Prelude.{IfOk};
 ghost use Rattle.std.specs.List.{AllByRecursion};
 ghost use Rattle.jmodel.specs.Typing.{IsTypable};
 
+use super::switches::SWITCHES;
 use super::{COUNTER, ONE_CALL, folder_of, with_code, words_of};
 use crate::run::{RunEnd, class_of, prepare};
 use crate::top::deuce;
@@ -115,6 +116,16 @@ fn counter_is_rewritten_as_the_formats_say(rt: HostRuntime) -> Result<(), Fail> 
     assert_eq!(rt; new.as_slice(), REWRITTEN.as_slice());
     let old = folder.read("d/Counter.class", 2000)?;
     assert_eq!(rt; old.as_slice(), COUNTER.as_slice());
+    assert_eq!(rt; folder.files.len(), 3usize);
+    Ok(())
+}
+
+#[test]
+fn switches_are_rewritten(rt: HostRuntime) -> Result<(), Fail> {
+    let alloc = rt.alloc();
+    let mut folder = folder_of(alloc, SWITCHES.as_slice(), ONE_CALL)?;
+    let counts = "classes 1\ntaken 3\natomic 3\n";
+    assert!(rt; ends_with(&rt, alloc, &mut folder, 0, counts)?);
     assert_eq!(rt; folder.files.len(), 3usize);
     Ok(())
 }

@@ -5,6 +5,7 @@ ghost use Rattle.std.specs.Prelude.{◌≡◌, ◌≤◌, ◌+◌, ◌^◌, IfOk
 use super::{at_zero, getter, int_types, ints_and_context, limits, name, setter};
 use crate::machine::{Machine, Stuck};
 use hierarchy::program::{Field, Method, Program};
+use jmodel::Cases;
 use jmodel::bytes::Bytes;
 use jmodel::op::{
     Binary, Catch, Catches, ContextCall, Op, Place, Rearrange, Test, Unary, WordType,
@@ -40,17 +41,17 @@ fn wrapper(alloc: Global, params: usize, gives: bool) -> Result<Method, AllocErr
     for i in 0..params {
         ops.push(Op::Load(i))?;
     }
-    ops.extend_from_slice(&[Op::Load(params), Op::InvokeStatic(DUPLICATE)])?;
+    ops.push(Op::Load(params))?;
+    ops.push(Op::InvokeStatic(DUPLICATE))?;
     if gives {
         ops.push(Op::Store(params + 1))?;
     }
-    ops.extend_from_slice(&[
-        Op::Load(params),
-        Op::Context(ContextCall::Commit),
-        Op::Branch(Test::Equal, 2),
-    ])?;
+    ops.push(Op::Load(params))?;
+    ops.push(Op::Context(ContextCall::Commit))?;
+    ops.push(Op::Branch(Test::Equal, 2))?;
     if gives {
-        ops.extend_from_slice(&[Op::Load(params + 1), Op::ReturnValue])?;
+        ops.push(Op::Load(params + 1))?;
+        ops.push(Op::ReturnValue)?;
     } else {
         ops.push(Op::Return)?;
     }
@@ -84,7 +85,7 @@ fn program(alloc: Global, params: usize, gives: bool, ops: Vec<Op>) -> Result<Pr
         name(alloc),
         takes,
         params + 1,
-        params + 6,
+        params + 7,
         10,
         gives,
         true,
@@ -221,25 +222,39 @@ fn branches_go_by_signed_comparisons(rt: HostRuntime) {
     }
 }
 
-/// The digits of the stack from the bottom, after 1, 2 and 3 were pushed and it was rearranged to this height.
-fn digits(alloc: Global, rearrange: Rearrange, height: usize) -> Result<Option<i32>, AllocError>
-    requires { height ≤ 5 }
+/// The digits of the stack from the bottom, after 1 to `last` were pushed and it was rearranged to this height.
+fn digits_to(
+    alloc: Global,
+    last: i32,
+    rearrange: Rearrange,
+    height: usize,
+) -> Result<Option<i32>, AllocError>
+    requires { height ≤ 6 }
 {
-    let mut ops = vec![in alloc; int(1), int(2), int(3), Op::Rearrange(rearrange)]?;
+    let mut ops = Vec::new(alloc);
+    for digit in 1..=last {
+        ops.push(int(digit))?;
+    }
+    ops.push(Op::Rearrange(rearrange))?;
     for i in 0..height {
         ops.push(Op::Store(3 + i))?;
     }
     ops.push(int(0))?;
     for i in 0..height {
-        ops.extend_from_slice(&[
-            int(10),
-            Op::Binary(Binary::Multiply),
-            Op::Load(2 + height - i),
-            Op::Binary(Binary::Add),
-        ])?;
+        ops.push(int(10))?;
+        ops.push(Op::Binary(Binary::Multiply))?;
+        ops.push(Op::Load(2 + height - i))?;
+        ops.push(Op::Binary(Binary::Add))?;
     }
     ops.push(Op::ReturnValue)?;
     given(alloc, ops, 0, 0)
+}
+
+/// The same after 1, 2 and 3.
+fn digits(alloc: Global, rearrange: Rearrange, height: usize) -> Result<Option<i32>, AllocError>
+    requires { height ≤ 6 }
+{
+    digits_to(alloc, 3, rearrange, height)
 }
 
 #[test]
@@ -257,6 +272,64 @@ fn the_stack_is_rearranged(rt: HostRuntime) {
     assert_eq!(rt; two, Some(12323));
     let swap = digits(alloc, Rearrange::Swap, 3).expect(&rt, "memory");
     assert_eq!(rt; swap, Some(132));
+}
+
+// The numbers are those that a Java machine gave for the same instructions.
+#[test]
+fn copies_go_under_what_lies_deeper(rt: HostRuntime) {
+    let alloc = rt.alloc();
+    let under_two = digits(alloc, Rearrange::DuplicateUnderTwo, 4).expect(&rt, "memory");
+    assert_eq!(rt; under_two, Some(3123));
+    let two_under = digits(alloc, Rearrange::DuplicateTwoUnder, 5).expect(&rt, "memory");
+    assert_eq!(rt; two_under, Some(23123));
+    let deepest = Rearrange::DuplicateTwoUnderTwo;
+    let two_under_two = digits_to(alloc, 4, deepest, 6).expect(&rt, "memory");
+    assert_eq!(rt; two_under_two, Some(341234));
+    let too_few = digits(alloc, deepest, 5).expect(&rt, "memory");
+    assert_eq!(rt; too_few, None);
+}
+
+/// 10, 20 or 30 by the case of an int, else 40.
+fn switched(alloc: Global, x: i32) -> Result<Option<i32>, AllocError> {
+    let pairs = vec![in alloc; (i32::MIN, 2usize), (-1, 4), (0, 6), (7, 4), (i32::MAX, 2)]?;
+    let Some(cases) = Cases::new(pairs) else {
+        return Ok(None);
+    };
+    let ops = vec![in alloc;
+        Op::Load(0),
+        Op::Switch { other: 8, cases },
+        int(10),
+        Op::ReturnValue,
+        int(20),
+        Op::ReturnValue,
+        int(30),
+        Op::ReturnValue,
+        int(40),
+        Op::ReturnValue,
+    ]?;
+    given(alloc, ops, x, 0)
+}
+
+// The numbers are those that a Java machine gave for a lookupswitch of these keys.
+#[test]
+fn a_switch_goes_by_its_keys(rt: HostRuntime) {
+    let alloc = rt.alloc();
+    for (x, want) in [
+        (i32::MIN, 10),
+        (i32::MIN + 1, 40),
+        (-2, 40),
+        (-1, 20),
+        (0, 30),
+        (1, 40),
+        (6, 40),
+        (7, 20),
+        (8, 40),
+        (i32::MAX - 1, 40),
+        (i32::MAX, 10),
+    ] {
+        let got = switched(alloc, x).expect(&rt, "memory");
+        assert_eq!(rt; got, Some(want));
+    }
 }
 
 #[test]

@@ -2,7 +2,7 @@ use Rattle.std.proofs.Common.{◌≡◌, ◌∙◌, Some, ap, inl, inr, Err}
 use Rattle.std.specs.Prelude.{string_bytes, option_map}
 use Rattle.deuce_io.specs.Fault.{rose_since}
 use Rattle.deuce_io.specs.Files.{inside, with_content}
-use Rattle.deuce.specs.Ending.{IsCallOfFolder, NoScript, IsNotRewritten}
+use Rattle.deuce.specs.Ending.{IsCallOfFolder, NoScript, NoOpening, IsNotRewritten}
 use Rattle.deuce.specs.Outcomes.{seen, IsUnreadAs, IsRefusedAs}
 use Rattle.deuce.proofs.Lists.{on_ok}
 use Rattle.deuce.proofs.Outcomes.{unread, refused}
@@ -22,8 +22,8 @@ returns-in-Err-rewrite_file-clause-outcome g c =
     let old = seen (g.F.Folder.files c.args.folder.now) (g.F.Folder.faults c.args.folder.now) (g.F.Folder.put_faults c.args.folder.now) (g.F.Folder.failed c.args.folder.now) in
     let new = seen (g.F.Folder.files c.read_class_file.new.folder) (g.F.Folder.faults c.read_class_file.new.folder) (g.F.Folder.put_faults c.read_class_file.new.folder) (g.F.Folder.failed c.read_class_file.new.folder) in
     on_ok c.refused.result (IsRefusedAs c.in-Ok.input.path c.in-Err-rewrite_file.end) _
-    (λ o is words w. refused words old new c.args.dir.now c.read_class_file.ensures.files_kept c.in-Ok.input NoScript IsNotRewritten c.in-Err-rewrite_file.end o
-    (c.args.out.now, inr w) c.in-Ok.ensures.input (λ r h. absurd h.holding) (λ h. inr (c.args.dir.now, c.args.out.now, w, inr h)) (rw c.as_slice.ensures at c.in-Err-rewrite_file.ensures.cause) is) c.refused.ensures
+    (λ o is words w. refused words old new c.args.dir.now c.read_class_file.ensures.files_kept c.in-Ok.input NoScript NoOpening IsNotRewritten c.in-Err-rewrite_file.end o
+    (c.args.out.now, inr w) c.in-Ok.ensures.input (λ r h. absurd h.holding) (λ name x h. absurd h.holding) (λ h. inr (c.args.dir.now, c.args.out.now, w, inr h)) (rw c.as_slice.ensures at c.in-Err-rewrite_file.ensures.cause) is) c.refused.ensures
 
 pub returns-in-Ok-put-clause-outcome : goal.returns-in-Ok-put-clause-outcome
 returns-in-Ok-put-clause-outcome g c = λ words w.

@@ -1,9 +1,9 @@
 use Rattle.std.proofs.Common.{inl, inr}
-use Rattle.deuce.specs.Ending.{IsCallOfRun, IsBadScript, IsOutsideForm}
+use Rattle.deuce.specs.Ending.{IsCallOfRun, IsBadScript, IsUnopened, IsOutsideForm}
 use Rattle.deuce.specs.Outcomes.{seen, IsUnreadAs, IsRefusedAs}
 use Rattle.deuce.proofs.Lists.{on_ok}
 use Rattle.deuce.proofs.Outcomes.{unread, refused}
-use Rattle.deuce.proofs.Reading.{journal_of}
+use Rattle.deuce.proofs.Reading.{journal_of, unopened_of}
 use Rattle.deuce.proofs.commands.run_command.Goals as goal
 
 pub returns-in-Err-clause-outcome : goal.returns-in-Err-clause-outcome
@@ -33,8 +33,9 @@ returns-in-Err-run-clause-outcome g c =
     let new = seen (g.F.Folder.files c.read_inputs.new.folder) (g.F.Folder.faults c.read_inputs.new.folder) (g.F.Folder.put_faults c.read_inputs.new.folder) (g.F.Folder.failed c.read_inputs.new.folder) in
     let a = c.in-Ok.ensures.inputs in
     on_ok c.refused.result (IsRefusedAs c.in-Ok.inputs.class.path c.in-Err-run.end) _
-    (λ o is words w. refused words old new c.args.dir.now c.read_inputs.ensures.files_kept c.in-Ok.inputs.class (IsBadScript c.in-Ok.inputs.script) IsOutsideForm c.in-Err-run.end o
+    (λ o is words w. refused words old new c.args.dir.now c.read_inputs.ensures.files_kept c.in-Ok.inputs.class (IsBadScript c.in-Ok.inputs.script) (IsUnopened c.in-Ok.inputs.script) IsOutsideForm c.in-Err-run.end o
     (c.args.script.now, inl w) a.of_class
     (λ r h. (c.args.dir.now, c.args.script.now, w, record { script_bytes = c.in-Ok.inputs.script; script_front = a.script_bytes; of_class = h }))
+    (λ name x h. (c.args.dir.now, c.args.script.now, w, unopened_of (g.F.Folder.files c.args.folder.now) c.args.dir.now c.args.script.now c.in-Ok.inputs.script name x a.script_bytes h))
     (λ h. inl (c.args.dir.now, c.args.script.now, w, inr h))
     (rw (c.as_slice.ensures, c.as_slice-2.ensures) at c.in-Err-run.ensures.cause) is) c.refused.ensures

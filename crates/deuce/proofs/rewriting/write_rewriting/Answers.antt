@@ -4,7 +4,7 @@ use Rattle.std.specs.List.{AllByRecursion}
 use Rattle.jmodel.specs.Program.{Method, Program}
 use Rattle.jmodel.specs.Typing.{IsTypable}
 use Rattle.rewriter.proofs.Assembled.{law}
-use Rattle.deuce.specs.Rewritten.{is_marked}
+use Rattle.jmodel.specs.Schedule.{is_marked}
 use Rattle.deuce.proofs.rewriting.write_rewriting.Goals as goal
 
 pub returns-clause-rewriting : goal.returns-clause-rewriting

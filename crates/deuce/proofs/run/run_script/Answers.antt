@@ -1,31 +1,43 @@
 use Rattle.std.proofs.Common.{◌≡◌, ◌∙◌, ap, sym, subst, ℕ, List, [], ◌∷◌}
 use Rattle.std.specs.Prelude.{map}
 use Rattle.jmodel.specs.Layout.{opening_state}
+use Rattle.jmodel.specs.Opening.{initialisers, Opening}
 use Rattle.jmodel.specs.Output.{journal_text}
-use Rattle.jmodel.specs.Schedule.{Phase}
+use Rattle.jmodel.specs.Schedule.{ScriptPhase}
 use Rattle.session.specs.declared.record.Record.{Record}
 use Rattle.script.specs.Script.{Script}
 use Rattle.driver.specs.Runs.{AreScripted}
 use Rattle.deuce.specs.Headline.{AreCalls}
 use Rattle.deuce.specs.Lines.{line_in}
 use Rattle.deuce.proofs.Scripted.{scripted, few_attempts}
-use Rattle.deuce.proofs.Opens.{opening_size, opening_stands}
-use Rattle.deuce.proofs.Running.{are_calls, is_run}
+use Rattle.deuce.specs.Ending.{EndsScript}
+use Rattle.deuce.proofs.Running.{are_calls, is_run, err_is, of_opening}
 use Rattle.deuce.proofs.run.run_script.Goals as goal
 
 pub run_phases-requires-clause-scripted : goal.run_phases-requires-clause-scripted
 run_phases-requires-clause-scripted g c = λ κs lives.
     let phases : c.as_slice.result.now ≡ c.in_ok-wanted.wanted.phases = c.as_slice.ensures.value ∙ ap (λ (s : Script). s.phases) c.wanted.view_is in
-    subst (λ (ks : List Phase). AreScripted c.args.original.now ks) (sym phases)
+    subst (λ (ks : List ScriptPhase). AreScripted c.args.original.now ks) (sym phases)
     (scripted c.args.class.now c.args.original.now c.in_ok-wanted.wanted c.args.script.now c.in_ok-wanted.ensures.script)
 
 pub run_phases-requires-clause-size : goal.run_phases-requires-clause-size
-run_phases-requires-clause-size g c = λ κs lives. opening_size c.args.class.now c.args.original.now c.in_ok-words.words.items c.requires.links c.in_ok-words.ensures
+run_phases-requires-clause-size g c = λ κs lives. c.in_ok-words.ensures.size
 
 pub run_phases-requires-clause-attempts : goal.run_phases-requires-clause-attempts
 run_phases-requires-clause-attempts g c = λ κs lives.
     let attempts : c.wanted.inside.attempts ≡ c.in_ok-wanted.wanted.attempts = ap (λ (s : Script). s.attempts) c.wanted.view_is in
     rw attempts (few_attempts c.args.class.now c.args.original.now c.in_ok-wanted.wanted c.args.script.now c.in_ok-wanted.ensures.script)
+
+pub opened-requires-clause-attempts : goal.opened-requires-clause-attempts
+opened-requires-clause-attempts g c =
+    let attempts : c.wanted.inside.attempts ≡ c.in_ok-wanted.wanted.attempts = ap (λ (s : Script). s.attempts) c.wanted.view_is in
+    rw attempts (few_attempts c.args.class.now c.args.original.now c.in_ok-wanted.wanted c.args.script.now c.in_ok-wanted.ensures.script)
+
+pub returns-in_err-words-clause-cause : goal.returns-in_err-words-clause-cause
+returns-in_err-words-clause-cause g c =
+    let budget : c.wanted.inside.budget ≡ c.in_ok-wanted.wanted.budget = ap (λ (s : Script). s.budget) c.wanted.view_is in
+    err_is c.from_residual-in_err-words.result c.in_err-words.field-0.0 (EndsScript c.args.class.now c.args.original.now c.args.script.now) c.from_residual-in_err-words.ensures.1
+    (of_opening c.args.class.now c.args.original.now c.args.script.now c.in_ok-wanted.wanted c.wanted.inside.budget c.in_err-words.field-0.0 c.in_ok-wanted.ensures.script budget c.in_err-words.ensures.cause)
 
 pub returns-clause-run : goal.returns-clause-run
 returns-clause-run g c = λ bytes spells.
@@ -33,12 +45,14 @@ returns-clause-run g c = λ bytes spells.
     let phases : c.as_slice.result.now ≡ c.in_ok-wanted.wanted.phases = c.as_slice.ensures.value ∙ ap (λ (s : Script). s.phases) c.wanted.view_is in
     let budget : c.wanted.inside.budget ≡ c.in_ok-wanted.wanted.budget = ap (λ (s : Script). s.budget) c.wanted.view_is in
     let seen = c.as_slice.result.now in
-    let state = opening_state (c.args.class.now ∷ []) in
+    let opened = c.in_ok-words.ensures.opens in
+    let state = opened.0 in
+    let Opens : ℕ → Type 0 = λ b. Opening P b (opening_state (c.args.class.now ∷ [])) (initialisers P) state in
     let text = c.in_ok-journal.field-0 in
     is_run bytes c.args.script.now c.args.class.now P c.in_ok-wanted.wanted seen text
-    spells c.requires.links c.requires.ready.typed.typed c.in_ok-wanted.ensures.script phases
+    spells c.requires.links c.requires.ready.typed.typed c.in_ok-wanted.ensures.script phases state (subst Opens budget opened.1)
     (subst (λ (b : ℕ). AreCalls P b state seen text) budget
     (are_calls P c.wanted.inside.budget seen c.in_ok-words.words.items c.in_ok-made.made state text c.in_ok-made.ensures
-    (opening_stands c.args.class.now P c.in_ok-words.words.items c.requires.links c.in_ok-words.ensures)
+    opened.2
     (c.in_ok-journal.ensures ∙ ap (λ (rs : List Record). journal_text (map (line_in P) rs) (map (line_in P) c.as_slice-3.result.now)) c.as_slice-2.ensures.value
     ∙ ap (λ (rs : List Record). journal_text (map (line_in P) c.in_ok-made.made.placed.items) (map (line_in P) rs)) c.as_slice-3.ensures.value)))

@@ -1,6 +1,6 @@
 use Rattle.std.proofs.Common.{Err, ap}
 use Rattle.deuce.specs.Outcomes.{seen}
-use Rattle.deuce.proofs.Printed.{journal_printed, rewriting_printed, fault_printed, program_printed, untyped_printed, script_printed}
+use Rattle.deuce.proofs.Printed.{journal_printed, rewriting_printed, fault_printed, program_printed, untyped_printed, script_printed, unopened_printed}
 use Rattle.deuce.proofs.Complete.{complete, complete_rewriting}
 use Rattle.deuce.proofs.top.deuce.Goals as goal
 
@@ -33,6 +33,11 @@ pub returns-in-Ok-print-clause-bad_script : goal.returns-in-Ok-print-clause-bad_
 returns-in-Ok-print-clause-bad_script g c = λ six.
     script_printed c.args.words.now (seen (g.F.Folder.files c.args.folder.now) (g.F.Folder.faults c.args.folder.now) (g.F.Folder.put_faults c.args.folder.now) (g.F.Folder.failed c.args.folder.now)) (seen (g.F.Folder.files c.outcome_of.new.folder) (g.F.Folder.faults c.outcome_of.new.folder) (g.F.Folder.put_faults c.outcome_of.new.folder) (g.F.Folder.failed c.outcome_of.new.folder)) c.in-Ok-text_of.text _ _ c.status-status.result c.in-Ok.outcome
     c.in-Ok.ensures.outcome.1 c.status-status.ensures c.in-Ok-text_of.ensures (rw c.as_slice.ensures at c.in-Ok-print.ensures.written) six
+
+pub returns-in-Ok-print-clause-unopened : goal.returns-in-Ok-print-clause-unopened
+returns-in-Ok-print-clause-unopened g c = λ seven.
+    unopened_printed c.args.words.now (seen (g.F.Folder.files c.args.folder.now) (g.F.Folder.faults c.args.folder.now) (g.F.Folder.put_faults c.args.folder.now) (g.F.Folder.failed c.args.folder.now)) (seen (g.F.Folder.files c.outcome_of.new.folder) (g.F.Folder.faults c.outcome_of.new.folder) (g.F.Folder.put_faults c.outcome_of.new.folder) (g.F.Folder.failed c.outcome_of.new.folder)) c.in-Ok-text_of.text _ _ c.status-status.result c.in-Ok.outcome
+    c.in-Ok.ensures.outcome.1 c.status-status.ensures c.in-Ok-text_of.ensures (rw c.as_slice.ensures at c.in-Ok-print.ensures.written) seven
 
 pub returns-in-Ok-print-clause-complete : goal.returns-in-Ok-print-clause-complete
 returns-in-Ok-print-clause-complete g c = complete c.args.words.now (seen (g.F.Folder.files c.args.folder.now) (g.F.Folder.faults c.args.folder.now) (g.F.Folder.put_faults c.args.folder.now) (g.F.Folder.failed c.args.folder.now)) (seen (g.F.Folder.files c.outcome_of.new.folder) (g.F.Folder.faults c.outcome_of.new.folder) (g.F.Folder.put_faults c.outcome_of.new.folder) (g.F.Folder.failed c.outcome_of.new.folder)) c.in-Ok.outcome c.status-status.result c.in-Ok.ensures.outcome.1 c.status-status.ensures

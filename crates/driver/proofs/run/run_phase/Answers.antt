@@ -1,37 +1,32 @@
-use Rattle.std.proofs.Common.{◌≡◌, ◌≤◌, ℕ, List, length, ◌∙◌, ap, subst}
-use Rattle.std.proofs.lemmas.Slice.Zip.{AllZip-long}
-use Rattle.jmodel.specs.Schedule.{Known}
-use Rattle.driver.specs.Sides.{IsSide, AreWhole}
-use Rattle.driver.specs.Phases.{made_counts}
-use Rattle.driver.proofs.Parts.{counts_within}
-use Rattle.driver.proofs.Ordered.{adds_phase}
+use Rattle.std.proofs.Common.{◌≡◌, [], ◌∷◌, refl, sym, ◌∙◌, ap, subst}
+use Rattle.jmodel.specs.Schedule.{Phase, ScriptPhase, Lanes, Bag, phase_calls, AreDealt}
+use Rattle.script.specs.Phases.{phase_seen}
+use Rattle.driver.specs.Runs.{HasLanes}
+use Rattle.driver.specs.Phases.{AddsPhase, AddsDealt}
+use Rattle.driver.proofs.Lists.{on_ok}
+use Rattle.driver.proofs.Dealing.{dealt_alone}
 use Rattle.driver.proofs.run.run_phase.Goals as goal
-
-pub one_after_another-requires-clause-firsts : goal.one_after_another-requires-clause-firsts
-one_after_another-requires-clause-firsts g c =
-    let first = c.in_ok-first.first in
-    let side = c.in_ok-first.ensures.side in
-    let counts : c.deref-2.result.now ≡ made_counts first.parts.items = c.deref-2.ensures.value ∙ c.in_ok-firsts.ensures ∙ ap made_counts c.deref.ensures.value in
-    ap length counts
-    ∙ AllZip-long (λ (cs : List Known) (n : ℕ). n ≤ length cs) c.args.lanes.now (made_counts first.parts.items)
-    (counts_within c.args.phase 0 c.args.lanes.now side.tolds first.parts.items side.parts)
-
-pub one_after_another-requires-clause-within : goal.one_after_another-requires-clause-within
-one_after_another-requires-clause-within g c =
-    let first = c.in_ok-first.first in
-    let side = c.in_ok-first.ensures.side in
-    let counts : c.deref-2.result.now ≡ made_counts first.parts.items = c.deref-2.ensures.value ∙ c.in_ok-firsts.ensures ∙ ap made_counts c.deref.ensures.value in
-    rw counts (counts_within c.args.phase 0 c.args.lanes.now side.tolds first.parts.items side.parts)
+use Rattle.driver.proofs.run.run_phase.Goals.{in-Lanes, in-Bag}
 
 pub returns-clause-phase : goal.returns-clause-phase
 returns-clause-phase g c =
     let P = c.args.original.now in
-    let lanes = c.args.lanes.now in
-    let first = c.in_ok-first.first in
-    let rest = c.in_ok-rest.rest in
-    let counts : c.deref-2.result.now ≡ made_counts first.parts.items = c.deref-2.ensures.value ∙ c.in_ok-firsts.ensures ∙ ap made_counts c.deref.ensures.value in
-    let Counts : List ℕ → Type 0 = λ n. IsSide P c.args.limits.budget c.args.phase lanes n first.words.items rest in
-    let Whole : List ℕ → Type 0 = λ n. AreWhole lanes n rest.parts.items in
-    adds_phase P c.args.limits.budget c.args.phase lanes c.args.words.items first rest c.in_ok-first.ensures.side (subst Counts counts c.in_ok-rest.ensures.side)
-    (subst Whole counts c.in_ok-rest.ensures.whole)
-    c.args.journal.now c.add_phase.new.self c.in_ok-add_phase.ensures.placed c.in_ok-add_phase.ensures.unplaced
+    let budget = c.args.limits.budget in
+    let number = c.args.number in
+    let ls : Phase = c.match-phase.lanes.now in
+    let Dealt : ScriptPhase → Phase → Type 0 = λ p ks. AreDealt number p (phase_calls number 0 ks) in
+    let dealt : AreDealt number c.args.phase.now (phase_calls number 0 ls) = elim c.match-phase.branch [
+      | in-Lanes w ↦
+          let seen : c.args.phase.now ≡ Lanes w.in-Lanes.lanes.items = sym c.phase.view_is ∙ ap phase_seen w.in-Lanes.is in
+          let same : ls ≡ w.in-Lanes.lanes.items = ap (λ b. b.now) w.lanes-is ∙ w.as_slice-lanes.ensures.value in
+          subst (λ p. Dealt p ls) (sym seen) (subst (Dealt (Lanes w.in-Lanes.lanes.items)) (sym same) refl)
+      | in-Bag w ↦
+          let seen : c.args.phase.now ≡ Bag w.in-Bag.lanes w.in-Bag.calls = sym c.phase.view_is ∙ ap phase_seen w.in-Bag.is in
+          let same : ls ≡ w.in-Bag.calls ∷ [] = ap (λ b. b.now) w.lanes-is ∙ w.from_ref-lanes.ensures.value in
+          let some = subst HasLanes seen c.requires.lanes in
+          subst (λ p. Dealt p ls) (sym seen) (subst (Dealt (Bag w.in-Bag.lanes w.in-Bag.calls)) (sym same) (dealt_alone number w.in-Bag.lanes w.in-Bag.calls some.0))
+    ] in
+    on_ok c.run_lanes.result
+    (λ left. AddsPhase P budget (phase_calls number 0 ls) c.args.words.items left.items c.args.journal.now c.run_lanes.new.journal)
+    (λ left. AddsDealt P budget number c.args.phase.now c.args.words.items left.items c.args.journal.now c.run_lanes.new.journal)
+    (λ left adds. record { calls = phase_calls number 0 ls; are_dealt = dealt; adds = adds }) c.run_lanes.ensures.phase

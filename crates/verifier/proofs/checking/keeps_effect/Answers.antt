@@ -17,6 +17,18 @@ returns-then-height-max_stack c =
     let x : nat_le (length (left_stack e h)) k.max_stack ≡ false = grind (arith, nat_tests) in
     sym (keeps_by k c.args.typing.now c.args.pc h e false _ _ _ x refl refl refl)
 
+pub returns-then-not-covers_ways : goal.returns-then-not-covers_ways
+returns-then-not-covers_ways c =
+    let k = c.args.method.now in
+    let h = c.args.entry.now in
+    let e = c.args.effect.now in
+    let n = left_height e h c.from.result c.stack.result.now c.rest.result.now (c.from.ensures ∙ c.count.ensures) c.stack.ensures c.rest.ensures in
+    let m = c.max_stack.ensures in
+    let t = c.if-height-max_stack.false in
+    let le : length (left_stack e h) ≤ k.max_stack = omega arith in
+    let x : nat_le (length (left_stack e h)) k.max_stack ≡ true = grind (arith, nat_tests) in
+    sym (keeps_by k c.args.typing.now c.args.pc h e true false _ _ x (sym c.covers_ways.ensures ∙ c.if-not-covers_ways.true) refl refl)
+
 pub returns-then-not-covers_caught : goal.returns-then-not-covers_caught
 returns-then-not-covers_caught c =
     let k = c.args.method.now in

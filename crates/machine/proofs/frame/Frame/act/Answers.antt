@@ -37,3 +37,6 @@ returns-in-Throw-clause-does c = rw c.in-Throw.is (c.throw.ensures.does c.args.p
 
 pub returns-in-GetContext-clause-does : goal.returns-in-GetContext-clause-does
 returns-in-GetContext-clause-does c = rw c.in-GetContext.is (c.get_context.ensures.does c.args.program.now)
+
+pub returns-in-Switch-clause-does : goal.returns-in-Switch-clause-does
+returns-in-Switch-clause-does c = rw c.in-Switch.is (c.switch.ensures.does c.args.program.now)

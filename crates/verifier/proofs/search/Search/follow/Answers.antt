@@ -1,5 +1,9 @@
-use Rattle.verifier.proofs.Flowing.{follow_second, follow_ok}
+use Rattle.verifier.proofs.Flowing.{follow_first, follow_second, follow_ok}
 use Rattle.verifier.proofs.search.Search.follow.Goals as goal
+
+pub returns-then-not-branch : goal.returns-then-not-branch
+returns-then-not-branch c =
+    follow_first c.args.method.now c.args.pc c.args.outcome.now.after c.args.outcome.now.ways c.args.outcome.now.before.locals c.args.self.now _ _ c.if-not-branch.true c.in_ok-flow_on.ensures
 
 pub returns-then-not-branch-2 : goal.returns-then-not-branch-2
 returns-then-not-branch-2 c =

@@ -1,0 +1,6 @@
+mod Weights
+mod Numbers
+mod Ascending
+mod Gathered
+mod Keeping
+mod Showing

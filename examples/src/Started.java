@@ -1,0 +1,10 @@
+import org.deuce.Atomic;
+
+public class Started {
+    static int n = 5;
+
+    @Atomic
+    public static int inc() {
+        return ++n;
+    }
+}
