@@ -369,12 +369,15 @@ fn at_most_100_000_calls(rt: HostRuntime) -> Result<(), Fail> {
 
 fn is_narrow_call(script: &Script, args: &[i32]) -> bool {
     match script.phases.as_slice() {
-        [phase] => match phase.lanes.as_slice() {
-            [lane] => match lane.calls.as_slice() {
-                [call] => is_call(call, 2, args),
+        [phase] => match &phase.calls {
+            Calls::Lanes(lanes) => match lanes.as_slice() {
+                [lane] => match lane.calls.as_slice() {
+                    [call] => is_call(call, 2, args),
+                    _ => false,
+                },
                 _ => false,
             },
-            _ => false,
+            Calls::Bag { .. } => false,
         },
         _ => false,
     }
