@@ -1,5 +1,8 @@
 //! The marks of methods, their faults, and static initialisers.
-ghost use Rattle.std.specs.Prelude.{◌≡◌, IfOk};
+ghost use Rattle.std.specs.Prelude.{◌≡◌, pos, codes, IfOk};
+ghost use Rattle.jmodel.specs.declared.refusal.Refusal.TheVariants.{Construct};
+ghost use Rattle.jmodel.specs.Name.{printed as printed_name};
+ghost use Rattle.jmodel.specs.Decoding.{name_of as method_name};
 ghost use Rattle.jmodel.specs.Linking.{mark_retries as retries_of_mark, is_marked as marked, is_initialiser as initialiser, retries_of as retries, is_root as root, may_be_marked as may_have_mark, mark_fault as fault_of_mark, marks_fault as fault_of_marks};
 
 use crate::code::printed;
@@ -69,11 +72,6 @@ fn misplaced(alloc: Global, class: &ClassFile, method: &Member) -> Result<Refusa
     let kind = Bytes::from_slice(alloc, b"AtomicPlace")?;
     Ok(Refusal::Construct(kind, printed(alloc, class, method)?, 0))
 }
-
-ghost use Rattle.std.specs.Prelude.{pos, codes};
-ghost use Rattle.jmodel.specs.declared.refusal.Refusal.TheVariants.{Construct};
-ghost use Rattle.jmodel.specs.Name.{printed as printed_name};
-ghost use Rattle.jmodel.specs.Decoding.{name_of as method_name};
 
 // The fault of a method's annotations and their mark.
 fn mark_fault(
