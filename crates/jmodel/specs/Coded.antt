@@ -36,7 +36,8 @@ is_marked pool m = is_some (mark_retries pool m)
 abbrev pub names_initialiser : MethodName → Bool
 names_initialiser n = bytes_eq n.name (codes "<clinit>") && bytes_eq n.descriptor (codes "()V")
 
--- A static initialiser: of the flags 0008 and 0400 the first alone is set. Any other method of the name is none.
+-- A static initialiser (JVM Specification, Java SE 7, section 2.9): of the flags 0008 and 0400 the first alone is set. Any other method of the name is
+-- none, in files of every version, where the specification asks for the flag 0008 from version 51 on; that is this project's own rule.
 abbrev pub is_initialiser : Pool → Member → Bool
 is_initialiser pool m = nat_eq (bit_and m.flags 0x408) 8 && is_member pool (codes "<clinit>") (codes "()V") m
 
