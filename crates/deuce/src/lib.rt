@@ -1,0 +1,15 @@
+//! What Deuce STM does for the words of its command line: runs a script on the class of a folder, or puts its rewritten class file.
+//! [`top::deuce`] is the top call, over any folder and sink.
+#![tactic(auto)]
+
+mod commands;
+mod inputs;
+mod outcome;
+mod print;
+mod refusal;
+mod rewriting;
+mod run;
+mod text;
+pub mod top;
+mod typed;
+mod words;

@@ -1,0 +1,76 @@
+//! Whole runs as data. Each folder of `data/rows` is a row: its file `words` has the words of a command line, one on a line. For each row, in the
+//! order of their names, the program makes the top call over the machine's files, and prints what it answered.
+#![tactic(auto)]
+
+use deuce::top::deuce;
+use deuce_io::{MemSink, RealFolder};
+use std::alloc::Global;
+use std::rt::Runtime;
+use std::thread::Threads;
+use std::{fs, io};
+
+fn main(rt: HostRuntime) -> io::Result<()> {
+    let mut names = Vec::new(rt.alloc());
+    for entry in fs::read_dir(&rt, "rows")? {
+        names.push(String::from_str(rt.alloc(), entry?.file_name())?)?;
+    }
+    names.sort()?;
+    for name in &names {
+        print_row(&rt, rt.alloc(), name.as_str())?;
+    }
+    Ok(())
+}
+
+/// Makes the top call of a row, and prints its name, its status, what it wrote, and the file that it put into the row's folder `out`.
+fn print_row<R: Runtime + AllocGlobal + Threads + Sync>(
+    rt: &R,
+    alloc: Global,
+    name: &str,
+) -> io::Result<()> {
+    let words = words_of(rt, alloc, name)?;
+    let mut folder = RealFolder::new(alloc, rt);
+    let mut out = MemSink::new(alloc, 64);
+    let status = deuce(rt, alloc, words.as_slice(), &mut folder, &mut out);
+    let text = str::from_utf8(out.written.as_slice()).unwrap_or("no text\n");
+    print!(rt; "== {name}\nstatus {status}\n{text}")?;
+    let put = format!(in alloc; "rows/{name}/out")?;
+    let Ok(entries) = fs::read_dir(rt, put.as_str()) else {
+        return Ok(());
+    };
+    for entry in entries {
+        print_put(rt, alloc, name, entry?.file_name())?;
+    }
+    Ok(())
+}
+
+/// The words of a row's command line.
+fn words_of<R: Runtime + AllocGlobal>(
+    rt: &R,
+    alloc: Global,
+    name: &str,
+) -> io::Result<Vec<String>> {
+    let path = format!(in alloc; "rows/{name}/words")?;
+    let text = fs::read_to_string(rt, path.as_str())?;
+    let mut words = Vec::new(alloc);
+    for line in text.lines() {
+        words.push(String::from_str(alloc, line)?)?;
+    }
+    Ok(words)
+}
+
+/// Prints the name of a file that a row put, and whether it has the bytes of the same name in the row's folder `wanted`, where there is one.
+fn print_put<R: Runtime + AllocGlobal>(
+    rt: &R,
+    alloc: Global,
+    name: &str,
+    file: &str,
+) -> io::Result<()> {
+    let put = format!(in alloc; "rows/{name}/out/{file}")?;
+    let found = fs::read(rt, put.as_str())?;
+    let wanted = format!(in alloc; "rows/{name}/wanted/{file}")?;
+    match fs::read(rt, wanted.as_str()) {
+        Ok(bytes) if bytes == found => println!(rt; "put {file} as wanted"),
+        Ok(_) => println!(rt; "put {file} otherwise than wanted"),
+        Err(_) => println!(rt; "put {file}"),
+    }
+}

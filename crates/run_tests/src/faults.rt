@@ -1,0 +1,75 @@
+//! Folders and sinks that fail, and files over their limits.
+use crate::fixture::{COUNTER, ONE_CALL, REWRITE, RUN, THREE_CALLS, call, folder_of, gives};
+use deuce_io::{Folder, IoEnd, MemSink};
+use std::alloc::Global;
+use std::test::Fail;
+use std::thread::Threads;
+
+/// Whether a call over a sink that takes eight bytes at a time and fails its second write ends with status 9, and the sink has this front.
+fn is_cut<R: Threads + Sync>(
+    rt: &R,
+    alloc: Global,
+    words: [&str; 3],
+    front: &[u8],
+) -> Result<bool, IoEnd> {
+    let mut folder = folder_of(alloc, COUNTER.as_slice(), THREE_CALLS)?;
+    let mut out = MemSink::new(alloc, 8);
+    out.fail_writes.push(2)?;
+    let (status, written) = call(rt, alloc, words, &mut folder, out)?;
+    // the file of a rewriting is put before anything is printed
+    let is_put = folder.read("o/Counter.class", 2000).is_ok();
+    Ok(status == 9 && written.as_slice() == front && is_put == (words[0] == "rewrite"))
+}
+
+#[test]
+fn a_sink_that_fails_its_second_write(rt: HostRuntime) -> Result<(), Fail> {
+    assert!(rt; is_cut(&rt, rt.alloc(), RUN, b"history ")?);
+    assert!(rt; is_cut(&rt, rt.alloc(), REWRITE, b"classes ")?);
+    Ok(())
+}
+
+#[test]
+fn a_read_and_a_put_that_fail_are_named(rt: HostRuntime) -> Result<(), Fail> {
+    let alloc = rt.alloc();
+    let mut folder = folder_of(alloc, COUNTER.as_slice(), THREE_CALLS)?;
+    folder.fail_reads.push(1)?;
+    assert!(rt; gives(&rt, alloc, RUN, folder, 8, "error 8 d/Counter.class\n")?);
+    let mut folder = folder_of(alloc, COUNTER.as_slice(), THREE_CALLS)?;
+    folder.fail_puts.push(3)?;
+    assert!(rt;
+        gives(
+            &rt,
+            alloc,
+            REWRITE,
+            folder,
+            11,
+            "error 11 o/Counter.class\n"
+        )?
+    );
+    Ok(())
+}
+
+/// Whether a run on this class file and this script ends with this status and text.
+fn ends_as<R: Threads + Sync>(
+    rt: &R,
+    alloc: Global,
+    class: &[u8],
+    script: &[u8],
+    status: u8,
+    text: &str,
+) -> Result<bool, IoEnd> {
+    let folder = folder_of(alloc, class, script)?;
+    Ok(gives(rt, alloc, RUN, folder, status, text)?)
+}
+
+#[test]
+fn files_over_their_limits_are_told(rt: HostRuntime) -> Result<(), Fail> {
+    let alloc = rt.alloc();
+    let class = vec![in alloc; 0u8; 1_048_577]?;
+    let line = "error 3 d/Counter.class 30 OverLimit file 1048577\n";
+    assert!(rt; ends_as(&rt, alloc, class.as_slice(), ONE_CALL, 3, line)?);
+    let script = vec![in alloc; b' '; 16_777_217]?;
+    let line = "error 6 30 OverLimit script 16777217\n";
+    assert!(rt; ends_as(&rt, alloc, COUNTER.as_slice(), script.as_slice(), 6, line)?);
+    Ok(())
+}

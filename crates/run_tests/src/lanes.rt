@@ -1,0 +1,52 @@
+//! Lanes that count side by side, in an order that is up to the threads.
+use crate::fixture::{COUNTER, RUN, call, folder_of};
+use deuce_io::{IoEnd, MemSink};
+use std::alloc::Global;
+use std::test::Fail;
+use std::thread::Threads;
+
+/// A call of `inc` in JSON.
+const INC: &str = "{\"call\":\"Counter.inc()I\",\"args\":[]}";
+
+/// A script of this many lanes, each of which calls `inc` so often.
+fn counting(alloc: Global, lanes: u64, calls: u64) -> Result<String, IoEnd> {
+    let mut script = format!(in alloc; "{{\"form\":1,\"lanes\":{lanes},\"phases\":[{{\"lanes\":[")?;
+    for lane in 0..lanes {
+        script.push_str(if lane == 0 { "[" } else { ",[" })?;
+        for call in 0..calls {
+            script.push_str(if call == 0 { "" } else { "," })?;
+            script.push_str(INC)?;
+        }
+        script.push(']')?;
+    }
+    script.push_str("]}]}")?;
+    Ok(script)
+}
+
+/// Whether lanes that count side by side are answered 1 and up, in the order of the printed history, and none is left out.
+fn counts<R: Threads + Sync>(rt: &R, alloc: Global, lanes: u64, calls: u64) -> Result<bool, IoEnd> {
+    let script = counting(alloc, lanes, calls)?;
+    let mut folder = folder_of(alloc, COUNTER.as_slice(), script.as_bytes())?;
+    let sink = MemSink::new(alloc, 1_000_000);
+    let (status, written) = call(rt, alloc, RUN, &mut folder, sink)?;
+    let text = str::from_utf8(written.as_slice()).unwrap_or("");
+    let mut answer = 0u64;
+    for line in text.lines() {
+        if line.starts_with("0 ") {
+            answer = answer.wrapping_add(1);
+            let end = format!(in alloc; " Counter.inc()I {answer}")?;
+            if !line.ends_with(end.as_str()) {
+                return Ok(false);
+            }
+        }
+    }
+    Ok(status == 0 && answer == lanes.wrapping_mul(calls) && text.ends_with("unplaced 0\n"))
+}
+
+#[test]
+fn lanes_count_side_by_side(rt: HostRuntime) -> Result<(), Fail> {
+    assert!(rt; counts(&rt, rt.alloc(), 2, 1)?);
+    assert!(rt; counts(&rt, rt.alloc(), 4, 250)?);
+    assert!(rt; counts(&rt, rt.alloc(), 16, 20)?);
+    Ok(())
+}

@@ -1,0 +1,12 @@
+//! Tests of the top call that no row of `rows` can say: faults of folders and sinks in memory, files over their limits, class files with each fault,
+//! and lanes whose order is up to the threads. They stand apart, so that `deuce` is proved once and not a second time with its tests.
+#![tactic(auto)]
+
+#[cfg(test)]
+mod faults;
+#[cfg(test)]
+mod fixture;
+#[cfg(test)]
+mod lanes;
+#[cfg(test)]
+mod spoiled;

@@ -1,0 +1,60 @@
+//! The example's class file cut at each byte, and with each bit turned.
+use crate::fixture::{COUNTER, ONE_CALL, RUN, call, folder_of};
+use deuce_io::{IoEnd, MemSink};
+use std::alloc::Global;
+use std::test::Fail;
+use std::thread::Threads;
+
+/// Whether a run of one call on a front of the class file tells that it is cut.
+fn is_cut<R: Threads + Sync>(rt: &R, alloc: Global, class: &[u8]) -> Result<bool, IoEnd> {
+    let mut folder = folder_of(alloc, class, ONE_CALL)?;
+    let (status, written) = call(rt, alloc, RUN, &mut folder, MemSink::new(alloc, 64))?;
+    let line = b"error 3 d/Counter.class 1 Truncated ";
+    Ok(status == 3 && written.as_slice().starts_with(line))
+}
+
+#[test]
+fn a_front_of_a_class_is_truncated(rt: HostRuntime) -> Result<(), Fail> {
+    for len in 0..COUNTER.len() {
+        assert!(rt; is_cut(&rt, rt.alloc(), &COUNTER[..len])?);
+    }
+    Ok(())
+}
+
+/// Whether a run of one call on a class ends: with its answer, with a fault of the file, of its annotations or of its code, with a call of no
+/// marked method, or as not built.
+fn ends<R: Threads + Sync>(rt: &R, alloc: Global, class: &[u8]) -> Result<bool, IoEnd> {
+    let mut folder = folder_of(alloc, class, ONE_CALL)?;
+    let (status, text) = call(rt, alloc, RUN, &mut folder, MemSink::new(alloc, 64))?;
+    let written = text.as_slice();
+    Ok(match status {
+        0 => written.starts_with(b"history 1\n"),
+        3 => written.starts_with(b"error 3 d/Counter.class "),
+        4 => {
+            written.starts_with(b"error 4 13 BadInstr Counter.inc()I ")
+                || written.starts_with(b"error 4 14 BadTarget Counter.inc()I ")
+                || written.starts_with(b"error 4 22 BadAnnotation Counter.inc()I ")
+        }
+        5 => written.starts_with(b"error 5 32 Untypable Counter.inc()I "),
+        6 => {
+            written == b"error 6 27 UnknownMethod /phases/0/lanes/0/0/call\n".as_slice()
+                || written == b"error 6 28 NotAtomic /phases/0/lanes/0/0/call\n".as_slice()
+        }
+        12 => written == b"error 12 NotBuilt\n".as_slice(),
+        _ => false,
+    })
+}
+
+#[test]
+fn each_flip_of_a_bit_ends(rt: HostRuntime) -> Result<(), Fail> {
+    let alloc = rt.alloc();
+    let mut class = COUNTER;
+    for at in 0..COUNTER.len() {
+        for bit in 0..8u32 {
+            class[at] ^= 1u8 << bit;
+            assert!(rt; ends(&rt, alloc, class.as_slice())?);
+            class[at] = COUNTER[at];
+        }
+    }
+    Ok(())
+}
