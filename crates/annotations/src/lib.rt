@@ -9,8 +9,5 @@ mod values;
 
 pub use mark::atomic_of;
 
-#[cfg(test)]
-mod tests;
-
 // How deep values may nest.
 const DEEPEST: u8 = 16;

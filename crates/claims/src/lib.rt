@@ -7,6 +7,3 @@ pub mod law;
 pub mod laws;
 
 pub use bag::{Bag, BagPass};
-
-#[cfg(test)]
-mod tests;

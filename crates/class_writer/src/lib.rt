@@ -5,6 +5,3 @@ mod entries;
 mod writer;
 
 pub use writer::write_class;
-
-#[cfg(test)]
-mod tests;

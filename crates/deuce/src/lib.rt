@@ -8,7 +8,7 @@ mod outcome;
 mod print;
 mod refusal;
 mod rewriting;
-mod run;
+pub mod run;
 mod text;
 pub mod top;
 mod typed;

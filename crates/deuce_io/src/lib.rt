@@ -33,8 +33,6 @@ pub mod memory_sink;
 pub mod real_folder;
 pub mod sink;
 pub mod std_sink;
-#[cfg(test)]
-mod tests;
 
 pub use end::IoEnd;
 pub use failed_call::{CallKind, FailedCall};

@@ -11,6 +11,12 @@ mod code;
 #[cfg(test)]
 mod laying;
 #[cfg(test)]
+mod marks;
+#[cfg(test)]
+mod names;
+#[cfg(test)]
 mod pool_index;
 #[cfg(test)]
 mod pools;
+#[cfg(test)]
+mod writing;

@@ -23,6 +23,3 @@ pub use refusal::{Halt, NoMemory, Refusal};
 pub use switch::{Cases, Exits};
 pub use typing::{TypeEntry, Typing, VType};
 pub use value::{Answer, Stamp, Value};
-
-#[cfg(test)]
-mod tests;

@@ -16,6 +16,3 @@ pub mod step;
 pub mod value;
 
 pub use machine::{Limits, Machine, Stuck};
-
-#[cfg(test)]
-mod tests;

@@ -7,6 +7,10 @@ mod programs;
 #[cfg(test)]
 mod rewriting;
 #[cfg(test)]
+mod scripts;
+#[cfg(test)]
+mod typings;
+#[cfg(test)]
 mod unmarked;
 #[cfg(test)]
 mod wide;

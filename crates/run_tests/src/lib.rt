@@ -7,6 +7,10 @@ mod faults;
 #[cfg(test)]
 mod fixture;
 #[cfg(test)]
+mod folders;
+#[cfg(test)]
 mod lanes;
 #[cfg(test)]
 mod spoiled;
+#[cfg(test)]
+mod typings;

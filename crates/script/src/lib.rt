@@ -14,6 +14,3 @@ pub use calls::{Known, LaneCalls};
 pub use head::EngineKind;
 pub use phases::{Calls, PhaseCalls};
 pub use reading::{Script, read_script};
-
-#[cfg(test)]
-mod tests;

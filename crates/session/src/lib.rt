@@ -10,6 +10,3 @@ pub use alone::make_alone;
 pub use machine::Limits;
 pub use record::{Lane, Place, Record};
 pub use shared::make_shared;
-
-#[cfg(test)]
-mod tests;

@@ -10,6 +10,3 @@ pub mod reading;
 mod update;
 
 pub use attempt::{Calling, Ruled, Tl2};
-
-#[cfg(test)]
-mod tests;

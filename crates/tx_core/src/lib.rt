@@ -9,6 +9,3 @@ pub mod write_log;
 pub use engine::{Conflict, Engine, TxEnd};
 pub use solo::{Origin, Solo};
 pub use write_log::WriteLog;
-
-#[cfg(test)]
-mod tests;

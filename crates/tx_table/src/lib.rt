@@ -9,6 +9,3 @@ pub mod shared;
 pub mod writing;
 
 pub use shared::{Pass, Shared, Story};
-
-#[cfg(test)]
-mod tests;

@@ -10,6 +10,3 @@ mod search;
 
 pub use checking::check;
 pub use inference::{TypeEnd, infer};
-
-#[cfg(test)]
-mod tests;

@@ -1,0 +1,4 @@
+use Rattle.engine_tests.proofs.solo.over.Given as goal
+
+abbrev pub ghosts-new : goal.ghosts-new
+ghosts-new a = record { first = a.words.items; rule = λ e. Unit {0} }

@@ -1,4 +1,0 @@
-use Rattle.tx_core.proofs.tests.over.Given as goal
-
-abbrev pub ghosts-new : goal.ghosts-new
-ghosts-new a = record { first = a.words.items; rule = λ e. Unit {0} }
