@@ -1,6 +1,6 @@
 mod Weights
 mod Numbers
-mod Ascending
+pub mod Ascending
 mod Gathered
 mod Keeping
 mod Showing

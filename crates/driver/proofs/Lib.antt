@@ -16,3 +16,10 @@ pub mod Siding
 pub mod Splitting
 pub mod Joining
 mod Dealing
+pub mod Taking
+pub mod Together
+pub mod Numbering
+pub mod Renumbered
+pub mod Giving
+pub mod Bags
+pub mod Working

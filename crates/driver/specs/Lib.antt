@@ -6,3 +6,5 @@ pub mod Order
 pub mod Gathering
 pub mod Stories
 pub mod Tables
+pub mod Bags
+pub mod Workers

@@ -1,6 +1,7 @@
 //! The calls of a script, phase by phase: the lanes of a phase side by side on threads, over one table of shared words.
 #![tactic(auto)]
 
+mod bag;
 mod order;
 mod rest;
 mod run;
@@ -8,7 +9,9 @@ mod setting_up;
 mod side;
 mod side_by_side;
 mod table;
+mod taken;
 mod threads;
+mod workers;
 
 pub use run::{Journal, run_phases};
 pub use session::Limits;

@@ -1,16 +1,18 @@
 //! A run of a script's calls.
 ghost use Rattle.std.specs.Prelude.{◌≡◌, ◌≤◌, ◌<◌, ◌+◌, ◌++◌, ◌^◌, ℕ, List, [], length, IfOk, OnOk, count_by, nat_lt};
 ghost use Rattle.std.specs.List.{AllByRecursion};
-ghost use Rattle.jmodel.specs.Schedule.{Known as Form, lists_in, phase_calls};
+ghost use Rattle.jmodel.specs.Schedule.{Known as Form, Bag as ABag, lists_in, phase_calls};
 ghost use Rattle.jmodel.specs.Program.{Program as Meant};
 ghost use Rattle.session.specs.Rule.{IsReady, IsCallOf};
 ghost use Rattle.driver.specs.Sides.{IsSide, AreWhole, none_made};
 ghost use Rattle.driver.specs.Runs.{AreScripted, HasLanes, HasRun};
 ghost use Rattle.driver.specs.Phases.{AddsPhase, AddsDealt, made_counts, unplaced_of, joined};
 
+use crate::bag::bag_side;
 use crate::rest::one_after_another;
 use crate::side::{Part, Side};
 use crate::side_by_side::side_by_side;
+use crate::taken::{by_lane, number};
 use hierarchy::Program;
 use script::{Calls, LaneCalls, PhaseCalls};
 use session::{Limits, Record};
@@ -58,6 +60,15 @@ impl Journal {
         }
         Ok(())
     }
+
+    /// Adds the calls of another journal behind its own.
+    fn append(&mut self, mut other: Journal) -> Result<(), AllocError>
+        ensures placed { OnOk result (self.new.placed.items ≡ self.old.placed.items ++ other.placed.items) }
+        ensures unplaced { OnOk result (self.new.unplaced.items ≡ self.old.unplaced.items ++ other.unplaced.items) }
+    {
+        self.placed.append(&mut other.placed)?;
+        self.unplaced.append(&mut other.unplaced)
+    }
 }
 
 /// Makes the calls of a script, from the words that memory begins with. The phases come one after another. The lanes of a phase run side by
@@ -96,7 +107,7 @@ pub fn run_phases<R: Threads + Sync>(
     Ok(journal)
 }
 
-/// Makes the calls of a phase and adds them to the journal. Gives the words that they left. The calls of a bag are made alone, on lane 0.
+/// Makes the calls of a phase and adds them to the journal. Gives the words that they left.
 fn run_phase<R: Threads + Sync>(
     rt: &R,
     alloc: Global,
@@ -117,13 +128,74 @@ fn run_phase<R: Threads + Sync>(
     ensures phase { IfOk result (λ left. AddsDealt original.now limits.budget number phase.now words.items left.items journal.old journal.new) }
     ensures size { IfOk result (λ left. length left.items ≡ length words.items) }
 {
-    let lanes = match &phase.calls {
-        Calls::Lanes(lanes) => lanes.as_slice(),
-        Calls::Bag { lanes: _, calls } => from_ref(calls),
-    };
-    run_lanes(
-        rt, alloc, original, rewritten, words, limits, number, lanes, journal,
-    )
+    match &phase.calls {
+        Calls::Lanes(lanes) => run_lanes(
+            rt,
+            alloc,
+            original,
+            rewritten,
+            words,
+            limits,
+            number,
+            lanes.as_slice(),
+            journal,
+        ),
+        Calls::Bag { lanes, calls } => run_bag(
+            rt, alloc, original, rewritten, words, limits, number, *lanes, calls, journal,
+        ),
+    }
+}
+
+/// Makes the calls of a bag and adds them to the journal. Gives the words that they left. Workers, as many as the lesser of the lanes and the calls,
+/// each take the next call that is left; one alone makes them as those of lane 0.
+fn run_bag<R: Threads + Sync>(
+    rt: &R,
+    alloc: Global,
+    original: &Program,
+    rewritten: &Program,
+    words: Vec<u64>,
+    limits: Limits,
+    phase: u32,
+    lanes: u64,
+    calls: &LaneCalls,
+    journal: &mut Journal,
+) -> Result<Vec<u64>, AllocError>
+    requires ready { IsReady original.now rewritten.now }
+    requires calls { AllByRecursion (IsCallOf original.now) calls.now }
+    requires few { length calls.now ≤ 100000 }
+    requires lanes { (1 ≤ lanes) × (lanes ≤ 16) }
+    requires attempts { (1 ≤ limits.attempts) × (limits.attempts ≤ 1000000) }
+    requires size { length words.items + 4097 < 2 ^ 32 }
+    ensures phase { IfOk result (λ left. AddsDealt original.now limits.budget phase (ABag lanes calls.now) words.items left.items journal.old journal.new) }
+    ensures size { IfOk result (λ left. length left.items ≡ length words.items) }
+{
+    let bag = calls.calls.as_slice();
+    let workers = lanes.min(bag.len() as u64) as u8;
+    if workers < 2 {
+        return run_lanes(
+            rt,
+            alloc,
+            original,
+            rewritten,
+            words,
+            limits,
+            phase,
+            from_ref(calls),
+            journal,
+        );
+    }
+    let (first, taken) = bag_side(
+        rt, alloc, original, rewritten, words, limits, phase, workers, bag,
+    )?;
+    let by_worker = by_lane(alloc, bag, &taken)?;
+    let mut made = Journal::new(alloc);
+    let left = add_rest(
+        alloc, original, rewritten, first, limits, phase, &by_worker, &mut made,
+    )?;
+    number(&mut made.placed, &taken);
+    number(&mut made.unplaced, &taken);
+    journal.append(made)?;
+    Ok(left)
 }
 
 /// Makes the calls of the lanes of a phase and adds them to the journal. Gives the words that they left.
@@ -148,6 +220,32 @@ fn run_lanes<R: Threads + Sync>(
     ensures size { IfOk result (λ left. length left.items ≡ length words.items) }
 {
     let first = first_side(rt, alloc, original, rewritten, words, limits, phase, lanes)?;
+    add_rest(
+        alloc, original, rewritten, first, limits, phase, lanes, journal,
+    )
+}
+
+/// Makes what is left of a phase, one lane after another, and adds all of its calls to the journal. Gives the words that they left.
+fn add_rest(
+    alloc: Global,
+    original: &Program,
+    rewritten: &Program,
+    first: Side,
+    limits: Limits,
+    phase: u32,
+    lanes: &[LaneCalls],
+    journal: &mut Journal,
+) -> Result<Vec<u64>, AllocError>
+    requires ready { IsReady original.now rewritten.now }
+    requires calls { AllByRecursion (AllByRecursion (IsCallOf original.now)) lanes.now }
+    requires few { AllByRecursion (λ (cs : List Form). length cs ≤ 100000) lanes.now }
+    requires lanes { length lanes.now ≤ 16 }
+    requires attempts { (1 ≤ limits.attempts) × (limits.attempts ≤ 1000000) }
+    requires side { (words : List ℕ) × IsSide original.now limits.budget phase lanes.now (none_made lanes.now) words first }
+    ensures phase { (words : List ℕ) → IsSide original.now limits.budget phase lanes.now (none_made lanes.now) words first
+        → IfOk result (λ left. AddsPhase original.now limits.budget (phase_calls phase 0 lanes.now) words left.items journal.old journal.new) }
+    ensures size { IfOk result (λ left. length left.items ≡ length first.words.items) }
+{
     let firsts = made_counts(alloc, &first.parts)?;
     let rest = one_after_another(
         alloc,

@@ -4,3 +4,5 @@ pub mod Elements
 pub mod Lanes
 pub mod Stood
 pub mod Idle
+pub mod Claiming
+pub mod Longer

@@ -2,4 +2,5 @@ pub mod Rule
 pub mod Lane
 pub mod Adds
 pub mod Passes
+pub mod Claimed
 pub mod Trials

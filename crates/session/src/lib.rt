@@ -3,10 +3,12 @@
 
 mod alone;
 mod call;
+mod claimed;
 mod record;
 mod shared;
 
 pub use alone::make_alone;
+pub use claimed::{Taken, make_claimed};
 pub use machine::Limits;
 pub use record::{Lane, Place, Record};
 pub use shared::make_shared;

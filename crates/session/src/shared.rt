@@ -43,7 +43,7 @@ pub fn make_shared<T: Ruled>(
 }
 
 /// Which lane a pass is for, and of which table it is. A caller picks both for its proof.
-trait OfLane {
+pub(crate) trait OfLane {
     ghost use Rattle.std.specs.Prelude.{ℕ};
     ghost use Rattle.atomic_table.specs.Seated.{TableId};
 
@@ -60,7 +60,7 @@ impl OfLane for Brand {
 
 /// Names the call at a place, for contracts alone.
 #[derive(Drop)]
-struct Named<'a, K> {
+pub(crate) struct Named<'a, K> {
     at: Place,
     call: &'a Known,
     of: PhantomData<K>,
@@ -80,7 +80,7 @@ impl<'a, K: OfLane> Calling for Named<'a, K> {
 impl<'a, K> Named<'a, K> {
     ghost use Rattle.std.specs.Prelude.{◌≡◌};
 
-    fn of(at: Place, call: &'a Known) -> Snapshot<Self>
+    pub(crate) fn of(at: Place, call: &'a Known) -> Snapshot<Self>
         ensures at { result.value.at ≡ at }
         ensures call { result.value.call.now ≡ call.now }
     {

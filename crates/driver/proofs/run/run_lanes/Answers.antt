@@ -1,37 +1,7 @@
-use Rattle.std.proofs.Common.{◌≡◌, ◌≤◌, ℕ, List, length, ◌∙◌, ap, subst}
-use Rattle.std.proofs.lemmas.Slice.Zip.{AllZip-long}
-use Rattle.jmodel.specs.Schedule.{Known}
-use Rattle.driver.specs.Sides.{IsSide, AreWhole}
-use Rattle.driver.specs.Phases.{made_counts}
-use Rattle.driver.proofs.Parts.{counts_within}
-use Rattle.driver.proofs.Ordered.{adds_phase}
 use Rattle.driver.proofs.run.run_lanes.Goals as goal
 
-pub one_after_another-requires-clause-firsts : goal.one_after_another-requires-clause-firsts
-one_after_another-requires-clause-firsts g c =
-    let first = c.in_ok-first.first in
-    let side = c.in_ok-first.ensures.side in
-    let counts : c.deref-2.result.now ≡ made_counts first.parts.items = c.deref-2.ensures.value ∙ c.in_ok-firsts.ensures ∙ ap made_counts c.deref.ensures.value in
-    ap length counts
-    ∙ AllZip-long (λ (cs : List Known) (n : ℕ). n ≤ length cs) c.args.lanes.now (made_counts first.parts.items)
-    (counts_within c.args.phase 0 c.args.lanes.now side.tolds first.parts.items side.parts)
-
-pub one_after_another-requires-clause-within : goal.one_after_another-requires-clause-within
-one_after_another-requires-clause-within g c =
-    let first = c.in_ok-first.first in
-    let side = c.in_ok-first.ensures.side in
-    let counts : c.deref-2.result.now ≡ made_counts first.parts.items = c.deref-2.ensures.value ∙ c.in_ok-firsts.ensures ∙ ap made_counts c.deref.ensures.value in
-    rw counts (counts_within c.args.phase 0 c.args.lanes.now side.tolds first.parts.items side.parts)
+pub add_rest-requires-clause-side : goal.add_rest-requires-clause-side
+add_rest-requires-clause-side g c = (c.args.words.items, c.in_ok-first.ensures.side)
 
 pub returns-clause-phase : goal.returns-clause-phase
-returns-clause-phase g c =
-    let P = c.args.original.now in
-    let lanes = c.args.lanes.now in
-    let first = c.in_ok-first.first in
-    let rest = c.in_ok-rest.rest in
-    let counts : c.deref-2.result.now ≡ made_counts first.parts.items = c.deref-2.ensures.value ∙ c.in_ok-firsts.ensures ∙ ap made_counts c.deref.ensures.value in
-    let Counts : List ℕ → Type 0 = λ n. IsSide P c.args.limits.budget c.args.phase lanes n first.words.items rest in
-    let Whole : List ℕ → Type 0 = λ n. AreWhole lanes n rest.parts.items in
-    adds_phase P c.args.limits.budget c.args.phase lanes c.args.words.items first rest c.in_ok-first.ensures.side (subst Counts counts c.in_ok-rest.ensures.side)
-    (subst Whole counts c.in_ok-rest.ensures.whole)
-    c.args.journal.now c.add_phase.new.self c.in_ok-add_phase.ensures.placed c.in_ok-add_phase.ensures.unplaced
+returns-clause-phase g c = c.add_rest.ensures.phase c.args.words.items c.in_ok-first.ensures.side

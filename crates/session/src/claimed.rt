@@ -1,0 +1,127 @@
+//! Calls that are claimed of a bag, over a table of shared words, by TL2.
+ghost use Rattle.std.specs.Prelude.{◌≡◌, ◌≢◌, ◌≤◌, ◌+◌, ℕ, List, [], length, IfOk};
+ghost use Rattle.std.specs.List.{AllByRecursion};
+ghost use Rattle.atomic_table.specs.Seated.{TableId};
+ghost use Rattle.claims.specs.Claims.{goes};
+ghost use Rattle.claims.specs.Passes.{claims_of, IsOf};
+ghost use Rattle.jmodel.specs.History.{Entry};
+ghost use Rattle.session.specs.Rule.{IsRuled, IsReady, IsCallOf};
+ghost use Rattle.session.specs.Lane.{HasMade};
+ghost use Rattle.session.specs.Passes.{IsStarting, IsEnding, HasLost};
+ghost use Rattle.session.specs.Claimed.{calls_at, HasTaken};
+
+use crate::call::make_next;
+use crate::record::{Lane, Place};
+use crate::shared::{Named, OfLane};
+use claims::{Bag, BagPass};
+use hierarchy::Program;
+use machine::Limits;
+use script::Known;
+use std::alloc::{AllocError, Global};
+use std::marker::Brand;
+use tl2::{Ruled, Tl2};
+use tx_table::{Pass, Shared};
+
+/// What a worker took of a bag.
+#[derive(Drop)]
+pub struct Taken {
+    /// What is kept of its calls, which are numbered from a place on in the order in which it claimed them.
+    pub lane: Lane,
+    /// Which calls of the bag it claimed: those that it made, and the one at which it stopped, if any.
+    pub indexes: Vec<u32>,
+    /// Its pass.
+    pub pass: Pass,
+}
+
+/// Claims the calls of a bag, one after another, and makes each over a pass of a table that others share, up to the first whose attempts are used up by
+/// conflicts, or until all calls are claimed. Each call may take the turns and the attempts of `limits`. The rewritten program is what runs. The calls
+/// are numbered from the place on. Gives the pass back.
+pub fn make_claimed<T: Ruled>(
+    alloc: Global,
+    original: &Program,
+    rewritten: &Program,
+    shared: &Shared<T>,
+    pass: Pass,
+    limits: Limits,
+    at: Place,
+    bag: &Bag,
+    claims: &mut BagPass,
+    calls: &[Known],
+) -> Result<Taken, AllocError>
+    requires ready { IsReady original.now rewritten.now }
+    requires calls { AllByRecursion (IsCallOf original.now) calls.now }
+    requires few { at.first + length calls.now ≤ 100000 }
+    requires attempts { (1 ≤ limits.attempts) × (limits.attempts ≤ 1000000) }
+    requires rule { (e : Entry) → IsRuled original.now limits.budget e → T.rule e }
+    requires pass { IsStarting shared.now.table.shared.table_id at.lane pass }
+    requires bag { IsOf bag.now claims.old × (bag.now.length ≡ length calls.now) }
+    requires claims { claims_of claims.old ≡ goes (length calls.now + 1) }
+    ensures made { IfOk result (λ r. (h : List Entry) × IsEnding shared.now.table.shared.table_id h r.pass × HasMade at (calls_at calls.now r.indexes.items) h r.lane) }
+    ensures stopped { IfOk result (λ r. r.lane.made ≢ length r.indexes.items → HasLost r.pass) }
+    ensures bag { IsOf bag.now claims.new }
+    ensures claims { IfOk result (λ r. HasTaken (length calls.now) (claims_of claims.new) r.indexes.items) }
+{
+    claim_over::<Brand, T>(
+        alloc, original, rewritten, shared, pass, limits, at, bag, claims, calls,
+    )
+}
+
+fn claim_over<K: OfLane, T: Ruled>(
+    alloc: Global,
+    original: &Program,
+    rewritten: &Program,
+    shared: &Shared<T>,
+    pass: Pass,
+    limits: Limits,
+    at: Place,
+    bag: &Bag,
+    claims: &mut BagPass,
+    calls: &[Known],
+) -> Result<Taken, AllocError>
+    requires ready { IsReady original.now rewritten.now }
+    requires calls { AllByRecursion (IsCallOf original.now) calls.now }
+    requires few { at.first + length calls.now ≤ 100000 }
+    requires attempts { (1 ≤ limits.attempts) × (limits.attempts ≤ 1000000) }
+    requires rule { (e : Entry) → IsRuled original.now limits.budget e → T.rule e }
+    requires pass { IsStarting shared.now.table.shared.table_id at.lane pass }
+    requires lane { K.lane ≡ at.lane }
+    requires table { K.is_table shared.now.table.shared.table_id }
+    requires is_table { (t : TableId) → K.is_table t → t ≡ shared.now.table.shared.table_id }
+    requires bag { IsOf bag.now claims.old × (bag.now.length ≡ length calls.now) }
+    requires claims { claims_of claims.old ≡ goes (length calls.now + 1) }
+    ensures made { IfOk result (λ r. (h : List Entry) × IsEnding shared.now.table.shared.table_id h r.pass × HasMade at (calls_at calls.now r.indexes.items) h r.lane) }
+    ensures stopped { IfOk result (λ r. r.lane.made ≢ length r.indexes.items → HasLost r.pass) }
+    ensures bag { IsOf bag.now claims.new }
+    ensures claims { IfOk result (λ r. HasTaken (length calls.now) (claims_of claims.new) r.indexes.items) }
+{
+    let mut lane = Lane::new(alloc);
+    let mut indexes = Vec::new(alloc);
+    let Some(first) = calls.first() else {
+        return Ok(Taken {
+            lane,
+            indexes,
+            pass,
+        });
+    };
+    let mut engine = Tl2::new(alloc, shared, pass, Named::<K>::of(at, first));
+    for count in 0..calls.len() {
+        let Some(index) = claims.claim(bag) else {
+            break;
+        };
+        indexes.push(index)?;
+        let call = &calls[index as usize];
+        let here = at.onward(count);
+        engine.set_call(Named::of(here, call));
+        let one = make_next(alloc, original, rewritten, &mut engine, limits, here, call);
+        if one.is_spent() {
+            break;
+        }
+        lane.add(one)?;
+    }
+    let pass = engine.into_pass();
+    Ok(Taken {
+        lane,
+        indexes,
+        pass,
+    })
+}
