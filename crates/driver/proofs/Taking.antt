@@ -1,5 +1,5 @@
 -- The claims of workers, put together.
-use Rattle.std.proofs.Common.{ltb-false, ltb-true, ◌≡◌, ℕ, zero, suc, ◌+◌, ◌-◌, ◌*◌, ◌^◌, ◌<◌, ◌≤◌, length, Some, None, append_assoc, List, [], ◌∷◌, ◌++◌, Bool, true, false, cond, nat_lt, refl, sym, ◌∙◌, ap, subst, lt-ltb, le-ltb, arith}
+use Rattle.std.proofs.Common.{ltb-false, ◌≡◌, ℕ, zero, suc, ◌+◌, ◌-◌, ◌*◌, ◌^◌, ◌<◌, ◌≤◌, length, Some, None, append_assoc, List, [], ◌∷◌, ◌++◌, Bool, true, false, cond, nat_lt, refl, sym, ◌∙◌, ap, subst, lt-ltb, le-ltb, arith}
 use Rattle.std.specs.Prelude.{IsPermutation, filter}
 use Rattle.std.specs.List.{range_with_len, flat_map, AllByRecursion}
 use Rattle.std.proofs.lemmas.List.{append-nil, length_push, flat_map_more}

@@ -1,5 +1,5 @@
 -- The workers of a bag, as they get their claims and as they come back.
-use Rattle.std.proofs.Common.{◌≡◌, ◌≢◌, ◌≤◌, ◌<◌, ◌+◌, ◌-◌, ◌*◌, ◌^◌, ℕ, zero, suc, List, [], ◌∷◌, ◌++◌, length, length-set, get_or, set, map, Result, Ok, Err, refl, sym, ap, ◌∙◌, subst, arith}
+use Rattle.std.proofs.Common.{◌≡◌, ◌≢◌, ◌≤◌, ◌<◌, ◌+◌, ◌-◌, ◌*◌, ◌^◌, ℕ, zero, suc, List, [], ◌∷◌, ◌++◌, length, length-set, get_or, set, Result, Ok, Err, refl, sym, ap, ◌∙◌, subst, arith}
 use Rattle.std.specs.Prelude.{IfOk, IsPermutation, filter, nat_lt}
 use Rattle.std.specs.List.{All, AllByRecursion, flat_map}
 use Rattle.std.specs.Global.{Global}
@@ -11,7 +11,7 @@ use Rattle.std.proofs.lemmas.Result.{IfOk-at_ok}
 use Rattle.std.proofs.Math.Nat.{mul-le-mul_right}
 use mathlib.Core.Logic.{dite}
 use native.Mathlib.Decide.{ℕ_discrete}
-use Rattle.claims.specs.Claims.{Claims, Ascends, first_claims, goes, stays, joined}
+use Rattle.claims.specs.Claims.{Claims, Ascends, first_claims, stays, joined}
 use Rattle.claims.specs.Passes.{claims_of, IsOf}
 use Rattle.claims.specs.declared.bag.Bag.{Bag}
 use Rattle.claims.specs.declared.bag.BagPass.{BagPass}

@@ -1,5 +1,5 @@
 -- A worker's claims, as they are made.
-use Rattle.std.proofs.Common.{◌≡◌, ◌≤◌, ◌<◌, ◌+◌, ℕ, zero, suc, List, [], ◌∷◌, ◌++◌, length, nat_lt, cond, Bool, true, false, Option, Some, None, refl, sym, ◌∙◌, ap, subst, ltb-true, lt-ltb, arith}
+use Rattle.std.proofs.Common.{◌≡◌, ◌≤◌, ◌<◌, ◌+◌, ℕ, List, [], ◌∷◌, ◌++◌, length, nat_lt, cond, Bool, true, false, Option, Some, None, refl, sym, ◌∙◌, ap, subst, ltb-true, lt-ltb, arith}
 use Rattle.std.specs.Prelude.{filter}
 use Rattle.std.specs.List.{AllByRecursion}
 use Rattle.std.proofs.lemmas.List.{append-nil, length_push}

@@ -1,14 +1,12 @@
 -- What was made of the calls that a worker claimed, as it claims one more.
-use Rattle.std.proofs.Common.{◌≡◌, ◌≤◌, ℕ, zero, suc, List, [], ◌∷◌, ◌++◌, length, map, get_or, take, refl, sym, ◌∙◌, ap, subst, arith}
+use Rattle.std.proofs.Common.{◌≡◌, ◌≤◌, ℕ, zero, suc, List, [], ◌∷◌, ◌++◌, length, get_or, take, refl, sym, ◌∙◌, ap, subst, arith}
 use Rattle.std.proofs.lemmas.List.{length-append, length-map, map-append}
-use Rattle.jmodel.specs.Attempt.{Log}
 use Rattle.jmodel.specs.History.{Entry}
 use Rattle.jmodel.specs.Schedule.{Known, lane_calls}
 use Rattle.session.specs.declared.record.Lane.{Lane}
 use Rattle.session.specs.declared.record.Place.{Place}
 use Rattle.session.specs.Lane.{HasMade}
 use Rattle.session.specs.Claimed.{calls_at}
-use Rattle.session.proofs.Stood.{Stood}
 
 take_left : {A : Type 0} (n : ℕ) (xs ys : List A) → n ≤ length xs → take n (xs ++ ys) ≡ take n xs
 take_left zero xs ys h = refl

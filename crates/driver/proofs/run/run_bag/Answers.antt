@@ -1,4 +1,4 @@
-use Rattle.std.proofs.Common.{◌≡◌, ◌≤◌, ℕ, List, ◌∷◌, [], length, map, min, ◌<◌, ◌++◌, All, refl, sym, ◌∙◌, ap, subst, arith}
+use Rattle.std.proofs.Common.{◌≡◌, ◌≤◌, ℕ, List, length, map, min, ◌<◌, ◌++◌, All, sym, ◌∙◌, ap, subst, arith}
 use Rattle.std.specs.List.{AllByRecursion}
 use Rattle.std.proofs.lemmas.List.{length-map}
 use Rattle.jmodel.specs.Schedule.{Known, Phase, Bag, phase_calls, AreDealt}
@@ -6,7 +6,7 @@ use Rattle.std.specs.Global.{Global}
 use Rattle.std.specs.declared.vec.Vec.{Vec}
 use Rattle.session.specs.declared.record.Record.{Record}
 use Rattle.session.specs.Rule.{IsCallOf}
-use Rattle.driver.specs.Bags.{lists, as_lanes, AreTaken, IsOfWorker, numbered}
+use Rattle.driver.specs.Bags.{lists, as_lanes, IsOfWorker, numbered}
 use Rattle.driver.specs.Sides.{IsSide, none_made}
 use Rattle.driver.specs.Phases.{AddsPhase, AddsDealt}
 use Rattle.driver.proofs.Lists.{on_ok}

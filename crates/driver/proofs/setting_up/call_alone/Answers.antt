@@ -1,4 +1,3 @@
-use Rattle.std.proofs.Common.{[], ◌∷◌}
 use Rattle.driver.proofs.SettingUp.{answers_alone}
 use Rattle.driver.proofs.setting_up.call_alone.Goals as goal
 

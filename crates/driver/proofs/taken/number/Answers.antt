@@ -1,6 +1,4 @@
-use Rattle.std.proofs.Common.{ℕ, List, ◌≡◌, ◌<◌, ◌+◌, length, get_or, set, map, take, drop, refl, sym, ◌∙◌, ap, subst, arith}
-use Rattle.session.specs.declared.record.Record.{Record}
-use Rattle.driver.specs.Bags.{numbered, lists}
+use Rattle.std.proofs.Common.{ℕ, get_or, ◌∙◌, ap}
 use Rattle.driver.proofs.Giving.{numbered_next}
 use Rattle.driver.proofs.taken.number.Goals as goal
 

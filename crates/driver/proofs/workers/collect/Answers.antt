@@ -4,7 +4,7 @@ use Rattle.std.proofs.lemmas.Iterator.Adapters.{YieldsList-from_vec}
 use Rattle.std.proofs.lemmas.Iterator.Consumers.{YieldsList-turn, YieldsList-end}
 use Rattle.claims.specs.Passes.{claims_of}
 use Rattle.driver.specs.Bags.{lists}
-use Rattle.driver.proofs.Working.{Collecting, collecting_first, collecting_more, collecting_all, is_of}
+use Rattle.driver.proofs.Working.{Collecting, collecting_first, collecting_more, collecting_all}
 use Rattle.driver.proofs.workers.collect.Goals as goal
 
 pub loop-end-init : goal.loop-end-init

@@ -1,9 +1,9 @@
-use Rattle.std.proofs.Common.{ℕ, ◌<◌, ◌≡◌, ◌+◌, length, get_or, sym, ap, subst, ◌∙◌, arith}
+use Rattle.std.proofs.Common.{ℕ, ◌<◌, ◌+◌, length, get_or, sym, ap, subst, ◌∙◌, arith}
 use Rattle.std.proofs.lemmas.List.{length_push}
 use Rattle.std.proofs.lemmas.Iterator.Adapters.{YieldsList-from_vec}
 use Rattle.std.proofs.lemmas.Iterator.Consumers.{YieldsList-turn}
 use Rattle.driver.specs.Workers.{AreWorkers}
-use Rattle.driver.proofs.Working.{Handed, handed_first, handed_more, workers_push}
+use Rattle.driver.proofs.Working.{Handed, handed_more, workers_push}
 use Rattle.driver.proofs.workers.give_claims.Goals as goal
 
 pub loop-start-preserved : goal.loop-start-preserved

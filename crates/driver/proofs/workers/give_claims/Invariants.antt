@@ -1,4 +1,4 @@
-use Rattle.std.proofs.Common.{◌≡◌, ℕ, length}
+use Rattle.std.proofs.Common.{◌≡◌, length}
 use Rattle.atomic_table.specs.Seated.{TableId}
 use Rattle.driver.specs.Tables.{AreStarting}
 use Rattle.driver.specs.Workers.{AreWorkers}
