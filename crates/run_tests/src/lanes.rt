@@ -1,4 +1,4 @@
-//! Lanes that count side by side, in an order that is up to the threads.
+//! Lanes and workers that count side by side, in an order that is up to the threads.
 use crate::fixture::{COUNTER, RUN, call, folder_of};
 use deuce_io::{IoEnd, MemSink};
 use std::alloc::Global;
@@ -23,9 +23,24 @@ fn counting(alloc: Global, lanes: u64, calls: u64) -> Result<String, IoEnd> {
     Ok(script)
 }
 
-/// Whether lanes that count side by side are answered 1 and up, in the order of the printed history, and none is left out.
-fn counts<R: Threads + Sync>(rt: &R, alloc: Global, lanes: u64, calls: u64) -> Result<bool, IoEnd> {
-    let script = counting(alloc, lanes, calls)?;
+/// A script of a bag of so many calls of `inc`, for this many lanes.
+fn bag(alloc: Global, lanes: u64, calls: u64) -> Result<String, IoEnd> {
+    let mut script = format!(in alloc; "{{\"form\":1,\"lanes\":{lanes},\"phases\":[{{\"bag\":[")?;
+    for call in 0..calls {
+        script.push_str(if call == 0 { "" } else { "," })?;
+        script.push_str(INC)?;
+    }
+    script.push_str("]}]}")?;
+    Ok(script)
+}
+
+/// Whether the calls of a script that count side by side are answered 1 up to their number, in the order of the printed history.
+fn counts<R: Threads + Sync>(
+    rt: &R,
+    alloc: Global,
+    script: &str,
+    calls: u64,
+) -> Result<bool, IoEnd> {
     let mut folder = folder_of(alloc, COUNTER.as_slice(), script.as_bytes())?;
     let sink = MemSink::new(alloc, 1_000_000);
     let (status, written) = call(rt, alloc, RUN, &mut folder, sink)?;
@@ -40,13 +55,23 @@ fn counts<R: Threads + Sync>(rt: &R, alloc: Global, lanes: u64, calls: u64) -> R
             }
         }
     }
-    Ok(status == 0 && answer == lanes.wrapping_mul(calls) && text.ends_with("unplaced 0\n"))
+    Ok(status == 0 && answer == calls && text.ends_with("unplaced 0\n"))
 }
 
 #[test]
 fn lanes_count_side_by_side(rt: HostRuntime) -> Result<(), Fail> {
-    assert!(rt; counts(&rt, rt.alloc(), 2, 1)?);
-    assert!(rt; counts(&rt, rt.alloc(), 4, 250)?);
-    assert!(rt; counts(&rt, rt.alloc(), 16, 20)?);
+    for (lanes, calls) in [(2, 1), (4, 250), (16, 20)] {
+        let script = counting(rt.alloc(), lanes, calls)?;
+        assert!(rt; counts(&rt, rt.alloc(), script.as_str(), lanes.wrapping_mul(calls))?);
+    }
+    Ok(())
+}
+
+#[test]
+fn workers_count_side_by_side(rt: HostRuntime) -> Result<(), Fail> {
+    for (lanes, calls) in [(2, 1), (4, 500), (16, 320)] {
+        let script = bag(rt.alloc(), lanes, calls)?;
+        assert!(rt; counts(&rt, rt.alloc(), script.as_str(), calls)?);
+    }
     Ok(())
 }
