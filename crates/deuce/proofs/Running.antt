@@ -23,7 +23,7 @@ use Rattle.script.specs.Script.{Script, IsScript}
 use Rattle.session.specs.declared.record.Record.{Record}
 use Rattle.session.specs.Rule.{IsReady, IsState}
 use Rattle.session.specs.Lane.{record_of}
-use Rattle.driver.specs.declared.run.Journal.{Journal}
+use Rattle.driver.specs.declared.journal.Journal.{Journal}
 use Rattle.driver.specs.Runs.{HasRun, made_of}
 use Rattle.driver.specs.SetUp.{EndsSetUp}
 use Rattle.driver.specs.declared.setting_up.SetUpEnd.{SetUpEnd}

@@ -69,33 +69,3 @@ IsOfPhase phase c = (c.region ≡ suc c.lane) × (c.phase ≡ phase)
 
 abbrev pub IsToldOf : ℕ → Told → Type 0
 IsToldOf phase t = IsOfPhase phase t.call
-
-module _ (phase : ℕ) where
-  lane_calls_are : (lane index : ℕ) (cs : List Known) → AllByRecursion (IsOfPhase phase) (lane_calls phase lane index cs)
-  lane_calls_are lane index [] = tt
-  lane_calls_are lane index (c ∷ cs) = ((refl, refl), lane_calls_are lane (suc index) cs)
-
-  placed_too : (ts : List Told) → AllByRecursion (IsOfPhase phase) (calls_of ts) → AllByRecursion (IsToldOf phase) (filter is_placed ts)
-  placed_too [] a = tt
-  placed_too (t ∷ ts) a =
-      let rest : AllByRecursion (IsToldOf phase) (filter is_placed ts) = placed_too ts a.1 in
-      elim (is_placed t) as (λ b. AllByRecursion (IsToldOf phase) (cond b (t ∷ filter is_placed ts) (filter is_placed ts))) [ true ↦ (a.0, rest) | false ↦ rest ]
-
-  both_lists : (xs ys : List Told) → AllByRecursion (IsToldOf phase) xs → AllByRecursion (IsToldOf phase) ys → AllByRecursion (IsToldOf phase) (xs ++ ys)
-  both_lists [] ys a b = b
-  both_lists (x ∷ xs) ys a b = (a.0, both_lists xs ys a.1 b)
-
-  placed_all : (lane : ℕ) (ls : Phase) (ts : List (List Told)) (rs : List Part) → AreParts phase lane ls (none_made ls) ts rs
-      → AllByRecursion (IsToldOf phase) (flat_map (filter is_placed) ts)
-  placed_all lane ls [] rs a = tt
-  placed_all lane (cs ∷ ls) (t ∷ ts) (r ∷ rs) a =
-      let calls = subst (AllByRecursion (IsOfPhase phase)) (sym a.0.calls_are) (lane_calls_are lane 0 (take r.made (drop 0 cs))) in
-      both_lists (filter is_placed t) (flat_map (filter is_placed) ts) (placed_too t calls) (placed_all (suc lane) ls ts rs a.1)
-  placed_all lane [] (t ∷ ts) [] a = absurd a
-  placed_all lane [] (t ∷ ts) (r ∷ rs) a = absurd a
-  placed_all lane (cs ∷ ls) (t ∷ ts) [] a = absurd a
-
-  -- each placed call of the lanes is of the phase
-  pub placed_of_phase : (ls : Phase) (ts : List (List Told)) (rs : List Part) → AreParts phase 0 ls (none_made ls) ts rs
-      → All (IsToldOf phase) (flat_map (filter is_placed) ts)
-  placed_of_phase ls ts rs a = All-from_recursion (IsToldOf phase) (flat_map (filter is_placed) ts) (placed_all 0 ls ts rs a)

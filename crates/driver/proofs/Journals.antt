@@ -15,13 +15,10 @@ use Rattle.jmodel.specs.Schedule.{ScriptPhase, AreDealt, AreScriptCalls, Made, M
 use Rattle.jmodel.specs.Serial.{Serial}
 use Rattle.session.specs.Rule.{IsState, IsStretch, calls_of, answers_of}
 use Rattle.session.specs.Lane.{record_of}
-use Rattle.driver.specs.declared.run.Journal.{Journal}
-use Rattle.driver.specs.Sides.{IsLaneKept}
-use Rattle.driver.specs.Phases.{AddsPhase, AddsDealt}
+use Rattle.driver.specs.declared.journal.Journal.{Journal}
 use Rattle.driver.specs.Runs.{HasRun, made_of}
 use Rattle.driver.proofs.Lists.{all_map, all_from_map, all_left, all_right, pairs_nil, pairs_append, pairs_map}
 use Rattle.driver.proofs.Places.{IsOfPhase, IsBefore, all_dealt, all_script, script_append, ascends_phase}
-use Rattle.driver.proofs.Stretches.{stretch_append, stretch_nil}
 use Rattle.driver.proofs.Lists.{sorted_out}
 
 -- what a journal has after phases, and what their calls lead to
@@ -38,99 +35,14 @@ pub record HasRunTo (P : Program) (budget : ℕ) (phases : List ScriptPhase) (wo
   pub no_memory : AllByRecursion (λ (t : Told). t.answer ≡ NoMemory) unplaced
   pub stretch : (σ : State) → IsState P words σ → IsStretch P budget σ left placed
 
-calls_append : (ts us : List Told) → calls_of (ts ++ us) ≡ calls_of ts ++ calls_of us
+pub calls_append : (ts us : List Told) → calls_of (ts ++ us) ≡ calls_of ts ++ calls_of us
 calls_append ts us = map-append (λ (t : Told). t.call) ts us
 
--- no phase
-pub run_none : (P : Program) (budget : ℕ) (words : List ℕ) (journal : Journal) → journal.placed.items ≡ [] → journal.unplaced.items ≡ []
-    → HasRunTo P budget [] words words journal
-run_none P budget words journal placed unplaced =
-    record {
-      placed = [];
-      unplaced = [];
-      placed_are = placed;
-      unplaced_are = unplaced;
-      calls = [];
-      are_calls = refl;
-      each_once = IsPermutation-refl [];
-      placed_order = pairs_nil MayPrecede;
-      unplaced_order = pairs_nil (λ c d. ascends c d ≡ true);
-      no_memory = tt;
-      stretch = λ σ stands. stretch_nil P budget σ words stands;
-    }
-
 -- where calls are, so is each of two lists that hold them
-of_both : (Q : Call → Type 0) (cs : List Call) (ts us : List Told) → IsPermutation cs (calls_of (ts ++ us)) → All Q cs → All Q (calls_of ts) × All Q (calls_of us)
+pub of_both : (Q : Call → Type 0) (cs : List Call) (ts us : List Told) → IsPermutation cs (calls_of (ts ++ us)) → All Q cs → All Q (calls_of ts) × All Q (calls_of us)
 of_both Q cs ts us same all =
     let both = subst (All Q) (calls_append ts us) (All-permutation Q cs (calls_of (ts ++ us)) same all) in
     (all_left Q (calls_of ts) (calls_of us) both, all_right Q (calls_of ts) (calls_of us) both)
-
--- the placed calls of one phase
-placed_pairs : (phase : ℕ) (ts : List Told) → AllPairs IsLaneKept ts → All (IsOfPhase phase 0) (calls_of ts) → AllPairs MayPrecede (calls_of ts)
-placed_pairs phase ts kept all =
-    pairs_map (λ (t : Told). t.call) MayPrecede ts
-    (λ i j d a b. inr (
-      (all_from_map (λ (t : Told). t.call) (IsOfPhase phase 0) ts all i d (omega arith)).of_phase
-          ∙ sym (all_from_map (λ (t : Told). t.call) (IsOfPhase phase 0) ts all j d b).of_phase,
-      kept i j d a b,
-    ))
-
-module _ (P : Program) (budget : ℕ) (phases : List ScriptPhase) (p : ScriptPhase) (words left last : List ℕ) (old new : Journal)
-    (h : HasRunTo P budget phases words left old)
-    (dealt : AddsDealt P budget (length phases) p left last old new) where
-  k : AddsPhase P budget dealt.calls left last old new
-  k = dealt.adds
-
-  -- the earlier calls are of earlier phases
-  earlier : All (IsBefore (length phases)) (calls_of h.placed) × All (IsBefore (length phases)) (calls_of h.unplaced)
-  earlier =
-      let e : 0 + length phases ≡ length phases = omega arith in
-      let Before : ℕ → Type 0 = λ n. All (IsBefore n) h.calls in
-      of_both (IsBefore (length phases)) h.calls h.placed h.unplaced h.each_once (subst Before e (all_script 0 phases h.calls h.are_calls))
-
-  now : All (IsOfPhase (length phases) 0) (calls_of k.placed) × All (IsOfPhase (length phases) 0) (calls_of k.unplaced)
-  now = of_both (IsOfPhase (length phases) 0) dealt.calls k.placed k.unplaced k.is_phase.each_once (all_dealt (length phases) p dealt.calls dealt.are_dealt)
-
-  all : AreScriptCalls 0 (phases ++ p ∷ []) (h.calls ++ dealt.calls)
-  all =
-      let e : length phases ≡ 0 + length phases = omega arith in
-      let Dealt : ℕ → Type 0 = λ n. AreDealt n p dealt.calls in
-      script_append 0 phases p h.calls dealt.calls h.are_calls (subst Dealt e dealt.are_dealt)
-
-  once : IsPermutation (h.calls ++ dealt.calls) (calls_of ((h.placed ++ k.placed) ++ (h.unplaced ++ k.unplaced)))
-  once =
-      let parts = calls_append (h.placed ++ k.placed) (h.unplaced ++ k.unplaced) ∙ ap (λ l. l ++ calls_of (h.unplaced ++ k.unplaced))
-      (calls_append h.placed k.placed)
-      ∙ ap (λ l. (calls_of h.placed ++ calls_of k.placed) ++ l) (calls_append h.unplaced k.unplaced) in
-      subst (IsPermutation (h.calls ++ dealt.calls)) (sym parts)
-      (sorted_out h.calls dealt.calls (calls_of h.placed) (calls_of k.placed) (calls_of h.unplaced) (calls_of k.unplaced)
-      (subst (IsPermutation h.calls) (calls_append h.placed h.unplaced) h.each_once)
-      (subst (IsPermutation dealt.calls) (calls_append k.placed k.unplaced) k.is_phase.each_once))
-
-  -- a phase more
-  pub run_more : HasRunTo P budget (phases ++ p ∷ []) words last new
-  run_more =
-      record {
-        placed = h.placed ++ k.placed;
-        unplaced = h.unplaced ++ k.unplaced;
-        placed_are = k.placed_are ∙ ap (λ l. l ++ map record_of k.placed) h.placed_are ∙ sym (map-append record_of h.placed k.placed);
-        unplaced_are = k.unplaced_are ∙ ap (λ l. l ++ map record_of k.unplaced) h.unplaced_are ∙ sym (map-append record_of h.unplaced k.unplaced);
-        calls = h.calls ++ dealt.calls;
-        are_calls = all;
-        each_once = once;
-        placed_order = subst (AllPairs MayPrecede) (sym (calls_append h.placed k.placed))
-            (pairs_append MayPrecede (IsBefore (length phases)) (IsOfPhase (length phases) 0) (λ c d before is. inl (omega (arith, before, is.of_phase)))
-            (calls_of h.placed) (calls_of k.placed) h.placed_order
-            (placed_pairs (length phases) k.placed k.is_phase.lanes_kept now.0) earlier.0 now.0);
-        unplaced_order = subst (AllPairs (λ c d. ascends c d ≡ true)) (sym (calls_append h.unplaced k.unplaced))
-            (pairs_append (λ c d. ascends c d ≡ true) (IsBefore (length phases)) (IsOfPhase (length phases) 0)
-            (λ c d before is. ascends_phase c d (omega (arith, before, is.of_phase)))
-            (calls_of h.unplaced) (calls_of k.unplaced) h.unplaced_order k.is_phase.unplaced_order earlier.1 now.1);
-        no_memory = recursion_from_All (λ (t : Told). t.answer ≡ NoMemory) (h.unplaced ++ k.unplaced)
-            (All-append (λ (t : Told). t.answer ≡ NoMemory) h.unplaced k.unplaced (All-from_recursion (λ (t : Told). t.answer ≡ NoMemory) h.unplaced h.no_memory)
-            (All-from_recursion (λ (t : Told). t.answer ≡ NoMemory) k.unplaced k.is_phase.no_memory));
-        stretch = λ σ stands. stretch_append P budget σ left last h.placed k.placed (h.stretch σ stands) k.is_phase.stretch;
-      }
 
 made_calls : (ts : List Told) → map call_of (map made_of ts) ≡ calls_of ts
 made_calls ts = map-map call_of made_of ts

@@ -2,7 +2,6 @@ pub mod Lists
 pub mod Places
 pub mod Stretches
 pub mod Parts
-pub mod Ordered
 pub mod Journals
 pub mod Alone
 pub mod SettingUp
@@ -12,8 +11,6 @@ pub mod Permuted
 pub mod Ranking
 pub mod Gathering
 pub mod Stretching
-pub mod Siding
-pub mod Splitting
 pub mod Joining
 mod Dealing
 pub mod Taking
@@ -23,3 +20,10 @@ pub mod Renumbered
 pub mod Giving
 pub mod Bags
 pub mod Working
+pub mod Over
+pub mod Phased
+pub mod Passing
+pub mod Resting
+pub mod Added
+pub mod Midway
+pub mod Spending

@@ -1,6 +1,6 @@
 -- Lists in order, and lists that hold the same.
 use Rattle.std.proofs.Common.{◌≡◌, ℕ, zero, suc, ◌<◌, List, [], ◌∷◌, ◌++◌, length, get_or, drop, map, All, AllPairs, Result, Ok, Err, sym, ◌∙◌, ap, subst, arith}
-use Rattle.std.specs.Prelude.{IfOk, IsPermutation}
+use Rattle.std.specs.Prelude.{IfOk, IsErrAnd, MatchResult, IsPermutation}
 use Rattle.std.specs.List.{AllByRecursion, AllZip}
 use Rattle.std.proofs.Math.ListN.{get_or-map}
 use Rattle.std.proofs.lemmas.List.{append_assoc, length-map}
@@ -12,6 +12,13 @@ use Rattle.std.proofs.lemmas.List.Sorted.{IsPermutation-append, IsPermutation-ap
 pub on_ok : {A E : Type 0} (r : Result A E) (P Q : A → Type 0) → ((x : A) → P x → Q x) → IfOk r P → IfOk r Q
 on_ok (Ok x) P Q f h = f x h
 on_ok (Err e) P Q f h = tt
+
+-- what follows where another error takes the place of an Err
+pub on_kept : {A E F : Type 0} (r : Result A E) (s : Result A F) (G : E → F → Type 0) (P Q : A → Type 0) → ((x : A) → P x → Q x)
+    → MatchResult r (λ x. s ≡ Ok x) (λ e. IsErrAnd s (G e)) → IfOk r P → IfOk s Q
+on_kept (Ok x) s G P Q f is h = subst (λ t. IfOk t Q) (sym is) (f x h)
+on_kept (Err e) (Ok x) G P Q f is h = absurd is
+on_kept (Err e) (Err y) G P Q f is h = tt
 
 -- what holds of each holds of the one at a place
 pub all_here : {A : Type 0} (P : A → Type 0) (xs : List A) (i : ℕ) (x : A) → AllByRecursion P xs → i < length xs → x ≡ get_or xs i x → P x
@@ -75,9 +82,6 @@ pairs_from_map f R [] h = pairs_nil (λ x y. R (f x) (f y))
 pairs_from_map f R (x ∷ xs) h =
     AllPairs-cons (λ x y. R (f x) (f y)) x xs (all_from_map f (R (f x)) xs (pairs_head R (f x) (map f xs) h))
     (pairs_from_map f R xs (pairs_tail R (f x) (map f xs) h))
-
-pub pairs_weaker : {A : Type 0} (R S : A → A → Type 0) → ((x y : A) → R x y → S x y) → (xs : List A) → AllPairs R xs → AllPairs S xs
-pairs_weaker R S f xs h = λ i j d a b. f _ _ (h i j d a b)
 
 -- what two lists hold, each sorted into two
 pub sorted_out : {A : Type 0} (xs ys p q u v : List A) → IsPermutation xs (p ++ u) → IsPermutation ys (q ++ v) → IsPermutation (xs ++ ys) ((p ++ q) ++ (u ++ v))

@@ -11,7 +11,7 @@ use Rattle.session.specs.Rule.{calls_of}
 use Rattle.session.specs.Lane.{is_unplaced, record_of}
 use Rattle.driver.specs.declared.side.Part.{Part}
 use Rattle.driver.specs.Sides.{IsPart, AreParts, AreWhole, none_made}
-use Rattle.driver.specs.Phases.{made_counts, unplaced_of, joined}
+use Rattle.driver.specs.Sides.{made_counts, unplaced_of, joined}
 use Rattle.driver.proofs.Lists.{all_from_map, sorted_out}
 use Rattle.driver.proofs.Places.{IsOfLane, all_lane, lane_append}
 
@@ -82,76 +82,6 @@ are_joined phase lane (cs ∷ ls) (t ∷ ts) (u ∷ us) (r ∷ rs) (s ∷ ss) h 
           ∙ ap (map record_of) (sym (filter-append is_unplaced (t ++ u) (joined ts us)));
       same_length = ap suc rest.same_length;
     }
-
--- A call of a phase, of one of the lanes from one on. It stands in its lane from the first place on and before the end.
-pub record IsMade (phase lane : ℕ) (firsts ends : List ℕ) (c : Call) : Type 0 where
-  pub of_phase : c.phase ≡ phase
-  pub from_lane : lane ≤ c.lane
-  pub below_lane : c.lane < lane + length firsts
-  pub from : get_or firsts (c.lane - lane) 0 ≤ c.index
-  pub below : c.index < get_or ends (c.lane - lane) 0
-
--- for each lane the place behind the calls that were made
-abbrev pub ends_of : List ℕ → List Part → List ℕ
-ends_of [] rs = []
-ends_of (n ∷ ns) [] = []
-ends_of (n ∷ ns) (r ∷ rs) = (n + r.made) ∷ ends_of ns rs
-
--- the first lane's
-made_here : (phase lane n e : ℕ) (ns es : List ℕ) (c : Call) → IsOfLane phase lane n e c → IsMade phase lane (n ∷ ns) (e ∷ es) c
-made_here phase lane n e ns es c is =
-    let z : c.lane - lane ≡ 0 = omega (arith, is.of_lane) in
-    record {
-      of_phase = is.of_phase;
-      from_lane = omega (arith, is.of_lane);
-      below_lane = omega (arith, is.of_lane);
-      from = rw z is.from;
-      below = rw z is.below;
-    }
-
--- those of the lanes behind it
-made_behind : (phase lane n e : ℕ) (ns es : List ℕ) (c : Call) → IsMade phase (suc lane) ns es c → IsMade phase lane (n ∷ ns) (e ∷ es) c
-made_behind phase lane n e ns es c is =
-    let z : c.lane - lane ≡ suc (c.lane - suc lane) = omega (arith, is.from_lane) in
-    record {
-      of_phase = is.of_phase;
-      from_lane = omega (arith, is.from_lane);
-      below_lane = omega (arith, is.below_lane);
-      from = rw z is.from;
-      below = rw z is.below;
-    }
-
-part_made : (phase lane n : ℕ) (ns : List ℕ) (cs : List Known) (t : List Told) (r : Part) (rs : List Part) → IsPart phase lane n cs t r
-    → All (λ (x : Told). IsMade phase lane (n ∷ ns) ((n + r.made) ∷ ends_of ns rs) x.call) t
-part_made phase lane n ns cs t r rs h =
-    let all = all_lane phase lane n (take r.made (drop n cs)) in
-    let long : length (take r.made (drop n cs)) ≡ r.made = length-take-le r.made (drop n cs) (omega (arith, h.within, length-drop n cs)) in
-    all_from_map (λ (x : Told). x.call) (IsMade phase lane (n ∷ ns) ((n + r.made) ∷ ends_of ns rs)) t
-    (subst (All (IsMade phase lane (n ∷ ns) ((n + r.made) ∷ ends_of ns rs))) (sym h.calls_are)
-    (All-weaker (IsOfLane phase lane n (n + length (take r.made (drop n cs)))) (IsMade phase lane (n ∷ ns) ((n + r.made) ∷ ends_of ns rs))
-    (λ c is. made_here phase lane n (n + r.made) ns (ends_of ns rs) c
-    (record { of_phase = is.of_phase; of_lane = is.of_lane; from = is.from; below = omega (arith, is.below, long) }))
-    (lane_calls phase lane n (take r.made (drop n cs))) all))
-
--- where the calls of a side stand that pass a test
-pub all_made : (test : Told → Bool) (phase lane : ℕ) (ls : Phase) (ns : List ℕ) (ts : List (List Told)) (rs : List Part) → AreParts phase lane ls ns ts rs
-    → All (λ (x : Told). IsMade phase lane ns (ends_of ns rs) x.call) (flat_map (filter test) ts)
-all_made test phase lane [] [] [] [] h = All-nil (λ (x : Told). IsMade phase lane [] [] x.call)
-all_made test phase lane (cs ∷ ls) (n ∷ ns) (t ∷ ts) (r ∷ rs) h =
-    All-append (λ (x : Told). IsMade phase lane (n ∷ ns) ((n + r.made) ∷ ends_of ns rs) x.call) (filter test t) (flat_map (filter test) ts)
-    (All-filter test (λ (x : Told). IsMade phase lane (n ∷ ns) ((n + r.made) ∷ ends_of ns rs) x.call) t (part_made phase lane n ns cs t r rs h.0))
-    (All-weaker (λ (x : Told). IsMade phase (suc lane) ns (ends_of ns rs) x.call) (λ (x : Told). IsMade phase lane (n ∷ ns) ((n + r.made) ∷ ends_of ns rs) x.call)
-    (λ x is. made_behind phase lane n (n + r.made) ns (ends_of ns rs) x.call is) (flat_map (filter test) ts) (all_made test phase (suc lane) ls ns ts rs h.1))
-all_made test phase lane ls ns ts rs h = absurd h
-
--- where none was made before, the places behind are the counts
-pub ends_none : (phase lane : ℕ) (ls : Phase) (ts : List (List Told)) (rs : List Part) → AreParts phase lane ls (none_made ls) ts rs
-    → ends_of (none_made ls) rs ≡ made_counts rs
-ends_none phase lane [] [] [] h = refl
-ends_none phase lane (cs ∷ ls) (t ∷ ts) (r ∷ rs) h =
-    let e : 0 + r.made ≡ r.made = omega arith in
-    ap (λ n. n ∷ ends_of (none_made ls) rs) e ∙ ap (λ l. r.made ∷ l) (ends_none phase (suc lane) ls ts rs h.1)
-ends_none phase lane ls ts rs h = absurd h
 
 -- where none was made before, no more were made than there are
 pub counts_within : (phase lane : ℕ) (ls : Phase) (ts : List (List Told)) (rs : List Part) → AreParts phase lane ls (none_made ls) ts rs

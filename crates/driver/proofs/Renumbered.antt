@@ -4,11 +4,10 @@ use Rattle.std.specs.List.{AllByRecursion}
 use Rattle.std.proofs.lemmas.Bool.Decides.{nat_tests}
 use Rattle.std.proofs.lemmas.List.Elements.{All-nil, All-append, All-from_recursion}
 use Rattle.claims.specs.Claims.{Ascends}
-use Rattle.jmodel.specs.History.{Call, Told, first_by}
+use Rattle.jmodel.specs.History.{Call, first_by}
 use Rattle.jmodel.specs.Schedule.{Known, lane_calls, phase_calls, ascends}
 use Rattle.session.specs.Claimed.{calls_at}
-use Rattle.driver.specs.Sides.{IsLaneKept}
-use Rattle.driver.specs.Bags.{as_lanes, index_in, IsTaken, in_bag, told_in_bag}
+use Rattle.driver.specs.Bags.{as_lanes, index_in, IsTaken, in_bag}
 
 -- a number of an ascending list is below a later one
 ascends_at : (xs : List ℕ) (i j : ℕ) → Ascends xs → i < j → j < length xs → get_or xs i 0 < get_or xs j 0
@@ -35,14 +34,12 @@ abbrev pub IsCallTaken : List (List ℕ) → Call → Type 0
 IsCallTaken taken c = IsTaken taken c.lane c.index
 
 module _ (taken : List (List ℕ)) (up : AllByRecursion Ascends taken) where
-  lower : (s t : Call) → IsCallTaken taken t → s.lane ≡ t.lane → s.index < t.index → index_in taken s.lane s.index < index_in taken t.lane t.index
+  -- of two calls of one worker the later one has the greater index in the bag
+  pub lower : (s t : Call) → IsCallTaken taken t → s.lane ≡ t.lane → s.index < t.index → index_in taken s.lane s.index < index_in taken t.lane t.index
   lower s t is same less =
       let l = get_or taken t.lane [] in
       let rises = ascends_at l s.index t.index (All-from_recursion Ascends taken up t.lane [] is.0) less is.1 in
       subst (λ (n : ℕ). index_in taken n s.index < index_in taken t.lane t.index) (sym same) rises
-
-  pub kept_in_bag : (s t : Told) → IsCallTaken taken s.call → IsCallTaken taken t.call → IsLaneKept s t → IsLaneKept (told_in_bag taken s) (told_in_bag taken t)
-  kept_in_bag s t is js kept = λ same. lower s.call t.call js same (kept same)
 
   pub ascends_in_bag : (c d : Call) → IsCallTaken taken c → IsCallTaken taken d → ascends c d ≡ true → ascends (in_bag taken c) (in_bag taken d) ≡ true
   ascends_in_bag c d is js h =

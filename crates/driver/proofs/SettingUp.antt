@@ -19,7 +19,7 @@ use Rattle.session.specs.declared.record.Place.{Place}
 use Rattle.session.specs.declared.record.Lane.{Lane}
 use Rattle.session.specs.Lane.{is_placed, record_of}
 use Rattle.session.specs.Rule.{IsState, IsStretch, calls_of}
-use Rattle.driver.specs.Phases.{HasMadeAll}
+use Rattle.driver.specs.Alone.{HasMadeAll}
 use Rattle.driver.specs.SetUp.{AnswersAlone, OpensTo}
 
 -- a method that can be called without arguments

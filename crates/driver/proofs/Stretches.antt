@@ -15,32 +15,6 @@ use Rattle.jmodel.proofs.SerialProof.{serial_of}
 use Rattle.tx_core.specs.Serial.{IsSerial, StandsFor, word_in}
 use Rattle.session.specs.Rule.{IsRuled, region_words, IsState, IsStretch, calls_of, answers_of}
 
--- calls, and behind them others
-pub serial_append : (P : Program) (budget : ℕ) (σ ρ τ : State) (cs ds : List Call) (xs ys : List Answer) → Serial P budget σ cs xs ρ
-    → Serial P budget ρ ds ys τ → Serial P budget σ (cs ++ ds) (xs ++ ys) τ
-serial_append P budget σ ρ τ [] ds [] ys h k = let Left : State → Type 0 = λ s. Serial P budget s ds ys τ in subst Left h k
-serial_append P budget σ ρ τ [] ds (x ∷ xs) ys h k = absurd h
-serial_append P budget σ ρ τ (c ∷ cs) ds [] ys h k = absurd h
-serial_append P budget σ ρ τ (c ∷ cs) ds (x ∷ xs) ys h k = (h.0, h.1, serial_append P budget h.0 ρ τ cs ds xs ys h.2 k)
-
--- a stretch of calls, and another behind it
-pub stretch_append : (P : Program) (budget : ℕ) (σ : State) (between words : List ℕ) (ts us : List Told) → IsStretch P budget σ between ts
-    → ((ρ : State) → IsState P between ρ → IsStretch P budget ρ words us) → IsStretch P budget σ words (ts ++ us)
-stretch_append P budget σ between words ts us h next =
-    let k = next h.after h.stands in
-    let joined = serial_append P budget σ h.after k.after (calls_of ts) (calls_of us) (answers_of ts) (answers_of us) h.serial k.serial in
-    let Calls : List Call → Type 0 = λ cs. Serial P budget σ cs (answers_of ts ++ answers_of us) k.after in
-    let Answers : List Answer → Type 0 = λ xs. Serial P budget σ (calls_of (ts ++ us)) xs k.after in
-    record {
-      after = k.after;
-      serial = subst Answers (sym (map-append (λ (t : Told). t.answer) ts us)) (subst Calls (sym (map-append (λ (t : Told). t.call) ts us)) joined);
-      stands = k.stands;
-    }
-
--- no calls
-pub stretch_nil : (P : Program) (budget : ℕ) (σ : State) (words : List ℕ) → IsState P words σ → IsStretch P budget σ words []
-stretch_nil P budget σ words h = record { after = σ; serial = refl; stands = h }
-
 -- the region of no lane has used words
 abbrev IsUnused : (ℕ → ℕ) → Type 0
 IsUnused used = (lane : ℕ) → used (suc lane) ≡ 0

@@ -1,19 +1,20 @@
 -- A phase of which no call was made.
-use Rattle.std.proofs.Common.{◌≡◌, ℕ, suc, List, [], ◌∷◌, length, take, drop, map, All, refl, sym, ap, subst, arith}
+use Rattle.std.proofs.Common.{◌≡◌, ◌≤◌, ◌+◌, ℕ, zero, suc, List, [], ◌∷◌, length, take, drop, get_or, map, All, append-nil, refl, sym, ◌∙◌, ap, subst, arith}
 use Rattle.std.specs.Prelude.{filter, IsPermutation}
 use Rattle.std.specs.List.{flat_map}
 use Rattle.std.proofs.lemmas.List.Elements.{All-head, All-tail}
 use Rattle.std.proofs.lemmas.List.Sorted.{IsPermutation-refl}
-use Rattle.jmodel.specs.Program.{Program}
+use Rattle.atomic_table.specs.Seated.{TableId}
 use Rattle.jmodel.specs.History.{Told}
 use Rattle.jmodel.specs.Schedule.{Known, Phase, lane_calls}
-use Rattle.session.specs.Rule.{IsStretch}
-use Rattle.session.specs.Lane.{is_placed}
+use Rattle.tx_table.specs.declared.shared.Pass.{Pass}
+use Rattle.tx_table.specs.Passes.{book}
+use Rattle.session.specs.Lane.{is_placed, record_of}
+use Rattle.session.specs.Passes.{MayBegin}
 use Rattle.driver.specs.declared.side.Part.{Part}
 use Rattle.driver.specs.declared.side.Side.{Side}
-use Rattle.driver.specs.Sides.{AreParts, IsLaneKept, IsSide, none_made}
-use Rattle.driver.proofs.Lists.{pairs_nil}
-use Rattle.driver.proofs.Stretches.{stretch_nil}
+use Rattle.driver.specs.Sides.{AreParts, none_made, made_counts}
+use Rattle.driver.specs.Passing.{call_count, HasRoom, IsWhole, IsMidway}
 
 -- no call was made of a lane
 abbrev pub IsNone : Part → Type 0
@@ -40,16 +41,39 @@ no_calls : (ls : Phase) → flat_map (filter is_placed) (nothing ls) ≡ []
 no_calls [] = refl
 no_calls (cs ∷ ls) = no_calls ls
 
-pub untouched_side : (P : Program) (budget phase : ℕ) (lanes : Phase) (words : List ℕ) (side : Side) → side.placed.items ≡ []
-    → length side.parts.items ≡ length lanes → All IsNone side.parts.items
-    → side.words.items ≡ words → IsSide P budget phase lanes (none_made lanes) words side
-untouched_side P budget phase lanes words side placed as_many none same =
-    record {
+none_count : (rs : List Part) (lane : ℕ) → All IsNone rs → get_or (made_counts rs) lane 0 ≡ 0
+none_count [] lane h = refl
+none_count (r ∷ rs) zero h = (All-head IsNone r rs h).0
+none_count (r ∷ rs) (suc lane) h = none_count rs lane (All-tail IsNone r rs h)
+
+-- a phase that goes on as it began
+pub untouched_side : (t : TableId) (phase : ℕ) (lanes : Phase) (side : Side) (p : Pass) → side.placed.items ≡ [] → length side.parts.items ≡ length lanes
+    → All IsNone side.parts.items → IsWhole t phase p → HasRoom (call_count lanes) (book p) → length lanes ≤ 16 → IsMidway t (book p) phase lanes side p
+untouched_side t phase lanes side p placed same none w room few = record {
+  numbers = w.numbers;
+  room = room;
+  begins = w.begins;
+  joining = record {
+    seated = w.seated;
+    numbers = refl;
+    fresh = omega arith;
+    few = omega arith;
+    ticks = omega arith;
+    on = omega arith;
+    since = [];
+    entries = sym (append-nil (book p).entries);
+    gathered = record {
       tolds = nothing lanes;
-      parts = parts_of phase 0 lanes side.parts.items as_many none;
-      order = [];
-      among = subst (λ l. IsPermutation l []) (sym (no_calls lanes)) (IsPermutation-refl []);
-      placed_are = placed;
-      lanes_kept = pairs_nil IsLaneKept;
-      stretch = λ σ stands. subst (λ l. IsStretch P budget σ l []) (sym same) (stretch_nil P budget σ words stands);
-    }
+      parts_are = parts_of phase 0 lanes side.parts.items same none;
+      history = subst (IsPermutation []) (sym (no_calls lanes)) (IsPermutation-refl []);
+      placed_are = placed ∙ ap (map record_of) (sym (no_calls lanes));
+    };
+    stand_behind = λ e i. absurd i;
+    known = λ e i. absurd i;
+    back = λ lane low.
+        let none_made : 0 ≡ 0 + get_or (made_counts side.parts.items) lane 0 = (let z = none_count side.parts.items lane none in omega arith) in
+        subst (λ (n : ℕ). MayBegin (record { phase = phase; lane = lane; first = n }) (book p)) none_made (w.begins lane (omega arith));
+    gone = λ lane high low. absurd (omega (arith, high, low));
+    kept = λ lane any. refl;
+  };
+}

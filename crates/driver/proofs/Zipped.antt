@@ -9,7 +9,7 @@ use Rattle.std.proofs.lemmas.Iterator.{zips}
 use Rattle.std.proofs.lemmas.List.{append_assoc, append-nil, nil_from_length}
 use Rattle.session.specs.declared.record.Record.{Record}
 use Rattle.driver.specs.declared.side.Part.{Part}
-use Rattle.driver.specs.Phases.{unplaced_of, joined}
+use Rattle.driver.specs.Sides.{unplaced_of, joined}
 
 joined_nil : {A : Type 0} (ts : List (List A)) → joined ts [] ≡ []
 joined_nil [] = refl

@@ -1,10 +1,11 @@
 pub mod Sides
 pub mod Runs
+pub mod Alone
 pub mod SetUp
-pub mod Phases
 pub mod Order
 pub mod Gathering
 pub mod Stories
-pub mod Tables
+pub mod Over
+pub mod Passing
 pub mod Bags
 pub mod Workers

@@ -7,7 +7,7 @@ use Rattle.jmodel.specs.History.{Told}
 use Rattle.jmodel.specs.Schedule.{ScriptPhase, Lanes, Bag, Made, IsJournal, lists_in, script_calls}
 use Rattle.session.specs.Rule.{IsCallOf, IsState}
 use Rattle.session.specs.Lane.{record_of}
-use Rattle.driver.specs.declared.run.Journal.{Journal}
+use Rattle.driver.specs.declared.journal.Journal.{Journal}
 
 abbrev pub made_of : Told → Made
 made_of t = record { call = t.call; answer = t.answer }

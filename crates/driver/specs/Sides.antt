@@ -1,14 +1,11 @@
--- What a part of a phase's calls leaves: the calls that its lanes made side by side, or those that were made one lane after another.
-use Rattle.std.specs.Prelude.{◌≡◌, ◌≤◌, ◌<◌, ◌+◌, ℕ, suc, List, [], ◌∷◌, length, map, filter, take, drop, AllPairs, IsPermutation}
-use Rattle.std.specs.List.{flat_map}
-use Rattle.jmodel.specs.Program.{Program}
-use Rattle.jmodel.specs.State.{State}
+-- What is kept of the calls of a phase's lanes: of those that its lanes made side by side, or of those that were made one lane after another.
+use Rattle.std.specs.Prelude.{◌≡◌, ◌≤◌, ◌+◌, ℕ, suc, List, [], ◌∷◌, ◌++◌, length, map, filter, take, drop}
 use Rattle.jmodel.specs.History.{Told}
 use Rattle.jmodel.specs.Schedule.{Known, Phase, lane_calls}
-use Rattle.session.specs.Rule.{calls_of, IsState, IsStretch}
-use Rattle.session.specs.Lane.{is_placed, is_unplaced, record_of}
+use Rattle.session.specs.declared.record.Record.{Record}
+use Rattle.session.specs.Rule.{calls_of}
+use Rattle.session.specs.Lane.{is_unplaced, record_of}
 use Rattle.driver.specs.declared.side.Part.{Part}
-use Rattle.driver.specs.declared.side.Side.{Side}
 
 -- of a lane's calls, those from a place on were made, as many as the part says
 pub record IsPart (phase lane first : ℕ) (calls : List Known) (ts : List Told) (part : Part) : Type 0 where
@@ -28,21 +25,20 @@ AreWhole [] [] [] = Unit {0}
 AreWhole (cs ∷ ls) (n ∷ ns) (r ∷ rs) = (n + r.made ≡ length cs) × AreWhole ls ns rs
 AreWhole ls ns rs = ⊥
 
--- of two calls of one lane the earlier one stands first
-abbrev pub IsLaneKept : Told → Told → Type 0
-IsLaneKept s t = s.call.lane ≡ t.call.lane → s.call.index < t.call.index
-
--- Calls of a phase were made, those of each lane from a place on. The placed ones stand in an order that keeps each lane's, and in that
--- order the original methods, each run alone, answer so.
-pub record IsSide (P : Program) (budget phase : ℕ) (lanes : Phase) (firsts words : List ℕ) (side : Side) : Type 0 where
-  pub tolds : List (List Told)
-  pub parts : AreParts phase 0 lanes firsts tolds side.parts.items
-  pub order : List Told
-  pub among : IsPermutation (flat_map (filter is_placed) tolds) order
-  pub placed_are : side.placed.items ≡ map record_of order
-  pub lanes_kept : AllPairs IsLaneKept order
-  pub stretch : (σ : State) → IsState P words σ → IsStretch P budget σ side.words.items order
-
 -- no call of any lane was made yet
 abbrev pub none_made : Phase → List ℕ
 none_made lanes = map (λ (cs : List Known). 0) lanes
+
+-- how many calls of each lane were made
+abbrev pub made_counts : List Part → List ℕ
+made_counts parts = map (λ (p : Part). p.made) parts
+
+-- which calls of each lane ran out of memory
+abbrev pub unplaced_of : List Part → List (List Record)
+unplaced_of parts = map (λ (p : Part). p.unplaced.items) parts
+
+-- lane by lane what was first and what came behind it
+abbrev pub joined : {X : Type 0} → List (List X) → List (List X) → List X
+joined [] us = []
+joined (t ∷ ts) [] = []
+joined (t ∷ ts) (u ∷ us) = (t ++ u) ++ joined ts us

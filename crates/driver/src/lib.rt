@@ -2,17 +2,21 @@
 #![tactic(auto)]
 
 mod bag;
+mod journal;
 mod order;
+mod phase;
 mod rest;
 mod run;
 mod setting_up;
 mod side;
 mod side_by_side;
+mod solo;
 mod table;
 mod taken;
 mod threads;
 mod workers;
 
-pub use run::{Journal, run_phases};
+pub use journal::Journal;
+pub use run::run_phases;
 pub use session::Limits;
 pub use setting_up::{SetUpEnd, set_up};

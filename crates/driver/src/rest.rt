@@ -1,45 +1,54 @@
-//! The lanes of a phase one after another, over the engine of one thread.
-ghost use Rattle.std.specs.Prelude.{◌≡◌, ◌≤◌, ◌+◌, ℕ, List, length, drop, IfOk};
+//! What is left of a phase's calls, one lane after another, over the pass that holds every number.
+ghost use Rattle.std.specs.Prelude.{◌≡◌, ◌≤◌, ◌<◌, ◌+◌, ◌*◌, ◌^◌, ℕ, List, [], length, drop, slice_index_or, IfOk};
 ghost use Rattle.std.specs.List.{AllByRecursion, AllZip};
 ghost use Rattle.jmodel.specs.History.{Entry};
 ghost use Rattle.jmodel.specs.Schedule.{Known as Form};
+ghost use Rattle.tx_table.specs.Passes.{book};
 ghost use Rattle.session.specs.Rule.{IsRuled, IsReady, IsCallOf};
-ghost use Rattle.driver.specs.Sides.{IsSide, AreWhole};
-ghost use Rattle.driver.specs.Phases.{HasMadeAll};
+ghost use Rattle.session.specs.Lane.{HasMade};
+ghost use Rattle.session.specs.Passes.{MayBegin, IsStarting, IsEnding, behind};
+ghost use Rattle.driver.specs.Sides.{AreWhole};
+ghost use Rattle.driver.specs.Passing.{first_of, call_count, IsResting};
 
 use crate::side::{Part, Side};
+use crate::table::{Keeping, Opening};
 use hierarchy::Program;
 use script::{Known, LaneCalls};
-use session::{Lane, Limits, Place, make_alone};
+use session::{Lane, Limits, Place, make_shared};
 use std::alloc::{AllocError, Global};
-use std::marker::Brand;
-use tx_core::{Origin, Solo};
+use tx_table::{Pass, Shared};
 
-/// Makes the calls of a phase that are left, one lane after another. `firsts` has for each lane how many of its calls were made before.
-pub(crate) fn one_after_another(
+/// Makes the calls of a phase that are left, one lane after another. `firsts` has for each lane how many of its calls were made before. The pass
+/// holds every number, so that no call meets a conflict, and each of them is made. Gives what is kept of them, and the pass.
+pub(crate) fn one_after_another<K: Keeping>(
     alloc: Global,
     original: &Program,
     rewritten: &Program,
-    words: Vec<u64>,
+    shared: &Shared<Opening<K>>,
+    pass: Pass,
     limits: Limits,
     phase: u32,
     lanes: &[LaneCalls],
     firsts: &[usize],
-) -> Result<Side, AllocError>
+) -> Result<(Side, Pass), AllocError>
     requires ready { IsReady original.now rewritten.now }
     requires calls { AllByRecursion (AllByRecursion (IsCallOf original.now)) lanes.now }
     requires few { AllByRecursion (λ (cs : List Form). length cs ≤ 100000) lanes.now }
     requires lanes { length lanes.now ≤ 16 }
     requires attempts { (1 ≤ limits.attempts) × (limits.attempts ≤ 1000000) }
+    requires rule { (e : Entry) → IsRuled original.now limits.budget e → K.rule e }
     requires firsts { length firsts.now ≡ length lanes.now }
     requires within { AllZip (λ (cs : List Form) (first : ℕ). first ≤ length cs) lanes.now firsts.now }
-    ensures side { IfOk result (IsSide original.now limits.budget phase lanes.now firsts.now words.items) }
-    ensures whole { IfOk result (λ side. AreWhole lanes.now firsts.now side.parts.items) }
-    ensures size { IfOk result (λ side. length side.words.items ≡ length words.items) }
+    requires numbers { (book pass).numbers ≡ 2 ^ 20 }
+    requires ticks { (book pass).ticks + call_count lanes.now * 1000000 ≤ 2 ^ 40 }
+    requires begins { (lane : ℕ) → lane < length lanes.now → MayBegin (behind (first_of phase lane) (slice_index_or firsts.now lane 0)) (book pass) }
+    requires resting { IsResting shared.now.table.shared.table_id (book pass) phase 0 [] [] [] [] pass }
+    ensures made { IfOk result (λ r. IsResting shared.now.table.shared.table_id (book pass) phase (call_count lanes.now) lanes.now firsts.now r.0.placed.items r.0.parts.items r.1) }
+    ensures whole { IfOk result (λ r. AreWhole lanes.now firsts.now r.0.parts.items) }
 {
     let mut placed = Vec::new(alloc);
     let mut parts = Vec::new(alloc);
-    let mut words = words;
+    let mut pass = pass;
     for (number, lane) in lanes.iter().enumerate() {
         let first = firsts[number];
         let at = Place {
@@ -47,70 +56,50 @@ pub(crate) fn one_after_another(
             lane: number as u8,
             first: first as u32,
         };
-        let (mut made, left) = make_rest(
+        let (made, left) = make_rest(
             alloc,
             original,
             rewritten,
-            words,
+            shared,
+            pass,
             limits,
             at,
             &lane.calls,
         )?;
-        placed.append(&mut made.placed)?;
-        parts.push(Part {
-            made: made.made,
-            unplaced: made.unplaced,
-        })?;
-        words = left;
+        let Lane {
+            placed: mut more,
+            unplaced,
+            made,
+        } = made;
+        placed.append(&mut more)?;
+        parts.push(Part { made, unplaced })?;
+        pass = left;
     }
-    Ok(Side {
-        placed,
-        parts,
-        words,
-    })
+    Ok((Side { placed, parts }, pass))
 }
 
-/// Makes the calls of a lane from a place on. Gives what is kept of them and the words that they left.
-pub(crate) fn make_rest(
+/// Makes the calls of a lane from a place on. Gives what is kept of them, and the pass.
+fn make_rest<K: Keeping>(
     alloc: Global,
     original: &Program,
     rewritten: &Program,
-    words: Vec<u64>,
+    shared: &Shared<Opening<K>>,
+    pass: Pass,
     limits: Limits,
     at: Place,
     calls: &[Known],
-) -> Result<(Lane, Vec<u64>), AllocError>
+) -> Result<(Lane, Pass), AllocError>
     requires ready { IsReady original.now rewritten.now }
     requires calls { AllByRecursion (IsCallOf original.now) calls.now }
     requires few { length calls.now ≤ 100000 }
     requires attempts { (1 ≤ limits.attempts) × (limits.attempts ≤ 1000000) }
+    requires rule { (e : Entry) → IsRuled original.now limits.budget e → K.rule e }
     requires within { at.first ≤ length calls.now }
-    ensures { IfOk result (λ r. HasMadeAll original.now limits.budget at (drop at.first calls.now) words.items r.1.items r.0) }
+    requires pass { IsStarting shared.now.table.shared.table_id at (length (drop at.first calls.now)) pass }
+    ensures made { IfOk result (λ r. let rest = drop at.first calls.now in
+        (h : List Entry) × IsEnding shared.now.table.shared.table_id (book pass) at (length rest) r.0.made h r.1 × HasMade at rest h r.0) }
+    ensures all { (book pass).numbers ≡ 2 ^ 20 → IfOk result (λ r. r.0.made ≡ length (drop at.first calls.now)) }
 {
     let rest = &calls[at.first as usize..];
-    make_all::<Brand>(alloc, original, rewritten, words, limits, at, rest)
-}
-
-/// Makes calls of a lane over an engine on these words.
-fn make_all<K: Origin>(
-    alloc: Global,
-    original: &Program,
-    rewritten: &Program,
-    words: Vec<u64>,
-    limits: Limits,
-    at: Place,
-    calls: &[Known],
-) -> Result<(Lane, Vec<u64>), AllocError>
-    requires ready { IsReady original.now rewritten.now }
-    requires calls { AllByRecursion (IsCallOf original.now) calls.now }
-    requires few { at.first + length calls.now ≤ 100000 }
-    requires attempts { (1 ≤ limits.attempts) × (limits.attempts ≤ 1000000) }
-    requires first { words.items ≡ K.first }
-    requires rule { (e : Entry) → IsRuled original.now limits.budget e → K.rule e }
-    requires ruled { (e : Entry) → K.rule e → IsRuled original.now limits.budget e }
-    ensures { IfOk result (λ r. HasMadeAll original.now limits.budget at calls.now words.items r.1.items r.0) }
-{
-    let mut engine = Solo::<K>::new(alloc, words);
-    let lane = make_alone(alloc, original, rewritten, &mut engine, limits, at, calls)?;
-    Ok((lane, engine.into_words()))
+    make_shared(alloc, original, rewritten, shared, pass, limits, at, rest)
 }

@@ -8,7 +8,7 @@ ghost use Rattle.jmodel.specs.Opening.{initialisers, is_return as is_return_of};
 ghost use Rattle.session.specs.Rule.{IsReady};
 ghost use Rattle.driver.specs.SetUp.{AnswersAlone, OpensTo, EndsSetUp};
 
-use crate::rest::make_rest;
+use crate::solo::make_rest;
 use hierarchy::Program;
 use jmodel::Answer;
 use script::Known;

@@ -13,10 +13,8 @@ pub(crate) struct Part {
 /// Calls of the lanes of a phase that were made.
 #[derive(Drop)]
 pub(crate) struct Side {
-    /// Those that have a place in the history, in its order.
+    /// Those that have a place in the history, lane by lane.
     pub placed: Vec<Record>,
     /// For each lane how many, and which ran out of memory.
     pub parts: Vec<Part>,
-    /// The words that they left.
-    pub words: Vec<u64>,
 }

@@ -1,7 +1,8 @@
-//! A table of shared words for the lanes of a phase.
-ghost use Rattle.std.specs.Prelude.{◌≡◌, ◌≤◌, ◌<◌, ◌+◌, ◌^◌, length, IfOk};
+//! A table of shared words for the phases of a script.
+ghost use Rattle.std.specs.Prelude.{◌≡◌, ◌≤◌, ◌<◌, ◌+◌, ◌^◌, ℕ, length, IfOk};
 ghost use Rattle.jmodel.specs.History.{Entry};
-ghost use Rattle.driver.specs.Tables.{IsSplit, AreStarting};
+ghost use Rattle.tx_table.specs.Passes.{book};
+ghost use Rattle.driver.specs.Passing.{IsWhole, IsUnused, HasRoom, IsSplit, AreStarting};
 
 use std::alloc::{AllocError, Global};
 use std::marker::{Brand, PhantomData};
@@ -50,7 +51,7 @@ pub(crate) fn open_table<K: Keeping>(
     words: Vec<u64>,
 ) -> Result<(Shared<Opening<K>>, Pass), AllocError>
     requires { length words.items + 4097 < 2 ^ 32 }
-    ensures pass { IfOk result (λ r. IsSplit r.0.table.shared.table_id 0 r.1) }
+    ensures pass { IfOk result (λ r. IsWhole r.0.table.shared.table_id 0 r.1 × IsUnused (book r.1)) }
     ensures words { IfOk result (λ r. r.0.table.shared.key.story.value.words.items ≡ words.items) }
 {
     let opening = Opening::<K> {
@@ -62,7 +63,7 @@ pub(crate) fn open_table<K: Keeping>(
     Shared::open(alloc, words, story).map_err(|_| AllocError)
 }
 
-/// Splits off a pass for each of so many lanes of a table that was just opened.
+/// Splits off a pass for each of so many lanes of a phase.
 pub(crate) fn start_lanes<K: Keeping>(
     alloc: Global,
     shared: &Shared<Opening<K>>,
@@ -70,10 +71,12 @@ pub(crate) fn start_lanes<K: Keeping>(
     count: u8,
 ) -> Result<Vec<Start>, AllocError>
     requires count { count ≤ 16 }
-    requires pass { IsSplit shared.now.table.shared.table_id 0 pass.old }
+    requires pass { (phase : ℕ) × IsWhole shared.now.table.shared.table_id phase pass.old }
+    requires room { HasRoom 0 (book pass.old) }
     ensures len { IfOk result (λ starts. length starts.items ≡ count) }
-    ensures starts { IfOk result (λ starts. AreStarting shared.now.table.shared.table_id starts.items) }
-    ensures pass { IfOk result (λ _. IsSplit shared.now.table.shared.table_id count pass.new) }
+    ensures starts { (phase : ℕ) → IsWhole shared.now.table.shared.table_id phase pass.old
+        → IfOk result (λ starts. AreStarting shared.now.table.shared.table_id (book pass.old).seen phase starts.items) }
+    ensures pass { IfOk result (λ _. IsSplit shared.now.table.shared.table_id (book pass.old) count pass.new) }
 {
     let mut starts = Vec::new(alloc);
     for lane in 0..count {

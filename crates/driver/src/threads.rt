@@ -1,19 +1,18 @@
 //! The lanes of a phase on threads, over one table.
-ghost use Rattle.std.specs.Prelude.{◌≡◌, ◌≤◌, ◌<◌, ◌+◌, ℕ, List, [], All, length, slice_index_or, IfOk, OnOk};
+ghost use Rattle.std.specs.Prelude.{◌≡◌, ◌≤◌, ◌<◌, ℕ, List, [], length, slice_index_or, IfOk};
 ghost use Rattle.std.specs.List.{AllByRecursion};
 ghost use Rattle.jmodel.specs.History.{Entry};
+ghost use Rattle.jmodel.specs.Book.{Book};
 ghost use Rattle.jmodel.specs.Schedule.{Known as Form, Phase};
 ghost use Rattle.tx_table.specs.Passes.{book};
 ghost use Rattle.session.specs.Rule.{IsRuled, IsReady, IsCallOf};
-ghost use Rattle.session.specs.Passes.{IsStarting};
-ghost use Rattle.driver.specs.Gathering.{IsGathered};
-ghost use Rattle.driver.specs.Tables.{IsSplit, AreStarting, HasEnded, HaveEnded, IsBack, IsWhole};
+ghost use Rattle.driver.specs.Passing.{first_of, call_count, IsOfOne, AreStarting, HasEnded, HaveEnded, AreEnding, IsJoining};
 
-use crate::side::Part;
+use crate::side::{Part, Side};
 use crate::table::{Keeping, Opening, Start};
 use hierarchy::Program;
 use script::LaneCalls;
-use session::{Lane, Limits, Place, Record, make_shared};
+use session::{Lane, Limits, Place, make_shared};
 use std::alloc::{AllocError, Global};
 use std::thread::{Threads, map_vec};
 use tx_table::{Pass, Shared};
@@ -38,8 +37,8 @@ fn run_lane<K: Keeping>(
     requires attempts { (1 ≤ limits.attempts) × (limits.attempts ≤ 1000000) }
     requires rule { (e : Entry) → IsRuled original.now limits.budget e → K.rule e }
     requires lane { start.lane < length lanes.now }
-    requires pass { IsStarting shared.now.table.shared.table_id start.lane start.pass }
-    ensures { IfOk result (HasEnded shared.now.table.shared.table_id phase start.lane (slice_index_or lanes.now start.lane [])) }
+    requires pass { IsOfOne shared.now.table.shared.table_id (book start.pass).seen (first_of phase start.lane) start.pass }
+    ensures { IfOk result (HasEnded shared.now.table.shared.table_id (book start.pass).seen phase start.lane (slice_index_or lanes.now start.lane [])) }
 {
     let Start { lane, pass } = start;
     let at = Place {
@@ -78,8 +77,9 @@ pub(crate) fn run_all<R: Threads + Sync, K: Keeping + Sync>(
     requires attempts { (1 ≤ limits.attempts) × (limits.attempts ≤ 1000000) }
     requires rule { (e : Entry) → IsRuled original.now limits.budget e → K.rule e }
     requires len { length starts.items ≡ length lanes.now }
-    requires starts { AreStarting shared.now.table.shared.table_id starts.items }
-    ensures { IfOk result (λ ends. HaveEnded shared.now.table.shared.table_id phase lanes.now ends.items) }
+    requires starts { (seen : ℕ) × AreStarting shared.now.table.shared.table_id seen phase starts.items }
+    ensures { (seen : ℕ) → AreStarting shared.now.table.shared.table_id seen phase starts.items
+        → IfOk result (λ ends. HaveEnded shared.now.table.shared.table_id seen phase lanes.now ends.items) }
 {
     map_vec(
         rt,
@@ -98,13 +98,10 @@ pub(crate) fn gather<K: Keeping>(
     shared: &Shared<Opening<K>>,
     pass: &mut Pass,
     ends: Vec<End>,
-) -> Result<(Vec<Record>, Vec<Part>), AllocError>
-    requires few { length ends.items ≤ 16 }
-    requires pass { IsSplit shared.now.table.shared.table_id (length ends.items) pass.old }
-    requires ends { All (λ end. IfOk end (IsBack shared.now.table.shared.table_id)) ends.items }
-    ensures pass { OnOk result (IsWhole shared.now.table.shared.table_id pass.new) }
-    ensures gathered { (phase : ℕ) (lanes : Phase) → HaveEnded shared.now.table.shared.table_id phase lanes ends.items
-        → IfOk result (λ r. IsGathered phase lanes (book pass.new).entries r.0.items r.1.items) }
+) -> Result<Side, AllocError>
+    requires { (b : Book) × (phase : ℕ) × (lanes : Phase) × AreEnding shared.now.table.shared.table_id b phase lanes ends.items pass.old }
+    ensures { (b : Book) (phase : ℕ) (lanes : Phase) → AreEnding shared.now.table.shared.table_id b phase lanes ends.items pass.old
+        → IfOk result (λ side. IsJoining shared.now.table.shared.table_id b phase (length lanes) (call_count lanes) lanes side.placed.items side.parts.items pass.new) }
 {
     let mut placed = Vec::new(alloc);
     let mut parts = Vec::new(alloc);
@@ -119,5 +116,5 @@ pub(crate) fn gather<K: Keeping>(
         placed.append(&mut more)?;
         parts.push(Part { made, unplaced })?;
     }
-    Ok((placed, parts))
+    Ok(Side { placed, parts })
 }

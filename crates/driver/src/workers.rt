@@ -7,8 +7,8 @@ ghost use Rattle.jmodel.specs.Schedule.{Known as Form};
 ghost use Rattle.claims.specs.Claims.{first_claims, IsGathered, below};
 ghost use Rattle.claims.specs.Passes.{claims_of, IsOf};
 ghost use Rattle.session.specs.Rule.{IsRuled, IsReady, IsCallOf};
-ghost use Rattle.session.specs.Passes.{IsStarting};
-ghost use Rattle.driver.specs.Tables.{AreStarting, HaveEnded};
+ghost use Rattle.tx_table.specs.Passes.{book};
+ghost use Rattle.driver.specs.Passing.{first_of, IsOfOne, AreStarting, HaveEnded};
 ghost use Rattle.driver.specs.Bags.{lists, as_lanes, AreTaken, IsRest};
 ghost use Rattle.driver.specs.Workers.{MayClaim, AreWorkers, HasWorked, HaveWorked, AreCollected};
 
@@ -42,7 +42,7 @@ fn give_claims(
     requires few { (length starts.items ≤ 16) × (bag.now.length ≤ 100000) }
     requires claims { IsOf bag.now claims.old × (claims_of claims.old ≡ first_claims) }
     ensures len { IfOk result (λ workers. length workers.items ≡ length starts.items) }
-    ensures workers { (t : TableId) → AreStarting t starts.items → IfOk result (λ workers. AreWorkers t bag.now bag.now.length workers.items) }
+    ensures workers { (t : TableId) (seen phase : ℕ) → AreStarting t seen phase starts.items → IfOk result (λ workers. AreWorkers t seen phase bag.now bag.now.length workers.items) }
     ensures claims { OnOk result (IsOf bag.now claims.new × ((claims_of claims.new).indexes ≡ []) × ((claims_of claims.new).left + length starts.items * (bag.now.length + 1) ≡ 2 ^ 32)) }
 {
     let mut workers = Vec::new(alloc);
@@ -71,9 +71,9 @@ fn work<K: Keeping>(
     requires attempts { (1 ≤ limits.attempts) × (limits.attempts ≤ 1000000) }
     requires rule { (e : Entry) → IsRuled original.now limits.budget e → K.rule e }
     requires bag { bag.now.length ≡ length calls.now }
-    requires pass { IsStarting shared.now.table.shared.table_id worker.start.lane worker.start.pass }
+    requires pass { IsOfOne shared.now.table.shared.table_id (book worker.start.pass).seen (first_of phase worker.start.lane) worker.start.pass }
     requires claims { MayClaim bag.now (length calls.now) worker.claims }
-    ensures { IfOk result (HasWorked shared.now.table.shared.table_id bag.now phase worker.start.lane calls.now) }
+    ensures { IfOk result (HasWorked shared.now.table.shared.table_id (book worker.start.pass).seen bag.now phase worker.start.lane calls.now) }
 {
     let Worker { start, mut claims } = worker;
     let Start { lane, pass } = start;
@@ -116,8 +116,9 @@ fn work_all<R: Threads + Sync, K: Keeping + Sync>(
     requires attempts { (1 ≤ limits.attempts) × (limits.attempts ≤ 1000000) }
     requires rule { (e : Entry) → IsRuled original.now limits.budget e → K.rule e }
     requires bag { bag.now.length ≡ length calls.now }
-    requires workers { AreWorkers shared.now.table.shared.table_id bag.now (length calls.now) workers.items }
-    ensures { IfOk result (λ ends. HaveWorked shared.now.table.shared.table_id bag.now phase calls.now (length workers.items) ends.items) }
+    requires workers { (seen : ℕ) × AreWorkers shared.now.table.shared.table_id seen phase bag.now (length calls.now) workers.items }
+    ensures { (seen : ℕ) → AreWorkers shared.now.table.shared.table_id seen phase bag.now (length calls.now) workers.items
+        → IfOk result (λ ends. HaveWorked shared.now.table.shared.table_id seen bag.now phase calls.now (length workers.items) ends.items) }
 {
     map_vec(
         rt,
@@ -141,8 +142,8 @@ fn collect(
     requires left { (claims_of claims.old).left + length ends.items * (bag.now.length + 1) ≡ 2 ^ 32 }
     requires ends { All (λ end. IfOk end (λ r. IsOf bag.now r.1)) ends.items }
     ensures bag { OnOk result (IsOf bag.now claims.new) }
-    ensures collected { (t : TableId) (phase : ℕ) (calls : List Form) → bag.now.length ≡ length calls → HaveWorked t bag.now phase calls (length ends.items) ends.items
-        → IfOk result (λ r. AreCollected t phase calls (length ends.items) (claims_of claims.new) (lists r.1.items) r.0.items) }
+    ensures collected { (t : TableId) (seen phase : ℕ) (calls : List Form) → bag.now.length ≡ length calls → HaveWorked t seen bag.now phase calls (length ends.items) ends.items
+        → IfOk result (λ r. AreCollected t seen phase calls (length ends.items) (claims_of claims.new) (lists r.1.items) r.0.items) }
 {
     let mut lanes = Vec::new(alloc);
     let mut indexes = Vec::new(alloc);
@@ -187,11 +188,12 @@ pub(crate) fn run_workers<R: Threads + Sync, K: Keeping + Sync>(
     requires few { length calls.now ≤ 100000 }
     requires attempts { (1 ≤ limits.attempts) × (limits.attempts ≤ 1000000) }
     requires rule { (e : Entry) → IsRuled original.now limits.budget e → K.rule e }
-    requires starts { AreStarting shared.now.table.shared.table_id starts.items }
+    requires starts { (seen : ℕ) × AreStarting shared.now.table.shared.table_id seen phase starts.items }
     requires some { (1 ≤ length starts.items) × (length starts.items ≤ 16) }
     ensures len { IfOk result (λ r. length r.1.items ≡ length starts.items) }
     ensures taken { IfOk result (λ r. AreTaken (length calls.now) (lists r.1.items)) }
-    ensures ended { IfOk result (λ r. HaveEnded shared.now.table.shared.table_id phase (as_lanes calls.now (lists r.1.items)) r.0.items) }
+    ensures ended { (seen : ℕ) → AreStarting shared.now.table.shared.table_id seen phase starts.items
+        → IfOk result (λ r. HaveEnded shared.now.table.shared.table_id seen phase (as_lanes calls.now (lists r.1.items)) r.0.items) }
 {
     let Ok((bag, mut claims)) = Bag::open(alloc, calls.len() as u32) else {
         return Err(AllocError);

@@ -1,11 +1,12 @@
 -- A worker's claims, as they are made.
-use Rattle.std.proofs.Common.{◌≡◌, ◌≤◌, ◌<◌, ◌+◌, ℕ, List, [], ◌∷◌, ◌++◌, length, nat_lt, cond, Bool, true, false, Option, Some, None, refl, sym, ◌∙◌, ap, subst, ltb-true, lt-ltb, arith}
+use Rattle.std.proofs.Common.{◌≡◌, ◌≤◌, ◌<◌, ◌+◌, ℕ, List, [], ◌∷◌, ◌++◌, length, nat_lt, cond, Bool, true, false, Option, Some, None, inl, inr, refl, sym, ◌∙◌, ap, subst, ltb-true, lt-ltb, arith}
+use Rattle.std.proofs.lemmas.Bool.Decides.{nat_tests}
 use Rattle.std.specs.Prelude.{filter}
 use Rattle.std.specs.List.{AllByRecursion}
 use Rattle.std.proofs.lemmas.List.{append-nil, length_push}
 use Rattle.std.proofs.lemmas.List.Elements.{filter-append}
 use Rattle.claims.specs.Claims.{Claims, Ascends, HasClaimed, claimed, goes}
-use Rattle.session.specs.Claimed.{HasTaken}
+use Rattle.session.specs.Claimed.{HasTaken, HasEmptied}
 use Rattle.claims.proofs.Ascending.{ascends_snoc}
 
 -- Of a bag of n calls a worker claimed these indexes, so many, and nothing else.
@@ -98,3 +99,21 @@ index_under n i v w claim = (answered n claim.number i claim.answer_is).1
 
 pub taken_at : (n : ℕ) (v w : Claims) (old new : List ℕ) → v ≡ w → old ≡ new → HasTaken n v old → HasTaken n w new
 taken_at n v w old new claims indexes took = subst (λ (c : Claims). HasTaken n c new) claims (subst (HasTaken n v) indexes took)
+
+-- a worker that took as many as the bag has
+pub emptied_whole : (n count : ℕ) (v w : Claims) (indexes next : List ℕ) → count ≡ n → indexes ≡ next → Claiming n count v indexes → HasEmptied n w next
+emptied_whole n count v w indexes next whole same c = inl (ap length (sym same) ∙ c.long ∙ whole)
+
+not_under : (number n : ℕ) → nat_lt number n ≡ false → n ≤ number
+not_under number n h = grind (arith, nat_tests)
+
+-- or claimed a number that is no index
+pub emptied_behind : (n count : ℕ) (v w x : Claims) (indexes next : List ℕ) → w ≡ x → indexes ≡ next → HasClaimed n v w None → Claiming n count v indexes
+    → HasEmptied n x next
+emptied_behind n count v w x indexes next claims same claim c =
+    let claimed_are : w.indexes ≡ indexes ++ claim.number ∷ [] = ap (λ (u : Claims). u.indexes) claim.after ∙ ap (λ (l : List ℕ). l ++ claim.number ∷ []) c.claimed_are in
+    inr (
+      claim.number,
+      not_under claim.number n (unanswered n claim.number None refl claim.answer_is),
+      ap (λ (u : Claims). u.indexes) (sym claims) ∙ claimed_are ∙ ap (λ (l : List ℕ). l ++ claim.number ∷ []) same,
+    )

@@ -1,5 +1,6 @@
 -- One call more of a lane.
 use Rattle.std.proofs.Common.{
+  ◌≤◌,
   ◌≡◌,
   ◌<◌,
   ◌+◌,
@@ -95,14 +96,15 @@ lane_empty at calls lane empty = record {
 }
 
 -- What a call that was made adds: its entry, unless it ran out of memory.
-pub record Goes (S : List Entry → ℕ → Log → Log → Type 0) (h : List Entry) (t : Told) : Type 0 where
+pub record Goes (S : List Entry → ℕ → Log → Log → Type 0) (h : List Entry) (n : ℕ) (t : Told) : Type 0 where
   pub added : List Entry
   pub are : map told added ≡ filter is_placed (t ∷ [])
   pub entries : AllByRecursion (λ (e : Entry). (e.call ≡ t.call) × (e.used_after ≡ 0)) added
   pub conflicts : ℕ
+  pub later : n ≤ conflicts
   pub stands : S (h ++ added) conflicts [] []
 
-pub goes_on : (S : List Entry → ℕ → Log → Log → Type 0) (h : List Entry) (n : ℕ) (t : Told) → is_spent t.answer ≡ false → AddsCall S h n t → Goes S h t
+pub goes_on : (S : List Entry → ℕ → Log → Log → Type 0) (h : List Entry) (n : ℕ) (t : Told) → is_spent t.answer ≡ false → AddsCall S h n t → Goes S h n t
 goes_on S h n t unspent adds = go (is_memory t.answer) refl (spare (is_spent t.answer) unspent adds)
   where
     spare : (b : Bool) → b ≡ false → MatchBool b (AddsNone (S h) (n + 1)) (MatchBool (is_memory t.answer) (AddsNone (S h) n) (AddsEntry S h n t))
@@ -110,12 +112,13 @@ goes_on S h n t unspent adds = go (is_memory t.answer) refl (spare (is_spent t.a
     spare true is a = cc
     spare false is a = a
 
-    go : (b : Bool) → is_memory t.answer ≡ b → MatchBool b (AddsNone (S h) n) (AddsEntry S h n t) → Goes S h t
+    go : (b : Bool) → is_memory t.answer ≡ b → MatchBool b (AddsNone (S h) n) (AddsEntry S h n t) → Goes S h n t
     go true is a = record {
       added = [];
       are = rw is refl;
       entries = tt;
       conflicts = a.conflicts;
+      later = a.later;
       stands = subst (λ (l : List Entry). S l a.conflicts [] []) (sym (append-nil h)) a.stands;
     }
     go false is a = record {
@@ -123,6 +126,7 @@ goes_on S h n t unspent adds = go (is_memory t.answer) refl (spare (is_spent t.a
       are = rw is (ap (λ (t : Told). t ∷ []) a.told_is);
       entries = ((ap (λ (t : Told). t.call) a.told_is, a.unused), tt);
       conflicts = a.conflicts;
+      later = a.later;
       stands = a.stands;
     }
 

@@ -1,43 +1,43 @@
 -- One call more over a pass of a table.
-use Rattle.std.proofs.Common.{◌≡◌, ◌≤◌, ◌<◌, ◌+◌, ◌*◌, ℕ, suc, List, [], ◌++◌, length, get_or, All, Bool, true, false, refl, sym, ◌∙◌, ap, subst, arith}
+use Rattle.std.proofs.Common.{◌≡◌, ◌≤◌, ◌<◌, ◌+◌, ◌*◌, ℕ, suc, List, [], ◌∷◌, ◌++◌, length, reverse, get_or, append-nil, append_assoc, All, Bool, true, false, inl, inr, ⊎_elim, refl, sym, ◌∙◌, ap, subst, arith}
 use Rattle.std.specs.Bool.{MatchBool}
 use Rattle.std.specs.List.{AllByRecursion}
+use Rattle.std.proofs.lemmas.Bool.Decides.{nat_tests}
+use Rattle.std.proofs.lemmas.List.{reverse-reverse}
+use mathlib.Core.Logic.{dite}
+use mathlib.Core.Option.{Option, some}
+use native.Mathlib.Decide.{ℕ_discrete}
 use Rattle.std.proofs.lemmas.List.Elements.{All-append, All-weaker, All-from_recursion}
-use mathlib.Core.Option.{some}
 use Rattle.atomic_table.specs.Seated.{TableId}
 use Rattle.jmodel.specs.Attempt.{Log}
-use Rattle.jmodel.specs.History.{Call, Entry, Told}
+use Rattle.jmodel.specs.History.{Call, Entry, Told, round}
 use Rattle.jmodel.specs.Schedule.{Known, call_at, is_memory}
-use Rattle.jmodel.specs.Book.{Lost, Unticked, lookup}
-use Rattle.jmodel.specs.Rule.{last_of, region_after}
+use Rattle.jmodel.specs.Book.{Book, Lost, Region, Unticked, In, lookup, rises}
+use Rattle.jmodel.specs.Rule.{Succeeds, last_of}
 use Rattle.jmodel.specs.declared.op.Access.{Access}
 use Rattle.machine.specs.Machine.{AddsNone}
 use Rattle.tx_table.specs.declared.shared.Pass.{Pass}
 use Rattle.tx_table.specs.Passes.{book}
 use Rattle.tl2.specs.declared.attempt.At.{At}
-use Rattle.tl2.specs.Standing.{IsEarlier, Keeps, Stands}
-use Rattle.tl2.proofs.Waiting.{earlier_still}
+use Rattle.tx_table.proofs.MapLaws.{eq_cond, ne_cond}
+use Rattle.tl2.specs.Standing.{Awaits, IsEarlier, IsSince, Keeps, Stands, region_since}
+use Rattle.tl2.proofs.Updating.{all_in, all_reversed}
+use Rattle.tl2.proofs.Waiting.{awaits_later, earlier_still, rises_in_lane, made_are, since_here}
 use Rattle.session.specs.declared.record.Lane.{Lane}
 use Rattle.session.specs.declared.record.Record.{Record}
 use Rattle.session.specs.declared.record.Place.{Place}
 use Rattle.session.specs.Lane.{record_of, HasMade}
 use Rattle.session.specs.Adds.{call_of, told_by, is_spent, AddsEntry, AddsCall, AddsRecord, IsEmpty}
-use Rattle.session.specs.Passes.{IsStarting, IsEnding, HasLost}
+use Rattle.session.specs.Passes.{IsSeated, MayFollow, MayBegin, IsStarting, behind, IsEnding, HasLost}
 use Rattle.session.proofs.Lanes.{lane_empty, made_more, goes_on}
 
--- the region of a lane
-abbrev pub IsRegion : ℕ → ℕ → Type 0
-IsRegion lane r = r ≡ suc lane
-
--- a pass of one number, of one of these tables
-abbrev pub owns : (TableId → Type 0) → TableId → ℕ → ℕ → Type 0
-owns is_table t numbers fresh = is_table t × (numbers ≡ 1) × (fresh ≡ 0)
-
--- What an engine stands for, S, is that the calls of a lane made these entries so far, which are earlier than the next call.
-pub record Stood (S : List Entry → ℕ → Log → Log → Type 0) (at : Place) (calls : List Known) (lane : Lane) : Type 0 where
+-- What an engine stands for, S, is that behind these first entries the calls of a lane made others so far, which are earlier than the next
+-- call; there were so many conflicts before.
+pub record Stood (S : List Entry → ℕ → Log → Log → Type 0) (first : List Entry) (met : ℕ) (at : Place) (calls : List Known) (lane : Lane) : Type 0 where
   pub history : List Entry
   pub conflicts : ℕ
-  pub stands : S history conflicts [] []
+  pub later : met ≤ conflicts
+  pub stands : S (first ++ history) conflicts [] []
   pub made : HasMade at calls history lane
   pub earlier : (c : Known) → All (IsEarlier (call_at at.phase at.lane (at.first + lane.made) c)) history
 
@@ -55,10 +55,12 @@ earlier_all phase lane k n c d h added next before are =
 module _ (S : List Entry → ℕ → Log → Log → Type 0) (at here : Place) (calls : List Known) (i : ℕ) (old new : Lane) (c : Known) (r : Record)
     (place : here ≡ record at { first = at.first + i }) (count : old.made ≡ i) (less : i < length calls) (is : c ≡ get_or calls i c)
     (tells : r ≡ record_of (told_by here c r)) (adds : AddsRecord old new r) where
-  pub stood_more : (h : List Entry) (n : ℕ) → HasMade at calls h old → ((d : Known) → All (IsEarlier (call_at at.phase at.lane (at.first + old.made) d)) h)
-      → is_spent r.answer ≡ false → AddsCall S h n (told_by here c r) → Stood S at calls new
-  stood_more h n made earlier unspent call =
-      let goes = goes_on S h n (told_by here c r) unspent call in
+  pub stood_more : (first h : List Entry) (met n : ℕ) → met ≤ n → HasMade at calls h old
+      → ((d : Known) → All (IsEarlier (call_at at.phase at.lane (at.first + old.made) d)) h)
+      → is_spent r.answer ≡ false → AddsCall S (first ++ h) n (told_by here c r) → Stood S first met at calls new
+  stood_more first h met n low made earlier unspent call =
+      let goes = goes_on S (first ++ h) n (told_by here c r) unspent call in
+      let more = goes.later in
       let Of : Call → Type 0 = λ k. AllByRecursion (λ (e : Entry). (e.call ≡ k) × (e.used_after ≡ 0)) goes.added in
       let there : call_of here c ≡ call_at at.phase at.lane (at.first + old.made) c =
       ap (λ (p : Place). call_of p c) place ∙ ap (λ (j : ℕ). call_at at.phase at.lane (at.first + j) c) (sym count) in
@@ -66,56 +68,169 @@ module _ (S : List Entry → ℕ → Log → Log → Type 0) (at here : Place) (
       record {
         history = h ++ goes.added;
         conflicts = goes.conflicts;
-        stands = goes.stands;
+        later = omega arith;
+        stands = subst (λ (l : List Entry). S l goes.conflicts [] []) (append_assoc first h goes.added) goes.stands;
         made = made_more S at here calls i old new c r place count less is tells adds h goes.added made goes.are;
         earlier = λ d. earlier_all at.phase at.lane (at.first + old.made) (at.first + new.made) c d h goes.added later (earlier c) (subst Of there goes.entries);
       }
 
 -- before the first call
-pub keeps_first : (t : TableId) (lane : ℕ) (is_table : TableId → Type 0) (p : Pass) → is_table t → IsStarting t lane p → Keeps (IsRegion lane) (owns is_table) p
-keeps_first t lane is_table p of_table starting = record {
-  regions = λ r here.
-      subst (λ (k : ℕ). lookup (book p).regions k ≡ some (region_after 0 (last_of (book p).entries k))) (sym here)
-      (starting.region ∙ ap (λ (es : List Entry). some (region_after 0 (last_of es (suc lane)))) (sym starting.entries));
-  own = (subst is_table (sym starting.seated.table) of_table, starting.seated.numbers, starting.seated.fresh);
+pub keeps_first : (began : TableId → Book → Type 0) (t : TableId) (p : Pass) → ((u : TableId) (b : Book) → began u b → (u ≡ t) × (b ≡ book p)) → IsSeated t p
+    → Keeps began p
+keeps_first began t p only seated = λ u b o.
+    let is = only u b o in (
+      seated.table ∙ sym is.0,
+      subst (λ (c : Book). IsSince c (book p)) (sym is.1) (since_here (book p)),
+    )
+
+pub stood_first : (S : List Entry → ℕ → Log → Log → Type 0) (first : List Entry) (at : Place) (calls : List Known) (lane : Lane) (n : ℕ) → IsEmpty lane
+    → S first n [] [] → Stood S first n at calls lane
+stood_first S first at calls lane n empty stands = record {
+  history = [];
+  conflicts = n;
+  later = omega arith;
+  stands = subst (λ (l : List Entry). S l n [] []) (sym (append-nil first)) stands;
+  made = lane_empty at calls lane empty;
+  earlier = λ c. All-from_recursion _ [] tt;
 }
 
-pub stood_first : (S : List Entry → ℕ → Log → Log → Type 0) (at : Place) (calls : List Known) (lane : Lane) (n : ℕ) → IsEmpty lane → S [] n [] []
-    → Stood S at calls lane
-stood_first S at calls lane n empty stands =
-    record { history = []; conflicts = n; stands = stands; made = lane_empty at calls lane empty; earlier = λ c. All-from_recursion _ [] tt }
+-- what holds of a region, and of what each entry in it leaves, holds of it after them
+since_keeps : (Q : Region → Type 0) (r : ℕ) (g : Option Region) (es : List Entry)
+    → ((e : Entry) → In e es → e.call.region ≡ r → Q (record { used = e.used_after; last = some e.call }))
+    → (k : Region) × (g ≡ some k) × Q k → (k : Region) × (region_since g (last_of es r) ≡ some k) × Q k
+since_keeps Q r g [] leaves first = first
+since_keeps Q r g (e ∷ es) leaves first = dite (ℕ_discrete e.call.region r)
+    (λ here.
+    (record { used = e.used_after; last = some e.call }, ap (region_since g) (eq_cond e.call.region r (some e) (last_of es r) here), leaves e (inl refl) here))
+    (λ other.
+    let rest = since_keeps Q r g es (λ d i. leaves d (inr i)) first in
+    (rest.0, ap (region_since g) (ne_cond e.call.region r (some e) (last_of es r) other) ∙ rest.1, rest.2))
+
+-- calls of lanes are of the round of their phase
+round_of : (c : Call) (lane : ℕ) → c.region ≡ suc lane → round c ≡ c.phase + 1
+round_of c lane region = grind (arith, nat_tests)
+
+-- a call of a later phase comes after
+rises_later : (a b : Call) (lane : ℕ) → a.region ≡ suc lane → b.region ≡ suc lane → a.phase < b.phase → rises a b ≡ true
+rises_later a b lane here there l =
+    let first = round_of a lane here in
+    let second = round_of b lane there in
+    grind (arith, nat_tests)
+
+-- the calls of a lane may go on behind the entries of those before
+next_of : (began : TableId → Book → Type 0) (t : TableId) (b : Book) (place : Place) (made words : ℕ) (at : At) (kept : List Access) (p : Pass) (h : List Entry) (n : ℕ)
+    → began t b → Stands began words at kept p (reverse b.entries ++ h) n [] [] → MayBegin place b
+    → ((c : Known) → All (IsEarlier (call_at place.phase place.lane (place.first + made) c)) h) → MayBegin (behind place made) (book p)
+next_of began t b place made words at kept p h n of stands begins earlier =
+    let since = made_are b (book p) (reverse b.entries) h (stands.keeps t b of).1 (sym (reverse-reverse b.entries)) stands.entries in
+    let es = since.0.made in
+    let Q : Region → Type 0 = λ k. (k.used ≡ 0) × MayFollow (behind place made) k.last in
+    let any : Known = record { method = 0; args = [] } in
+    let all : All (IsEarlier (call_at place.phase place.lane (place.first + made) any)) (reverse es) =
+    subst (All (IsEarlier (call_at place.phase place.lane (place.first + made) any))) (sym (ap reverse since.1 ∙ reverse-reverse h)) (earlier any) in
+    let each : (e : Entry) → In e es → IsEarlier (call_at place.phase place.lane (place.first + made) any) e =
+    λ e i. all_in (IsEarlier (call_at place.phase place.lane (place.first + made) any)) es e
+    (all_reversed (IsEarlier (call_at place.phase place.lane (place.first + made) any)) es all) i in
+    let leaves : (e : Entry) → In e es → e.call.region ≡ suc place.lane → Q (record { used = e.used_after; last = some e.call }) = λ e i here.
+    let k = each e i in (
+      k.3,
+      λ phase index c.
+          ⊎_elim
+          (λ (l : place.phase < phase).
+          rises_later e.call (call_at phase place.lane index c) place.lane here refl (subst (λ (m : ℕ). m < phase) (sym k.0) l))
+          (λ (both : (place.phase ≡ phase) × (place.first + made ≤ index)).
+          rises_in_lane e.call (call_at phase place.lane index c) here (k.0 ∙ both.0) k.1 (let below = k.2 in let from = both.1 in omega arith)),
+    ) in
+    let last = since_keeps Q (suc place.lane) (lookup b.regions (suc place.lane)) es leaves (
+      record { used = 0; last = begins.last },
+      begins.region,
+      (
+        refl,
+        λ phase index c later.
+            begins.follows phase index c (⊎_elim (λ (l : place.phase < phase). inl l)
+            (λ (both : (place.phase ≡ phase) × (place.first + made ≤ index)). inr (both.0, let from = both.1 in omega arith)) later),
+      ),
+    ) in
+    let is : lookup (book p).regions (suc place.lane) ≡ some last.0 = since.0.regions (suc place.lane) ∙ last.1 in
+    let unused : last.0 ≡ record { used = 0; last = last.0.last } = λ i. record { used = last.2.0 i; last = last.0.last } in
+    record { last = last.0.last; region = is ∙ ap (λ (k : Region). some k) unused; follows = last.2.1 }
 
 -- the pass that is given back
-pub ending : (t : TableId) (lane : ℕ) (is_table : TableId → Type 0) (words : ℕ) (at : At) (kept : List Access) (p q : Pass) (h : List Entry) (n : ℕ)
-    → ((u : TableId) → is_table u → u ≡ t) → q ≡ p
-    → Stands (IsRegion lane) (owns is_table) words at kept p h n [] [] → ((book q).face.held ≡ []) × ((book q).face.stage ≡ Unticked)
-    → (book p).ticks ≤ 100000 * 1000000 → IsEnding t h q
-ending t lane is_table words at kept p q h n only same stands free ticks =
-    let Own : Pass → Type 0 = λ x. owns is_table x.seat.table_id (book x).numbers (book x).fresh in
-    let own = subst Own (sym same) stands.keeps.own in
-    record {
-      seated = record { table = only q.seat.table_id own.0; held = free.0; stage = free.1; numbers = own.1; fresh = own.2 };
-      entries = ap (λ (x : Pass). (book x).entries) same ∙ stands.entries;
-      ticks = subst (λ (x : Pass). (book x).ticks ≤ 100000 * 1000000) (sym same) ticks;
-    }
+pub ending : (began : TableId → Book → Type 0) (t : TableId) (b : Book) (place : Place) (count made words : ℕ) (at : At) (kept : List Access) (p q : Pass)
+    (h : List Entry) (n : ℕ)
+    → began t b → q ≡ p → Stands began words at kept p (reverse b.entries ++ h) n [] [] → ((book q).face.held ≡ []) × ((book q).face.stage ≡ Unticked)
+    → MayBegin place b → ((c : Known) → All (IsEarlier (call_at place.phase place.lane (place.first + made) c)) h)
+    → (book p).ticks ≤ b.ticks + count * 1000000 → IsEnding t b place count made h q
+ending began t b place count made words at kept p q h n of same stands free begins earlier ticks =
+    let k = stands.keeps t b of in
+    let since = made_are b (book p) (reverse b.entries) h k.1 (sym (reverse-reverse b.entries)) stands.entries in
+    subst (IsEnding t b place count made h) (sym same) (record {
+      seated = record {
+        table = k.0;
+        held = ap (λ (x : Pass). (book x).face.held) (sym same) ∙ free.0;
+        stage = ap (λ (x : Pass). (book x).face.stage) (sym same) ∙ free.1;
+      };
+      since = since.0;
+      entries = since.1;
+      next = next_of began t b place made words at kept p h n of stands begins earlier;
+      ticks = ticks;
+    })
 
--- a pass of a lane that has no calls
-pub unused : (t : TableId) (lane : ℕ) (p : Pass) → IsStarting t lane p → IsEnding t [] p
-unused t lane p starting = record { seated = starting.seated; entries = starting.entries; ticks = let none = starting.ticks in omega (arith, none) }
+-- a pass of a lane of whose calls none was made
+pub unused : (t : TableId) (place : Place) (count any made : ℕ) (p : Pass) → made ≡ 0 → IsStarting t place count p → IsEnding t (book p) place any made [] p
+unused t place count any made p none starting =
+    let es = (book p).entries in
+    let first = reverse es in
+    let back : es ≡ reverse first = sym (reverse-reverse es) in
+    let same = made_are (book p) (book p) first [] (since_here (book p)) back (back ∙ ap reverse (sym (append-nil first))) in
+    record {
+      seated = starting.seated;
+      since = same.0;
+      entries = same.1;
+      next = record {
+        last = starting.begins.last;
+        region = starting.begins.region;
+        follows = λ phase index c later.
+            starting.begins.follows phase index c (⊎_elim (λ (l : place.phase < phase). inl l)
+            (λ (both : (place.phase ≡ phase) × (place.first + made ≤ index)). inr (both.0, let from = both.1 in omega arith)) later);
+      };
+      ticks = omega arith;
+    }
 
 -- a call that was spent adds nothing, and met a conflict
 pub stands_still : (S : List Entry → ℕ → Log → Log → Type 0) (h : List Entry) (n : ℕ) (t : Told) → is_spent t.answer ≡ true → AddsCall S h n t
-    → (m : ℕ) × (0 < m) × S h m [] []
+    → (m : ℕ) × (n < m) × S h m [] []
 stands_still S h n t spent adds = go (is_spent t.answer) spent adds
   where
     go : (b : Bool) → b ≡ true → MatchBool b (AddsNone (S h) (n + 1)) (MatchBool (is_memory t.answer) (AddsNone (S h) n) (AddsEntry S h n t))
-        → (m : ℕ) × (0 < m) × S h m [] []
+        → (m : ℕ) × (n < m) × S h m [] []
     go true is a = let later = a.later in (a.conflicts, omega (arith, later), a.stands)
     go false is a = cc
 
-pub has_lost : (holds : ℕ → Type 0) (own : TableId → ℕ → ℕ → Type 0) (words : ℕ) (at : At) (kept : List Access) (p q : Pass) (h : List Entry) (n : ℕ) → 0 < n
-    → q ≡ p → Stands holds own words at kept p h n [] [] → HasLost q
-has_lost holds own words at kept p q h n above same stands none =
+pub has_lost : (began : TableId → Book → Type 0) (words : ℕ) (at : At) (kept : List Access) (b : Book) (p q : Pass) (h : List Entry) (n : ℕ) → length b.lost < n
+    → q ≡ p → Stands began words at kept p h n [] [] → HasLost b q
+has_lost began words at kept b p q h n above same stands none =
     let count : length (book q).lost ≡ n = ap (λ (x : Pass). length (book x).lost) same ∙ stands.lost in
-    let empty : length (book q).lost ≡ 0 = ap (λ (l : List Lost). length l) none in
-    omega (arith, above, count, empty)
+    let before : length (book q).lost ≡ length b.lost = ap (λ (l : List Lost). length l) none in
+    omega (arith, above, count, before)
+
+-- a pass that holds every number met no conflict
+pub meets_none : (began : TableId → Book → Type 0) (t : TableId) (words : ℕ) (at : At) (kept : List Access) (b : Book) (p : Pass) (h : List Entry) (n : ℕ)
+    → began t b → b.numbers ≡ 1048576 → Stands began words at kept p h n [] [] → n ≡ length b.lost
+meets_none began t words at kept b p h n of whole stands = sym stands.lost ∙ ap (λ (l : List Lost). length l) ((stands.keeps t b of).1.lost whole)
+
+-- behind the entries of its lane's calls an engine awaits the next one
+pub awaits_next : (began : TableId → Book → Type 0) (t : TableId) (b : Book) (place here : Place) (made i words : ℕ) (at : At) (kept : List Access) (p : Pass)
+    (h : List Entry) (n : ℕ) (c : Known) (named : Call)
+    → began t b → Stands began words at kept p (reverse b.entries ++ h) n [] [] → MayBegin place b → here ≡ record place { first = place.first + i } → made ≡ i
+    → call_of here c ≡ named → ((d : Known) → All (IsEarlier (call_at place.phase place.lane (place.first + made) d)) h)
+    → Awaits named (book p) (call_of here c) 0
+awaits_next began t b place here made i words at kept p h n c named of stands start is count told earlier =
+    let there : call_at place.phase place.lane (place.first + made) c ≡ call_of here c =
+    ap (λ (j : ℕ). call_at place.phase place.lane (place.first + j) c) count ∙ ap (λ (q : Place). call_of q c) (sym is) in
+    let lane : place.lane ≡ (call_of here c).lane = ap (λ (q : Place). q.lane) (sym is) in
+    let region = subst (λ (m : ℕ). lookup b.regions (suc m) ≡ some (record { used = 0; last = start.last })) lane start.region in
+    let next : Succeeds (call_of here c) start.last =
+    subst (λ (k : Call). Succeeds k start.last) there (start.follows place.phase (place.first + made) c (inr (refl, omega arith))) in
+    awaits_later {words = words} {at = at} {kept = kept} {p = p} (reverse b.entries) h named (call_of here c) t b (record { used = 0; last = start.last })
+    stands told (inr refl) of (sym (reverse-reverse b.entries)) region refl next (subst (λ (k : Call). All (IsEarlier k) h) there (earlier c))

@@ -1,33 +1,51 @@
 -- The pass of a lane over a table of shared words.
-use Rattle.std.specs.Prelude.{◌≡◌, ◌≢◌, ◌≤◌, ◌*◌, ℕ, suc, List, [], reverse}
-use mathlib.Core.Option.{some, none}
+use Rattle.std.specs.Prelude.{◌≡◌, ◌≢◌, ◌⊎◌, ◌<◌, ◌≤◌, ◌+◌, ◌*◌, ◌^◌, ℕ, suc, List, [], reverse}
+use mathlib.Core.Option.{Option, some}
 use Rattle.atomic_table.specs.Seated.{TableId}
-use Rattle.jmodel.specs.History.{Entry}
-use Rattle.jmodel.specs.Book.{Unticked, lookup}
+use Rattle.jmodel.specs.History.{Call, Entry}
+use Rattle.jmodel.specs.Schedule.{Known, call_at}
+use Rattle.jmodel.specs.Book.{Book, Unticked, lookup}
+use Rattle.jmodel.specs.Rule.{Succeeds}
 use Rattle.tx_table.specs.declared.shared.Pass.{Pass}
 use Rattle.tx_table.specs.Passes.{book, IsOf}
+use Rattle.tl2.specs.Standing.{IsSince}
+use Rattle.session.specs.declared.record.Place.{Place}
 
--- a pass of one number, outside an attempt
+-- a pass outside an attempt
 pub record IsSeated (t : TableId) (p : Pass) : Type 0 where
   pub table : IsOf t p
   pub held : (book p).face.held ≡ []
   pub stage : (book p).face.stage ≡ Unticked
-  pub numbers : (book p).numbers ≡ 1
-  pub fresh : (book p).fresh ≡ 0
 
--- it has the region of a lane, of which no word is used, and made no entry
-pub record IsStarting (t : TableId) (lane : ℕ) (p : Pass) : Type 0 where
+-- the calls of a lane from a place on, and those of later phases, may come after the last one of a region
+abbrev pub MayFollow : Place → Option Call → Type 0
+MayFollow at last = (phase index : ℕ) (c : Known) → (at.phase < phase) ⊎ ((at.phase ≡ phase) × (at.first ≤ index)) → Succeeds (call_at phase at.lane index c) last
+
+-- A pass with this book has a lane's region, of which no word is used, and the lane's calls from a place on may come next in it.
+pub record MayBegin (at : Place) (b : Book) : Type 0 where
+  pub last : Option Call
+  pub region : lookup b.regions (suc at.lane) ≡ some (record { used = 0; last = last })
+  pub follows : MayFollow at last
+
+-- a pass that so many calls of a lane may begin with, from a place on, and which has moved the clock seldom enough
+pub record IsStarting (t : TableId) (at : Place) (count : ℕ) (p : Pass) : Type 0 where
   pub seated : IsSeated t p
-  pub entries : (book p).entries ≡ []
-  pub region : lookup (book p).regions (suc lane) ≡ some (record { used = 0; last = none })
-  pub ticks : (book p).ticks ≡ 0
+  pub begins : MayBegin at (book p)
+  pub ticks : (book p).ticks + count * 1000000 ≤ 2 ^ 40
 
--- it made these entries
-pub record IsEnding (t : TableId) (h : List Entry) (p : Pass) : Type 0 where
+-- the place behind so many calls
+abbrev pub behind : Place → ℕ → Place
+behind at n = record at { first = at.first + n }
+
+-- The pass after so many calls of a lane, of which some were made and added these entries since its book was b. The lane's calls behind those
+-- may begin with it.
+pub record IsEnding (t : TableId) (b : Book) (at : Place) (count made : ℕ) (h : List Entry) (p : Pass) : Type 0 where
   pub seated : IsSeated t p
-  pub entries : (book p).entries ≡ reverse h
-  pub ticks : (book p).ticks ≤ 100000 * 1000000
+  pub since : IsSince b (book p)
+  pub entries : since.made ≡ reverse h
+  pub next : MayBegin (behind at made) (book p)
+  pub ticks : (book p).ticks ≤ b.ticks + count * 1000000
 
--- an attempt of it met a conflict
-abbrev pub HasLost : Pass → Type 0
-HasLost p = (book p).lost ≢ []
+-- an attempt of it met a conflict since
+abbrev pub HasLost : Book → Pass → Type 0
+HasLost b p = (book p).lost ≢ b.lost

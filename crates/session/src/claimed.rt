@@ -5,14 +5,16 @@ ghost use Rattle.atomic_table.specs.Seated.{TableId};
 ghost use Rattle.claims.specs.Claims.{goes};
 ghost use Rattle.claims.specs.Passes.{claims_of, IsOf};
 ghost use Rattle.jmodel.specs.History.{Entry};
+ghost use Rattle.jmodel.specs.Book.{Book};
+ghost use Rattle.tx_table.specs.Passes.{book};
 ghost use Rattle.session.specs.Rule.{IsRuled, IsReady, IsCallOf};
 ghost use Rattle.session.specs.Lane.{HasMade};
 ghost use Rattle.session.specs.Passes.{IsStarting, IsEnding, HasLost};
-ghost use Rattle.session.specs.Claimed.{calls_at, HasTaken};
+ghost use Rattle.session.specs.Claimed.{calls_at, HasTaken, HasEmptied};
 
 use crate::call::make_next;
 use crate::record::{Lane, Place};
-use crate::shared::{Named, OfLane};
+use crate::shared::{Beginning, Named};
 use claims::{Bag, BagPass};
 use hierarchy::Program;
 use machine::Limits;
@@ -35,7 +37,7 @@ pub struct Taken {
 
 /// Claims the calls of a bag, one after another, and makes each over a pass of a table that others share, up to the first whose attempts are used up by
 /// conflicts, or until all calls are claimed. Each call may take the turns and the attempts of `limits`. The rewritten program is what runs. The calls
-/// are numbered from the place on. Gives the pass back.
+/// are numbered from the place on. Gives the pass back; the entries that it got stand behind all that it knew.
 pub fn make_claimed<T: Ruled>(
     alloc: Global,
     original: &Program,
@@ -53,11 +55,12 @@ pub fn make_claimed<T: Ruled>(
     requires few { at.first + length calls.now ≤ 100000 }
     requires attempts { (1 ≤ limits.attempts) × (limits.attempts ≤ 1000000) }
     requires rule { (e : Entry) → IsRuled original.now limits.budget e → T.rule e }
-    requires pass { IsStarting shared.now.table.shared.table_id at.lane pass }
+    requires pass { IsStarting shared.now.table.shared.table_id at (length calls.now) pass }
     requires bag { IsOf bag.now claims.old × (bag.now.length ≡ length calls.now) }
     requires claims { claims_of claims.old ≡ goes (length calls.now + 1) }
-    ensures made { IfOk result (λ r. (h : List Entry) × IsEnding shared.now.table.shared.table_id h r.pass × HasMade at (calls_at calls.now r.indexes.items) h r.lane) }
-    ensures stopped { IfOk result (λ r. r.lane.made ≢ length r.indexes.items → HasLost r.pass) }
+    ensures made { IfOk result (λ r. (h : List Entry) × IsEnding shared.now.table.shared.table_id (book pass) at (length r.indexes.items) r.lane.made h r.pass × HasMade at (calls_at calls.now r.indexes.items) h r.lane) }
+    ensures stopped { IfOk result (λ r. r.lane.made ≢ length r.indexes.items → HasLost (book pass) r.pass) }
+    ensures emptied { IfOk result (λ r. r.lane.made ≡ length r.indexes.items → HasEmptied (length calls.now) (claims_of claims.new) r.indexes.items) }
     ensures bag { IsOf bag.now claims.new }
     ensures claims { IfOk result (λ r. HasTaken (length calls.now) (claims_of claims.new) r.indexes.items) }
 {
@@ -66,7 +69,7 @@ pub fn make_claimed<T: Ruled>(
     )
 }
 
-fn claim_over<K: OfLane, T: Ruled>(
+fn claim_over<K: Beginning, T: Ruled>(
     alloc: Global,
     original: &Program,
     rewritten: &Program,
@@ -83,14 +86,14 @@ fn claim_over<K: OfLane, T: Ruled>(
     requires few { at.first + length calls.now ≤ 100000 }
     requires attempts { (1 ≤ limits.attempts) × (limits.attempts ≤ 1000000) }
     requires rule { (e : Entry) → IsRuled original.now limits.budget e → T.rule e }
-    requires pass { IsStarting shared.now.table.shared.table_id at.lane pass }
-    requires lane { K.lane ≡ at.lane }
-    requires table { K.is_table shared.now.table.shared.table_id }
-    requires is_table { (t : TableId) → K.is_table t → t ≡ shared.now.table.shared.table_id }
+    requires pass { IsStarting shared.now.table.shared.table_id at (length calls.now) pass }
+    requires began { K.began shared.now.table.shared.table_id (book pass) }
+    requires only { (t : TableId) (b : Book) → K.began t b → (t ≡ shared.now.table.shared.table_id) × (b ≡ book pass) }
     requires bag { IsOf bag.now claims.old × (bag.now.length ≡ length calls.now) }
     requires claims { claims_of claims.old ≡ goes (length calls.now + 1) }
-    ensures made { IfOk result (λ r. (h : List Entry) × IsEnding shared.now.table.shared.table_id h r.pass × HasMade at (calls_at calls.now r.indexes.items) h r.lane) }
-    ensures stopped { IfOk result (λ r. r.lane.made ≢ length r.indexes.items → HasLost r.pass) }
+    ensures made { IfOk result (λ r. (h : List Entry) × IsEnding shared.now.table.shared.table_id (book pass) at (length r.indexes.items) r.lane.made h r.pass × HasMade at (calls_at calls.now r.indexes.items) h r.lane) }
+    ensures stopped { IfOk result (λ r. r.lane.made ≢ length r.indexes.items → HasLost (book pass) r.pass) }
+    ensures emptied { IfOk result (λ r. r.lane.made ≡ length r.indexes.items → HasEmptied (length calls.now) (claims_of claims.new) r.indexes.items) }
     ensures bag { IsOf bag.now claims.new }
     ensures claims { IfOk result (λ r. HasTaken (length calls.now) (claims_of claims.new) r.indexes.items) }
 {

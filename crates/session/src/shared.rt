@@ -1,8 +1,10 @@
 //! Calls over a table of shared words, by TL2.
-ghost use Rattle.std.specs.Prelude.{◌≡◌, ◌≢◌, ◌≤◌, ◌+◌, ℕ, List, [], length, IfOk};
+ghost use Rattle.std.specs.Prelude.{◌≡◌, ◌≢◌, ◌≤◌, ◌+◌, ◌^◌, ℕ, List, [], length, IfOk};
 ghost use Rattle.std.specs.List.{AllByRecursion};
 ghost use Rattle.atomic_table.specs.Seated.{TableId};
 ghost use Rattle.jmodel.specs.History.{Entry};
+ghost use Rattle.jmodel.specs.Book.{Book};
+ghost use Rattle.tx_table.specs.Passes.{book};
 ghost use Rattle.session.specs.Rule.{IsRuled, IsReady, IsCallOf};
 ghost use Rattle.session.specs.Lane.{HasMade};
 ghost use Rattle.session.specs.Passes.{IsStarting, IsEnding, HasLost};
@@ -19,7 +21,8 @@ use tl2::{Calling, Ruled, Tl2};
 use tx_table::{Pass, Shared};
 
 /// Makes the calls of a lane from a place on, one after another, over a pass of a table that others share, up to the first whose attempts are used
-/// up by conflicts. Each call may take the turns and the attempts of `limits`. The rewritten program is what runs. Gives the pass back.
+/// up by conflicts. A pass that holds every number meets none, so that all are made. Each call may take the turns and the attempts of `limits`. The
+/// rewritten program is what runs. Gives the pass back; the entries that it got stand behind all that it knew.
 pub fn make_shared<T: Ruled>(
     alloc: Global,
     original: &Program,
@@ -35,27 +38,24 @@ pub fn make_shared<T: Ruled>(
     requires few { at.first + length calls.now ≤ 100000 }
     requires attempts { (1 ≤ limits.attempts) × (limits.attempts ≤ 1000000) }
     requires rule { (e : Entry) → IsRuled original.now limits.budget e → T.rule e }
-    requires pass { IsStarting shared.now.table.shared.table_id at.lane pass }
-    ensures made { IfOk result (λ r. (h : List Entry) × IsEnding shared.now.table.shared.table_id h r.1 × HasMade at calls.now h r.0) }
-    ensures stopped { IfOk result (λ r. r.0.made ≢ length calls.now → HasLost r.1) }
+    requires pass { IsStarting shared.now.table.shared.table_id at (length calls.now) pass }
+    ensures made { IfOk result (λ r. (h : List Entry) × IsEnding shared.now.table.shared.table_id (book pass) at (length calls.now) r.0.made h r.1 × HasMade at calls.now h r.0) }
+    ensures stopped { IfOk result (λ r. r.0.made ≢ length calls.now → HasLost (book pass) r.1) }
+    ensures all { (book pass).numbers ≡ 2 ^ 20 → IfOk result (λ r. r.0.made ≡ length calls.now) }
 {
     make_over::<Brand, T>(alloc, original, rewritten, shared, pass, limits, at, calls)
 }
 
-/// Which lane a pass is for, and of which table it is. A caller picks both for its proof.
-pub(crate) trait OfLane {
-    ghost use Rattle.std.specs.Prelude.{ℕ};
+/// Which table a pass is of, and its book as its calls began. A caller picks them for its proof.
+pub(crate) trait Beginning {
     ghost use Rattle.atomic_table.specs.Seated.{TableId};
+    ghost use Rattle.jmodel.specs.Book.{Book};
 
-    ghost lane: { ℕ };
-
-    ghost is_table: { TableId → Type 0 };
+    ghost began: { TableId → Book → Type 0 };
 }
 
-impl OfLane for Brand {
-    ghost lane = { 0 };
-
-    ghost is_table = { λ _. Unit {0} };
+impl Beginning for Brand {
+    ghost began = { λ _ _. ⊥ };
 }
 
 /// Names the call at a place, for contracts alone.
@@ -66,15 +66,12 @@ pub(crate) struct Named<'a, K> {
     of: PhantomData<K>,
 }
 
-impl<'a, K: OfLane> Calling for Named<'a, K> {
-    ghost use Rattle.std.specs.Prelude.{◌≡◌, suc};
+impl<'a, K: Beginning> Calling for Named<'a, K> {
     ghost use Rattle.session.specs.Adds.{call_of};
 
     ghost call = { λ n. call_of n.at n.call.now };
 
-    ghost holds = { λ r. r ≡ suc K.lane };
-
-    ghost own = { λ t numbers fresh. K.is_table t × (numbers ≡ 1) × (fresh ≡ 0) };
+    ghost began = { K.began };
 }
 
 impl<'a, K> Named<'a, K> {
@@ -92,7 +89,7 @@ impl<'a, K> Named<'a, K> {
     }
 }
 
-fn make_over<K: OfLane, T: Ruled>(
+fn make_over<K: Beginning, T: Ruled>(
     alloc: Global,
     original: &Program,
     rewritten: &Program,
@@ -107,12 +104,12 @@ fn make_over<K: OfLane, T: Ruled>(
     requires few { at.first + length calls.now ≤ 100000 }
     requires attempts { (1 ≤ limits.attempts) × (limits.attempts ≤ 1000000) }
     requires rule { (e : Entry) → IsRuled original.now limits.budget e → T.rule e }
-    requires pass { IsStarting shared.now.table.shared.table_id at.lane pass }
-    requires lane { K.lane ≡ at.lane }
-    requires table { K.is_table shared.now.table.shared.table_id }
-    requires is_table { (t : TableId) → K.is_table t → t ≡ shared.now.table.shared.table_id }
-    ensures made { IfOk result (λ r. (h : List Entry) × IsEnding shared.now.table.shared.table_id h r.1 × HasMade at calls.now h r.0) }
-    ensures stopped { IfOk result (λ r. r.0.made ≢ length calls.now → HasLost r.1) }
+    requires pass { IsStarting shared.now.table.shared.table_id at (length calls.now) pass }
+    requires began { K.began shared.now.table.shared.table_id (book pass) }
+    requires only { (t : TableId) (b : Book) → K.began t b → (t ≡ shared.now.table.shared.table_id) × (b ≡ book pass) }
+    ensures made { IfOk result (λ r. (h : List Entry) × IsEnding shared.now.table.shared.table_id (book pass) at (length calls.now) r.0.made h r.1 × HasMade at calls.now h r.0) }
+    ensures stopped { IfOk result (λ r. r.0.made ≢ length calls.now → HasLost (book pass) r.1) }
+    ensures all { (book pass).numbers ≡ 2 ^ 20 → IfOk result (λ r. r.0.made ≡ length calls.now) }
 {
     let mut lane = Lane::new(alloc);
     let Some(first) = calls.first() else {

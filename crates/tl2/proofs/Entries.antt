@@ -72,12 +72,12 @@ reader_fits S named v c used r x on aw reads runs =
     }
 
 -- the engine stands for one entry more
-pub adds_reader : (holds : ℕ → Type 0) (owns : TableId → ℕ → ℕ → Type 0) (words : ℕ) (named : Call) (rule : Entry → Type 0) (at : At) (kept : List Access)
+pub adds_reader : (began : TableId → Book → Type 0) (words : ℕ) (named : Call) (rule : Entry → Type 0) (at : At) (kept : List Access)
     (p q : Pass) (h : List Entry) (n : ℕ) (r w : Log) (x : Answer)
     → (book p).call ≡ named → at ≢ Outside → IsSame p q → book q ≡ finished (book p) (reader_entry (book p) x)
-    → Stands holds owns words at kept p h n r w
-    → Adds (Awaits named (book p)) rule (Stands holds owns words Outside [] q) h n x (record { at = (book p).bound; update = false }) r []
-adds_reader holds owns words named rule at kept p q h n r w x on inside same e s c used aw may =
+    → Stands began words at kept p h n r w
+    → Adds (Awaits named (book p)) rule (Stands began words Outside [] q) h n x (record { at = (book p).bound; update = false }) r []
+adds_reader began words named rule at kept p q h n r w x on inside same e s c used aw may =
     let entries : (book q).entries ≡ reader_entry (book p) x ∷ (book p).entries = ap (λ (b : Book). b.entries) e in
     let numbers = ap (λ (b : Book). b.numbers) e in
     let fresh = ap (λ (b : Book). b.fresh) e in
@@ -91,7 +91,12 @@ adds_reader holds owns words named rule at kept p q h n r w x on inside same e s
       reads = λ z. absurd (z refl);
       writes = refl;
       within = All-nil (λ (l : Access). l.address < words);
-      keeps = keeps_more holds owns p q same numbers fresh (reader_entry (book p) x) regions entries s.keeps;
+      bound = λ z. absurd (z refl);
+      keeps =
+          let bound = s.bound inside in
+          let seen = ap (λ (b : Book). b.seen) e in
+          keeps_more began p q same numbers fresh (reader_entry (book p) x) regions entries (omega arith) (ap (λ (b : Book). b.lost) e)
+          (omega arith, λ u. let z : false ≡ true = u in cc z) (omega arith) s.keeps;
     }
 
 -- the region has the awaited call as its last one
@@ -135,12 +140,12 @@ update_fits S named v c used r w x t on aw reads runs =
     }
 
 -- the engine stands for one update more
-pub adds_update : (holds : ℕ → Type 0) (owns : TableId → ℕ → ℕ → Type 0) (words : ℕ) (named : Call) (rule : Entry → Type 0) (at : At) (kept : List Access)
+pub adds_update : (began : TableId → Book → Type 0) (words : ℕ) (named : Call) (rule : Entry → Type 0) (at : At) (kept : List Access)
     (p q : Pass) (h : List Entry) (n : ℕ) (r w : Log) (x : Answer) (s : Stamp)
-    → (book p).call ≡ named → at ≢ Outside → s.update ≡ true → IsSame p q → IsAdded (update_of (book p) s.at w x) (book p) (book q)
-    → Stands holds owns words at kept p h n r w
-    → Adds (Awaits named (book p)) rule (Stands holds owns words Outside [] q) h n x s r w
-adds_update holds owns words named rule at kept p q h n r w x s on inside u same a st c used aw may = record {
+    → (book p).call ≡ named → at ≢ Outside → s.update ≡ true → (book p).seen < s.at → IsSame p q → IsAdded (update_of (book p) s.at w x) (book p) (book q)
+    → Stands began words at kept p h n r w
+    → Adds (Awaits named (book p)) rule (Stands began words Outside [] q) h n x s r w
+adds_update began words named rule at kept p q h n r w x s on inside u over same a st c used aw may = record {
   entries = a.entries
       ∙ ap (λ (e : Entry). e ∷ (book p).entries) (update_made named (book p) c used r w x s u on aw (st.reads inside))
       ∙ ap (λ (t : List Entry). made c x used used s r w ∷ t) st.entries
@@ -149,7 +154,10 @@ adds_update holds owns words named rule at kept p q h n r w x s on inside u same
   reads = λ q. absurd (q refl);
   writes = refl;
   within = All-nil (λ (l : Access). l.address < words);
-  keeps = keeps_more holds owns p q same a.numbers a.fresh (update_of (book p) s.at w x) a.regions a.entries st.keeps;
+  bound = λ q. absurd (q refl);
+  keeps =
+      let known = a.seen in
+      keeps_more began p q same a.numbers a.fresh (update_of (book p) s.at w x) a.regions a.entries (omega arith) a.lost (omega arith, λ t. omega arith) a.seen st.keeps;
 }
 
 pub update_region : (named : Call) (v v' : Book) (t : ℕ) (w : Log) (x : Answer) (c : Call) (used : ℕ) → v.call ≡ named → IsAdded (update_of v t w x) v v' → Awaits named v c used
@@ -161,15 +169,16 @@ update_region named v v' t w x c used on a aw =
     a.regions ∙ it
 
 -- a conflict in a commit is counted, and the attempt leaves nothing
-pub lost_stands : (holds : ℕ → Type 0) (owns : TableId → ℕ → ℕ → Type 0) (words moved n : ℕ) (at : At) (kept : List Access)
+pub lost_stands : (began : TableId → Book → Type 0) (words moved n : ℕ) (at : At) (kept : List Access)
     (p q : Pass) (h : List Entry) (r w : Log) (l : Lost)
-    → IsSame p q → IsRest (l ∷ []) moved (book p) (book q) → Stands holds owns words at kept p h n r w
-    → Stands holds owns words Outside [] q h (n + 1) [] []
-lost_stands holds owns words moved n at kept p q h r w l same k s = record {
+    → IsSame p q → ((book p).numbers ≢ 1048576) → IsRest (l ∷ []) moved (book p) (book q) → Stands began words at kept p h n r w
+    → Stands began words Outside [] q h (n + 1) [] []
+lost_stands began words moved n at kept p q h r w l same others k s = record {
   entries = k.entries ∙ s.entries;
   lost = let d : length (book q).lost ≡ length (l ∷ (book p).lost) = ap length k.lost in let was = s.lost in omega arith;
   reads = λ z. absurd (z refl);
   writes = refl;
   within = All-nil (λ (l : Access). l.address < words);
-  keeps = keeps_still holds owns p q same k.numbers k.fresh k.regions k.entries s.keeps;
+  bound = λ z. absurd (z refl);
+  keeps = keeps_still began p q same k.numbers k.fresh k.regions k.entries k.seen (λ whole. absurd (others whole)) s.keeps;
 }

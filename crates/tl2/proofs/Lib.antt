@@ -1,5 +1,6 @@
 pub mod Keeping
 pub mod Entries
+pub mod Stepping
 pub mod Stripes
 pub mod Rests
 pub mod Plans

@@ -20,6 +20,7 @@ rest_here v = record {
   entries = refl;
   lost = refl;
   call = refl;
+  seen = omega arith;
 }
 
 -- a stripe more is given back
@@ -34,6 +35,7 @@ rest_given c t v w s kept r = record {
   entries = r.entries;
   lost = r.lost;
   call = r.call;
+  seen = r.seen;
 }
 
 -- a stripe more is taken
@@ -49,6 +51,7 @@ taking_one v w s word a t = record {
     entries = t.rest.entries;
     lost = t.rest.lost;
     call = t.rest.call;
+    seen = t.rest.seen;
   };
   stage = t.stage;
   live = t.live;
@@ -83,6 +86,7 @@ taking_lost v w u e upto t r = record {
   entries = r.entries ∙ t.rest.entries;
   lost = r.lost ∙ lost_is v w e upto t.rest.call t.rest.regions t.reads t.rest.lost;
   call = r.call ∙ t.rest.call;
+  seen = let p = r.seen in let q = t.rest.seen in omega arith;
 }
   where
     stage_of : (u.face.stage ≡ Unticked) ⊎ (u.face.stage ≡ w.face.stage) → u.face.stage ≡ Unticked
@@ -108,6 +112,7 @@ rest_released c t v w s d r = record {
   entries = r.entries;
   lost = r.lost;
   call = r.call;
+  seen = r.seen;
 }
   where
     stage_then : ((stage_of (without w.face.held s) ≡ Decided) × (without w.face.held s ≢ [])) ⊎ ((stage_of (without w.face.held s) ≡ Unticked) × (without w.face.held s ≡ []))

@@ -111,9 +111,10 @@ pub record IsTicked (t : ℕ) (m : Map ℕ) (v w : Book) : Type 0 where
   pub lost : w.lost ≡ v.lost
   pub call : w.call ≡ v.call
   pub reads : w.reads ≡ v.reads
+  pub seen : (v.seen < t) × (w.seen ≡ t)
 
-pub ticked_then : (t : ℕ) (due : Map ℕ) (checked : List ℕ) (v v1 w : Book) → IsTaking v v1 → w ≡ record (ticked_up v1 t due) { checked = checked } → IsTicked t due v w
-ticked_then t due checked v v1 w k e = subst (IsTicked t due v) (sym e) (record {
+pub ticked_then : (t : ℕ) (due : Map ℕ) (checked : List ℕ) (v v1 w : Book) → v1.seen < t → IsTaking v v1 → w ≡ record (ticked_up v1 t due) { checked = checked } → IsTicked t due v w
+ticked_then t due checked v v1 w later k e = subst (IsTicked t due v) (sym e) (record {
   stage = refl;
   live = k.live;
   tick = refl;
@@ -127,12 +128,13 @@ ticked_then t due checked v v1 w k e = subst (IsTicked t due v) (sym e) (record 
   lost = k.rest.lost;
   call = k.rest.call;
   reads = k.reads;
+  seen = (let p = k.rest.seen in omega arith, refl);
 })
 
 -- a conflict after the tick, and the stripes given back
-pub ticked_lost : (t : ℕ) (due : Map ℕ) (checked : List ℕ) (x : Conflict) (v v1 w u : Book) → x.upto ≡ v1.bound → IsTaking v v1 → w ≡ lost_at (record (ticked_up v1 t due) { checked = checked }) x.address x.word → IsRest [] 0 w u
+pub ticked_lost : (t : ℕ) (due : Map ℕ) (checked : List ℕ) (x : Conflict) (v v1 w u : Book) → v1.seen < t → x.upto ≡ v1.bound → IsTaking v v1 → w ≡ lost_at (record (ticked_up v1 t due) { checked = checked }) x.address x.word → IsRest [] 0 w u
     → u.face.stage ≡ Unticked → IsRest (lost_to v x ∷ []) 1 v u
-ticked_lost t due checked x v v1 w u upto k e r stage = record {
+ticked_lost t due checked x v v1 w u later upto k e r stage = record {
   number = r.number ∙ ap (λ (b : Book). b.face.number) e ∙ k.rest.number;
   stage = inl stage;
   numbers = r.numbers ∙ ap (λ (b : Book). b.numbers) e ∙ k.rest.numbers;
@@ -142,6 +144,7 @@ ticked_lost t due checked x v v1 w u upto k e r stage = record {
   entries = r.entries ∙ ap (λ (b : Book). b.entries) e ∙ k.rest.entries;
   lost = r.lost ∙ ap (λ (b : Book). b.lost) e ∙ lost_is v v1 x upto k.rest.call k.rest.regions k.reads k.rest.lost;
   call = r.call ∙ ap (λ (b : Book). b.call) e ∙ k.rest.call;
+  seen = let p = r.seen in let q = ap (λ (b : Book). b.seen) e in let o = k.rest.seen in omega arith;
 }
 
 -- each read is on a stripe that was checked or is held
@@ -199,6 +202,7 @@ module _ (t : ℕ) (wr : Log) (v w : Book) (x : Answer) (k : IsTicked t (pairs w
     regions = r.regions ∙ ap (λ (b : Book). b.regions) e ∙ ap (λ (d : Entry). region_of d ∷ w.regions) entry_is ∙ ap (λ (m : Map Region). region_of (update_of v t wr x) ∷ m) k.regions;
     entries = r.entries ∙ ap (λ (b : Book). b.entries) e ∙ ap (λ (d : Entry). d ∷ w.entries) entry_is ∙ ap (λ (es : List Entry). update_of v t wr x ∷ es) k.entries;
     lost = r.lost ∙ ap (λ (b : Book). b.lost) e ∙ k.lost;
+    seen = let p = r.seen in let q = ap (λ (b : Book). b.seen) e in let o = k.seen.1 in omega arith;
   }
 
 -- what holds of each element of a reversed list, holds of each of the list

@@ -3,7 +3,7 @@ use Rattle.std.proofs.Common.{◌≡◌, ◌<◌, ◌+◌, ℕ, true, cond, List
 use Rattle.std.specs.Prelude.{nat_eq, nat_lt}
 use Rattle.std.specs.List.{AllByRecursion}
 use Rattle.std.proofs.lemmas.Bool.{lt-ltb}
-use Rattle.std.proofs.lemmas.List.{reverse-reverse}
+use Rattle.std.proofs.lemmas.List.{reverse-reverse, reverse-append, append_cancel_right}
 use Rattle.std.proofs.lemmas.List.Elements.{All-push, All-weaker, recursion_from_All}
 use mathlib.Core.Logic.{dite}
 use mathlib.Core.Option.{Option, some}
@@ -12,14 +12,14 @@ use Rattle.atomic_table.specs.Seated.{TableId}
 use Rattle.jmodel.specs.declared.op.Access.{Access}
 use Rattle.jmodel.specs.Attempt.{Log}
 use Rattle.jmodel.specs.History.{Call, Entry, round, first_by}
-use Rattle.jmodel.specs.Book.{rises, IsOfLane}
-use Rattle.jmodel.specs.Rule.{Succeeds, last_of, region_after}
+use Rattle.jmodel.specs.Book.{Book, Region, lookup, rises, IsOfLane}
+use Rattle.jmodel.specs.Rule.{Succeeds, last_of}
 use Rattle.tx_table.specs.declared.shared.Pass.{Pass}
 use Rattle.tx_table.specs.Passes.{book}
 use Rattle.tx_table.proofs.MapLaws.{eq_cond, ne_cond}
 use Rattle.tx_table.proofs.Order.{first_same}
 use Rattle.tl2.specs.declared.attempt.At.{At}
-use Rattle.tl2.specs.Standing.{Awaits, IsBefore, IsEarlier, Stands}
+use Rattle.tl2.specs.Standing.{Awaits, IsBefore, IsEarlier, IsSince, Stands, region_since}
 use Rattle.tl2.proofs.Updating.{all_reversed}
 
 -- of two calls of one lane and phase that with the lower index comes first
@@ -32,32 +32,56 @@ rises_in_lane a b region phase lane l =
 pub earlier_before : (c : Call) (e : Entry) → IsEarlier c e → IsBefore c e
 earlier_before c e k same = (rises_in_lane e.call c same k.0 k.1 k.2, k.3)
 
--- a region after entries that are before a call
-abbrev IsReady : Call → Option Entry → Type 0
-IsReady c z = ((region_after 0 z).used ≡ 0) × Succeeds c (region_after 0 z).last
+-- no word of a region is used, and a call may come next in it
+abbrev IsReady : Call → Option Region → Type 0
+IsReady c g = (k : Region) × (g ≡ some k) × (k.used ≡ 0) × Succeeds c k.last
 
-ready : (c : Call) (es : List Entry) → AllByRecursion (IsBefore c) es → IsReady c (last_of es c.region)
-ready c [] all = (refl, tt)
-ready c (e ∷ es) all = dite (ℕ_discrete e.call.region c.region)
-    (λ here. let k = all.0 here in subst (IsReady c) (sym (eq_cond e.call.region c.region (some e) (last_of es c.region) here)) (k.1, k.0))
-    (λ not. subst (IsReady c) (sym (ne_cond e.call.region c.region (some e) (last_of es c.region) not)) (ready c es all.1))
+ready : (c : Call) (g : Option Region) (es : List Entry) → IsReady c g → AllByRecursion (IsBefore c) es → IsReady c (region_since g (last_of es c.region))
+ready c g [] free all = free
+ready c g (e ∷ es) free all = dite (ℕ_discrete e.call.region c.region)
+    (λ here.
+    let k = all.0 here in
+    subst (λ (z : Option Entry). IsReady c (region_since g z)) (sym (eq_cond e.call.region c.region (some e) (last_of es c.region) here))
+    (record { used = e.used_after; last = some e.call }, refl, k.1, k.0))
+    (λ not.
+    subst (λ (z : Option Entry). IsReady c (region_since g z)) (sym (ne_cond e.call.region c.region (some e) (last_of es c.region) not))
+    (ready c g es free all.1))
 
--- The call c that the engine was told may come next, of whose region no word is used, where all entries so far are before it.
-pub awaits_told : {holds : ℕ → Type 0} {owns : TableId → ℕ → ℕ → Type 0} {words : ℕ} {at : At} {kept : List Access} {p : Pass}
-    {h : List Entry} {n : ℕ} {r w : Log} (named c : Call)
-    → Stands holds owns words at kept p h n r w → c ≡ named → IsOfLane c → holds c.region → All (IsBefore c) h → Awaits named (book p) c 0
-awaits_told {p = p} {h = h} named c s told lane held all =
-    let es : List Entry = (book p).entries in
-    let turned : reverse es ≡ h = ap reverse s.entries ∙ reverse-reverse h in
-    let before : All (IsBefore c) es = all_reversed (IsBefore c) es (subst (All (IsBefore c)) (sym turned) all) in
-    let last = ready c es (recursion_from_All (IsBefore c) es before) in
-    (told, lane, (region_after 0 (last_of es c.region), s.keeps.regions c.region held, last.0, last.1))
+-- The entries that a pass made since its book was b are the ones behind those of b.
+pub made_are : (b v : Book) (first h : List Entry) → IsSince b v → b.entries ≡ reverse first → v.entries ≡ reverse (first ++ h) → (s : IsSince b v) × (s.made ≡ reverse h)
+made_are b v first h s before all =
+    let both : s.made ++ reverse first ≡ reverse h ++ reverse first =
+    ap (λ (es : List Entry). s.made ++ es) (sym before) ∙ sym s.entries ∙ all ∙ reverse-append first h in
+    (s, append_cancel_right s.made (reverse h) (reverse first) both)
 
--- The same, where they are earlier entries of its lane and phase.
-pub awaits_later : {holds : ℕ → Type 0} {owns : TableId → ℕ → ℕ → Type 0} {words : ℕ} {at : At} {kept : List Access} {p : Pass}
-    {h : List Entry} {n : ℕ} {r w : Log} (named c : Call)
-    → Stands holds owns words at kept p h n r w → c ≡ named → IsOfLane c → holds c.region → All (IsEarlier c) h → Awaits named (book p) c 0
-awaits_later {h = h} named c s told lane held all = awaits_told named c s told lane held (All-weaker (IsEarlier c) (IsBefore c) (earlier_before c) h all)
+-- a book as it was
+pub since_here : (b : Book) → IsSince b b
+since_here b = record {
+  numbers = refl;
+  fresh = refl;
+  seen = omega arith;
+  made = [];
+  entries = refl;
+  behind = λ e i. absurd i;
+  known = λ e i. absurd i;
+  regions = λ r. refl;
+  lost = λ whole. refl;
+}
+
+-- The call c that the engine was told may come next, where all entries since the book was b are before it, of its lane and phase, and so was
+-- the last one of its region then. No word of that is used.
+pub awaits_later : {began : TableId → Book → Type 0} {words : ℕ} {at : At} {kept : List Access} {p : Pass} {n : ℕ}
+    {r w : Log} (first h : List Entry) (named c : Call) (t : TableId) (b : Book) (g : Region)
+    → Stands began words at kept p (first ++ h) n r w → c ≡ named → IsOfLane c → began t b → b.entries ≡ reverse first → lookup b.regions c.region ≡ some g
+    → g.used ≡ 0 → Succeeds c g.last → All (IsEarlier c) h → Awaits named (book p) c 0
+awaits_later {p = p} first h named c t b g s told lane of before region unused next all =
+    let since = made_are b (book p) first h (s.keeps t b of).1 before s.entries in
+    let made = since.0.made in
+    let turned : reverse made ≡ h = ap reverse since.1 ∙ reverse-reverse h in
+    let earlier : All (IsBefore c) made =
+    all_reversed (IsBefore c) made (subst (All (IsBefore c)) (sym turned) (All-weaker (IsEarlier c) (IsBefore c) (earlier_before c) h all)) in
+    let last = ready c (lookup b.regions c.region) made (g, region, unused, next) (recursion_from_All (IsBefore c) made earlier) in
+    (told, lane, (last.0, since.0.regions c.region ∙ last.1, last.2, last.3))
 
 -- what is earlier than a call is earlier than one behind it in the lane
 pub earlier_still : (c d : Call) (h : List Entry) → d.phase ≡ c.phase → d.lane ≡ c.lane → c.index < d.index → All (IsEarlier c) h → All (IsEarlier d) h

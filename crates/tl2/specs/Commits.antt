@@ -24,6 +24,7 @@ pub record IsRest (met : List Lost) (moved : ℕ) (v w : Book) : Type 0 where
   pub entries : w.entries ≡ v.entries
   pub lost : w.lost ≡ met ++ v.lost
   pub call : w.call ≡ v.call
+  pub seen : v.seen ≤ w.seen
 
 -- The attempt's reads stand, and it has not ticked.
 pub record IsTaking (v w : Book) : Type 0 where
@@ -71,3 +72,4 @@ pub record IsAdded (e : Entry) (v w : Book) : Type 0 where
   pub regions : w.regions ≡ region_of e ∷ v.regions
   pub entries : w.entries ≡ e ∷ v.entries
   pub lost : w.lost ≡ v.lost
+  pub seen : e.stamp.at ≤ w.seen

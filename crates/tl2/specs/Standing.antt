@@ -1,12 +1,12 @@
 -- What an engine over a table stands for.
-use Rattle.std.specs.Prelude.{◌≡◌, ◌≢◌, ◌<◌, ◌≤◌, ◌%◌, ℕ, true, None, List, All, length, reverse}
-use mathlib.Core.Option.{some}
+use Rattle.std.specs.Prelude.{◌≡◌, ◌≢◌, ◌<◌, ◌≤◌, ◌%◌, ◌++◌, ℕ, true, None, List, All, length, reverse}
+use mathlib.Core.Option.{Option, some, none}
 use Rattle.atomic_table.specs.Seated.{TableId}
 use Rattle.jmodel.specs.declared.op.Access.{Access}
 use Rattle.jmodel.specs.Attempt.{Log, access, written}
 use Rattle.jmodel.specs.History.{Call, Entry}
-use Rattle.jmodel.specs.Book.{Book, Region, Saw, Had, lookup, pairs, rises, IsOfLane}
-use Rattle.jmodel.specs.Rule.{Succeeds, last_of, region_after}
+use Rattle.jmodel.specs.Book.{Book, Region, Saw, Had, In, lookup, pairs, rises, IsOfLane}
+use Rattle.jmodel.specs.Rule.{Succeeds, last_of}
 use Rattle.tx_table.specs.declared.shared.Pass.{Pass}
 use Rattle.tx_table.specs.Passes.{book}
 use Rattle.tl2.specs.declared.attempt.At.{At}
@@ -43,17 +43,39 @@ IsBefore c e = e.call.region ≡ c.region → (rises e.call c ≡ true) × (e.us
 abbrev pub IsEarlier : Call → Entry → Type 0
 IsEarlier c e = (e.call.phase ≡ c.phase) × (e.call.lane ≡ c.lane) × (e.call.index < c.index) × (e.used_after ≡ 0)
 
--- What a pass keeps between calls: a held region is as it was opened, with no word used, or as its last entry left it.
-pub record Keeps (holds : ℕ → Type 0) (owns : TableId → ℕ → ℕ → Type 0) (p : Pass) : Type 0 where
-  pub regions : (r : ℕ) → holds r → lookup (book p).regions r ≡ some (region_after 0 (last_of (book p).entries r))
-  pub own : owns p.seat.table_id (book p).numbers (book p).fresh
+-- An entry stands behind all that was known at a value of the clock: an update is over it, and a reader isn't below it.
+abbrev pub IsBehind : ℕ → Entry → Type 0
+IsBehind seen e = (seen ≤ e.stamp.at) × (e.stamp.update ≡ true → seen < e.stamp.at)
+
+-- a region after the last of the entries that were made since it was so
+abbrev pub region_since : Option Region → Option Entry → Option Region
+region_since g none = g
+region_since g (some e) = some (record { used = e.used_after; last = some e.call })
+
+-- What a pass's book v has since it was b: the entries that were made, the newest first. They stand behind all that b knew, and the clock
+-- that v knows isn't below them. A pass that holds every number met no conflict.
+pub record IsSince (b v : Book) : Type 0 where
+  pub numbers : v.numbers ≡ b.numbers
+  pub fresh : v.fresh ≡ b.fresh
+  pub seen : b.seen ≤ v.seen
+  pub made : List Entry
+  pub entries : v.entries ≡ made ++ b.entries
+  pub behind : (e : Entry) → In e made → IsBehind b.seen e
+  pub known : (e : Entry) → In e made → e.stamp.at ≤ v.seen
+  pub regions : (r : ℕ) → lookup v.regions r ≡ region_since (lookup b.regions r) (last_of made r)
+  pub lost : b.numbers ≡ 1048576 → v.lost ≡ b.lost
+
+-- What a pass keeps between calls that began with these books, each over one of these tables.
+abbrev pub Keeps : (TableId → Book → Type 0) → Pass → Type 0
+Keeps began p = (t : TableId) (b : Book) → began t b → (p.seat.table_id ≡ t) × IsSince b (book p)
 
 -- The entries and conflicts of a pass, what its attempt has read and written, and what the pass keeps between calls.
-pub record Stands (holds : ℕ → Type 0) (owns : TableId → ℕ → ℕ → Type 0) (words : ℕ) (at : At) (kept : List Access) (p : Pass)
+pub record Stands (began : TableId → Book → Type 0) (words : ℕ) (at : At) (kept : List Access) (p : Pass)
     (h : List Entry) (n : ℕ) (r w : Log) : Type 0 where
   pub entries : (book p).entries ≡ reverse h
   pub lost : length (book p).lost ≡ n
   pub reads : at ≢ Outside → (book p).reads ≡ pairs r
   pub writes : reverse kept ≡ w
   pub within : All (λ (l : Access). l.address < words) w
-  pub keeps : Keeps holds owns p
+  pub bound : at ≢ Outside → (book p).bound ≡ (book p).seen
+  pub keeps : Keeps began p

@@ -14,7 +14,7 @@ use Rattle.tl2.specs.Standing.{Stands}
 
 -- the engine stands for some history
 abbrev pub StandsSomehow : ℕ → At → List Access → Pass → Type 0
-StandsSomehow words at kept p = (h : List Entry) × (n : ℕ) × (r : Log) × (w : Log) × Stands (λ _. ⊥) (λ _ _ _. Unit {0}) words at kept p h n r w
+StandsSomehow words at kept p = (h : List Entry) × (n : ℕ) × (r : Log) × (w : Log) × Stands (λ _ _. ⊥) words at kept p h n r w
 
 -- the pass holds the lane's region, whose last call is one before the n-th
 abbrev pub IsWaiting : ℕ → ℕ → Book → Type 0

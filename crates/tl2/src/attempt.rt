@@ -24,17 +24,15 @@ pub trait Ruled: Story {
 
 /// Names a call, and what is known of the pass that makes it, for contracts alone.
 pub trait Calling {
-    ghost use Rattle.std.specs.Prelude.{ℕ};
     ghost use Rattle.atomic_table.specs.Seated.{TableId};
     ghost use Rattle.jmodel.specs.History.{Call};
+    ghost use Rattle.jmodel.specs.Book.{Book};
 
     ghost call: { Self → Call };
 
-    /// The regions of the pass that the calls take words from. Nothing is said of regions where this is left out.
-    ghost holds: { ℕ → Type 0 } = { λ _. ⊥ };
-
-    /// What is known of the pass: its table, how many numbers it holds, and how many of them were never given out.
-    ghost own: { TableId → ℕ → ℕ → Type 0 } = { λ _ _ _. Unit {0} };
+    /// The table of the pass that makes the calls, and its book as they began. Nothing is said of what came since where this is
+    /// left out.
+    ghost began: { TableId → Book → Type 0 } = { λ _ _. ⊥ };
 }
 
 /// Where an engine stands.
@@ -73,8 +71,8 @@ impl<'a, T: Ruled, C: Calling> Tl2<'a, T, C> {
         requires free { ((book pass).face.held ≡ []) × ((book pass).face.stage ≡ Unticked) }
         ensures pass { result.pass ≡ pass }
         ensures call { result.call.value ≡ call.value }
-        ensures stands { (h : List Entry) → (book pass).entries ≡ reverse h → Keeps C.holds C.own pass
-            → Stands C.holds C.own result.shared.now.words result.at result.writes.items result.pass h (length (book pass).lost) [] [] }
+        ensures stands { (h : List Entry) → (book pass).entries ≡ reverse h → Keeps C.began pass
+            → Stands C.began result.shared.now.words result.at result.writes.items result.pass h (length (book pass).lost) [] [] }
     {
         Tl2 {
             shared,
@@ -92,8 +90,8 @@ impl<'a, T: Ruled, C: Calling> Tl2<'a, T, C> {
         ensures call { self.new.call.value ≡ call.value }
         ensures pass { self.new.pass ≡ self.old.pass }
         ensures shared { self.new.shared ≡ self.old.shared }
-        ensures stands { (h : List Entry) (n : ℕ) (r w : Log) → Stands C.holds C.own self.old.shared.now.words self.old.at self.old.writes.items self.old.pass h n r w
-            → Stands C.holds C.own self.new.shared.now.words self.new.at self.new.writes.items self.new.pass h n [] [] }
+        ensures stands { (h : List Entry) (n : ℕ) (r w : Log) → Stands C.began self.old.shared.now.words self.old.at self.old.writes.items self.old.pass h n r w
+            → Stands C.began self.new.shared.now.words self.new.at self.new.writes.items self.new.pass h n [] [] }
     {
         self.call = call;
         self.writes.clear();

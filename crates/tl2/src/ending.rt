@@ -24,10 +24,10 @@ impl<'a, T: Ruled, C: Calling> Tl2<'a, T, C> {
     pub fn commit(&mut self, answer: Snapshot<Answer>) -> Result<Stamp, TxEnd>
         requires open { IsOpen self.old.shared.now.words self.old.at (C.call self.old.call.value) (book self.old.pass) }
         requires clock { (book self.old.pass).ticks < 2 ^ 40 }
-        requires allowed { MayEnd (Stands C.holds C.own self.old.shared.now.words self.old.at self.old.writes.items self.old.pass) (Awaits (C.call self.old.call.value) (book self.old.pass)) T.rule (λ w. w) answer.value }
-        ensures run { (h : List Entry) (n : ℕ) (r w : Log) → Stands C.holds C.own self.old.shared.now.words self.old.at self.old.writes.items self.old.pass h n r w
-            → MatchResult result (λ stamp. IsOfWrites stamp w × Adds (Awaits (C.call self.old.call.value) (book self.old.pass)) T.rule (Stands C.holds C.own self.new.shared.now.words self.new.at self.new.writes.items self.new.pass) h n answer.value stamp r w)
-            (λ end. Stands C.holds C.own self.new.shared.now.words self.new.at self.new.writes.items self.new.pass h (raised end n) [] []) }
+        requires allowed { MayEnd (Stands C.began self.old.shared.now.words self.old.at self.old.writes.items self.old.pass) (Awaits (C.call self.old.call.value) (book self.old.pass)) T.rule (λ w. w) answer.value }
+        ensures run { (h : List Entry) (n : ℕ) (r w : Log) → Stands C.began self.old.shared.now.words self.old.at self.old.writes.items self.old.pass h n r w
+            → MatchResult result (λ stamp. IsOfWrites stamp w × Adds (Awaits (C.call self.old.call.value) (book self.old.pass)) T.rule (Stands C.began self.new.shared.now.words self.new.at self.new.writes.items self.new.pass) h n answer.value stamp r w)
+            (λ end. Stands C.began self.new.shared.now.words self.new.at self.new.writes.items self.new.pass h (raised end n) [] []) }
         ensures awaits { (c : Call) (used : ℕ) → Awaits (C.call self.old.call.value) (book self.old.pass) c used → IfErr result (λ _. Awaits (C.call self.new.call.value) (book self.new.pass) c used) }
         ensures ticks { (book self.new.pass).ticks ≤ (book self.old.pass).ticks + 1 }
         ensures seen { (e : Conflict) → result ≡ Err (TxEnd.Conflict e) → Meets (book self.old.pass) (book self.new.pass) e × (Has (pairs (reverse self.old.writes.items)) e.address ⊎ In e.address self.old.reads.items) }

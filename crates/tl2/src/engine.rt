@@ -9,7 +9,7 @@ impl<'a, T: Ruled, C: Calling> Engine for Tl2<'a, T, C> {
     ghost use Rattle.tx_table.specs.Passes.{book};
     ghost use Rattle.tl2.specs.Standing.{IsOpen, IsLooked, IsLoaded, Awaits, Stands};
 
-    ghost stands = { λ s h n r w. Stands C.holds C.own s.shared.now.words s.at s.writes.items s.pass h n r w };
+    ghost stands = { λ s h n r w. Stands C.began s.shared.now.words s.at s.writes.items s.pass h n r w };
 
     ghost is_open = { λ s. IsOpen s.shared.now.words s.at (C.call s.call.value) (book s.pass) };
 

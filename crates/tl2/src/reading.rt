@@ -1,5 +1,5 @@
 //! The steps of an attempt that reads, and its end without writes.
-ghost use Rattle.std.specs.Prelude.{◌≡◌, ◌≢◌, ◌⊎◌, ◌<◌, ◌+◌, ◌*◌, ◌%◌, ◌∷◌, ◌++◌, ◌^◌, [], ℕ, List, None, true, reverse, MatchResult, IfOk, IfErr, IsOk};
+ghost use Rattle.std.specs.Prelude.{◌≡◌, ◌≢◌, ◌⊎◌, ◌<◌, ◌≤◌, ◌+◌, ◌*◌, ◌%◌, ◌∷◌, ◌++◌, ◌^◌, [], ℕ, List, None, true, reverse, MatchResult, IfOk, IfErr, IsOk};
 ghost use mathlib.Core.Option.{some as Found};
 ghost use Rattle.jmodel.specs.Attempt.{Log, access, answered, recorded, written};
 ghost use Rattle.jmodel.specs.Book.{Unticked};
@@ -26,6 +26,7 @@ fn begin_at<T: Story, C: Calling>(pass: &mut Pass, shared: &Shared<T>, _call: &S
     requires free { ((book pass.old).face.held ≡ []) × ((book pass.old).face.stage ≡ Unticked) }
     ensures same { IsSame pass.old pass.new }
     ensures book { book pass.new ≡ begun (book pass.old) told (book pass.new).bound }
+    ensures later { (book pass.old).seen ≤ (book pass.new).bound }
 {
     pass.begin(shared);
 }
@@ -46,8 +47,8 @@ fn finish_with<T: Story>(pass: &mut Pass, shared: &Shared<T>, _answer: Snapshot<
 impl<'a, T: Ruled, C: Calling> Tl2<'a, T, C> {
     /// Begins an attempt. No memory.
     pub fn begin(&mut self)
-        ensures run { (h : List Entry) (n : ℕ) → Stands C.holds C.own self.old.shared.now.words self.old.at self.old.writes.items self.old.pass h n [] []
-            → Stands C.holds C.own self.new.shared.now.words self.new.at self.new.writes.items self.new.pass h n [] [] }
+        ensures run { (h : List Entry) (n : ℕ) → Stands C.began self.old.shared.now.words self.old.at self.old.writes.items self.old.pass h n [] []
+            → Stands C.began self.new.shared.now.words self.new.at self.new.writes.items self.new.pass h n [] [] }
         ensures open { IsOpen self.new.shared.now.words self.new.at (C.call self.new.call.value) (book self.new.pass) }
         ensures awaits { (c : Call) (used : ℕ) → Awaits (C.call self.old.call.value) (book self.old.pass) c used → Awaits (C.call self.new.call.value) (book self.new.pass) c used }
         ensures ticks { (book self.new.pass).ticks ≡ (book self.old.pass).ticks }
@@ -63,9 +64,9 @@ impl<'a, T: Ruled, C: Calling> Tl2<'a, T, C> {
     /// version is over the bound, is a conflict, which the pass's book keeps. A pass that holds every number meets none. No memory.
     pub fn before_read(&mut self, address: u64) -> Result<(), Conflict>
         requires { IsOpen self.old.shared.now.words self.old.at (C.call self.old.call.value) (book self.old.pass) }
-        ensures run { (h : List Entry) (n : ℕ) (r w : Log) → Stands C.holds C.own self.old.shared.now.words self.old.at self.old.writes.items self.old.pass h n r w
-            → MatchResult result (λ _. Stands C.holds C.own self.new.shared.now.words self.new.at self.new.writes.items self.new.pass h n r w)
-            (λ _. Stands C.holds C.own self.new.shared.now.words self.new.at self.new.writes.items self.new.pass h (n + 1) r w) }
+        ensures run { (h : List Entry) (n : ℕ) (r w : Log) → Stands C.began self.old.shared.now.words self.old.at self.old.writes.items self.old.pass h n r w
+            → MatchResult result (λ _. Stands C.began self.new.shared.now.words self.new.at self.new.writes.items self.new.pass h n r w)
+            (λ _. Stands C.began self.new.shared.now.words self.new.at self.new.writes.items self.new.pass h (n + 1) r w) }
         ensures open { IfOk result (λ _. IsOpen self.new.shared.now.words self.new.at (C.call self.new.call.value) (book self.new.pass)) }
         ensures awaits { (c : Call) (used : ℕ) → Awaits (C.call self.old.call.value) (book self.old.pass) c used → Awaits (C.call self.new.call.value) (book self.new.pass) c used }
         ensures ticks { (book self.new.pass).ticks ≡ (book self.old.pass).ticks }
@@ -93,8 +94,8 @@ impl<'a, T: Ruled, C: Calling> Tl2<'a, T, C> {
     /// before, it is 0. No memory.
     pub fn raw(&mut self, address: u64) -> u64
         requires { IsOpen self.old.shared.now.words self.old.at (C.call self.old.call.value) (book self.old.pass) }
-        ensures run { (h : List Entry) (n : ℕ) (r w : Log) → Stands C.holds C.own self.old.shared.now.words self.old.at self.old.writes.items self.old.pass h n r w
-            → Stands C.holds C.own self.new.shared.now.words self.new.at self.new.writes.items self.new.pass h n r w }
+        ensures run { (h : List Entry) (n : ℕ) (r w : Log) → Stands C.began self.old.shared.now.words self.old.at self.old.writes.items self.old.pass h n r w
+            → Stands C.began self.new.shared.now.words self.new.at self.new.writes.items self.new.pass h n r w }
         ensures open { IsOpen self.new.shared.now.words self.new.at (C.call self.new.call.value) (book self.new.pass) }
         ensures awaits { (c : Call) (used : ℕ) → Awaits (C.call self.old.call.value) (book self.old.pass) c used → Awaits (C.call self.new.call.value) (book self.new.pass) c used }
         ensures ticks { (book self.new.pass).ticks ≡ (book self.old.pass).ticks }
@@ -120,9 +121,9 @@ impl<'a, T: Ruled, C: Calling> Tl2<'a, T, C> {
     /// number meets none. Where no look and load came before, there is no answer, which is told as want of memory.
     pub fn on_read(&mut self, address: u64, _raw: u64) -> Result<u64, TxEnd>
         requires { IsOpen self.old.shared.now.words self.old.at (C.call self.old.call.value) (book self.old.pass) }
-        ensures run { (h : List Entry) (n : ℕ) (r w : Log) → Stands C.holds C.own self.old.shared.now.words self.old.at self.old.writes.items self.old.pass h n r w
-            → MatchResult result (λ word. (word ≡ answered w address word) × Stands C.holds C.own self.new.shared.now.words self.new.at self.new.writes.items self.new.pass h n (recorded (written w address) address word r) w)
-            (λ end. Stands C.holds C.own self.new.shared.now.words self.new.at self.new.writes.items self.new.pass h (raised end n) r w) }
+        ensures run { (h : List Entry) (n : ℕ) (r w : Log) → Stands C.began self.old.shared.now.words self.old.at self.old.writes.items self.old.pass h n r w
+            → MatchResult result (λ word. (word ≡ answered w address word) × Stands C.began self.new.shared.now.words self.new.at self.new.writes.items self.new.pass h n (recorded (written w address) address word r) w)
+            (λ end. Stands C.began self.new.shared.now.words self.new.at self.new.writes.items self.new.pass h (raised end n) r w) }
         ensures open { IfOk result (λ _. IsOpen self.new.shared.now.words self.new.at (C.call self.new.call.value) (book self.new.pass)) }
         ensures awaits { (c : Call) (used : ℕ) → Awaits (C.call self.old.call.value) (book self.old.pass) c used → Awaits (C.call self.new.call.value) (book self.new.pass) c used }
         ensures ticks { (book self.new.pass).ticks ≡ (book self.old.pass).ticks }
@@ -158,9 +159,9 @@ impl<'a, T: Ruled, C: Calling> Tl2<'a, T, C> {
     /// Logs a write, which meets no conflict. A write past the heap is told as want of memory.
     pub fn on_write(&mut self, address: u64, word: u64) -> Result<(), TxEnd>
         requires { IsOpen self.old.shared.now.words self.old.at (C.call self.old.call.value) (book self.old.pass) }
-        ensures run { (h : List Entry) (n : ℕ) (r w : Log) → Stands C.holds C.own self.old.shared.now.words self.old.at self.old.writes.items self.old.pass h n r w
-            → MatchResult result (λ _. Stands C.holds C.own self.new.shared.now.words self.new.at self.new.writes.items self.new.pass h n r (access address word ∷ w))
-            (λ end. Stands C.holds C.own self.new.shared.now.words self.new.at self.new.writes.items self.new.pass h (raised end n) r w) }
+        ensures run { (h : List Entry) (n : ℕ) (r w : Log) → Stands C.began self.old.shared.now.words self.old.at self.old.writes.items self.old.pass h n r w
+            → MatchResult result (λ _. Stands C.began self.new.shared.now.words self.new.at self.new.writes.items self.new.pass h n r (access address word ∷ w))
+            (λ end. Stands C.began self.new.shared.now.words self.new.at self.new.writes.items self.new.pass h (raised end n) r w) }
         ensures open { IsOpen self.new.shared.now.words self.new.at (C.call self.new.call.value) (book self.new.pass) }
         ensures awaits { (c : Call) (used : ℕ) → Awaits (C.call self.old.call.value) (book self.old.pass) c used → Awaits (C.call self.new.call.value) (book self.new.pass) c used }
         ensures ticks { (book self.new.pass).ticks ≡ (book self.old.pass).ticks }
@@ -176,9 +177,9 @@ impl<'a, T: Ruled, C: Calling> Tl2<'a, T, C> {
     /// Ends the attempt as an entry with this answer that wrote nothing. No memory.
     pub fn finish_refused(&mut self, answer: Snapshot<Answer>) -> Stamp
         requires open { IsOpen self.old.shared.now.words self.old.at (C.call self.old.call.value) (book self.old.pass) }
-        requires allowed { MayEnd (Stands C.holds C.own self.old.shared.now.words self.old.at self.old.writes.items self.old.pass) (Awaits (C.call self.old.call.value) (book self.old.pass)) T.rule (λ _. []) answer.value }
-        ensures run { (h : List Entry) (n : ℕ) (r w : Log) → Stands C.holds C.own self.old.shared.now.words self.old.at self.old.writes.items self.old.pass h n r w
-            → IsOfWrites result [] × Adds (Awaits (C.call self.old.call.value) (book self.old.pass)) T.rule (Stands C.holds C.own self.new.shared.now.words self.new.at self.new.writes.items self.new.pass) h n answer.value result r [] }
+        requires allowed { MayEnd (Stands C.began self.old.shared.now.words self.old.at self.old.writes.items self.old.pass) (Awaits (C.call self.old.call.value) (book self.old.pass)) T.rule (λ _. []) answer.value }
+        ensures run { (h : List Entry) (n : ℕ) (r w : Log) → Stands C.began self.old.shared.now.words self.old.at self.old.writes.items self.old.pass h n r w
+            → IsOfWrites result [] × Adds (Awaits (C.call self.old.call.value) (book self.old.pass)) T.rule (Stands C.began self.new.shared.now.words self.new.at self.new.writes.items self.new.pass) h n answer.value result r [] }
         ensures ticks { (book self.new.pass).ticks ≡ (book self.old.pass).ticks }
         ensures region { (c : Call) (used : ℕ) → Awaits (C.call self.old.call.value) (book self.old.pass) c used → (book self.new.pass).regions ≡ (c.region, record { used = used; last = Found c }) ∷ (book self.old.pass).regions }
         ensures same { IsSame self.old.pass self.new.pass × ((book self.new.pass).numbers ≡ (book self.old.pass).numbers) × ((book self.new.pass).fresh ≡ (book self.old.pass).fresh) }
@@ -191,8 +192,8 @@ impl<'a, T: Ruled, C: Calling> Tl2<'a, T, C> {
 
     /// Ends the attempt without an entry. The pass makes no step, and its reads stay with it until the next attempt. No memory.
     pub fn rollback(&mut self)
-        ensures run { (h : List Entry) (n : ℕ) (r w : Log) → Stands C.holds C.own self.old.shared.now.words self.old.at self.old.writes.items self.old.pass h n r w
-            → Stands C.holds C.own self.new.shared.now.words self.new.at self.new.writes.items self.new.pass h n [] [] }
+        ensures run { (h : List Entry) (n : ℕ) (r w : Log) → Stands C.began self.old.shared.now.words self.old.at self.old.writes.items self.old.pass h n r w
+            → Stands C.began self.new.shared.now.words self.new.at self.new.writes.items self.new.pass h n [] [] }
         ensures awaits { (c : Call) (used : ℕ) → Awaits (C.call self.old.call.value) (book self.old.pass) c used → Awaits (C.call self.new.call.value) (book self.new.pass) c used }
         ensures ticks { (book self.new.pass).ticks ≡ (book self.old.pass).ticks }
         ensures pass { self.new.pass ≡ self.old.pass }

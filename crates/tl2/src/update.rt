@@ -28,6 +28,7 @@ fn tick_for<T: Story>(pass: &mut Pass, shared: &Shared<T>, _writes: &[Access]) -
     requires due { (i y : ℕ) → lookup (book pass.old).face.held i ≡ Found y → (b : ℕ) × (b % 4096 ≡ i) × Has due b }
     ensures same { IsSame pass.old pass.new }
     ensures book { book pass.new ≡ ticked_up (book pass.old) result due }
+    ensures later { (book pass.old).seen < result }
 {
     pass.tick(shared)
 }
@@ -78,7 +79,7 @@ pub(crate) fn update<T: Story>(
     requires entry { (t : ℕ) → Fits (T.story shared.now.table.shared.key.story.value) (book pass.old) (update_of (book pass.old) t (reverse writes.now) answer.value) }
     ensures same { IsSame pass.old pass.new }
     ensures free { ((book pass.new).face.held ≡ []) × ((book pass.new).face.stage ≡ Unticked) }
-    ensures ok { IfOk result (λ stamp. (stamp.update ≡ true) × IsAdded (update_of (book pass.old) stamp.at (reverse writes.now) answer.value) (book pass.old) (book pass.new)) }
+    ensures ok { IfOk result (λ stamp. (stamp.update ≡ true) × ((book pass.old).seen < stamp.at) × IsAdded (update_of (book pass.old) stamp.at (reverse writes.now) answer.value) (book pass.old) (book pass.new)) }
     ensures conflict { IfErr result (λ e. (e.upto ≡ (book pass.old).bound) × IsPast (book pass.old).bound e.word × (Has (pairs (reverse writes.now)) e.address ⊎ In e.address reads.now)) }
     ensures err { IfErr result (λ e. (moved : ℕ) × (moved ≤ 1) × IsRest (lost_to (book pass.old) e ∷ []) moved (book pass.old) (book pass.new)) }
     ensures other { IfErr result (λ e. e.word ≢ 2 * (book pass.old).face.number + 1) }

@@ -53,7 +53,7 @@ module _ {S : Type 0} (key : Story) (slots id : ℕ) (me : Me S Book) where
   ticks due calm live room some_parts all_held all_due s r _ at small = let n : ℕ = get_or s.words 0 0 in
       let bound = total_le (λ b. b.ticks) (λ b. b.numbers) 1099511627776 s.views r.counts.spare in
       let e : (n + 1) % 2 ^ 64 ≡ n + 1 = mod-eq_of_lt (omega (arith, bound, r.clock_is, r.counts.numbers)) in
-      (ticked_up me.0 (n + 1) due, keeps, tt, subst (λ (x : ℕ). IsKept key (stepped s 0 x id me.1 (ticked_up me.0 (n + 1) due) keeps)) (sym e) (ticks_kept key s r id me.0 at (n + 1) due refl calm live room some_parts all_held all_due), (omega (arith, bound, r.clock_is, r.counts.numbers), refl))
+      (ticked_up me.0 (n + 1) due, keeps, tt, subst (λ (x : ℕ). IsKept key (stepped s 0 x id me.1 (ticked_up me.0 (n + 1) due) keeps)) (sym e) (ticks_kept key s r id me.0 at (n + 1) due refl calm live room some_parts all_held all_due), (omega (arith, bound, r.clock_is, r.counts.numbers), (r.each id me.0 at).known, refl))
 
   pub decides : (e : Entry) (a x : ℕ) → a < length key.words → me.0.face.stage ≡ Ticked → me.0.live ≡ true → lookup me.0.face.due a ≡ some x → Updates key me.0 e
       → ((b y : ℕ) → In (b, y) me.0.reads → In (stripe b) me.0.checked ⊎ Has me.0.face.held (stripe b)) → 0 < me.0.numbers → Allows (IsKept key) slots id me (a + 4097) (λ _. x) (λ _. Decides e (step slots (a + 4097) x 0 none) me x)

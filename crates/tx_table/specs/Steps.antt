@@ -57,9 +57,9 @@ module _ {S : Type 0} where
   abbrev pub Takes : ℕ → Step S → Me S Book → ℕ → Me S Book → Type 0
   Takes a st m n m' = (m' ≡ (tried m.0 (st.word - 1) st.first a n, m.1)) × Unchanged (st.word - 1) m.0 n × Moved (st.word - 1) m.0 n × Foreign (st.word - 1) m.0 n
 
-  -- the clock is far from its end
+  -- the clock is far from its end, and not below what was known of it
   abbrev pub Ticks : Map ℕ → Step S → Me S Book → ℕ → Me S Book → Type 0
-  Ticks due st m n m' = (n ≤ 2 ^ 60) × (m' ≡ (ticked_up m.0 (n + 1) due, m.1))
+  Ticks due st m n m' = (n ≤ 2 ^ 60) × (m.0.seen ≤ n) × (m' ≡ (ticked_up m.0 (n + 1) due, m.1))
 
   abbrev pub Decides : Entry → Step S → Me S Book → ℕ → Me S Book → Type 0
   Decides e st m n m' = m' ≡ (decided_up m.0 e (st.word - 4097), m.1)

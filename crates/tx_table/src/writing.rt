@@ -81,6 +81,7 @@ impl Pass {
         requires due { (i y : ℕ) → lookup (book self.old).face.held i ≡ Found y → (b : ℕ) × (b % 4096 ≡ i) × Has due b }
         ensures same { IsSame self.old self.new }
         ensures book { book self.new ≡ ticked_up (book self.old) result due }
+        ensures later { (book self.old).seen < result }
     {
         self.tick_as::<T, Brand>(s)
     }
@@ -92,6 +93,7 @@ impl Pass {
         requires due { (i y : ℕ) → lookup (book self.old).face.held i ≡ Found y → (b : ℕ) × (b % 4096 ≡ i) × Has G.due b }
         ensures same { IsSame self.old self.new }
         ensures book { book self.new ≡ ticked_up (book self.old) result G.due }
+        ensures later { (book self.old).seen < result }
     {
         self.ticks += 1;
         self.tick = s.table.shared.fetch_add::<Tick<G>>(&mut self.seat, 0, 1) + 1;

@@ -5,14 +5,20 @@ use Rattle.session.specs.Rule.{IsCallOf}
 use Rattle.driver.proofs.Lists.{all_drop}
 use Rattle.driver.proofs.rest.make_rest.Goals as goal
 
-pub make_all-requires-clause-calls : goal.make_all-requires-clause-calls
-make_all-requires-clause-calls c =
+pub make_shared-requires-clause-calls : goal.make_shared-requires-clause-calls
+make_shared-requires-clause-calls g c =
     let calls = c.args.calls.now in
     subst (AllByRecursion (IsCallOf c.args.original.now)) (sym (take_rest calls c.args.at.first))
     (all_drop (IsCallOf c.args.original.now) c.args.at.first calls c.requires.calls)
 
-pub make_all-requires-clause-few : goal.make_all-requires-clause-few
-make_all-requires-clause-few c = rw take_rest (omega (arith, length-drop c.args.at.first c.args.calls.now))
+pub make_shared-requires-clause-few : goal.make_shared-requires-clause-few
+make_shared-requires-clause-few g c = rw take_rest (omega (arith, length-drop c.args.at.first c.args.calls.now))
 
-pub returns : goal.returns
-returns c = rw take_rest at c.make_all.ensures
+pub make_shared-requires-clause-pass : goal.make_shared-requires-clause-pass
+make_shared-requires-clause-pass g c = rw take_rest c.requires.pass
+
+pub returns-clause-made : goal.returns-clause-made
+returns-clause-made g c = rw take_rest at c.make_shared.ensures.made
+
+pub returns-clause-all : goal.returns-clause-all
+returns-clause-all g c = rw take_rest at c.make_shared.ensures.all

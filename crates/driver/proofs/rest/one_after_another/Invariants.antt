@@ -1,11 +1,12 @@
-use Rattle.std.proofs.Common.{◌≡◌, take, length}
-use Rattle.driver.specs.Sides.{IsSide, AreWhole}
+use Rattle.std.proofs.Common.{take}
+use Rattle.tx_table.specs.Passes.{book}
+use Rattle.driver.specs.Sides.{AreWhole}
+use Rattle.driver.specs.Passing.{call_count, IsResting}
 use Rattle.driver.proofs.rest.one_after_another.Given as goal
 
 abbrev pub invariant-loop-number : goal.invariant-loop-number
-invariant-loop-number l = record {
-  side : IsSide l.original l.limits.budget l.phase (take l.number l.lanes) (take l.number l.firsts) l.fn.words.items
-      (record { placed = l.placed; parts = l.parts; words = l.words });
+invariant-loop-number g l = record {
+  resting : IsResting l.shared.table.shared.table_id (book l.fn.pass) l.phase (call_count (take l.number l.lanes)) (take l.number l.lanes) (take l.number l.firsts)
+      l.placed.items l.parts.items l.pass;
   whole : AreWhole (take l.number l.lanes) (take l.number l.firsts) l.parts.items;
-  size : length l.words.items ≡ length l.fn.words.items;
 }

@@ -1,9 +1,5 @@
-use Rattle.std.proofs.Common.{◌≡◌, length, take}
-use Rattle.driver.proofs.Journals.{HasRunTo}
+use Rattle.session.specs.Rule.{IsRuled}
 use Rattle.driver.proofs.run.run_phases.Given as goal
 
-abbrev pub invariant-loop-number : goal.invariant-loop-number
-invariant-loop-number g l = record {
-  run : HasRunTo l.original l.limits.budget (take l.number l.phases) l.fn.words.items l.words.items l.journal;
-  size : length l.words.items ≡ length l.fn.words.items;
-}
+abbrev pub ghosts-run_over : goal.ghosts-run_over
+ghosts-run_over g a = record { rule = IsRuled a.original.now a.limits.budget }

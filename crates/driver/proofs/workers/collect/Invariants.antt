@@ -10,6 +10,6 @@ use Rattle.driver.proofs.workers.collect.Given as goal
 abbrev pub invariant-loop-end : goal.invariant-loop-end
 invariant-loop-end l = record {
   bag : IsOf l.bag l.claims;
-  collecting : (t : TableId) (phase : ℕ) (calls : List Known) → l.bag.length ≡ length calls → HaveWorked t l.bag phase calls (length l.fn.ends.items) l.fn.ends.items
-      → Collecting t phase calls (length l.fn.ends.items) (length l.yielded) (claims_of l.claims) (lists l.indexes.items) l.lanes.items;
+  collecting : (t : TableId) (seen phase : ℕ) (calls : List Known) → l.bag.length ≡ length calls → HaveWorked t seen l.bag phase calls (length l.fn.ends.items) l.fn.ends.items
+      → Collecting t seen phase calls (length l.fn.ends.items) (length l.yielded) (claims_of l.claims) (lists l.indexes.items) l.lanes.items;
 }

@@ -24,7 +24,7 @@ loop-start-preserved c =
       handed = subst (λ (n : ℕ). Handed b b.length n c.split-claims.new.self) more
           (handed_more b b.length k c.loop-start.claims c.split-claims.new.self few c.requires.few.1 c.split-claims.ensures.bag.0 c.split-claims.ensures.claims.0 i.handed);
       len = ap length pushed ∙ length_push c.loop-start.workers.items _ ∙ ap (λ (n : ℕ). n + 1) i.len ∙ more;
-      workers = λ t starting. subst (AreWorkers t b b.length) (sym pushed)
-          (workers_push t b b.length starts c.loop-start.workers.items c.in-Some.start c.split-claims.result inside there starting
-          (c.split-claims.ensures.bag.1, c.split-claims.ensures.claims.1) (i.workers t starting));
+      workers = λ t seen phase starting. subst (AreWorkers t seen phase b b.length) (sym pushed)
+          (workers_push t seen phase b b.length starts c.loop-start.workers.items c.in-Some.start c.split-claims.result inside there starting
+          (c.split-claims.ensures.bag.1, c.split-claims.ensures.claims.1) (i.workers t seen phase starting));
     }

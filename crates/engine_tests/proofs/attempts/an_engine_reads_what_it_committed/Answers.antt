@@ -12,4 +12,4 @@ stores-stored-requires-clause-stands g c =
     let first = c.in_ok-shared.ensures.1 in
     let waits : IsWaiting 0 0 (book c.in_ok-shared.pass) = subst (IsWaiting 0 0) (sym first) (record { used = 0; last = none }, refl, tt) in
     let next = awaits_next 0 0 (book c.in_ok-shared.pass) waits in
-    ([], _, the_call 0 0, next.0, c.new-tx.ensures.stands [] (ap (λ (b : Book). b.entries) first) (record { regions = λ k held. absurd held; own = tt }), rw (c.new-tx.ensures.pass, c.new-tx.ensures.call, c.of-2.ensures) next.1)
+    ([], _, the_call 0 0, next.0, c.new-tx.ensures.stands [] (ap (λ (b : Book). b.entries) first) (λ t b none. absurd none), rw (c.new-tx.ensures.pass, c.new-tx.ensures.call, c.of-2.ensures) next.1)

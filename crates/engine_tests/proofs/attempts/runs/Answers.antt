@@ -4,4 +4,4 @@ use Rattle.tx_table.specs.Passes.{book}
 use Rattle.engine_tests.proofs.attempts.runs.Goals as goal
 
 pub adds_many-done-requires-clause-stands : goal.adds_many-done-requires-clause-stands
-adds_many-done-requires-clause-stands c = let es = (book c.args.pass).entries in (reverse es, _, [], [], c.new-tx.ensures.stands (reverse es) (sym (reverse-reverse es)) (record { regions = λ k held. absurd held; own = tt }))
+adds_many-done-requires-clause-stands c = let es = (book c.args.pass).entries in (reverse es, _, [], [], c.new-tx.ensures.stands (reverse es) (sym (reverse-reverse es)) (λ t b none. absurd none))

@@ -1,20 +1,17 @@
-use Rattle.std.proofs.Common.{◌≡◌, ◌≤◌, ◌<◌, ◌+◌, ◌*◌, ℕ, suc, List, [], Some, None, length, get_or, All, inr, refl, sym, ◌∙◌, ap, subst, arith}
-use Rattle.std.proofs.lemmas.List.{get_or_default}
+use Rattle.std.proofs.Common.{◌≡◌, ◌≤◌, ◌<◌, ◌+◌, ◌*◌, ◌++◌, ℕ, List, [], Some, None, length, reverse, get_or, sym, ◌∙◌, ap, subst, arith}
+use Rattle.std.proofs.lemmas.List.{get_or_default, length_push, reverse-reverse}
 use Rattle.claims.specs.Claims.{HasClaimed}
 use Rattle.claims.specs.Passes.{claims_of}
-use Rattle.jmodel.specs.History.{Call}
-use Rattle.jmodel.specs.Schedule.{Known, call_at}
+use Rattle.jmodel.specs.Schedule.{Known}
 use Rattle.tx_table.specs.declared.shared.Pass.{Pass}
 use Rattle.tx_table.specs.Passes.{book}
-use Rattle.tl2.specs.Standing.{Keeps, Stands, IsEarlier}
-use Rattle.tl2.proofs.Waiting.{awaits_later}
-use Rattle.session.specs.declared.record.Place.{Place}
+use Rattle.tl2.specs.Standing.{Stands}
 use Rattle.session.specs.Adds.{call_of, told_by}
 use Rattle.session.specs.Lane.{HasMade}
 use Rattle.session.specs.Claimed.{calls_at}
 use Rattle.session.proofs.Lanes.{lane_empty}
-use Rattle.session.proofs.Stood.{IsRegion, owns, keeps_first, stood_first, stood_more, stands_still, has_lost, ending, unused}
-use Rattle.session.proofs.Claiming.{claiming_first, claiming_more, index_under, has_taken, has_ended, taken_at}
+use Rattle.session.proofs.Stood.{awaits_next, keeps_first, stood_first, stood_more, stands_still, has_lost, ending, unused}
+use Rattle.session.proofs.Claiming.{claiming_first, claiming_more, index_under, has_taken, has_ended, taken_at, emptied_whole, emptied_behind}
 use Rattle.session.proofs.Longer.{made_next, call_last, length_calls}
 use Rattle.session.proofs.claimed.claim_over.Goals as goal
 use Rattle.session.proofs.claimed.claim_over.Goals.{else-loop-count-test, then-loop-count-test+in_default-claim, then-loop-count-test+in-Some-claim+in_ok-push+then-is_spent}
@@ -22,21 +19,22 @@ use Rattle.session.proofs.claimed.claim_over.Goals.{else-loop-count-test, then-l
 pub returns-in_default-clause-made : goal.returns-in_default-clause-made
 returns-in_default-clause-made g c = (
   [],
-  unused c.args.shared.now.table.shared.table_id c.args.at.lane c.args.pass c.requires.pass,
+  unused c.args.shared.now.table.shared.table_id c.args.at (length c.args.calls.now) (length c.new-indexes.result.items) c.new-lane.result.made c.args.pass c.new-lane.ensures.made c.requires.pass,
   lane_empty c.args.at (calls_at c.args.calls.now c.new-indexes.result.items) c.new-lane.result c.new-lane.ensures,
 )
 
 pub loop-count-init : goal.loop-count-init
 loop-count-init g c =
     let e = c.new-engine.result in
-    let first = keeps_first c.args.shared.now.table.shared.table_id c.args.at.lane g.K.OfLane.is_table c.args.pass c.requires.table c.requires.pass in
-    let keeps = subst (λ (l : ℕ). Keeps (IsRegion l) (owns g.K.OfLane.is_table) c.args.pass) (sym c.requires.lane) first in
+    let p = c.args.pass in
+    let first = reverse (book p).entries in
+    let keeps = keeps_first g.K.Beginning.began c.args.shared.now.table.shared.table_id p c.requires.only c.requires.pass.seated in
     record {
-      stood = stood_first (Stands (IsRegion g.K.OfLane.lane) (owns g.K.OfLane.is_table) e.shared.now.words e.at e.writes.items e.pass) c.args.at
-          (calls_at c.args.calls.now c.new-indexes.result.items) c.new-lane.result (length (book c.args.pass).lost) c.new-lane.ensures
-          (c.new-engine.ensures.stands [] c.requires.pass.entries keeps);
+      stood = stood_first (Stands g.K.Beginning.began e.shared.now.words e.at e.writes.items e.pass) first c.args.at
+          (calls_at c.args.calls.now c.new-indexes.result.items) c.new-lane.result (length (book p).lost) c.new-lane.ensures
+          (c.new-engine.ensures.stands first (sym (reverse-reverse (book p).entries)) keeps);
       count = c.new-lane.ensures.made;
-      ticks = let none = ap (λ (p : Pass). (book p).ticks) c.new-engine.ensures.pass ∙ c.requires.pass.ticks in omega (arith, none);
+      ticks = let same = ap (λ (x : Pass). (book x).ticks) c.new-engine.ensures.pass in omega (arith, same);
       bag = c.requires.bag.0;
       claiming = claiming_first (length c.args.calls.now) (claims_of c.args.claims.now) c.new-indexes.result.items c.requires.claims c.new-indexes.ensures.items;
     }
@@ -44,28 +42,28 @@ loop-count-init g c =
 pub make_next-one-requires-clause-stands : goal.make_next-one-requires-clause-stands
 make_next-one-requires-clause-stands g c =
     let so = c.loop-count.invariant.stood in
-    (so.history, so.conflicts, c.set_call.ensures.stands so.history so.conflicts [] [] so.stands)
+    let first = reverse (book c.args.pass).entries in
+    (first ++ so.history, so.conflicts, c.set_call.ensures.stands (first ++ so.history) so.conflicts [] [] so.stands)
 
 pub make_next-one-requires-clause-awaits : goal.make_next-one-requires-clause-awaits
 make_next-one-requires-clause-awaits g c =
     let so = c.loop-count.invariant.stood in
-    let at = c.args.at in
     let here = c.onward-here.result in
     let call = c.index-calls-index.result in
-    let named = c.set_call.new.self.call.value in
-    let told : call_of here call ≡ call_of named.at named.call.now = cc (c.set_call.ensures.call, c.of-in-loop-count.ensures.at, c.of-in-loop-count.ensures.call) in
-    let there : call_at at.phase at.lane (at.first + c.loop-count.lane.made) call ≡ call_of here call =
-    ap (λ (j : ℕ). call_at at.phase at.lane (at.first + j) call) c.loop-count.invariant.count ∙ ap (λ (p : Place). call_of p call) (sym c.onward-here.ensures) in
-    let held : suc here.lane ≡ suc g.K.OfLane.lane = ap suc (ap (λ (p : Place). p.lane) c.onward-here.ensures ∙ sym c.requires.lane) in
     let e = c.set_call.new.self in
-    awaits_later {words = e.shared.now.words} {at = e.at} {kept = e.writes.items} {p = e.pass} (call_of named.at named.call.now) (call_of here call)
-    (c.set_call.ensures.stands so.history so.conflicts [] [] so.stands) told (inr refl) held (subst (λ (k : Call). All (IsEarlier k) so.history) there
-    (so.earlier call))
+    let named = e.call.value in
+    let b = book c.args.pass in
+    let told : call_of here call ≡ call_of named.at named.call.now = cc (c.set_call.ensures.call, c.of-in-loop-count.ensures.at, c.of-in-loop-count.ensures.call) in
+    awaits_next g.K.Beginning.began c.args.shared.now.table.shared.table_id b c.args.at here c.loop-count.lane.made c.loop-count.count e.shared.now.words e.at
+    e.writes.items e.pass so.history so.conflicts call (call_of named.at named.call.now) c.requires.began
+    (c.set_call.ensures.stands (reverse b.entries ++ so.history) so.conflicts [] [] so.stands) c.requires.pass.begins c.onward-here.ensures
+    c.loop-count.invariant.count told so.earlier
 
 pub loop-count-preserved : goal.loop-count-preserved
 loop-count-preserved g c =
     let so = c.loop-count.invariant.stood in
     let e = c.make_next-one.new.engine in
+    let first = reverse (book c.args.pass).entries in
     let calls = c.args.calls.now in
     let i = c.in-Some-claim.index in
     let old = c.loop-count.indexes.items in
@@ -82,12 +80,12 @@ loop-count-preserved g c =
     ∙ ap (λ (k : ℕ). get_or (calls_at calls new) k call) c.loop-count.invariant.claiming.long in
     let room : c.loop-count.count < length (calls_at calls new) = omega (arith, length_calls calls new, claiming.long) in
     record {
-      stood = stood_more (Stands (IsRegion g.K.OfLane.lane) (owns g.K.OfLane.is_table) e.shared.now.words e.at e.writes.items e.pass) c.args.at
+      stood = stood_more (Stands g.K.Beginning.began e.shared.now.words e.at e.writes.items e.pass) c.args.at
           c.onward-here.result (calls_at calls new) c.loop-count.count c.loop-count.lane c.add.new.self call c.make_next-one.result
           c.onward-here.ensures c.loop-count.invariant.count room last c.make_next-one.ensures.tells c.in_ok-add.ensures
-          so.history so.conflicts (made_next c.args.at calls old new i so.history c.loop-count.lane pushed so.made) so.earlier
-          (sym c.is_spent.ensures ∙ c.if-is_spent.false) (c.make_next-one.ensures.adds so.history so.conflicts
-          (c.set_call.ensures.stands so.history so.conflicts [] [] so.stands));
+          first so.history (length (book c.args.pass).lost) so.conflicts so.later (made_next c.args.at calls old new i so.history c.loop-count.lane pushed so.made)
+          so.earlier (sym c.is_spent.ensures ∙ c.if-is_spent.false)
+          (c.make_next-one.ensures.adds (first ++ so.history) so.conflicts (c.set_call.ensures.stands (first ++ so.history) so.conflicts [] [] so.stands));
       count = omega (arith, c.in_ok-add.ensures.made, c.loop-count.invariant.count);
       ticks = let same = ap (λ (p : Pass). (book p).ticks) c.set_call.ensures.pass in omega (
         arith,
@@ -104,27 +102,34 @@ pub returns-clause-made : goal.returns-clause-made
 returns-clause-made g c =
     let so = c.loop-count.invariant.stood in
     let t = c.args.shared.now.table.shared.table_id in
+    let b = book c.args.pass in
+    let first = reverse b.entries in
     let calls = c.args.calls.now in
+    let long = c.loop-count.invariant.claiming.long in
     let Made : List ℕ → Type 0 = λ l. HasMade c.args.at (calls_at calls l) so.history c.loop-count.lane in
     elim c.loop-count-test.branch [
       | else-loop-count-test w ↦
           let e = c.loop-count.engine in
           let same : c.into_pass-pass.result ≡ e.pass = cc (c.into_pass-pass.ensures.pass) in
           let indexes : c.loop-count.indexes.items ≡ c.loop-count-test.indexes.items = cc in
-          let within : (book e.pass).ticks ≤ 100000 * 1000000 = omega (arith, c.loop-count.invariant.ticks) in (
+          let same_long = ap length indexes in
+          let n = length c.loop-count-test.indexes.items in
+          let within : (book e.pass).ticks ≤ b.ticks + n * 1000000 = omega (arith, same_long, long, c.loop-count.invariant.ticks) in (
             so.history,
-            ending t g.K.OfLane.lane g.K.OfLane.is_table e.shared.now.words e.at e.writes.items e.pass c.into_pass-pass.result so.history so.conflicts
-                c.requires.is_table same so.stands c.into_pass-pass.ensures.free within,
+            ending g.K.Beginning.began t b c.args.at n c.loop-count.lane.made e.shared.now.words e.at e.writes.items e.pass c.into_pass-pass.result so.history so.conflicts
+                c.requires.began same so.stands c.into_pass-pass.ensures.free c.requires.pass.begins so.earlier within,
             subst Made indexes so.made,
           )
       | then-loop-count-test+in_default-claim w ↦
           let e = c.loop-count.engine in
           let same : c.into_pass-pass.result ≡ e.pass = cc (c.into_pass-pass.ensures.pass) in
           let indexes : c.loop-count.indexes.items ≡ c.loop-count-test.indexes.items = cc in
-          let within : (book e.pass).ticks ≤ 100000 * 1000000 = omega (arith, c.loop-count.invariant.ticks) in (
+          let same_long = ap length indexes in
+          let n = length c.loop-count-test.indexes.items in
+          let within : (book e.pass).ticks ≤ b.ticks + n * 1000000 = omega (arith, same_long, long, c.loop-count.invariant.ticks) in (
             so.history,
-            ending t g.K.OfLane.lane g.K.OfLane.is_table e.shared.now.words e.at e.writes.items e.pass c.into_pass-pass.result so.history so.conflicts
-                c.requires.is_table same so.stands c.into_pass-pass.ensures.free within,
+            ending g.K.Beginning.began t b c.args.at n c.loop-count.lane.made e.shared.now.words e.at e.writes.items e.pass c.into_pass-pass.result so.history so.conflicts
+                c.requires.began same so.stands c.into_pass-pass.ensures.free c.requires.pass.begins so.earlier within,
             subst Made indexes so.made,
           )
       | then-loop-count-test+in-Some-claim+in_ok-push+then-is_spent w ↦
@@ -132,14 +137,18 @@ returns-clause-made g c =
           let same : c.into_pass-pass.result ≡ e.pass = cc (c.into_pass-pass.ensures.pass) in
           let indexes : w.push.new.self.items ≡ c.loop-count-test.indexes.items = cc in
           let before = ap (λ (p : Pass). (book p).ticks) w.set_call.ensures.pass in
-          let within : (book e.pass).ticks ≤ 100000 * 1000000 = omega (arith, before, w.make_next-one.ensures.clock, c.requires.attempts.1, c.loop-count.invariant.ticks) in
-          let adds = w.make_next-one.ensures.adds so.history so.conflicts (w.set_call.ensures.stands so.history so.conflicts [] [] so.stands) in
-          let still = stands_still (Stands (IsRegion g.K.OfLane.lane) (owns g.K.OfLane.is_table) e.shared.now.words e.at e.writes.items e.pass) so.history
-          so.conflicts
+          let same_long = ap length indexes in
+          let pushed = ap length w.in_ok-push.ensures.items ∙ length_push c.loop-count.indexes.items w.in-Some-claim.index in
+          let n = length c.loop-count-test.indexes.items in
+          let within : (book e.pass).ticks ≤ b.ticks + n * 1000000 =
+          omega (arith, same_long, pushed, long, before, w.make_next-one.ensures.clock, c.requires.attempts.1, c.loop-count.invariant.ticks) in
+          let adds = w.make_next-one.ensures.adds (first ++ so.history) so.conflicts
+          (w.set_call.ensures.stands (first ++ so.history) so.conflicts [] [] so.stands) in
+          let still = stands_still (Stands g.K.Beginning.began e.shared.now.words e.at e.writes.items e.pass) (first ++ so.history) so.conflicts
           (told_by w.onward-here.result w.index-calls-index.result w.make_next-one.result) (sym w.is_spent.ensures ∙ w.if-is_spent.true) adds in (
             so.history,
-            ending t g.K.OfLane.lane g.K.OfLane.is_table e.shared.now.words e.at e.writes.items e.pass c.into_pass-pass.result so.history still.0
-                c.requires.is_table same still.2 c.into_pass-pass.ensures.free within,
+            ending g.K.Beginning.began t b c.args.at n c.loop-count.lane.made e.shared.now.words e.at e.writes.items e.pass c.into_pass-pass.result so.history still.0
+                c.requires.began same still.2 c.into_pass-pass.ensures.free c.requires.pass.begins so.earlier within,
             subst Made indexes (made_next c.args.at calls c.loop-count.indexes.items w.push.new.self.items w.in-Some-claim.index so.history c.loop-count.lane
                 w.in_ok-push.ensures.items so.made),
           )
@@ -148,6 +157,7 @@ returns-clause-made g c =
 pub returns-clause-stopped : goal.returns-clause-stopped
 returns-clause-stopped g c = λ some_left.
     let so = c.loop-count.invariant.stood in
+    let first = reverse (book c.args.pass).entries in
     let made : c.loop-count.lane.made ≡ length c.loop-count.indexes.items = c.loop-count.invariant.count ∙ sym c.loop-count.invariant.claiming.long in
     elim c.loop-count-test.branch [
       | else-loop-count-test w ↦
@@ -157,12 +167,40 @@ returns-clause-stopped g c = λ some_left.
       | then-loop-count-test+in-Some-claim+in_ok-push+then-is_spent w ↦
           let e = w.make_next-one.new.engine in
           let same : c.into_pass-pass.result ≡ e.pass = cc (c.into_pass-pass.ensures.pass) in
-          let adds = w.make_next-one.ensures.adds so.history so.conflicts (w.set_call.ensures.stands so.history so.conflicts [] [] so.stands) in
-          let still = stands_still (Stands (IsRegion g.K.OfLane.lane) (owns g.K.OfLane.is_table) e.shared.now.words e.at e.writes.items e.pass) so.history
-          so.conflicts
+          let adds = w.make_next-one.ensures.adds (first ++ so.history) so.conflicts
+          (w.set_call.ensures.stands (first ++ so.history) so.conflicts [] [] so.stands) in
+          let still = stands_still (Stands g.K.Beginning.began e.shared.now.words e.at e.writes.items e.pass) (first ++ so.history) so.conflicts
           (told_by w.onward-here.result w.index-calls-index.result w.make_next-one.result) (sym w.is_spent.ensures ∙ w.if-is_spent.true) adds in
-          has_lost (IsRegion g.K.OfLane.lane) (owns g.K.OfLane.is_table) e.shared.now.words e.at e.writes.items e.pass c.into_pass-pass.result so.history still.0
-          still.1 same still.2
+          has_lost g.K.Beginning.began e.shared.now.words e.at e.writes.items (book c.args.pass) e.pass c.into_pass-pass.result (first ++ so.history) still.0
+          (omega (arith, so.later, still.1)) same still.2
+    ]
+
+pub returns-clause-emptied : goal.returns-clause-emptied
+returns-clause-emptied g c = λ all.
+    let calls = c.args.calls.now in
+    let n = length calls in
+    let v = claims_of c.loop-count.claims in
+    let old = c.loop-count.indexes.items in
+    let count = c.loop-count.count in
+    let claiming = c.loop-count.invariant.claiming in
+    elim c.loop-count-test.branch [
+      | else-loop-count-test w ↦
+          let indexes : old ≡ c.loop-count-test.indexes.items = cc in
+          let whole : count ≡ n = omega (arith, w.loop-count-test.false) in
+          emptied_whole n count v (claims_of c.loop-count-test.claims) old c.loop-count-test.indexes.items whole indexes claiming
+      | then-loop-count-test+in_default-claim w ↦
+          let indexes : old ≡ c.loop-count-test.indexes.items = cc in
+          let claims : claims_of w.claim.new.self ≡ claims_of c.loop-count-test.claims = cc in
+          let claim = subst (λ (k : ℕ). HasClaimed k v (claims_of w.claim.new.self) None) c.requires.bag.1 w.in_default-claim.ensures.claims in
+          emptied_behind n count v (claims_of w.claim.new.self) (claims_of c.loop-count-test.claims) old c.loop-count-test.indexes.items claims indexes claim claiming
+      | then-loop-count-test+in-Some-claim+in_ok-push+then-is_spent w ↦
+          let i = w.in-Some-claim.index in
+          let new = w.push.new.self.items in
+          let indexes : new ≡ c.loop-count-test.indexes.items = cc in
+          let claim = subst (λ (k : ℕ). HasClaimed k v (claims_of w.claim.new.self) (Some i)) c.requires.bag.1 w.in-Some-claim.ensures.claims in
+          let more = claiming_more n count i v (claims_of w.claim.new.self) old new w.loop-count-test.true claim w.in_ok-push.ensures.items claiming in
+          let long : length c.loop-count-test.indexes.items ≡ count + 1 = ap length (sym indexes) ∙ more.long in
+          absurd (omega (arith, all, long, c.loop-count.invariant.count))
     ]
 
 pub returns-clause-claims : goal.returns-clause-claims

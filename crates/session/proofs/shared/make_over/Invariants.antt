@@ -1,12 +1,13 @@
-use Rattle.std.proofs.Common.{◌≡◌, ◌≤◌, ◌*◌}
+use Rattle.std.proofs.Common.{◌≡◌, ◌≤◌, ◌+◌, ◌*◌, length, reverse}
 use Rattle.tl2.specs.Standing.{Stands}
 use Rattle.tx_table.specs.Passes.{book}
-use Rattle.session.proofs.Stood.{IsRegion, owns, Stood}
+use Rattle.session.proofs.Stood.{Stood}
 use Rattle.session.proofs.shared.make_over.Given as goal
 
 abbrev pub invariant-loop-index : goal.invariant-loop-index
 invariant-loop-index g l = record {
-  stood : Stood (Stands (IsRegion g.K.OfLane.lane) (owns g.K.OfLane.is_table) l.engine.shared.now.words l.engine.at l.engine.writes.items l.engine.pass) l.at l.calls l.lane;
+  stood : Stood (Stands g.K.Beginning.began l.engine.shared.now.words l.engine.at l.engine.writes.items l.engine.pass) (reverse (book l.fn.pass).entries)
+      (length (book l.fn.pass).lost) l.at l.calls l.lane;
   count : l.lane.made ≡ l.index;
-  ticks : (book l.engine.pass).ticks ≤ l.index * 1000000;
+  ticks : (book l.engine.pass).ticks ≤ (book l.fn.pass).ticks + l.index * 1000000;
 }

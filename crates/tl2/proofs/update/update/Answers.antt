@@ -46,7 +46,7 @@ returns-in-Err-clause-err g c =
     lost.1 ∙ ap (λ (b : Book). lost_at (record b { checked = lost.0 }) c.in-Err.conflict.address c.in-Err.conflict.word) c.tick_for-at.ensures.book in
     let same : (book c.validate_all.new.pass).face.held ≡ (book c.take_all.new.pass).face.held = ap (λ (b : Book). b.face.held) is in
     let over = c.give_back.ensures.over (λ e. some_held w c.deref.result.now _ (book c.take_all.new.pass).face.held c.requires.any o ok.1 (sym same ∙ e)) in
-    (1, omega arith, ticked_lost c.tick_for-at.result (pairs w) lost.0 c.in-Err.conflict (book c.args.pass.now) (book c.take_all.new.pass) (book c.validate_all.new.pass) (book c.give_back.new.pass) (c.in-Err.ensures.conflict.0 ∙ ap (λ (b : Book). b.bound) c.tick_for-at.ensures.book) ok.0 is c.give_back.ensures.rest over)
+    (1, omega arith, ticked_lost c.tick_for-at.result (pairs w) lost.0 c.in-Err.conflict (book c.args.pass.now) (book c.take_all.new.pass) (book c.validate_all.new.pass) (book c.give_back.new.pass) c.tick_for-at.ensures.later (c.in-Err.ensures.conflict.0 ∙ ap (λ (b : Book). b.bound) c.tick_for-at.ensures.book) ok.0 is c.give_back.ensures.rest over)
 
 pub store_all-requires : goal.store_all-requires
 store_all-requires g c κs within =
@@ -59,7 +59,7 @@ store_all-requires g c κs within =
     let ok = c.in_ok-take_all.ensures.ok in
     let checked = c.in_default.ensures.ok in
     let is : v3 ≡ record (ticked_up v1 t (pairs w)) { checked = checked.0 } = checked.1 ∙ ap (λ (b : Book). record b { checked = checked.0 }) c.tick_for-at.ensures.book in
-    let k = ticked_then t (pairs w) checked.0 v v1 v3 ok.0 is in
+    let k = ticked_then t (pairs w) checked.0 v v1 v3 c.tick_for-at.ensures.later ok.0 is in
     let newest : IsLeft (pairs w) c.deref-4.result.now = rw c.deref-4.ensures.value c.requires.plan.left in
     let cover : Covers c.deref-3.result.now c.take_all.new.words 0 4096 v3.face.held =
     covers_same c.deref.result.now c.deref-3.result.now c.take_all.new.words v1.face.held v3.face.held (c.deref.ensures.value ∙ sym c.deref-3.ensures.value) (sym (ap (λ (b : Book). b.face.held) is)) ok.1 in (
@@ -110,8 +110,8 @@ returns-clause-ok g c =
     let ok = c.in_ok-take_all.ensures.ok in
     let checked = c.in_default.ensures.ok in
     let is : v3 ≡ record (ticked_up v1 t (pairs w)) { checked = checked.0 } = checked.1 ∙ ap (λ (b : Book). record b { checked = checked.0 }) c.tick_for-at.ensures.book in
-    let k = ticked_then t (pairs w) checked.0 v v1 v3 ok.0 is in
-    (refl, added t w v v3 c.args.answer.value k c.store_all.ensures.book.0 (book c.store_all.new.pass) (book c.release_all.new.pass) c.store_all.ensures.book.2 c.release_all.ensures.rest)
+    let k = ticked_then t (pairs w) checked.0 v v1 v3 c.tick_for-at.ensures.later ok.0 is in
+    (refl, k.seen.0, added t w v v3 c.args.answer.value k c.store_all.ensures.book.0 (book c.store_all.new.pass) (book c.release_all.new.pass) c.store_all.ensures.book.2 c.release_all.ensures.rest)
 
 pub returns-in-Err-clause-conflict : goal.returns-in-Err-clause-conflict
 returns-in-Err-clause-conflict g c =

@@ -1,4 +1,4 @@
-use Rattle.std.proofs.Common.{◌⊎◌, inl, inr, ⊎_elim, ◌≡◌, ◌≢◌, ◌<◌, ◌^◌, true, ℕ, List, [], All, reverse, length, sym, ap, ◌∙◌, subst, arith}
+use Rattle.std.proofs.Common.{◌⊎◌, inl, inr, ⊎_elim, ◌≡◌, ◌≢◌, ◌<◌, ◌^◌, true, false, ℕ, List, [], All, reverse, length, sym, ap, ◌∙◌, subst, arith}
 use Rattle.std.proofs.lemmas.List.{length-reverse}
 use Rattle.std.proofs.lemmas.List.Elements.{All-weaker}
 use Rattle.std.proofs.lemmas.Grind.{common_steps}
@@ -9,7 +9,7 @@ use Rattle.tx_core.specs.declared.engine.Conflict.{Conflict}
 use Rattle.tx_table.specs.Passes.{book}
 use Rattle.tl2.specs.Commits.{IsAdded, update_of}
 use Rattle.tl2.specs.Conflicts.{Meets}
-use Rattle.tl2.proofs.Entries.{inside, update_fits, adds_update}
+use Rattle.tl2.proofs.Entries.{inside, update_fits, adds_update, lost_stands}
 use Rattle.tl2.proofs.Updating.{all_reversed}
 use Rattle.tl2.proofs.attempt.Tl2.commit.Goals as goal
 
@@ -50,9 +50,9 @@ returns-in-Ok-done-clause-run g c = λ h n r w s.
     let y : length c.args.self.now.writes.items ≡ 0 = rw length-reverse at z in
     grind (arith, common_steps) in
     let e : reverse c.as_slice-2.result.now ≡ w = ap reverse c.as_slice-2.ensures.value ∙ s.writes in
-    let a = subst (λ (k : Log). IsAdded (update_of v stamp.at k c.args.answer.value) v (book c.update-done.new.pass)) e ok.1 in (
+    let a = subst (λ (k : Log). IsAdded (update_of v stamp.at k c.args.answer.value) v (book c.update-done.new.pass)) e ok.2 in (
       ((λ t. wrote), (λ t. ok.0)),
-      rw c.clear.ensures.items (adds_update g.C.Calling.holds g.C.Calling.own c.args.self.now.shared.now.words (g.C.Calling.call c.args.self.now.call.value) g.T.Ruled.rule c.args.self.now.at c.args.self.now.writes.items c.args.self.now.pass c.update-done.new.pass h n r w c.args.answer.value stamp o.1 (inside _ _ _ o.2) ok.0 c.in-Ok-done.ensures.same a s),
+      rw c.clear.ensures.items (adds_update g.C.Calling.began c.args.self.now.shared.now.words (g.C.Calling.call c.args.self.now.call.value) g.T.Ruled.rule c.args.self.now.at c.args.self.now.writes.items c.args.self.now.pass c.update-done.new.pass h n r w c.args.answer.value stamp o.1 (inside _ _ _ o.2) ok.0 ok.1 c.in-Ok-done.ensures.same a s),
     )
 
 pub returns-in-Err-clause-seen : goal.returns-in-Err-clause-seen
@@ -66,3 +66,10 @@ returns-in-Err-clause-seen g c = λ e q.
       ⊎_elim (λ (h : Has (pairs (reverse c.as_slice-2.result.now)) c.in-Err.conflict.address). inl (subst (λ (m : Map ℕ). Has m c.in-Err.conflict.address) at h))
           (λ (i : In c.in-Err.conflict.address c.deref-2.result.now). inr (subst (λ (rs : List ℕ). In c.in-Err.conflict.address rs) c.deref-2.ensures.value i)) k.2,
     )
+
+pub returns-in-Err-clause-run : goal.returns-in-Err-clause-run
+returns-in-Err-clause-run g c = λ h n r w s.
+    let e = c.args.self.now in
+    let rest = c.in-Err.ensures.err in
+    rw c.clear.ensures.items (lost_stands g.C.Calling.began e.shared.now.words rest.0 n e.at e.writes.items e.pass c.update-done.new.pass h r w _
+    c.in-Err.ensures.same (λ whole. let no : false ≡ true = c.in-Err.ensures.sole whole in cc no) rest.2 s)

@@ -19,7 +19,7 @@ returns-clause-run g c = λ h n r w s.
     let step = c.finish_with-stamp.ensures in
     rw (step.stamp, c.clear.ensures.items) (
       ((λ q. cc), (λ q. absurd (q refl))),
-      adds_reader g.C.Calling.holds g.C.Calling.own c.args.self.now.shared.now.words (g.C.Calling.call c.args.self.now.call.value) g.T.Ruled.rule c.args.self.now.at c.args.self.now.writes.items p c.finish_with-stamp.new.pass h n r w c.args.answer.value o.1 (inside _ _ _ o.2) step.same step.book s,
+      adds_reader g.C.Calling.began c.args.self.now.shared.now.words (g.C.Calling.call c.args.self.now.call.value) g.T.Ruled.rule c.args.self.now.at c.args.self.now.writes.items p c.finish_with-stamp.new.pass h n r w c.args.answer.value o.1 (inside _ _ _ o.2) step.same step.book s,
     )
 
 pub returns-clause-region : goal.returns-clause-region

@@ -1,0 +1,88 @@
+use Rattle.std.proofs.Common.{◌≡◌, ◌+◌, ℕ, suc, List, length, map, take, sym, ◌∙◌, subst, arith}
+use Rattle.std.specs.List.{AllByRecursion}
+use Rattle.std.proofs.lemmas.List.{length-take-le, take_all}
+use Rattle.jmodel.specs.Rule.{Ends}
+use Rattle.jmodel.specs.Schedule.{ScriptPhase, lists_in}
+use Rattle.tx_table.specs.Passes.{book}
+use Rattle.session.specs.Rule.{IsCallOf}
+use Rattle.driver.specs.Runs.{HasLanes}
+use Rattle.driver.specs.Stories.{story_of}
+use Rattle.driver.specs.Over.{AddsPhase}
+use Rattle.driver.specs.Passing.{call_count, IsWhole}
+use Rattle.driver.proofs.Lists.{all_here}
+use Rattle.driver.proofs.Places.{IsFew, few_in_script, few_in_phases}
+use Rattle.driver.proofs.Alone.{lanes_more}
+use Rattle.driver.proofs.Over.{HasRunOver, run_none, over_more, run_over}
+use Rattle.driver.proofs.Spending.{room_for, ticks_next}
+use Rattle.driver.proofs.run.run_over.Goals as goal
+
+pub loop-number-init : goal.loop-number-init
+loop-number-init g c =
+    let opened = c.in_ok-shared.ensures.pass in
+    let unused = opened.1 in
+    record {
+      whole = opened.0;
+      fresh = omega (arith, unused.fresh);
+      few = omega (arith, unused.fresh);
+      ticks = omega (arith, unused.ticks);
+      over = run_none (book c.in_ok-shared.pass) c.new-journal.result unused.entries c.new-journal.ensures.placed c.new-journal.ensures.unplaced;
+    }
+
+pub run_phase-requires-clause-calls : goal.run_phase-requires-clause-calls
+run_phase-requires-clause-calls g c = λ κs lives.
+    all_here (λ (p : ScriptPhase). AllByRecursion (AllByRecursion (IsCallOf c.args.original.now)) (lists_in p)) c.args.phases.now c.loop-number.number
+    c.index-phases-number.result c.requires.scripted.calls c.loop-number-test.true c.index-phases-number.is
+
+pub run_phase-requires-clause-few : goal.run_phase-requires-clause-few
+run_phase-requires-clause-few g c = λ κs lives.
+    all_here (λ (p : ScriptPhase). AllByRecursion IsFew (lists_in p)) c.args.phases.now c.loop-number.number c.index-phases-number.result
+    (few_in_phases c.args.phases.now (few_in_script 0 (map lists_in c.args.phases.now) c.requires.scripted.few_calls)) c.loop-number-test.true
+    c.index-phases-number.is
+
+pub run_phase-requires-clause-lanes : goal.run_phase-requires-clause-lanes
+run_phase-requires-clause-lanes g c = λ κs lives.
+    all_here HasLanes c.args.phases.now c.loop-number.number c.index-phases-number.result c.requires.scripted.lanes c.loop-number-test.true
+    c.index-phases-number.is
+
+pub run_phase-requires-clause-room : goal.run_phase-requires-clause-room
+run_phase-requires-clause-room g c = λ κs lives.
+    let i = c.loop-number.invariant in
+    room_for c.loop-number.number c.args.phases.now c.index-phases-number.result (book c.loop-number.pass) c.loop-number-test.true c.index-phases-number.is i.ticks
+    c.requires.scripted.few_phases c.requires.scripted.few_calls i.fresh i.few
+
+pub loop-number-preserved : goal.loop-number-preserved
+loop-number-preserved g c =
+    let i = c.loop-number.invariant in
+    let n = c.loop-number.number in
+    let phases = c.args.phases.now in
+    let phase = c.index-phases-number.result in
+    let b = book c.loop-number.pass in
+    let left = c.in_ok-pass.pass in
+    let count = call_count (lists_in phase) in
+    let adds = c.in_ok-pass.ensures.adds in
+    let added = adds.adds in
+    let below = c.loop-number-test.true in
+    let long : length (take n phases) ≡ n = length-take-le n phases (omega arith) in
+    let up : suc n ≡ n + 1 = omega arith in
+    let Adds : ℕ → Type 0 = λ k. AddsPhase k count phase b (book left) c.loop-number.journal c.run_phase.new.journal in
+    record {
+      whole = subst (λ (k : ℕ). IsWhole c.in_ok-shared.shared.table.shared.table_id k left) up c.in_ok-pass.ensures.whole;
+      fresh = omega (arith, i.fresh, added.fresh);
+      few = omega (arith, i.few, added.few);
+      ticks = ticks_next n phases phase b below c.index-phases-number.is i.ticks (book left) added.ticks;
+      over = subst (λ (ps : List ScriptPhase). HasRunOver ps (book left) c.run_phase.new.journal) (lanes_more phases n phase below c.index-phases-number.is)
+          (over_more (take n phases) phase count b (book left) c.loop-number.journal c.run_phase.new.journal i.over (subst Adds (sym long) adds));
+    }
+
+pub returns : goal.returns
+returns g c =
+    let phases = c.args.phases.now in
+    let n = c.loop-number.number in
+    let done = c.loop-number-test.false in
+    let all : take n phases ≡ phases = take_all n phases (omega arith) in
+    let b = book c.loop-number.pass in
+    let rule = g.K.Keeping.rule in
+    let after = c.in-Ok._words.items in
+    let ends = subst (λ (words : List ℕ). Ends (story_of rule words) b after) c.in_ok-shared.ensures.words c.in-Ok.ensures.ok in
+    run_over c.args.original.now c.args.limits.budget c.args.words.items after rule c.requires.ruled b phases c.loop-number.journal
+    (subst (λ (ps : List ScriptPhase). HasRunOver ps b c.loop-number.journal) all c.loop-number.invariant.over) ends

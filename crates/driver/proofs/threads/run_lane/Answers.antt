@@ -1,0 +1,39 @@
+use Rattle.std.proofs.Common.{◌≡◌, ◌≤◌, ◌<◌, ℕ, List, [], length, get_or, sym, ap, ◌∙◌, subst}
+use Rattle.std.proofs.lemmas.List.{get_or_default}
+use Rattle.jmodel.specs.Schedule.{Known}
+use Rattle.std.specs.Prelude.{IfOk}
+use Rattle.tx_table.specs.Passes.{book}
+use Rattle.driver.specs.Passing.{first_of, HasEnded}
+use Rattle.driver.proofs.Lists.{on_ok, all_here}
+use Rattle.driver.proofs.Places.{IsFew}
+use Rattle.driver.proofs.Passing.{may_start, is_done}
+use Rattle.driver.proofs.threads.run_lane.Goals as goal
+
+pub make_shared-requires-clause-pass : goal.make_shared-requires-clause-pass
+make_shared-requires-clause-pass g c =
+    let start = c.args.start in
+    let inside = subst (λ (n : ℕ). n < length c.args.lanes.now) (sym c.from.ensures) c.requires.lane in
+    let few = all_here IsFew c.args.lanes.now c.from.result c.index-lanes-from.result c.requires.few inside c.index-lanes-from.is in
+    let short : length c.as_slice.result.now ≤ 100000 = rw (c.as_slice.ensures.value ∙ c.calls.view_is) few in
+    may_start c.args.shared.now.table.shared.table_id (book start.pass).seen (first_of c.args.phase start.lane) (length c.as_slice.result.now) start.pass short
+    c.requires.pass
+
+pub returns : goal.returns
+returns g c =
+    let t = c.args.shared.now.table.shared.table_id in
+    let start = c.args.start in
+    let seen = (book start.pass).seen in
+    let calls = c.as_slice.result.now in
+    let at = first_of c.args.phase start.lane in
+    let inside = subst (λ (n : ℕ). n < length c.args.lanes.now) (sym c.from.ensures) c.requires.lane in
+    let same : calls ≡ get_or c.args.lanes.now start.lane [] =
+    (c.as_slice.ensures.value ∙ c.calls.view_is) ∙ c.index-lanes-from.is
+    ∙ get_or_default c.args.lanes.now c.from.result c.index-lanes-from.result [] inside
+    ∙ ap (λ (n : ℕ). get_or c.args.lanes.now n []) c.from.ensures in
+    subst (λ (cs : List Known). IfOk c.make_shared.result (HasEnded t seen c.args.phase start.lane cs)) same
+    (on_ok c.make_shared.result _ (HasEnded t seen c.args.phase start.lane calls)
+    (λ r made. record {
+      history = made.0;
+      pass = is_done t seen at (length calls) r.0.made calls r.0 made.0 start.pass r.1 c.requires.pass made.1 made.2;
+      made = made.2;
+    }) c.make_shared.ensures.made)

@@ -1,0 +1,115 @@
+-- What an engine stands for after a step of an attempt.
+use Rattle.std.proofs.Common.{◌≡◌, ◌≢◌, ◌<◌, ◌≤◌, ◌+◌, ◌%◌, ℕ, List, [], ◌∷◌, length, reverse, refl, sym, ap, ◌∙◌, subst, arith}
+use Rattle.std.specs.Prelude.{Option, None, unwrap_or}
+use Rattle.std.proofs.lemmas.List.Elements.{All-nil}
+use Rattle.atomic_table.specs.Seated.{TableId}
+use Rattle.jmodel.specs.declared.op.Access.{Access}
+use Rattle.jmodel.specs.Attempt.{Log, access, answered, recorded, written}
+use Rattle.jmodel.specs.History.{Call, Entry}
+use Rattle.jmodel.specs.Book.{Book, Look, Had, pairs}
+use Rattle.jmodel.specs.Plays.{begun, lost_at, loaded_at, logged, value_in}
+use Rattle.tx_table.specs.declared.shared.Pass.{Pass}
+use Rattle.tx_table.specs.Passes.{book, IsSame}
+use Rattle.tl2.specs.declared.attempt.At.{At}
+use Rattle.tl2.specs.declared.attempt.At.TheVariants.{Outside, Inside, Looked, Loaded}
+use Rattle.tl2.specs.Standing.{IsAt, Stands}
+use Rattle.tl2.proofs.Keeping.{keeps_still}
+use Rattle.tl2.proofs.Entries.{inside}
+
+-- a step that leaves all but the look and the reads
+record IsQuiet (v w : Book) : Type 0 where
+  numbers : w.numbers ≡ v.numbers
+  fresh : w.fresh ≡ v.fresh
+  regions : w.regions ≡ v.regions
+  entries : w.entries ≡ v.entries
+  lost : w.lost ≡ v.lost
+  seen : w.seen ≡ v.seen
+  bound : w.bound ≡ v.bound
+
+module _ (began : TableId → Book → Type 0) (words : ℕ) (at : At) (kept : List Access) (p q : Pass) (h : List Entry) (n : ℕ) (r w : Log) (same : IsSame p q)
+    (s : Stands began words at kept p h n r w) where
+  quiet : (then : At) (reads : Log) → at ≢ Outside → IsQuiet (book p) (book q) → (book q).reads ≡ pairs reads → Stands began words then kept q h n reads w
+  quiet then reads within k logs = record {
+    entries = k.entries ∙ s.entries;
+    lost = ap length k.lost ∙ s.lost;
+    reads = λ _. logs;
+    writes = s.writes;
+    within = s.within;
+    bound = λ _. k.bound ∙ s.bound within ∙ sym k.seen;
+    keeps = let clock = k.seen in keeps_still began p q same k.numbers k.fresh k.regions k.entries (omega arith) (λ _. k.lost) s.keeps;
+  }
+
+  -- a look
+  pub stands_looking : (then : At) (look : Look) → at ≢ Outside → book q ≡ record (book p) { look = look } → Stands began words then kept q h n r w
+  stands_looking then look within e =
+      quiet then r within (subst (IsQuiet (book p)) (sym e) (record {
+        numbers = refl;
+        fresh = refl;
+        regions = refl;
+        entries = refl;
+        lost = refl;
+        seen = refl;
+        bound = refl;
+      })) (ap (λ (b : Book). b.reads) e ∙ s.reads within)
+
+  -- the load of a word after it
+  pub stands_loaded : (then : At) (a b x : ℕ) → IsAt words at (book p) → at ≡ Looked b → book q ≡ loaded_at (book p).look (book p) a x → Stands began words then kept q h n r w
+  stands_loaded then a b x is looked e =
+      let here = subst (λ (k : At). IsAt words k (book p)) looked is in
+      stands_looking then (Had (b % 4096) here.1.0 a x) (inside words at (book p) is)
+      (e ∙ ap (λ (l : Look). loaded_at l (book p) a x) here.1.1)
+
+  -- and the look that logs the read
+  pub stands_logged : (l : Access) (a : ℕ) → IsAt words at (book p) → at ≡ Loaded l → l.address ≡ a → written (reverse kept) a ≡ None
+      → book q ≡ logged (book p) a (value_in (book p).look)
+      → (l.word ≡ answered w a l.word) × Stands began words Inside kept q h n (recorded (written w a) a l.word r) w
+  stands_logged l a is loaded address none e =
+      let here = subst (λ (k : At). IsAt words k (book p)) loaded is in
+      let within = inside words at (book p) is in
+      let fresh : written w a ≡ None = ap (λ (k : Log). written k a) (sym s.writes) ∙ none in
+      let value : value_in (book p).look ≡ l.word = ap value_in here.1.1 in
+      let reads : (book q).reads ≡ pairs (access a l.word ∷ r) =
+      ap (λ (b : Book). b.reads) e ∙ (λ i. (a, value i) ∷ s.reads within i) in (
+        sym (ap (λ (o : Option ℕ). unwrap_or o l.word) fresh),
+        subst (λ (o : Option ℕ). Stands began words Inside kept q h n (recorded o a l.word r) w) (sym fresh)
+            (quiet Inside (access a l.word ∷ r) within (subst (IsQuiet (book p)) (sym e) (record {
+              numbers = refl;
+              fresh = refl;
+              regions = refl;
+              entries = refl;
+              lost = refl;
+              seen = refl;
+              bound = refl;
+            })) reads),
+      )
+
+  -- a conflict, where the pass doesn't hold every number
+  pub stands_lost : (a x : ℕ) → (book p).numbers ≢ 1048576 → book q ≡ lost_at (book p) a x → Stands began words Outside kept q h (n + 1) r w
+  stands_lost a x others e = record {
+    entries = ap (λ (b : Book). b.entries) e ∙ s.entries;
+    lost = let more = ap (λ (b : Book). length b.lost) e in let was = s.lost in omega arith;
+    reads = λ z. absurd (z refl);
+    writes = s.writes;
+    within = s.within;
+    bound = λ z. absurd (z refl);
+    keeps =
+        let clock = ap (λ (b : Book). b.seen) e in
+        keeps_still began p q same (ap (λ (b : Book). b.numbers) e) (ap (λ (b : Book). b.fresh) e) (ap (λ (b : Book). b.regions) e)
+        (ap (λ (b : Book). b.entries) e) (omega arith) (λ whole. absurd (others whole)) s.keeps;
+  }
+
+-- the beginning of an attempt
+pub stands_begun : (began : TableId → Book → Type 0) (words : ℕ) (at : At) (kept : List Access) (p q : Pass) (h : List Entry) (n m : ℕ) (call : Call) → IsSame p q
+    → (book p).seen ≤ m → book q ≡ begun (book p) call m → Stands began words at kept p h n [] [] → Stands began words Inside [] q h n [] []
+stands_begun began words at kept p q h n m call same later e s = record {
+  entries = ap (λ (b : Book). b.entries) e ∙ s.entries;
+  lost = ap (λ (b : Book). length b.lost) e ∙ s.lost;
+  reads = λ _. ap (λ (b : Book). b.reads) e;
+  writes = refl;
+  within = All-nil (λ (l : Access). l.address < words);
+  bound = λ _. ap (λ (b : Book). b.bound) e ∙ sym (ap (λ (b : Book). b.seen) e);
+  keeps =
+      let clock = ap (λ (b : Book). b.seen) e in
+      keeps_still began p q same (ap (λ (b : Book). b.numbers) e) (ap (λ (b : Book). b.fresh) e) (ap (λ (b : Book). b.regions) e)
+      (ap (λ (b : Book). b.entries) e) (omega arith) (λ _. ap (λ (b : Book). b.lost) e) s.keeps;
+}
