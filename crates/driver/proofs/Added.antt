@@ -1,5 +1,5 @@
 -- A phase whose lanes were split off from a pass and joined to it, as what is added to a journal.
-use Rattle.std.proofs.Common.{◌≡◌, ◌≤◌, ℕ, suc, List, ◌++◌, length, map, sym, ◌∙◌, ap}
+use Rattle.std.proofs.Common.{◌≡◌, ◌≤◌, ℕ, List, ◌++◌, length, map, ◌∙◌, ap}
 use Rattle.std.specs.Prelude.{IsPermutation}
 use Rattle.std.specs.List.Sorted.{IsSortedBy}
 use Rattle.atomic_table.specs.Seated.{TableId}
@@ -14,7 +14,7 @@ use Rattle.driver.specs.declared.side.Side.{Side}
 use Rattle.driver.specs.Sides.{AreWhole, none_made, made_counts, unplaced_of, joined}
 use Rattle.driver.specs.Order.{stands_before}
 use Rattle.driver.specs.Over.{IsMadeOver, AddsPhase}
-use Rattle.driver.specs.Passing.{call_count, IsWhole, IsMidway, IsResting}
+use Rattle.driver.specs.Passing.{call_count, IsMidway, IsResting}
 use Rattle.driver.proofs.Phased.{itself, phase_over, placed_is, unplaced_is, order, rest_of}
 use Rattle.driver.proofs.Resting.{whole_next}
 

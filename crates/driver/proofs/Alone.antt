@@ -1,20 +1,14 @@
 -- The calls of a lane over the engine of one thread, and lanes one after another.
-use Rattle.std.proofs.Common.{◌≡◌, ℕ, suc, ◌<◌, ◌≤◌, ◌+◌, List, [], ◌∷◌, ◌++◌, length, get_or, take, drop, map, All, AllPairs, sym, ◌∙◌, ap, subst, arith}
-use Rattle.std.specs.Prelude.{filter, IsPermutation}
-use Rattle.std.specs.List.{flat_map}
-use Rattle.std.proofs.lemmas.List.{append-nil, map-append, length-drop, take_all, take_more}
-use Rattle.std.proofs.lemmas.List.Concat.{flat_map-append}
-use Rattle.std.proofs.lemmas.List.Elements.{All-weaker, All-filter}
-use Rattle.std.proofs.lemmas.List.Kept.{AllPairs-filter}
-use Rattle.std.proofs.lemmas.List.Sorted.{All-permutation, IsPermutation-append_left}
+use Rattle.std.proofs.Common.{◌≡◌, ℕ, suc, ◌<◌, ◌+◌, List, [], ◌∷◌, ◌++◌, length, get_or, take, sym, ◌∙◌, ap, subst, arith}
+use Rattle.std.proofs.lemmas.List.{take_all, take_more}
 use Rattle.jmodel.specs.declared.op.Access.{Access}
 use Rattle.jmodel.specs.Program.{Program}
-use Rattle.jmodel.specs.History.{Call, Entry, Told}
+use Rattle.jmodel.specs.History.{Entry, Told}
 use Rattle.jmodel.specs.Schedule.{Known, Phase, lane_calls}
 use Rattle.tx_core.specs.Serial.{StandsFor}
 use Rattle.session.specs.declared.record.Lane.{Lane}
 use Rattle.session.specs.declared.record.Place.{Place}
-use Rattle.session.specs.Lane.{HasMade, is_placed, record_of}
+use Rattle.session.specs.Lane.{HasMade}
 use Rattle.session.specs.Rule.{IsRuled, IsState, IsStretch}
 use Rattle.driver.specs.declared.side.Part.{Part}
 use Rattle.driver.specs.Sides.{IsPart, AreParts, AreWhole}

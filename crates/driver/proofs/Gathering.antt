@@ -1,15 +1,13 @@
 -- The lanes of a phase, gathered one after another.
-use Rattle.std.proofs.Common.{◌≡◌, ℕ, suc, ◌+◌, List, [], ◌∷◌, ◌++◌, length, map, reverse, true, false, cond, refl, sym, ap, ◌∙◌, subst, arith}
-use Rattle.std.specs.Prelude.{IsPermutation, filter, take, drop}
-use Rattle.std.specs.List.{flat_map, AllByRecursion, All}
+use Rattle.std.proofs.Common.{◌≡◌, ℕ, suc, ◌+◌, List, [], ◌∷◌, ◌++◌, length, map, reverse, refl, sym, ap, ◌∙◌, subst, arith}
+use Rattle.std.specs.Prelude.{IsPermutation, filter}
+use Rattle.std.specs.List.{flat_map}
 use Rattle.std.proofs.lemmas.List.{map-append, flat_map_more}
-use Rattle.std.proofs.lemmas.List.Elements.{All-from_recursion}
 use Rattle.std.proofs.lemmas.List.Sorted.{IsPermutation-refl, IsPermutation-sym, IsPermutation-reverse, IsPermutation-map, IsPermutation-append}
 use Rattle.jmodel.specs.History.{Call, Entry, Told, told}
-use Rattle.jmodel.specs.Schedule.{Known, Phase, lane_calls}
+use Rattle.jmodel.specs.Schedule.{Known, Phase}
 use Rattle.session.specs.declared.record.Record.{Record}
 use Rattle.session.specs.declared.record.Lane.{Lane}
-use Rattle.session.specs.Rule.{calls_of}
 use Rattle.session.specs.Lane.{is_placed, record_of, HasMade}
 use Rattle.driver.specs.declared.side.Part.{Part}
 use Rattle.driver.specs.Sides.{IsPart, AreParts, none_made}

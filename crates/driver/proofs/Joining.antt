@@ -1,5 +1,5 @@
 -- The passes of lanes, as they come back.
-use Rattle.std.proofs.Common.{◌≡◌, ◌<◌, ◌≤◌, ℕ, zero, suc, ◌+◌, ◌*◌, ◌^◌, List, [], ◌∷◌, ◌++◌, length, get_or, take, Result, Ok, refl, sym, ap, ◌∙◌, subst, append-nil, arith}
+use Rattle.std.proofs.Common.{◌≡◌, ◌<◌, ◌≤◌, ℕ, zero, suc, ◌+◌, ◌^◌, List, [], ◌∷◌, ◌++◌, length, get_or, take, Result, Ok, refl, sym, ap, ◌∙◌, subst, append-nil, arith}
 use Rattle.std.specs.Prelude.{IfOk}
 use Rattle.std.specs.declared.alloc.AllocError.{AllocError}
 use Rattle.std.proofs.lemmas.List.{length-take-le, take_more, take_all}
@@ -15,7 +15,7 @@ use Rattle.session.specs.declared.record.Record.{Record}
 use Rattle.session.specs.declared.record.Lane.{Lane}
 use Rattle.driver.specs.declared.side.Part.{Part}
 use Rattle.driver.specs.Sides.{AreParts, none_made}
-use Rattle.driver.specs.Passing.{call_count, HasRoom, HasEnded, HaveEnded, IsSplit, AreEnding, IsJoining}
+use Rattle.driver.specs.Passing.{call_count, HasEnded, IsSplit, AreEnding, IsJoining}
 use Rattle.driver.proofs.Gathering.{part_of, gathered_none}
 use Rattle.driver.proofs.Passing.{joins_next}
 

@@ -1,25 +1,23 @@
 -- A run's journal, phase by phase.
-use Rattle.std.proofs.Common.{◌≡◌, ℕ, ◌+◌, List, [], ◌∷◌, ◌++◌, length, map, All, AllPairs, true, refl, sym, ◌∙◌, ap, subst, arith, inl, inr}
+use Rattle.std.proofs.Common.{◌≡◌, ℕ, List, ◌++◌, map, All, AllPairs, true, sym, ◌∙◌, ap, subst}
 use Rattle.std.specs.Prelude.{IsPermutation}
 use Rattle.std.specs.List.{AllByRecursion}
 use Rattle.std.proofs.lemmas.Simd.{map-map}
 use Rattle.std.proofs.lemmas.List.{map-append}
-use Rattle.std.proofs.lemmas.List.Elements.{All-append, All-from_recursion, recursion_from_All}
-use Rattle.std.proofs.lemmas.List.Sorted.{All-permutation, IsPermutation-refl}
+use Rattle.std.proofs.lemmas.List.Elements.{All-from_recursion, recursion_from_All}
+use Rattle.std.proofs.lemmas.List.Sorted.{All-permutation}
 use Rattle.jmodel.specs.declared.value.Answer.{Answer}
 use Rattle.jmodel.specs.declared.value.Answer.TheVariants.{NoMemory}
 use Rattle.jmodel.specs.Program.{Program}
 use Rattle.jmodel.specs.State.{State}
 use Rattle.jmodel.specs.History.{Call, Told}
-use Rattle.jmodel.specs.Schedule.{ScriptPhase, AreDealt, AreScriptCalls, Made, MayPrecede, IsAccepted, IsJournal, ascends, call_of, answer_of}
+use Rattle.jmodel.specs.Schedule.{ScriptPhase, AreScriptCalls, Made, MayPrecede, IsAccepted, IsJournal, ascends, call_of, answer_of}
 use Rattle.jmodel.specs.Serial.{Serial}
 use Rattle.session.specs.Rule.{IsState, IsStretch, calls_of, answers_of}
 use Rattle.session.specs.Lane.{record_of}
 use Rattle.driver.specs.declared.journal.Journal.{Journal}
 use Rattle.driver.specs.Runs.{HasRun, made_of}
-use Rattle.driver.proofs.Lists.{all_map, all_from_map, all_left, all_right, pairs_nil, pairs_append, pairs_map}
-use Rattle.driver.proofs.Places.{IsOfPhase, IsBefore, all_dealt, all_script, script_append, ascends_phase}
-use Rattle.driver.proofs.Lists.{sorted_out}
+use Rattle.driver.proofs.Lists.{all_map, all_left, all_right}
 
 -- what a journal has after phases, and what their calls lead to
 pub record HasRunTo (P : Program) (budget : ℕ) (phases : List ScriptPhase) (words left : List ℕ) (journal : Journal) : Type 0 where

@@ -4,7 +4,7 @@ use Rattle.std.specs.Prelude.{IsPermutation, if◌then◌else◌}
 use Rattle.std.specs.List.{AllByRecursion}
 use Rattle.std.specs.List.Sorted.{IsSortedBy}
 use Rattle.std.proofs.lemmas.Bool.Decides.{nat_tests}
-use Rattle.std.proofs.lemmas.List.{append_assoc, map-append}
+use Rattle.std.proofs.lemmas.List.{map-append}
 use Rattle.std.proofs.lemmas.List.Elements.{All-nil, All-append, All-weaker, All-from_recursion, recursion_from_All}
 use Rattle.std.proofs.lemmas.List.Sorted.{IsPermutation-refl, IsPermutation-trans, IsPermutation-map, IsPermutation-append}
 use mathlib.Core.Option.{some}
@@ -24,7 +24,7 @@ use Rattle.session.specs.Lane.{record_of}
 use Rattle.driver.specs.declared.journal.Journal.{Journal}
 use Rattle.driver.specs.Stories.{story_of, unused_regions}
 use Rattle.driver.specs.Runs.{HasRun}
-use Rattle.driver.specs.Over.{Shown, as_shown, made_in, shown_in, KeepsLane, IsOfRegion, StandsBehind, IsPhaseOver, HasAdded, AddsPhase}
+use Rattle.driver.specs.Over.{Shown, as_shown, made_in, shown_in, KeepsLane, IsOfRegion, StandsBehind, IsPhaseOver, AddsPhase}
 use Rattle.driver.proofs.Lists.{all_from_map, pairs_nil, pairs_append, pairs_map, pairs_from_map, sorted_out}
 use Rattle.driver.proofs.Places.{IsOfPhase, IsBefore, all_dealt, all_script, script_append, ascends_phase}
 use Rattle.driver.proofs.Stretching.{stretch_of}

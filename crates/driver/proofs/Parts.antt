@@ -1,19 +1,18 @@
 -- The calls that a phase's lanes made, lane by lane.
-use Rattle.std.proofs.Common.{◌≡◌, ℕ, suc, ◌<◌, ◌≤◌, ◌+◌, ◌-◌, List, [], ◌∷◌, ◌++◌, length, get_or, take, drop, map, All, Bool, refl, sym, ◌∙◌, ap, subst, arith}
+use Rattle.std.proofs.Common.{◌≡◌, ℕ, suc, ◌≤◌, ◌+◌, List, [], ◌∷◌, ◌++◌, length, take, drop, map, Bool, refl, sym, ◌∙◌, ap, subst, arith}
 use Rattle.std.specs.Prelude.{filter, IsPermutation}
 use Rattle.std.specs.List.{flat_map, AllZip}
 use Rattle.std.proofs.lemmas.List.{map-append, length-drop, length-take-le, take_all, take-append-drop}
-use Rattle.std.proofs.lemmas.List.Elements.{filter-append, All-append, All-nil, All-weaker, All-filter}
+use Rattle.std.proofs.lemmas.List.Elements.{filter-append}
 use Rattle.std.proofs.lemmas.List.Sorted.{IsPermutation-refl}
-use Rattle.jmodel.specs.History.{Call, Told}
+use Rattle.jmodel.specs.History.{Told}
 use Rattle.jmodel.specs.Schedule.{Known, Phase, lane_calls, phase_calls}
 use Rattle.session.specs.Rule.{calls_of}
 use Rattle.session.specs.Lane.{is_unplaced, record_of}
 use Rattle.driver.specs.declared.side.Part.{Part}
-use Rattle.driver.specs.Sides.{IsPart, AreParts, AreWhole, none_made}
-use Rattle.driver.specs.Sides.{made_counts, unplaced_of, joined}
-use Rattle.driver.proofs.Lists.{all_from_map, sorted_out}
-use Rattle.driver.proofs.Places.{IsOfLane, all_lane, lane_append}
+use Rattle.driver.specs.Sides.{IsPart, AreParts, AreWhole, none_made, made_counts, unplaced_of, joined}
+use Rattle.driver.proofs.Lists.{sorted_out}
+use Rattle.driver.proofs.Places.{lane_append}
 
 -- what passes a test of what was made is what passes it of the first, and of what came behind it
 pub filter_joined : {A : Type 0} (test : A → Bool) (ts us : List (List A)) → length ts ≡ length us

@@ -28,9 +28,9 @@ use Rattle.session.specs.Lane.{is_placed, HasMade}
 use Rattle.session.specs.Passes.{MayBegin, IsStarting, IsEnding, behind}
 use Rattle.driver.specs.declared.side.Part.{Part}
 use Rattle.driver.specs.declared.table.Start.{Start}
-use Rattle.driver.specs.Sides.{AreParts, made_counts}
+use Rattle.driver.specs.Sides.{made_counts}
 use Rattle.driver.specs.Stories.{of_lane, unused_regions}
-use Rattle.driver.specs.Passing.{first_of, call_count, HasRoom, AreStarting, IsWhole, IsUnused, IsOfOne, IsDone, HaveEnded, IsSplit, IsJoining}
+use Rattle.driver.specs.Passing.{first_of, AreStarting, IsWhole, IsUnused, IsOfOne, IsDone, IsSplit, IsJoining}
 use Rattle.driver.proofs.Gathering.{part_of, gathered_more}
 
 -- Maps. A key that a test allows is looked up as before, and another one isn't there.

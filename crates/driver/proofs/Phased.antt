@@ -7,12 +7,12 @@ use Rattle.std.specs.List.Sorted.{IsSortedBy}
 use Rattle.std.proofs.lemmas.List.{map-append}
 use Rattle.std.proofs.lemmas.List.Elements.{All-append, All-from_recursion, All-weaker, filter_passes, recursion_from_All}
 use Rattle.std.proofs.lemmas.List.Kept.{AllPairs-filter}
-use Rattle.std.proofs.lemmas.List.Sorted.{All-permutation, IsPermutation-sym, IsPermutation-trans, IsPermutation-map, IsPermutation-append, IsPermutation-append_left, IsPermutation-filter_both}
+use Rattle.std.proofs.lemmas.List.Sorted.{All-permutation, IsPermutation-trans, IsPermutation-map, IsPermutation-append, IsPermutation-append_left, IsPermutation-filter_both}
 use Rattle.jmodel.specs.declared.value.Answer.TheVariants.{NoMemory}
 use Rattle.jmodel.specs.declared.value.Answer.{Answer}
 use Rattle.jmodel.specs.History.{Call, Entry, Told, told, round, first_by, comes_first}
 use Rattle.jmodel.specs.Book.{In}
-use Rattle.jmodel.specs.Schedule.{Known, Phase, ScriptPhase, Lanes, lane_calls, phase_calls, ascends, is_memory}
+use Rattle.jmodel.specs.Schedule.{Known, Phase, Lanes, lane_calls, phase_calls, ascends, is_memory}
 use Rattle.jmodel.proofs.Telling.{history_order, sorted_pairs}
 use Rattle.tl2.specs.Standing.{IsBehind}
 use Rattle.session.specs.declared.record.Record.{Record}

@@ -1,9 +1,8 @@
 -- Calls of the original methods, one after another, from the entries of one thread.
-use Rattle.std.proofs.Common.{◌≡◌, ℕ, suc, List, [], ◌∷◌, ◌++◌, map, Bool, true, false, nat_eq, refl, sym, ◌∙◌, ap, subst}
+use Rattle.std.proofs.Common.{◌≡◌, ℕ, suc, List, [], ◌∷◌, map, Bool, true, false, nat_eq, refl, sym, ◌∙◌, ap, subst}
 use Rattle.std.specs.Prelude.{if◌then◌else◌}
 use Rattle.std.specs.List.{AllByRecursion}
 use Rattle.std.proofs.lemmas.Simd.{map-map}
-use Rattle.std.proofs.lemmas.List.{map-append}
 use Rattle.jmodel.specs.declared.op.Access.{Access}
 use Rattle.jmodel.specs.declared.value.Answer.{Answer}
 use Rattle.jmodel.specs.Program.{Program}
@@ -13,7 +12,7 @@ use Rattle.jmodel.specs.Meaning.{Represents, Explains}
 use Rattle.jmodel.specs.Serial.{Serial}
 use Rattle.jmodel.proofs.SerialProof.{serial_of}
 use Rattle.tx_core.specs.Serial.{IsSerial, StandsFor, word_in}
-use Rattle.session.specs.Rule.{IsRuled, region_words, IsState, IsStretch, calls_of, answers_of}
+use Rattle.session.specs.Rule.{IsRuled, region_words, IsState, IsStretch, calls_of}
 
 -- the region of no lane has used words
 abbrev IsUnused : (ℕ → ℕ) → Type 0

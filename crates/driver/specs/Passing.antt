@@ -1,5 +1,5 @@
 -- The passes of a phase over a table that phases before it had, too: the one that holds every number between phases, and those of lanes.
-use Rattle.std.specs.Prelude.{◌≡◌, ◌≢◌, ◌≤◌, ◌<◌, ◌+◌, ◌*◌, ◌^◌, ℕ, suc, List, [], ◌∷◌, ◌++◌, length, reverse, slice_index_or, IsPermutation, Result, IfOk}
+use Rattle.std.specs.Prelude.{◌≡◌, ◌≢◌, ◌≤◌, ◌<◌, ◌+◌, ◌*◌, ◌^◌, ℕ, suc, List, [], ◌∷◌, ◌++◌, length, reverse, slice_index_or, Result, IfOk}
 use mathlib.Core.Option.{none}
 use Rattle.std.specs.declared.alloc.AllocError.{AllocError}
 use Rattle.atomic_table.specs.Seated.{TableId}

@@ -1,8 +1,7 @@
-use Rattle.std.proofs.Common.{ℕ, ◌≡◌, length, map, sym, ◌∙◌, subst, arith}
-use Rattle.std.proofs.lemmas.List.{length-map}
+use Rattle.std.proofs.Common.{ℕ, ◌≡◌, length, sym, subst, arith}
 use Rattle.tx_table.specs.Passes.{book}
 use Rattle.driver.specs.Bags.{lists, as_lanes}
-use Rattle.driver.specs.Passing.{call_count, HasRoom, AreEnding, IsMidway}
+use Rattle.driver.specs.Passing.{HasRoom}
 use Rattle.driver.proofs.Bags.{count_in_bag}
 use Rattle.driver.proofs.Midway.{room_within, ending_of, midway_of}
 use Rattle.driver.proofs.Working.{lanes_long}

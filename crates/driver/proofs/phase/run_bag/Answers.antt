@@ -1,9 +1,9 @@
-use Rattle.std.proofs.Common.{◌≡◌, ◌≤◌, ◌+◌, ℕ, List, [], ◌∷◌, length, sym, ◌∙◌, ap, subst, arith}
+use Rattle.std.proofs.Common.{◌≡◌, ◌+◌, ℕ, List, [], ◌∷◌, length, ◌∙◌, ap, subst, arith}
 use Rattle.jmodel.specs.Schedule.{Known, Phase, Lanes, Bag}
 use Rattle.tx_table.specs.declared.shared.Pass.{Pass}
 use Rattle.tx_table.specs.Passes.{book}
 use Rattle.driver.specs.Over.{AddsPhase}
-use Rattle.driver.specs.Passing.{call_count, HasRoom}
+use Rattle.driver.specs.Passing.{call_count}
 use Rattle.driver.proofs.Bags.{adds_alone}
 use Rattle.driver.proofs.Lists.{on_ok}
 use Rattle.driver.proofs.phase.run_bag.Goals as goal

@@ -1,7 +1,7 @@
 use Rattle.std.proofs.Common.{length, refl, arith}
 use Rattle.tx_table.specs.Passes.{book}
 use Rattle.driver.specs.declared.side.Side.{Side}
-use Rattle.driver.specs.Passing.{call_count, AreEnding, IsJoining, IsMidway}
+use Rattle.driver.specs.Passing.{call_count, IsJoining, IsMidway}
 use Rattle.driver.proofs.Lists.{on_ok}
 use Rattle.driver.proofs.Midway.{room_within, ending_of, midway_of}
 use Rattle.driver.proofs.side_by_side.side_by_side.Goals as goal

@@ -1,7 +1,5 @@
-use Rattle.std.proofs.Common.{◌≡◌, sym, ◌∙◌, ap, subst, refl}
-use Rattle.std.specs.Prelude.{IfOk}
-use Rattle.jmodel.specs.Plays.{first_book}
-use Rattle.tx_table.specs.Passes.{book, IsOf}
+use Rattle.std.proofs.Common.{refl}
+use Rattle.tx_table.specs.Passes.{book}
 use Rattle.driver.specs.Stories.{story_of}
 use Rattle.driver.specs.Passing.{IsWhole, IsUnused}
 use Rattle.driver.proofs.Lists.{on_kept}
