@@ -1,11 +1,9 @@
-//! Tests of the crates that read and lay class files: `const_pool`, `class_reader` and `bytecode`. They stand apart, so that those
-//! crates are proved once and not a second time with their tests.
+//! Tests of parts of class files: `const_pool`, `annotations`, `bytecode` and the names of `jmodel`. They stand apart, so that those crates are proved
+//! once and not a second time with their tests.
 #![tactic(auto)]
 
 #[cfg(test)]
 mod adding;
-#[cfg(test)]
-mod classes;
 #[cfg(test)]
 mod code;
 #[cfg(test)]
@@ -18,5 +16,3 @@ mod names;
 mod pool_index;
 #[cfg(test)]
 mod pools;
-#[cfg(test)]
-mod writing;

@@ -1,5 +1,5 @@
-//! What class files mean, as data. For each class file of `data/classes`, in the order of their names, the program prints which methods are taken, the
-//! words that a run opens with, the methods of the program that the class means, with their instructions and whether they have a typing, and the
+//! What class files mean, as data. For each class file of `data/classes`, in the order of their names, the program prints whether it is written as it was
+//! read, which methods are taken, the words that a run opens with, the methods of the program that the class means, with their instructions and whether they have a typing, and the
 //! methods of the program that its rewriting means.
 #![tactic(auto)]
 
@@ -7,6 +7,7 @@ ghost use Rattle.std.specs.Prelude.{◌≡◌, Some};
 ghost use Rattle.jmodel.specs.Linking.{linked};
 
 use class_reader::read_class;
+use class_writer::write_class;
 use const_pool::ClassFile;
 use hierarchy::{Method, Program, are_taken, opening_words};
 use rewriter::rewrite_class;
@@ -33,7 +34,12 @@ fn print_file<R: Runtime + AllocGlobal>(rt: &R, alloc: Global, name: &str) -> io
     let path = format!(in alloc; "classes/{name}")?;
     let bytes = fs::read(rt, path.as_str())?;
     match read_class(alloc, bytes.as_slice()) {
-        Ok(class) => print_class(rt, alloc, &class),
+        Ok(class) => {
+            let is_kept = write_class(alloc, &class).is_ok_and(|written| written.as_slice()
+                == bytes.as_slice());
+            println!(rt; "written as read: {is_kept}")?;
+            print_class(rt, alloc, &class)
+        }
         Err(halt) => println!(rt; "{halt:?}"),
     }
 }
@@ -44,10 +50,10 @@ fn print_class<R: Runtime>(rt: &R, alloc: Global, class: &ClassFile) -> io::Resu
         return println!(rt; "no memory");
     };
     println!(rt; "taken {taken:?}")?;
-    let words = opening_words(alloc, class)?;
-    println!(rt; "words {words:?}")?;
     match Program::build(alloc, class) {
         Ok(program) => {
+            let words = opening_words(alloc, class)?;
+            println!(rt; "words {words:?}")?;
             print_program(rt, alloc, &program)?;
             print_rewriting(rt, alloc, class, &program)
         }
