@@ -179,10 +179,10 @@ opens told dir script class x can bad =
     let shut : IsUnopened can.script_bytes class x can.file = subst (λ (l : List ℕ). IsUnopened l class x can.file) bytes (held told dir (IsUnopened bad.script_bytes class x) (good_run told dir script can) bad.of_class) in
     let same = one_program can.file can.can.program shut.program can.can.runnable.links shut.runnable.links in
     let is : IsScript can.file shut.program can.script_bytes can.can.script = subst (λ (p : Program). IsScript can.file p can.script_bytes can.can.script) same can.can.is_script in
-    let budget : can.can.script.budget ≡ shut.script.budget = ap (λ (s : Script). s.budget) (one_script can.file shut.program can.script_bytes can.can.script shut.script is shut.is_script) in
-    let Opens : Program → ℕ → Type 0 = λ p n. Opening p n (opening_state (can.file ∷ [])) (initialisers p) can.can.opening in
-    let opened : Opens shut.program shut.script.budget = subst (Opens shut.program) budget (subst (λ (p : Program). Opens p can.can.script.budget) same can.can.opens) in
-    returns shut.program shut.script.budget (opening_state (can.file ∷ [])) can.can.opening (initialisers shut.program) shut.number x opened shut.fails
+    let script : can.can.script ≡ shut.script = one_script can.file shut.program can.script_bytes can.can.script shut.script is shut.is_script in
+    let Opens : Program → Script → Type 0 = λ p s. Opening p s.region s.budget (opening_state (can.file ∷ [])) (initialisers p) can.can.opening in
+    let opened : Opens shut.program shut.script = subst (Opens shut.program) script (subst (λ (p : Program). Opens p can.can.script) same can.can.opens) in
+    returns shut.program shut.script.region shut.script.budget (opening_state (can.file ∷ [])) can.can.opening (initialisers shut.program) shut.number x opened shut.fails
 
 opens_of_words : (words : List (String Global)) (files : Option Files) (class : List ℕ) (x : Answer) → IsUnopenedOfWords words files class x → CanRunWords words files → ⊥
 opens_of_words words files class x h can =

@@ -1,5 +1,5 @@
 -- Lists of a known length.
-use Rattle.std.proofs.Common.{◌+◌, add-one, take, slice_get, Some, None, ◌≡◌, ◌<◌, ℕ, zero, suc, get_or, subst, sym, List, [], ◌∷◌, length, slice_index_or, refl, arith, Result, Ok, Err}
+use Rattle.std.proofs.Common.{◌+◌, add-one, take, slice_get, Some, None, ◌≡◌, ℕ, zero, suc, List, [], ◌∷◌, length, slice_index_or, refl, arith, Result, Ok, Err}
 use Rattle.std.specs.Prelude.{IfOk}
 use Rattle.std.specs.List.{AllByRecursion}
 

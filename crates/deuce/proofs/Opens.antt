@@ -1,49 +1,62 @@
--- The words and the state that a run begins with.
-use Rattle.std.proofs.Common.{◌≡◌, ℕ, suc, ◌+◌, ◌^◌, ◌<◌, ◌≤◌, List, [], ◌∷◌, ◌++◌, length, map, Bool, true, false, not, ◌&&◌, ◌==◌, Option, Some, refl, sym, ap, subst, arith, length-append, nat_eq}
-use Rattle.std.specs.Prelude.{if◌then◌else◌}
+-- The memory and the state that a run begins with.
+use Rattle.std.proofs.Common.{◌≡◌, ℕ, zero, suc, ◌+◌, ◌*◌, ◌≤◌, List, [], ◌∷◌, ◌++◌, length, map, Bool, true, false, not, ◌==◌, nat_eq, Some, refl, sym, ap, subst, arith, length-append, ◌∙◌}
+use Rattle.std.specs.Prelude.{if◌then◌else◌, replicate, slice_index}
 use Rattle.std.proofs.lemmas.List.{length-map}
 use Rattle.std.proofs.lemmas.Bool.Decides.{nat_tests}
+use Rattle.std.proofs.Math.Nat.{mul-le-mul_right}
 use Rattle.jmodel.specs.ClassFile.{ClassFile}
 use Rattle.jmodel.specs.Program.{Program}
-use Rattle.jmodel.specs.Layout.{statics, statics_object, opening_word, bases_end, opening_words, opening_state}
-use Rattle.jmodel.specs.Meaning.{header}
-use Rattle.jmodel.specs.Linking.{linked, are_form_fields}
-use Rattle.jmodel.proofs.Formed.{formed}
-use Rattle.jmodel.proofs.Linked.{links, few_statics}
+use Rattle.jmodel.specs.Layout.{statics, statics_object, opening_word, bases_end, opening_words, opening_state, at_address}
+use Rattle.jmodel.specs.Meaning.{header, Represents}
+use Rattle.jmodel.specs.Linking.{linked}
+use Rattle.jmodel.proofs.Linked.{links}
 use Rattle.jmodel.proofs.Opening.{opens}
-use Rattle.session.specs.Rule.{IsState, region_words}
+use Rattle.driver.specs.declared.memory.Memory.{Memory}
+use Rattle.driver.specs.Memory.{used_at_first, Holds}
 
-both : (a b : Bool) → (a && b) ≡ true → (a ≡ true) × (b ≡ true)
-both true b h = (refl, h)
-both false b h = cc
-
--- a class that means a program has static fields of the form
-of_form : (c : ClassFile) (P : Program) → linked c ≡ Some P → are_form_fields c ≡ true
-of_form c P h = (both _ _ (formed c P h).outside).1
-
--- they are few
-room : (c : ClassFile) (P : Program) → linked c ≡ Some P → bases_end (c ∷ []) ≤ region_words
-room c P h = go (not (length (statics c) == 0)) (few_statics c (of_form c P h))
+-- there are as many opening words as the static bases take
+pub fixed_words : (c : ClassFile) → length (opening_words (c ∷ [])) ≡ bases_end (c ∷ [])
+fixed_words c = go (not (length (statics c) == 0))
   where
-    go : (b : Bool) → length (statics c) ≤ 100 → 2 + (0 + (if b then length (statics c) + 1 else 0)) ≤ region_words
-    go true k = omega (arith, k)
-    go false k = omega arith
+    go : (b : Bool) → length (0 ∷ 0 ∷ ((if b then header (statics_object (c ∷ []) 0 c) ∷ map (opening_word c.pool) (statics c) else []) ++ [])) ≡ 2 + (0 + (if b then length (statics c) + 1 else 0))
+    go true = omega (arith, length-map (statics c) (opening_word c.pool), length-append (map (opening_word c.pool) (statics c)) [])
+    go false = omega arith
 
--- a table has room for the words
-pub opening_size : (c : ClassFile) (P : Program) (words : List ℕ) → linked c ≡ Some P → words ≡ opening_words (c ∷ []) → length words + 4097 < 2 ^ 32
-opening_size c P words h is = rw is (go (not (length (statics c) == 0)) (few_statics c (of_form c P h)))
+-- words behind which all are 0
+beyond : (xs : List ℕ) (n a : ℕ) → slice_index (xs ++ replicate n 0) a ≡ slice_index xs a
+beyond (x ∷ xs) n zero = refl
+beyond (x ∷ xs) n (suc a) = beyond xs n a
+beyond [] n a = none n a
   where
-    go : (b : Bool) → length (statics c) ≤ 100
-        → length (0 ∷ 0 ∷ ((if b then header (statics_object (c ∷ []) 0 c) ∷ map (opening_word c.pool) (statics c) else []) ++ [])) + 4097 < 2 ^ 32
-    go true k = omega (arith, k, length-map (statics c) (opening_word c.pool), length-append (map (opening_word c.pool) (statics c)) [])
-    go false k = omega arith
+    none : (n a : ℕ) → slice_index (replicate n 0) a ≡ 0
+    none zero a = refl
+    none (suc n) zero = refl
+    none (suc n) (suc a) = none n a
 
--- no word of a lane is used
-first_used : (c : ClassFile) (lane : ℕ) → (opening_state (c ∷ [])).used (suc lane) ≡ 0
-first_used c lane = let other : nat_eq (suc lane) 0 ≡ false = grind (arith, nat_tests) in ap (λ (b : Bool). if b then bases_end (c ∷ []) else 0) other
+-- the used words of each region are those of the state
+used_first : (c : ClassFile) (used region : ℕ) → used ≡ bases_end (c ∷ []) → (opening_state (c ∷ [])).used region ≡ used_at_first used region
+used_first c used zero same =
+    let here : nat_eq 0 0 ≡ true = grind (arith, nat_tests) in
+    ap (λ (b : Bool). if b then bases_end (c ∷ []) else 0) here ∙ sym same
+used_first c used (suc region) same =
+    let other : nat_eq (suc region) 0 ≡ false = grind (arith, nat_tests) in
+    ap (λ (b : Bool). if b then bases_end (c ∷ []) else 0) other
 
--- the words stand for the state
-pub opening_stands : (c : ClassFile) (P : Program) (words : List ℕ) → linked c ≡ Some P → words ≡ opening_words (c ∷ []) → IsState P words (opening_state (c ∷ []))
-opening_stands c P words h is =
-    let States : List ℕ → Type 0 = λ ws. IsState P ws (opening_state (c ∷ [])) in
-    subst States (sym is) (record { represents = opens c P region_words (links c P h).fields (room c P h); unused = λ lane. first_used c lane })
+-- memory stands for the state of the opening words
+pub opening_holds : (c : ClassFile) (P : Program) (size n : ℕ) (memory : Memory) → linked c ≡ Some P → memory.words.items ≡ opening_words (c ∷ []) ++ replicate n 0
+    → memory.used ≡ length (opening_words (c ∷ [])) → length (opening_words (c ∷ [])) ≤ size → Holds P size memory (opening_state (c ∷ []))
+opening_holds c P size n memory h words used room =
+    let words_are : at_address (opening_words (c ∷ [])) ≡ at_address memory.words.items =
+    λ i a. sym (ap (λ (l : List ℕ). slice_index l a) words ∙ beyond (opening_words (c ∷ [])) n a) i in
+    let fixed = fixed_words c in
+    record {
+      represents = subst (λ (w : ℕ → ℕ). Represents P size w (opening_state (c ∷ []))) words_are (opens (c ∷ []) P size (links c P h).fields (omega (arith, fixed, room)));
+      used_are = λ region. used_first c memory.used region (used ∙ fixed);
+    }
+
+-- all regions have room for the words of one, and aren't too many words together
+pub room_for : (size lanes n : ℕ) → n ≤ size → n ≤ size * (lanes + 1)
+room_for size lanes n small = let more : 1 * size ≤ (lanes + 1) * size = mul-le-mul_right size (omega arith) in omega (arith, more, small)
+
+pub few_words : (size lanes : ℕ) → size ≤ 1048576 → lanes ≤ 16 → size * (lanes + 1) ≤ 17825792
+few_words size lanes small few = let more : size * (lanes + 1) ≤ 1048576 * (lanes + 1) = mul-le-mul_right (lanes + 1) small in omega (arith, more, few)

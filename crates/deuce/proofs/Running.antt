@@ -21,9 +21,11 @@ use Rattle.jmodel.specs.Output.{Line, journal_text}
 use Rattle.rewriter.specs.Rewritten.{rewritten_class}
 use Rattle.script.specs.Script.{Script, IsScript}
 use Rattle.session.specs.declared.record.Record.{Record}
-use Rattle.session.specs.Rule.{IsReady, IsState}
+use Rattle.session.specs.Rule.{IsReady}
 use Rattle.session.specs.Lane.{record_of}
 use Rattle.driver.specs.declared.journal.Journal.{Journal}
+use Rattle.driver.specs.declared.memory.Memory.{Memory}
+use Rattle.driver.specs.Memory.{Holds}
 use Rattle.driver.specs.Runs.{HasRun, made_of}
 use Rattle.driver.specs.SetUp.{EndsSetUp}
 use Rattle.driver.specs.declared.setting_up.SetUpEnd.{SetUpEnd}
@@ -32,7 +34,7 @@ use Rattle.deuce.specs.declared.run.RunEnd.{RunEnd}
 use Rattle.deuce.specs.declared.run.RunEnd.TheVariants as run_ends
 use Rattle.deuce.specs.Headline.{line_of, AreCalls, IsRun, IsRunnable}
 use Rattle.deuce.specs.Lines.{line_in}
-use Rattle.deuce.specs.Ending.{IsOutsideForm, IsBadScript, IsUnopened, NoScript, NoOpening, EndsOnClass, EndsBuild, EndsTyping, EndsRewriting, EndsOpening, IsOpened, IsUnopenedAs, EndsScript}
+use Rattle.deuce.specs.Ending.{IsOutsideForm, IsBadScript, IsUnopened, NoScript, NoOpening, EndsOnClass, EndsBuild, EndsTyping, EndsRewriting, EndsOpening, IsUnopenedAs, EndsScript}
 
 -- the rewriting of a typed program that a class means is ready to run
 pub ready : (c : ClassFile) (P Q : Program) → linked c ≡ Some P → AllByRecursion (IsTypable P) P.methods → Q ≡ rewritten P → IsReady P Q
@@ -47,9 +49,9 @@ lines_same P [] = refl
 lines_same P (t ∷ ts) = ap (λ (ls : List Line). line_of P (made_of t) ∷ ls) (lines_same P ts)
 
 -- the printed journal of a run is that of the calls of the original methods
-pub are_calls : (P : Program) (budget : ℕ) (phases : List ScriptPhase) (words : List ℕ) (journal : Journal) (σ : State) (text : List ℕ) → HasRun P budget phases words journal → IsState P words σ
-    → text ≡ journal_text (map (line_in P) journal.placed.items) (map (line_in P) journal.unplaced.items) → AreCalls P budget σ phases text
-are_calls P budget phases words journal σ text run stands is = record {
+pub are_calls : (P : Program) (size budget : ℕ) (phases : List ScriptPhase) (memory : Memory) (journal : Journal) (σ : State) (text : List ℕ) → HasRun P size budget phases memory journal → Holds P size memory σ
+    → text ≡ journal_text (map (line_in P) journal.placed.items) (map (line_in P) journal.unplaced.items) → AreCalls P size budget σ phases text
+are_calls P size budget phases memory journal σ text run stands is = record {
   placed = map made_of run.placed;
   unplaced = map made_of run.unplaced;
   is_journal = run.is_journal σ stands;
@@ -60,7 +62,7 @@ are_calls P budget phases words journal σ text run stands is = record {
 }
 
 pub is_run : (bytes script : List ℕ) (c : ClassFile) (P : Program) (s : Script) (seen : List ScriptPhase) (text : List ℕ) → Spells bytes c → linked c ≡ Some P → AllByRecursion (IsTypable P) P.methods
-    → IsScript c P script s → seen ≡ s.phases → (τ : State) → Opening P s.budget (opening_state (c ∷ [])) (initialisers P) τ → AreCalls P s.budget τ seen text → IsRun bytes script text
+    → IsScript c P script s → seen ≡ s.phases → (τ : State) → Opening P s.region s.budget (opening_state (c ∷ [])) (initialisers P) τ → AreCalls P s.region s.budget τ seen text → IsRun bytes script text
 is_run bytes script c P s seen text spells is typed is_script same τ opens are = record {
   file = c;
   spells = spells;
@@ -71,7 +73,7 @@ is_run bytes script c P s seen text spells is typed is_script same τ opens are 
   is_script = is_script;
   opening = τ;
   opens = opens;
-  are_calls = subst (λ (ks : List ScriptPhase). AreCalls P s.budget τ ks text) same are;
+  are_calls = subst (λ (ks : List ScriptPhase). AreCalls P s.region s.budget τ ks text) same are;
 }
 
 -- ---- ends
@@ -133,33 +135,34 @@ of_preparing c Bad Shut Unbuilt run_ends.NotBuilt f h = f h
 of_preparing c Bad Shut Unbuilt run_ends.NoMemory f h = tt
 
 -- the end of a run whose static initialisers fail
-pub of_failing : (c : ClassFile) (P : Program) (budget : ℕ) (words : List ℕ) (s : SetUpEnd) (e : RunEnd) → EndsSetUp P budget words s → IsState P words (opening_state (c ∷ [])) → IsUnopenedAs c s e
-    → EndsOpening c P budget e
-of_failing c P budget words (set_ends.Failed n x) (run_ends.BadClass r) cause stands is = absurd is
-of_failing c P budget words (set_ends.Failed n x) (run_ends.BadProgram r) cause stands is = absurd is
-of_failing c P budget words (set_ends.Failed n x) (run_ends.Untyped r) cause stands is = absurd is
-of_failing c P budget words (set_ends.Failed n x) (run_ends.BadScript r) cause stands is = absurd is
-of_failing c P budget words (set_ends.Failed n x) (run_ends.Unopened name y) cause stands is =
-    let Failing : Answer → Type 0 = λ z. Fails P budget (opening_state (c ∷ [])) (initialisers P) n z in
+pub of_failing : (c : ClassFile) (P : Program) (size budget : ℕ) (memory : Memory) (s : SetUpEnd) (e : RunEnd) → EndsSetUp P size budget memory s → Holds P size memory (opening_state (c ∷ [])) → IsUnopenedAs c s e
+    → EndsOpening c P size budget e
+of_failing c P size budget memory (set_ends.Failed n x) (run_ends.BadClass r) cause stands is = absurd is
+of_failing c P size budget memory (set_ends.Failed n x) (run_ends.BadProgram r) cause stands is = absurd is
+of_failing c P size budget memory (set_ends.Failed n x) (run_ends.Untyped r) cause stands is = absurd is
+of_failing c P size budget memory (set_ends.Failed n x) (run_ends.BadScript r) cause stands is = absurd is
+of_failing c P size budget memory (set_ends.Failed n x) (run_ends.Unopened name y) cause stands is =
+    let Failing : Answer → Type 0 = λ z. Fails P size budget (opening_state (c ∷ [])) (initialisers P) n z in
     (is.0, n, subst Failing (sym is.1) (cause (opening_state (c ∷ [])) stands))
-of_failing c P budget words (set_ends.Failed n x) run_ends.NotBuilt cause stands is = absurd is
-of_failing c P budget words (set_ends.Failed n x) run_ends.NoMemory cause stands is = tt
-of_failing c P budget words set_ends.NoMemory (run_ends.BadClass r) cause stands is = absurd is
-of_failing c P budget words set_ends.NoMemory (run_ends.BadProgram r) cause stands is = absurd is
-of_failing c P budget words set_ends.NoMemory (run_ends.Untyped r) cause stands is = absurd is
-of_failing c P budget words set_ends.NoMemory (run_ends.BadScript r) cause stands is = absurd is
-of_failing c P budget words set_ends.NoMemory (run_ends.Unopened name y) cause stands is = absurd is
-of_failing c P budget words set_ends.NoMemory run_ends.NotBuilt cause stands is = absurd is
-of_failing c P budget words set_ends.NoMemory run_ends.NoMemory cause stands is = tt
+of_failing c P size budget memory (set_ends.Failed n x) run_ends.NotBuilt cause stands is = absurd is
+of_failing c P size budget memory (set_ends.Failed n x) run_ends.NoMemory cause stands is = tt
+of_failing c P size budget memory set_ends.NoMemory (run_ends.BadClass r) cause stands is = absurd is
+of_failing c P size budget memory set_ends.NoMemory (run_ends.BadProgram r) cause stands is = absurd is
+of_failing c P size budget memory set_ends.NoMemory (run_ends.Untyped r) cause stands is = absurd is
+of_failing c P size budget memory set_ends.NoMemory (run_ends.BadScript r) cause stands is = absurd is
+of_failing c P size budget memory set_ends.NoMemory (run_ends.Unopened name y) cause stands is = absurd is
+of_failing c P size budget memory set_ends.NoMemory run_ends.NotBuilt cause stands is = absurd is
+of_failing c P size budget memory set_ends.NoMemory run_ends.NoMemory cause stands is = tt
 
 -- why a script isn't run whose static initialisers fail
-pub of_opening : (c : ClassFile) (P : Program) (bytes : List ℕ) (s : Script) (budget : ℕ) (e : RunEnd) → IsScript c P bytes s → budget ≡ s.budget → EndsOpening c P budget e → EndsScript c P bytes e
-of_opening c P bytes s budget (run_ends.BadClass r) is same h = absurd h
-of_opening c P bytes s budget (run_ends.BadProgram r) is same h = absurd h
-of_opening c P bytes s budget (run_ends.Untyped r) is same h = absurd h
-of_opening c P bytes s budget (run_ends.BadScript r) is same h = absurd h
-of_opening c P bytes s budget (run_ends.Unopened name x) is same h =
-    let Ends : ℕ → Type 0 = λ b. EndsOpening c P b (run_ends.Unopened name x) in
-    (s, is, subst Ends same h)
-of_opening c P bytes s budget run_ends.NotBuilt is same h = absurd h
-of_opening c P bytes s budget run_ends.NoMemory is same h = tt
+pub of_opening : (c : ClassFile) (P : Program) (bytes : List ℕ) (s : Script) (size budget : ℕ) (e : RunEnd) → IsScript c P bytes s → size ≡ s.region → budget ≡ s.budget → EndsOpening c P size budget e → EndsScript c P bytes e
+of_opening c P bytes s size budget (run_ends.BadClass r) is room same h = absurd h
+of_opening c P bytes s size budget (run_ends.BadProgram r) is room same h = absurd h
+of_opening c P bytes s size budget (run_ends.Untyped r) is room same h = absurd h
+of_opening c P bytes s size budget (run_ends.BadScript r) is room same h = absurd h
+of_opening c P bytes s size budget (run_ends.Unopened name x) is room same h =
+    let Sizes : ℕ → Type 0 = λ n. EndsOpening c P n budget (run_ends.Unopened name x) in
+    let Ends : ℕ → Type 0 = λ b. EndsOpening c P s.region b (run_ends.Unopened name x) in
+    (s, is, subst Ends same (subst Sizes room h))
+of_opening c P bytes s size budget run_ends.NotBuilt is room same h = absurd h
+of_opening c P bytes s size budget run_ends.NoMemory is room same h = tt

@@ -22,7 +22,7 @@ use Rattle.jmodel.specs.Reading.{◌>>=◌}
 use Rattle.jmodel.specs.Schedule.{Known, Phase, ScriptPhase, Lanes, Bag, takes, lists_in, lane_calls, phase_calls, script_calls}
 use Rattle.script.specs.declared.head.Head.{Head}
 use Rattle.script.specs.Json.{under, at, bad_shape, must, or_refused, each_from, as_list, as_whole, is_object_of, is_object_with, wanted}
-use Rattle.script.specs.Script.{script_keys, within, Listed, InLanes, InBag, lanes_path, bag_path, list_in, lists_of_lanes, lanes_at, lists_at, lists_of_phase, head_of, lists_of, numbers_within, is_within, number_named, not_callable, as_value, types_of, value_in, values_of, known_at, call_in, lane_in, lanes_of, bag_of, phase_of, calls_of, Script, script_with, script_of, script_in, IsScript, least, greatest, truth_value, as_number_of, as_value, types_of, value_in, values_of}
+use Rattle.script.specs.Script.{script_keys, within, Listed, InLanes, InBag, lanes_path, bag_path, list_in, lists_of_lanes, lanes_at, lists_at, lists_of_phase, head_of, lists_of, numbers_within, is_within, number_named, not_callable, as_value, types_of, value_in, values_of, known_at, call_in, lane_in, lanes_of, bag_of, phase_of, calls_of, Script, script_with, script_of, IsScript, least, greatest, truth_value, as_number_of}
 use Rattle.session.specs.Rule.{IsCallOf}
 use Rattle.driver.specs.Runs.{AreScripted, HasLanes}
 
@@ -77,6 +77,12 @@ some n h = grind (arith, ints, nat_tests)
 
 few : (n : ℤ) → (int_le (pos 1) n && int_le n (pos 1000000)) ≡ true → unsigned_abs n ≤ 1000000
 few n h = grind (arith, ints, nat_tests)
+
+room : (m : ℕ) (n : ℤ) → (int_le (pos m) n && int_le n (pos 1048576)) ≡ true → m ≤ unsigned_abs n
+room m n h = grind (arith, ints, nat_tests)
+
+most_words : (m : ℕ) (n : ℤ) → (int_le (pos m) n && int_le n (pos 1048576)) ≡ true → unsigned_abs n ≤ 1048576
+most_words m n h = grind (arith, ints, nat_tests)
 
 few_lanes : (m : ℕ) (n : ℤ) → int_le (pos m) n ≡ true → (int_le (pos 1) n && int_le n (pos 16)) ≡ true → m ≤ 16
 few_lanes m n h k = grind (arith, ints, nat_tests)
@@ -267,6 +273,9 @@ record HasParts (file : ClassFile) (P : Program) (s : Script) : Type 0 where
   phases : each_from (phase_of file P (unsigned_abs head.lanes)) 0 lists ≡ Ok s.phases
   calls : nat_le (sum_by calls_of s.phases) 100000 ≡ true
   attempts_are : s.attempts ≡ unsigned_abs head.attempts
+  region : (int_le (pos (length (opening_words (file ∷ [])))) head.region && int_le head.region (pos 1048576)) ≡ true
+  region_is : s.region ≡ unsigned_abs head.region
+  lanes_is : s.lanes ≡ unsigned_abs head.lanes
 
 module _ (file : ClassFile) (P : Program) (s : Script) where
   parts_of : (d : Data) (head : Head) (lists : List Listed) → lists_of head.lanes d ≡ Ok lists → script_of file P head lists ≡ Ok s → HasParts file P s
@@ -280,10 +289,11 @@ module _ (file : ClassFile) (P : Program) (s : Script) where
       let attempts = inside (codes "attempts") (pos 1) (pos 1000000) head.attempts (Ok head) b.0 budget.1 in
       let words = inside (codes "region") (pos (length (opening_words (file ∷ [])))) (pos 1048576) b.0.region (within (codes "phases") (pos 0) (pos 10000) (pos (length lists)) (Ok b.0)) a.0 b.2 in
       let many = inside (codes "phases") (pos 0) (pos 10000) (pos (length lists)) (Ok b.0) a.0 words.1 in
+      let same_head : b.0 ≡ head = let x = attempts.1 in cc in
       let kept : head ≡ a.0 = let x = attempts.1 in let y = many.1 in cc in
       let c = bound (each_from (phase_of file P (unsigned_abs head.lanes)) 0 lists) (script_with a.0) s a.2 in
-      let e = passed (nat_le (sum_by calls_of c.0) 100000) (OverLimit (codes "calls") (pos (sum_by calls_of c.0))) (Ok (record { budget = unsigned_abs a.0.budget; attempts = unsigned_abs a.0.attempts; phases = c.0 })) s c.2 in
-      let is : s ≡ record { budget = unsigned_abs a.0.budget; attempts = unsigned_abs a.0.attempts; phases = c.0 } = let x = e.1 in cc in
+      let e = passed (nat_le (sum_by calls_of c.0) 100000) (OverLimit (codes "calls") (pos (sum_by calls_of c.0))) (Ok (record { budget = unsigned_abs a.0.budget; attempts = unsigned_abs a.0.attempts; lanes = unsigned_abs a.0.lanes; region = unsigned_abs a.0.region; phases = c.0 })) s c.2 in
+      let is : s ≡ record { budget = unsigned_abs a.0.budget; attempts = unsigned_abs a.0.attempts; lanes = unsigned_abs a.0.lanes; region = unsigned_abs a.0.region; phases = c.0 } = let x = e.1 in cc in
       let phases : s.phases ≡ c.0 = ap (λ (t : Script). t.phases) is in
       record {
         head = head;
@@ -295,6 +305,9 @@ module _ (file : ClassFile) (P : Program) (s : Script) where
         phases = c.1 ∙ ap (λ (ps : List ScriptPhase). Ok ps) (sym phases);
         calls = ap (λ (ps : List ScriptPhase). nat_le (sum_by calls_of ps) 100000) phases ∙ e.0;
         attempts_are = ap (λ (t : Script). t.attempts) is ∙ ap (λ (k : Head). unsigned_abs k.attempts) (sym kept);
+        region = subst (λ (k : Head). (int_le (pos (length (opening_words (file ∷ [])))) k.region && int_le k.region (pos 1048576)) ≡ true) same_head words.0;
+        lanes_is = ap (λ (t : Script). t.lanes) is ∙ ap (λ (k : Head). unsigned_abs k.lanes) (sym kept);
+        region_is = ap (λ (t : Script). t.region) is ∙ ap (λ (k : Head). unsigned_abs k.region) (sym kept);
       }
 
   parts : (bytes : List ℕ) → IsScript file P bytes s → HasParts file P s
@@ -326,3 +339,13 @@ module _ (file : ClassFile) (P : Program) (s : Script) where
   few_attempts bytes is =
       let p = parts bytes is in
       rw p.attempts_are (some p.head.attempts p.attempts, few p.head.attempts p.attempts)
+
+  -- a region has room for the words that a run begins with
+  pub region_fits : (bytes : List ℕ) → IsScript file P bytes s → (length (opening_words (file ∷ [])) ≤ s.region) × (s.region ≤ 1048576)
+  region_fits bytes is =
+      let p = parts bytes is in
+      rw p.region_is (room (length (opening_words (file ∷ []))) p.head.region p.region, most_words (length (opening_words (file ∷ []))) p.head.region p.region)
+
+  -- and there are few lanes
+  pub lanes_fit : (bytes : List ℕ) → IsScript file P bytes s → s.lanes ≤ 16
+  lanes_fit bytes is = let p = parts bytes is in rw p.lanes_is (some_lanes p.head.lanes p.lanes).1

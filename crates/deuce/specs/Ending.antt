@@ -18,7 +18,8 @@ use Rattle.jmodel.specs.Program.{Method, Program}
 use Rattle.jmodel.specs.State.{State}
 use Rattle.jmodel.specs.Layout.{opening_state}
 use Rattle.jmodel.specs.Opening.{initialisers, Opening, Fails}
-use Rattle.session.specs.Rule.{IsState}
+use Rattle.driver.specs.declared.memory.Memory.{Memory}
+use Rattle.driver.specs.Memory.{Holds as StandsFor}
 use Rattle.driver.specs.declared.setting_up.SetUpEnd.{SetUpEnd}
 use Rattle.driver.specs.declared.setting_up.SetUpEnd.TheVariants as set_ends
 use Rattle.jmodel.specs.Decoding.{own_name}
@@ -189,7 +190,7 @@ abbrev pub IsBadScript : List ℕ → Refusal → ClassFile → Type 0
 IsBadScript bytes r file = (P : Program) × IsRunnable file P × IsNoScript file P bytes r
 
 -- Why a run doesn't begin: the class can be run and the bytes are a script for it, but its static initialiser, run alone from the state of
--- the opening words, within the script's turns, doesn't return. It ends so; the name is that of the class.
+-- the opening words, within the script's turns and the words of a region, doesn't return. It ends so; the name is that of the class.
 pub record IsUnopened (bytes name : List ℕ) (x : Answer) (file : ClassFile) : Type 0 where
   pub program : Program
   pub runnable : IsRunnable file program
@@ -197,7 +198,7 @@ pub record IsUnopened (bytes name : List ℕ) (x : Answer) (file : ClassFile) : 
   pub is_script : IsScript file program bytes script
   pub class : name ≡ own_name file
   pub number : ℕ
-  pub fails : Fails program script.budget (opening_state (file ∷ [])) (initialisers program) number x
+  pub fails : Fails program script.region script.budget (opening_state (file ∷ [])) (initialisers program) number x
 
 -- the class isn't of the form that is built so far
 abbrev pub IsOutsideForm : ClassFile → Type 0
@@ -313,15 +314,15 @@ IsLimit file fault (run_ends.BadProgram r) = r ≡ in_class (own_name file) faul
 IsLimit file fault run_ends.NoMemory = Unit {0}
 IsLimit file fault end = ⊥
 
--- words stand for the state that the static initialisers leave, from the state of the opening words
-abbrev pub IsOpened : ClassFile → Program → ℕ → List ℕ → Type 0
-IsOpened file P budget words = (τ : State) × Opening P budget (opening_state (file ∷ [])) (initialisers P) τ × IsState P words τ
+-- memory stands for the state that the static initialisers leave, from the state of the opening words
+abbrev pub IsOpened : ClassFile → Program → ℕ → ℕ → Memory → Type 0
+IsOpened file P size budget memory = (τ : State) × Opening P size budget (opening_state (file ∷ [])) (initialisers P) τ × StandsFor P size memory τ
 
 -- why the static initialisers of a class leave none
-abbrev pub EndsOpening : ClassFile → Program → ℕ → RunEnd → Type 0
-EndsOpening file P budget (run_ends.Unopened name x) = (name ≡ own_name file) × (n : ℕ) × Fails P budget (opening_state (file ∷ [])) (initialisers P) n x
-EndsOpening file P budget run_ends.NoMemory = Unit {0}
-EndsOpening file P budget end = ⊥
+abbrev pub EndsOpening : ClassFile → Program → ℕ → ℕ → RunEnd → Type 0
+EndsOpening file P size budget (run_ends.Unopened name x) = (name ≡ own_name file) × (n : ℕ) × Fails P size budget (opening_state (file ∷ [])) (initialisers P) n x
+EndsOpening file P size budget run_ends.NoMemory = Unit {0}
+EndsOpening file P size budget end = ⊥
 
 -- the end of a run on a class whose static initialisers ended so
 abbrev pub IsUnopenedAs : ClassFile → SetUpEnd → RunEnd → Type 0
@@ -333,7 +334,7 @@ IsUnopenedAs file e end = ⊥
 -- why a script isn't run on a class that can be
 abbrev pub EndsScript : ClassFile → Program → List ℕ → RunEnd → Type 0
 EndsScript file P bytes (run_ends.BadScript r) = IsNoScript file P bytes r
-EndsScript file P bytes (run_ends.Unopened name x) = (s : Script) × IsScript file P bytes s × EndsOpening file P s.budget (run_ends.Unopened name x)
+EndsScript file P bytes (run_ends.Unopened name x) = (s : Script) × IsScript file P bytes s × EndsOpening file P s.region s.budget (run_ends.Unopened name x)
 EndsScript file P bytes run_ends.NoMemory = Unit {0}
 EndsScript file P bytes end = ⊥
 

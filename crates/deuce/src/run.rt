@@ -1,5 +1,5 @@
 //! A run, from the bytes of a class file and a script to the text of its journal.
-ghost use Rattle.std.specs.Prelude.{◌≡◌, ◌≤◌, ◌<◌, ◌+◌, ◌^◌, ℕ, List, length, Some, Ok, IfOk, IfErr, OnOk};
+ghost use Rattle.std.specs.Prelude.{◌≡◌, ◌≤◌, ◌<◌, ◌+◌, ◌^◌, ℕ, List, [], ◌∷◌, length, Some, Ok, IfOk, IfErr, OnOk};
 ghost use Rattle.jmodel.specs.ClassRules.{IsClassFile, Spells};
 ghost use Rattle.jmodel.specs.Linking.{linked};
 ghost use Rattle.jmodel.specs.Rewriting.{rewritten as rewritten_program};
@@ -10,16 +10,19 @@ ghost use Rattle.rewriter.specs.Rewritten.{rewritten_class};
 ghost use Rattle.deuce.specs.Headline.{IsRun};
 ghost use Rattle.deuce.specs.Ending.{EndsReading, EndsCommand, EndsOnClass, EndsBuild, EndsRewriting, EndsScript, EndsOpening, IsOpened, IsUnopenedAs, IsLimit, IsBadScript, IsUnopened, NoScript, NoOpening, IsOutsideForm};
 ghost use Rattle.script.specs.Script.{IsScript};
+ghost use Rattle.jmodel.specs.Layout.{opening_words as first_words, opening_state};
+ghost use Rattle.jmodel.specs.Program.{Program as Meant};
 ghost use Rattle.session.specs.Rule.{IsReady};
+ghost use Rattle.driver.specs.Memory.{Holds};
 
 use crate::inputs::CLASS_LIMIT;
 use crate::text::journal;
 use crate::typed::type_all;
 use class_reader::read_class;
 use const_pool::ClassFile;
-use driver::{Limits, SetUpEnd, run_phases, set_up};
+use driver::{Limits, Memory, SetUpEnd, run_phases, set_up};
 use hierarchy::symbols::own_name;
-use hierarchy::{BuildEnd, Program, opening_words};
+use hierarchy::{BuildEnd, Program, memory_words, opening_words};
 use jmodel::{Answer, Bytes, Halt, Refusal};
 use rewriter::{Rewriting, rewrite};
 use script::{Script, read_script};
@@ -199,25 +202,49 @@ fn script_of(
     }
 }
 
-/// Runs the static initialisers of a class's program by its rewriting, alone, over the words that memory begins with, and gives the words that
-/// they left.
+/// The memory that a run of so many lanes begins with: the words of the static bases, those of the other regions behind them, and as many used words in
+/// region 0 as the static bases have.
+fn first_memory(
+    alloc: Global,
+    class: &ClassFile,
+    lanes: u64,
+    size: u64,
+) -> Result<Memory, AllocError>
+    requires lanes { lanes ≤ 16 }
+    requires room { (length (first_words (class.now ∷ [])) ≤ size) × (size ≤ 1048576) }
+    ensures holds { (P : Meant) → linked class.now ≡ Some P → IfOk result (λ m. Holds P size m (opening_state (class.now ∷ []))) }
+    ensures size { IfOk result (λ m. length m.words.items + 4097 < 2 ^ 32) }
+{
+    let fixed = opening_words(alloc, class)?;
+    let words = memory_words(alloc, class, size as usize, lanes as usize + 1)?;
+    Ok(Memory {
+        words,
+        used: fixed.len() as u64,
+    })
+}
+
+/// Runs the static initialisers of a class's program by its rewriting, alone, over the memory that a run of so many lanes begins with, and gives the
+/// memory that they left.
 fn opened(
     alloc: Global,
     class: &ClassFile,
     original: &Program,
     rewritten: &Program,
+    lanes: u64,
     limits: Limits,
-) -> Result<Vec<u64>, RunEnd>
+) -> Result<Memory, RunEnd>
     requires links { linked class.now ≡ Some original.now }
     requires ready { IsReady original.now rewritten.now }
     requires attempts { (1 ≤ limits.attempts) × (limits.attempts ≤ 1000000) }
-    ensures opens { IfOk result (λ words. IsOpened class.now original.now limits.budget words.items) }
-    ensures size { IfOk result (λ words. length words.items + 4097 < 2 ^ 32) }
-    ensures cause { IfErr result (EndsOpening class.now original.now limits.budget) }
+    requires lanes { lanes ≤ 16 }
+    requires room { (length (first_words (class.now ∷ [])) ≤ limits.size) × (limits.size ≤ 1048576) }
+    ensures opens { IfOk result (IsOpened class.now original.now limits.size limits.budget) }
+    ensures size { IfOk result (λ m. length m.words.items + 4097 < 2 ^ 32) }
+    ensures cause { IfErr result (EndsOpening class.now original.now limits.size limits.budget) }
 {
-    let words = opening_words(alloc, class)?;
-    match set_up(alloc, original, rewritten, words, limits) {
-        Ok(words) => Ok(words),
+    let memory = first_memory(alloc, class, lanes, limits.size)?;
+    match set_up(alloc, original, rewritten, memory, limits) {
+        Ok(memory) => Ok(memory),
         Err(end) => Err(unopened(alloc, class, end)),
     }
 }
@@ -253,14 +280,15 @@ fn run_script<R: Threads + Sync>(
     let limits = Limits {
         budget: wanted.budget,
         attempts: wanted.attempts,
+        size: wanted.region,
     };
-    let words = opened(alloc, class, original, rewritten, limits)?;
+    let memory = opened(alloc, class, original, rewritten, wanted.lanes, limits)?;
     let made = run_phases(
         rt,
         alloc,
         original,
         rewritten,
-        words,
+        memory,
         limits,
         wanted.phases.as_slice(),
     )?;

@@ -33,13 +33,13 @@ pub gathered_none : (phase : ℕ) → IsGathered phase [] [] [] []
 gathered_none phase = record { tolds = []; parts_are = tt; history = IsPermutation-refl []; placed_are = refl }
 
 abbrev pub part_of : Lane → Part
-part_of l = record { made = l.made; unplaced = l.unplaced }
+part_of l = record { made = l.made; used = l.used; unplaced = l.unplaced }
 
 -- one lane more, whose pass has its entries from the last on
-pub gathered_more : (phase : ℕ) (ls : Phase) (es : List Entry) (placed : List Record) (parts : List Part) (cs : List Known) (h : List Entry) (l : Lane)
-    → IsGathered phase ls es placed parts → HasMade (record { phase = phase; lane = length ls; first = 0 }) cs h l
+pub gathered_more : (phase before : ℕ) (ls : Phase) (es : List Entry) (placed : List Record) (parts : List Part) (cs : List Known) (h : List Entry) (l : Lane)
+    → IsGathered phase ls es placed parts → HasMade (record { phase = phase; lane = length ls; first = 0 }) before cs h l
     → IsGathered phase (ls ++ cs ∷ []) (es ++ reverse h) (placed ++ l.placed.items) (parts ++ part_of l ∷ [])
-gathered_more phase ls es placed parts cs h l g made =
+gathered_more phase before ls es placed parts cs h l g made =
     let ts = made.tolds in
     let all : flat_map (filter is_placed) g.tolds ++ filter is_placed ts ≡ flat_map (filter is_placed) (g.tolds ++ ts ∷ []) =
     flat_map_more (filter is_placed) [] g.tolds ts in

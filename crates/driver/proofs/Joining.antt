@@ -63,6 +63,7 @@ joins_first t b phase n p s = record {
   stand_behind = λ e i. absurd i;
   known = λ e i. absurd i;
   back = λ lane low. absurd (omega (arith, low));
+  used = λ lane d low. absurd (omega (arith, low));
   gone = λ lane any low. s.gone lane low;
   kept = s.kept;
 }
@@ -105,7 +106,7 @@ module _ (t : TableId) (b : Book) (phase k : ℕ) (lanes : Phase) (ends : List (
       let under : length (take k lanes) < length ends = omega arith in
       let here : HasEnded t b.seen phase (length (take k lanes)) calls (lane, other) = subst (λ (n : ℕ). HasEnded t b.seen phase n calls (lane, other)) (sym few) mine in
       let next = joins_next t b phase (length ends) (call_count (take k lanes)) (length calls) (take k lanes) calls placed parts lane here.history p q other j under
-      (as_many phase 0 (take k lanes) (none_made (take k lanes)) j.gathered.tolds parts j.gathered.parts_are) here.pass here.made same join in
+      (as_many phase 0 (take k lanes) (none_made (take k lanes)) j.gathered.tolds parts j.gathered.parts_are) here.pass here.before here.made here.used same join in
       let Counts : ℕ → Type 0 = λ n. IsJoining t b phase (length ends) n (take k lanes ++ calls ∷ []) (placed ++ lane.placed.items) (parts ++ part_of lane ∷ []) q in
       let Lanes : Phase → Type 0 = λ ls. IsJoining t b phase (length ends) (call_count ls) ls (placed ++ lane.placed.items) (parts ++ part_of lane ∷ []) q in
       let Placed : List Record → Type 0 =

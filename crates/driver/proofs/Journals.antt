@@ -13,14 +13,16 @@ use Rattle.jmodel.specs.State.{State}
 use Rattle.jmodel.specs.History.{Call, Told}
 use Rattle.jmodel.specs.Schedule.{ScriptPhase, AreScriptCalls, Made, MayPrecede, IsAccepted, IsJournal, ascends, call_of, answer_of}
 use Rattle.jmodel.specs.Serial.{Serial}
-use Rattle.session.specs.Rule.{IsState, IsStretch, calls_of, answers_of}
+use Rattle.session.specs.Rule.{IsStretch, calls_of, answers_of}
 use Rattle.session.specs.Lane.{record_of}
 use Rattle.driver.specs.declared.journal.Journal.{Journal}
+use Rattle.driver.specs.declared.memory.Memory.{Memory}
+use Rattle.driver.specs.Memory.{Holds}
 use Rattle.driver.specs.Runs.{HasRun, made_of}
 use Rattle.driver.proofs.Lists.{all_map, all_left, all_right}
 
 -- what a journal has after phases, and what their calls lead to
-pub record HasRunTo (P : Program) (budget : ℕ) (phases : List ScriptPhase) (words left : List ℕ) (journal : Journal) : Type 0 where
+pub record HasRunTo (P : Program) (size budget : ℕ) (phases : List ScriptPhase) (memory : Memory) (left : List ℕ) (used : ℕ → ℕ) (journal : Journal) : Type 0 where
   pub placed : List Told
   pub unplaced : List Told
   pub placed_are : journal.placed.items ≡ map record_of placed
@@ -31,7 +33,7 @@ pub record HasRunTo (P : Program) (budget : ℕ) (phases : List ScriptPhase) (wo
   pub placed_order : AllPairs MayPrecede (calls_of placed)
   pub unplaced_order : AllPairs (λ c d. ascends c d ≡ true) (calls_of unplaced)
   pub no_memory : AllByRecursion (λ (t : Told). t.answer ≡ NoMemory) unplaced
-  pub stretch : (σ : State) → IsState P words σ → IsStretch P budget σ left placed
+  pub stretch : (σ : State) → Holds P size memory σ → IsStretch P size budget σ left used placed
 
 pub calls_append : (ts us : List Told) → calls_of (ts ++ us) ≡ calls_of ts ++ calls_of us
 calls_append ts us = map-append (λ (t : Told). t.call) ts us
@@ -46,9 +48,9 @@ made_calls : (ts : List Told) → map call_of (map made_of ts) ≡ calls_of ts
 made_calls ts = map-map call_of made_of ts
 
 -- all phases
-pub run_all : (P : Program) (budget : ℕ) (phases : List ScriptPhase) (words left : List ℕ) (journal : Journal) → HasRunTo P budget phases words left journal
-    → HasRun P budget phases words journal
-run_all P budget phases words left journal h =
+pub run_all : (P : Program) (size budget : ℕ) (phases : List ScriptPhase) (memory : Memory) (left : List ℕ) (used : ℕ → ℕ) (journal : Journal)
+    → HasRunTo P size budget phases memory left used journal → HasRun P size budget phases memory journal
+run_all P size budget phases memory left used journal h =
     record {
       placed = h.placed;
       unplaced = h.unplaced;
@@ -71,10 +73,10 @@ run_all P budget phases words left journal h =
               (all_map made_of (λ (m : Made). m.answer ≡ NoMemory) h.unplaced (All-from_recursion (λ (t : Told). t.answer ≡ NoMemory) h.unplaced h.no_memory));
         }
 
-    journal_of : (σ : State) → IsStretch P budget σ left h.placed → IsJournal P budget σ phases (map made_of h.placed) (map made_of h.unplaced)
+    journal_of : (σ : State) → IsStretch P size budget σ left used h.placed → IsJournal P size budget σ phases (map made_of h.placed) (map made_of h.unplaced)
     journal_of σ s =
-        let Calls : List Call → Type 0 = λ cs. Serial P budget σ cs (answers_of h.placed) s.after in
-        let Answers : List Answer → Type 0 = λ xs. Serial P budget σ (map call_of (map made_of h.placed)) xs s.after in
+        let Calls : List Call → Type 0 = λ cs. Serial P size budget σ cs (answers_of h.placed) s.after in
+        let Answers : List Answer → Type 0 = λ xs. Serial P size budget σ (map call_of (map made_of h.placed)) xs s.after in
         record {
           accepted = accepted;
           after = s.after;

@@ -3,7 +3,6 @@ pub mod Places
 pub mod Stretches
 pub mod Parts
 pub mod Journals
-pub mod Alone
 pub mod SettingUp
 pub mod Untouched
 pub mod Zipped
@@ -27,3 +26,5 @@ pub mod Resting
 pub mod Added
 pub mod Midway
 pub mod Spending
+pub mod More
+pub mod Rooms

@@ -14,14 +14,14 @@ use Rattle.session.specs.declared.record.Lane.{Lane}
 use Rattle.session.specs.declared.record.Place.{Place}
 use Rattle.session.specs.declared.record.Record.{Record}
 use Rattle.session.specs.Lane.{HasMade}
-use Rattle.session.specs.Passes.{MayBegin, IsStarting, IsEnding, behind}
+use Rattle.session.specs.Passes.{IsStarting, IsEnding, behind}
 use Rattle.driver.specs.declared.side.Part.{Part}
 use Rattle.driver.specs.declared.side.Side.{Side}
-use Rattle.driver.specs.Sides.{AreWhole, made_counts}
-use Rattle.driver.specs.Passing.{first_of, call_count, HasRoom, IsWhole, HaveEnded, IsSplit, AreEnding, IsJoining, IsMidway, IsResting}
-use Rattle.driver.proofs.Alone.{whole_more}
+use Rattle.driver.specs.Sides.{AreWhole, none_made, made_counts}
+use Rattle.driver.specs.Passing.{used_of, MayGoOn, first_of, call_count, HasRoom, IsWhole, HaveEnded, IsSplit, AreEnding, IsJoining, IsMidway, IsResting}
+use Rattle.driver.proofs.More.{whole_more}
 use Rattle.driver.proofs.Gathering.{part_of}
-use Rattle.driver.proofs.Joining.{count_push, count_take}
+use Rattle.driver.proofs.Joining.{count_push, count_take, as_many}
 use Rattle.driver.proofs.Parts.{counts_within}
 use Rattle.driver.proofs.Passing.{may_begin_as}
 use Rattle.driver.proofs.Resting.{rests_first, rests_next, rests_within}
@@ -43,6 +43,11 @@ ending_of t b phase n lanes ends p room long split ended = record {
 pub midway_of : (t : TableId) (phase : ℕ) (lanes : Phase) (side : Side) (p q : Pass) → IsWhole t phase p → HasRoom (call_count lanes) (book p)
     → IsJoining t (book p) phase (length lanes) (call_count lanes) lanes side.placed.items side.parts.items q → IsMidway t (book p) phase lanes side q
 midway_of t phase lanes side p q w room j = record { numbers = w.numbers; room = room; begins = w.begins; joining = j }
+
+-- a part for each lane
+pub joined_long : (t : TableId) (b : Book) (phase : ℕ) (lanes : Phase) (side : Side) (q : Pass)
+    → IsJoining t b phase (length lanes) (call_count lanes) lanes side.placed.items side.parts.items q → length side.parts.items ≡ length lanes
+joined_long t b phase lanes side q j = as_many phase 0 lanes (none_made lanes) j.gathered.tolds side.parts.items j.gathered.parts_are
 
 -- so what is left may be made
 pub may_rest : (t : TableId) (b : Book) (phase : ℕ) (lanes : Phase) (side : Side) (q : Pass) → IsMidway t b phase lanes side q
@@ -81,14 +86,14 @@ module _ (t : TableId) (b : Book) (phase n first : ℕ) (lanes : Phase) (firsts 
   counted = count_next n lanes inside ∙ ap (λ (ks : List Known). call_count (take n lanes) + length ks) (sym here)
 
   -- a lane's calls that are left may begin
-  pub may_go_on : b.ticks + call_count lanes * 1000000 ≤ 2 ^ 40 → MayBegin (behind (first_of phase n) (get_or firsts n 0)) b → IsStarting t at (length (drop first cs)) p
+  pub may_go_on : b.ticks + call_count lanes * 1000000 ≤ 2 ^ 40 → MayGoOn (behind (first_of phase n) (get_or firsts n 0)) b → IsStarting t at (used_of (book p) n) (length (drop first cs)) p
   may_go_on room begins =
       let all = counted in
       let some = count_take (n + 1) lanes in
       let left = length-drop first cs in
       let ticks = r.ticks in
       let z : 0 + get_or firsts n 0 ≡ first = omega (arith, from) in
-      let mine : MayBegin at b = subst (λ (k : ℕ). MayBegin (record { phase = phase; lane = n; first = k }) b) z begins in
+      let mine : MayGoOn at b = subst (λ (k : ℕ). MayGoOn (record { phase = phase; lane = n; first = k }) b) z begins in
       record {
         seated = r.seated;
         begins = may_begin_as at b (book p) (sym (r.waits n (omega (arith, long)))) mine;
@@ -104,15 +109,15 @@ module _ (t : TableId) (b : Book) (phase n first : ℕ) (lanes : Phase) (firsts 
     firsts_are = ap (λ (k : ℕ). take n firsts ++ k ∷ []) from ∙ sym (take_more firsts n 0 (omega arith))
 
     -- and are made then
-    pub goes_on : IsEnding t (book p) at (length (drop first cs)) lane.made h q → HasMade at (drop first cs) h lane
+    pub goes_on : (before used : ℕ) → IsEnding t (book p) at (length (drop first cs)) lane.made used h q → HasMade at before (drop first cs) h lane
         → IsResting t b phase (call_count (take (n + 1) lanes)) (take (n + 1) lanes) (take (n + 1) firsts) placed' parts' q
-    goes_on ending has =
+    goes_on before used ending has =
         let all = counted in
         let left = length-drop first cs in
         let At : ℕ → Place = λ k. record { phase = phase; lane = k; first = first } in
         let next = rests_next t b phase (call_count (take n lanes)) (length (drop first cs)) first (take n lanes) (take n firsts) cs placed parts lane h p q r
-        (subst (λ (k : ℕ). HasMade (At k) (drop first cs) h lane) (sym long) has) within
-        (subst (λ (k : ℕ). IsEnding t (book p) (At k) (length (drop first cs)) lane.made h q) (sym long) ending) in
+        before (subst (λ (k : ℕ). HasMade (At k) before (drop first cs) h lane) (sym long) has) within
+        used (subst (λ (k : ℕ). IsEnding t (book p) (At k) (length (drop first cs)) lane.made used h q) (sym long) ending) in
         let few = rests_within t b phase (call_count (take n lanes) + length (drop first cs)) (call_count (take (n + 1) lanes)) (take n lanes ++ cs ∷ [])
         (take n firsts ++ first ∷ []) (placed ++ lane.placed.items) (parts ++ part_of lane ∷ []) q (omega arith) next in
         let Lanes : Phase → Type 0 =

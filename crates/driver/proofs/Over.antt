@@ -14,15 +14,18 @@ use native.Mathlib.Decide.{ℕ_discrete}
 use Rattle.jmodel.specs.declared.value.Answer.TheVariants.{NoMemory}
 use Rattle.jmodel.specs.Program.{Program}
 use Rattle.jmodel.specs.State.{State}
-use Rattle.jmodel.specs.History.{Call, Entry, Told, told, round, first_by, comes_first}
+use Rattle.jmodel.specs.History.{Call, Entry, Told, told, used_after, round, first_by, comes_first}
 use Rattle.jmodel.specs.Book.{Book, rises, lookup}
 use Rattle.jmodel.specs.Rule.{Ends, or_zero}
+use Rattle.tx_table.proofs.MapLaws.{ne_cond}
 use Rattle.jmodel.specs.Schedule.{ScriptPhase, AreDealt, AreScriptCalls, MayPrecede, ascends}
 use Rattle.jmodel.proofs.Telling.{told_in_order}
-use Rattle.session.specs.Rule.{IsRuled, IsState, IsStretch, calls_of, answers_of}
+use Rattle.session.specs.Rule.{IsRuled, IsStretch, calls_of, answers_of}
 use Rattle.session.specs.Lane.{record_of}
 use Rattle.driver.specs.declared.journal.Journal.{Journal}
-use Rattle.driver.specs.Stories.{story_of, unused_regions}
+use Rattle.driver.specs.declared.memory.Memory.{Memory}
+use Rattle.driver.specs.Memory.{used_at_first, Holds}
+use Rattle.driver.specs.Stories.{story_of, lane_regions, first_regions}
 use Rattle.driver.specs.Runs.{HasRun}
 use Rattle.driver.specs.Over.{Shown, as_shown, made_in, shown_in, KeepsLane, IsOfRegion, StandsBehind, IsPhaseOver, AddsPhase}
 use Rattle.driver.proofs.Lists.{all_from_map, pairs_nil, pairs_append, pairs_map, pairs_from_map, sorted_out}
@@ -220,28 +223,41 @@ sorted_made ss pairs =
     λ k d low high. all k (k + 1) d (omega arith) high
 
 -- the index of a call plays no part in what it does
-serial_shown : (P : Program) (budget : ℕ) (σ τ : State) (ss : List Shown) → Serial P budget σ (calls_of (made_in ss)) (answers_of (made_in ss)) τ
-    → Serial P budget σ (calls_of (shown_in ss)) (answers_of (shown_in ss)) τ
-serial_shown P budget σ τ [] h = h
-serial_shown P budget σ τ (s ∷ ss) h = (h.0, h.1, serial_shown P budget h.0 τ ss h.2)
+serial_shown : (P : Program) (size budget : ℕ) (σ τ : State) (ss : List Shown) → Serial P size budget σ (calls_of (made_in ss)) (answers_of (made_in ss)) τ
+    → Serial P size budget σ (calls_of (shown_in ss)) (answers_of (shown_in ss)) τ
+serial_shown P size budget σ τ [] h = h
+serial_shown P size budget σ τ (s ∷ ss) h = (h.0, h.1, serial_shown P size budget h.0 τ ss h.2)
 
--- no word is used as the table opens
-none_at_first : (n region : ℕ) → or_zero (lookup (unused_regions n) region) ≡ 0
+-- the words that are used as the table opens
+none_at_first : (n region : ℕ) → or_zero (lookup (lane_regions n) region) ≡ 0
 none_at_first zero region = refl
 none_at_first (suc n) region =
-    elim (n == region) as (λ b. or_zero (cond b (some 0) (lookup (unused_regions n) region)) ≡ 0) [ true ↦ refl | false ↦ none_at_first n region ]
+    elim (suc n == region) as (λ b. or_zero (cond b (some 0) (lookup (lane_regions n) region)) ≡ 0) [ true ↦ refl | false ↦ none_at_first n region ]
 
-module _ (P : Program) (budget : ℕ) (words after : List ℕ) (rule : Entry → Type 0) (ruled : (e : Entry) → rule e → IsRuled P budget e) (b : Book)
-    (phases : List ScriptPhase) (journal : Journal) (h : HasRunOver phases b journal) (ends : Ends (story_of rule words) b after) where
+opens_with : (used region : ℕ) → or_zero (lookup (first_regions used) region) ≡ used_at_first used region
+opens_with used zero = refl
+opens_with used (suc region) =
+    ap or_zero (ne_cond 0 (suc region) (some used) (lookup (lane_regions 16) (suc region)) (λ e. omega (arith, e))) ∙ none_at_first 16 (suc region)
+
+module _ (P : Program) (size budget : ℕ) (memory : Memory) (after : List ℕ) (rule : Entry → Type 0) (ruled : (e : Entry) → rule e → IsRuled P size budget e) (b : Book)
+    (phases : List ScriptPhase) (journal : Journal) (h : HasRunOver phases b journal) (ends : Ends (story_of rule memory.words.items memory.used) b after) where
+  -- the used words of a region as the table opened, and as it closed
+  abbrev first : ℕ → ℕ
+  first region = or_zero (lookup (first_regions memory.used) region)
+
+  abbrev last : ℕ → ℕ
+  last region = used_after ends.history region (first region)
+
   told_is : map told ends.history ≡ made_in h.placed
   told_is = told_in_order ends.history b.entries (made_in h.placed) ends.legal.ordered ends.account h.history (sorted_made h.placed h.in_order)
 
   -- the original methods, each run alone in the order of history, answer so
-  stretch : (σ : State) → IsState P words σ → IsStretch P budget σ after (shown_in h.placed)
+  stretch : (σ : State) → Holds P size memory σ → IsStretch P size budget σ after last (shown_in h.placed)
   stretch σ state =
-      let s = subst (IsStretch P budget σ after) told_is
-      (stretch_of P budget words after _ ends.history (λ lane. none_at_first 17 (suc lane)) ends.legal.entries (λ e i. ruled e (ends.runs e i)) ends.heap σ state) in
-      record { after = s.after; serial = serial_shown P budget σ s.after h.placed s.serial; stands = s.stands }
+      let s = subst (IsStretch P size budget σ after last) told_is
+      (stretch_of P size budget memory.words.items after first (used_at_first memory.used) last ends.history (opens_with memory.used) ends.legal.entries
+      (λ e i. ruled e (ends.runs e i)) ends.heap (λ region. refl) σ state) in
+      record { after = s.after; serial = serial_shown P size budget σ s.after h.placed s.serial; stands = s.stands }
 
   regions_kept : AllPairs (λ (s t : Shown). s.made.call.region ≡ t.made.call.region → rises s.made.call t.made.call ≡ true) h.placed
   regions_kept =
@@ -267,8 +283,8 @@ module _ (P : Program) (budget : ℕ) (words after : List ℕ) (rule : Entry →
       (λ other. inl (omega arith))))
 
   -- so the journal is that of a run
-  pub run_over : HasRun P budget phases words journal
-  run_over = run_all P budget phases words after journal (record {
+  pub run_over : HasRun P size budget phases memory journal
+  run_over = run_all P size budget phases memory after last journal (record {
     placed = shown_in h.placed;
     unplaced = h.unplaced;
     placed_are = h.placed_are;

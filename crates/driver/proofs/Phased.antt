@@ -29,7 +29,7 @@ use Rattle.driver.proofs.Permuted.{permuted_before, sorted_before}
 use Rattle.driver.proofs.Gathering.{IsOfPhase, IsToldOf}
 
 -- what is no placed call is an unplaced one, and that ran out of memory
-memory_is : (x : Answer) → is_memory x ≡ true → x ≡ NoMemory
+pub memory_is : (x : Answer) → is_memory x ≡ true → x ≡ NoMemory
 memory_is NoMemory h = refl
 memory_is x h = absurd cc
 

@@ -1,10 +1,9 @@
 -- What a phase's lanes left, made over the pass that holds every number, and the pass behind the phase.
-use Rattle.std.proofs.Common.{◌≡◌, ◌≢◌, ◌<◌, ◌≤◌, ℕ, suc, ◌+◌, List, [], ◌∷◌, ◌++◌, length, map, reverse, drop, get_or, nat_lt, ltb-true, Bool, true, false, ⊎_elim, refl, sym, ap, ◌∙◌, subst, append_assoc, arith}
+use Rattle.std.proofs.Common.{◌≡◌, ◌≢◌, ◌<◌, ◌≤◌, ℕ, suc, ◌+◌, List, [], ◌∷◌, ◌++◌, length, map, reverse, drop, get_or, ⊎_elim, refl, sym, ap, ◌∙◌, subst, append_assoc, arith}
 use Rattle.std.specs.Prelude.{filter, IsPermutation}
 use Rattle.std.specs.List.{flat_map}
 use Rattle.std.proofs.lemmas.List.{length_push, length-drop, map-append, flat_map_more}
 use Rattle.std.proofs.lemmas.List.Sorted.{IsPermutation-refl, IsPermutation-sym, IsPermutation-reverse, IsPermutation-map, IsPermutation-append, IsPermutation-append_comm, IsPermutation-trans}
-use Rattle.std.proofs.lemmas.Bool.Decides.{nat_tests}
 use mathlib.Core.Logic.{dite}
 use native.Mathlib.Decide.{ℕ_discrete}
 use Rattle.atomic_table.specs.Seated.{TableId}
@@ -18,15 +17,15 @@ use Rattle.session.specs.declared.record.Lane.{Lane}
 use Rattle.session.specs.declared.record.Place.{Place}
 use Rattle.session.specs.declared.record.Record.{Record}
 use Rattle.session.specs.Lane.{is_placed, record_of, HasMade}
-use Rattle.session.specs.Passes.{MayBegin, IsEnding}
+use Rattle.session.specs.Passes.{IsEnding}
 use Rattle.driver.specs.declared.side.Part.{Part}
 use Rattle.driver.specs.declared.side.Side.{Side}
 use Rattle.driver.specs.Over.{IsMadeOver, HasAdded}
 use Rattle.driver.specs.Sides.{IsPart, made_counts}
-use Rattle.driver.specs.Passing.{first_of, call_count, IsWhole, IsJoining, IsMidway, IsResting}
-use Rattle.driver.proofs.Alone.{parts_more}
+use Rattle.driver.specs.Passing.{MayGoOn, first_of, call_count, IsWhole, IsJoining, IsMidway, IsResting}
+use Rattle.driver.proofs.More.{parts_more}
 use Rattle.driver.proofs.Gathering.{part_of}
-use Rattle.driver.proofs.Passing.{may_begin_as, may_begin_later, other_regions, in_either}
+use Rattle.driver.proofs.Passing.{may_begin_as, may_begin_later, goes_on_from, other_regions, in_either, by_order}
 
 -- What stands behind a later value of the clock stands behind an earlier one.
 pub behind_before : (a b : ℕ) (e : Entry) → a ≤ b → IsBehind b e → IsBehind a e
@@ -35,9 +34,9 @@ behind_before a b e on is = let least = is.0 in (omega (arith, on, least), λ up
 -- the calls of one lane more, from a place on
 over_next : (phase first : ℕ) (lanes : Phase) (firsts : List ℕ) (es made : List Entry) (placed : List Record) (parts : List Part) (cs : List Known) (h : List Entry)
     (lane : Lane) → IsMadeOver phase lanes firsts es placed parts
-    → HasMade (record { phase = phase; lane = length lanes; first = first }) (drop first cs) h lane → first ≤ length cs → made ≡ reverse h
+    → (before : ℕ) → HasMade (record { phase = phase; lane = length lanes; first = first }) before (drop first cs) h lane → first ≤ length cs → made ≡ reverse h
     → IsMadeOver phase (lanes ++ cs ∷ []) (firsts ++ first ∷ []) (made ++ es) (placed ++ lane.placed.items) (parts ++ part_of lane ∷ [])
-over_next phase first lanes firsts es made placed parts cs h lane g has within is =
+over_next phase first lanes firsts es made placed parts cs h lane g before has within is =
     let ts = has.tolds in
     let all : flat_map (filter is_placed) g.tolds ++ filter is_placed ts ≡ flat_map (filter is_placed) (g.tolds ++ ts ∷ []) =
     flat_map_more (filter is_placed) [] g.tolds ts in
@@ -69,16 +68,16 @@ over_next phase first lanes firsts es made placed parts cs h lane g has within i
 -- The calls of one lane more that were left are made.
 pub rests_next : (t : TableId) (b : Book) (phase calls count first : ℕ) (lanes : Phase) (firsts : List ℕ) (cs : List Known) (placed : List Record)
     (parts : List Part) (lane : Lane) (h : List Entry) (p q : Pass) → IsResting t b phase calls lanes firsts placed parts p
-    → HasMade (record { phase = phase; lane = length lanes; first = first }) (drop first cs) h lane → first ≤ length cs
-    → IsEnding t (book p) (record { phase = phase; lane = length lanes; first = first }) count lane.made h q
+    → (before : ℕ) → HasMade (record { phase = phase; lane = length lanes; first = first }) before (drop first cs) h lane → first ≤ length cs
+    → (used : ℕ) → IsEnding t (book p) (record { phase = phase; lane = length lanes; first = first }) count lane.made used h q
     → IsResting t b phase (calls + count) (lanes ++ cs ∷ []) (firsts ++ first ∷ []) (placed ++ lane.placed.items) (parts ++ part_of lane ∷ []) q
-rests_next t b phase calls count first lanes firsts cs placed parts lane h p q r has within ending =
+rests_next t b phase calls count first lanes firsts cs placed parts lane h p q r before_used has within used ending =
     let n = length lanes in
     let at : Place = record { phase = phase; lane = n; first = first } in
     let since = ending.since in
     let more : length (lanes ++ cs ∷ []) ≡ n + 1 = length_push lanes cs in
     let as_before : (k : ℕ) → k ≢ n → lookup (book q).regions (suc k) ≡ lookup (book p).regions (suc k) =
-    λ k apart. other_regions t (book p) at count lane.made (drop first cs) lane h q ending has (suc k) (λ e. apart (omega (arith, e))) in
+    λ k apart. other_regions t (book p) at before_used count lane.made used (drop first cs) lane h q ending has (suc k) (λ e. apart (omega (arith, e))) in
     record {
       seated = ending.seated;
       numbers = since.numbers ∙ r.numbers;
@@ -87,30 +86,22 @@ rests_next t b phase calls count first lanes firsts cs placed parts lane h p q r
       on = let before = r.on in let now = since.seen in omega arith;
       since = since.made ++ r.since;
       entries = since.entries ∙ ap (λ (es : List Entry). since.made ++ es) r.entries ∙ sym (append_assoc since.made r.since b.entries);
-      over = over_next phase first lanes firsts r.since since.made placed parts cs h lane r.over has within ending.entries;
+      over = over_next phase first lanes firsts r.since since.made placed parts cs h lane r.over before_used has within ending.entries;
       stand_behind = λ e i. ⊎_elim (λ (l : In e since.made). behind_before b.seen (book p).seen e r.on (since.behind e l))
           (λ (l : In e r.since). r.stand_behind e l) (in_either e since.made r.since i);
       known = λ e i. ⊎_elim (λ (l : In e since.made). since.known e l)
           (λ (l : In e r.since). let k = r.known e l in let now = since.seen in omega (arith, k, now)) (in_either e since.made r.since i);
       waits = λ k past. as_before k (λ e. absurd (omega (arith, e, more, past))) ∙ r.waits k (omega (arith, more, past));
       later = λ k low. dite (ℕ_discrete k n)
-          (λ (e : k ≡ n). subst (λ (i : ℕ). MayBegin (first_of (suc phase) i) (book q)) (sym e)
-          (may_begin_later phase (suc phase) n (first + lane.made) (book q) (omega arith) ending.next))
+          (λ (e : k ≡ n). subst (λ (i : ℕ). MayGoOn (first_of (suc phase) i) (book q)) (sym e)
+          (may_begin_later phase (suc phase) n (first + lane.made) (book q) (omega arith) (goes_on_from (record { phase = phase; lane = n; first = first + lane.made }) used (book q) ending.next).0))
           (λ (apart : k ≢ n). may_begin_as (first_of (suc phase) k) (book p) (book q) (sym (as_before k apart)) (r.later k low));
     }
 
--- one number is below another, or it isn't
-by_order : {A : Type 0} (m n : ℕ) → (m < n → A) → (n ≤ m → A) → A
-by_order {A} m n f g = go (nat_lt m n) refl
-  where
-    go : (b : Bool) → nat_lt m n ≡ b → A
-    go true is = f (let l = ltb-true m n is in omega arith)
-    go false is = g (grind (arith, nat_tests))
-
 -- When all passes are back, the calls of the next phase may begin.
 later_again : (t : TableId) (b : Book) (phase all calls : ℕ) (lanes : Phase) (placed : List Record) (parts : List Part) (p : Pass)
-    → IsJoining t b phase all calls lanes placed parts p → length lanes ≡ all → ((lane : ℕ) → lane < 16 → MayBegin (first_of phase lane) b)
-    → (lane : ℕ) → lane < 16 → MayBegin (first_of (suc phase) lane) (book p)
+    → IsJoining t b phase all calls lanes placed parts p → length lanes ≡ all → ((lane : ℕ) → lane < 16 → MayGoOn (first_of phase lane) b)
+    → (lane : ℕ) → lane < 16 → MayGoOn (first_of (suc phase) lane) (book p)
 later_again t b phase all calls lanes placed parts p j whole begins k low =
     by_order k (length lanes)
     (λ under. may_begin_later phase (suc phase) k (0 + get_or (made_counts parts) k 0) (book p) (omega arith) (j.back k under))
@@ -119,7 +110,7 @@ later_again t b phase all calls lanes placed parts p j whole begins k low =
 
 -- nothing was made yet of what was left
 pub rests_first : (t : TableId) (b : Book) (phase all calls : ℕ) (lanes : Phase) (placed : List Record) (parts : List Part) (p : Pass)
-    → IsJoining t b phase all calls lanes placed parts p → length lanes ≡ all → ((lane : ℕ) → lane < 16 → MayBegin (first_of phase lane) b)
+    → IsJoining t b phase all calls lanes placed parts p → length lanes ≡ all → ((lane : ℕ) → lane < 16 → MayGoOn (first_of phase lane) b)
     → IsResting t (book p) phase 0 [] [] [] [] p
 rests_first t b phase all calls lanes placed parts p j whole begins = record {
   seated = j.seated;

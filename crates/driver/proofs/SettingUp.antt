@@ -1,7 +1,8 @@
 -- The static initialisers of a program, one after another.
-use Rattle.std.proofs.Common.{◌≡◌, ℕ, zero, suc, ◌+◌, ◌<◌, slice_index_or, List, [], ◌∷◌, ◌++◌, length, map, Bool, true, false, Option, Some, refl, sym, ap, ◌∙◌, subst, inl, inr, arith}
-use Rattle.std.specs.Prelude.{slice_get, filter, if◌then◌else◌}
+use Rattle.std.proofs.Common.{◌≡◌, ◌≢◌, ℕ, zero, suc, ◌+◌, ◌<◌, slice_index_or, List, [], ◌∷◌, ◌++◌, length, Bool, true, false, Option, Some, refl, sym, ap, ◌∙◌, subst, inl, inr, arith}
+use Rattle.std.specs.Prelude.{slice_get, if◌then◌else◌}
 use Rattle.std.specs.List.{AllByRecursion}
+use Rattle.std.specs.Bool.{MatchBool}
 use Rattle.jmodel.specs.declared.value.Value.{Value}
 use Rattle.jmodel.specs.declared.value.Answer.{Answer}
 use Rattle.jmodel.specs.declared.value.Answer.TheVariants.{Returned, Threw, Budget, Depth, Heap, Spent, NoMemory}
@@ -11,16 +12,30 @@ use Rattle.jmodel.specs.State.{State}
 use Rattle.jmodel.specs.Call.{Calls}
 use Rattle.jmodel.specs.Schedule.{takes}
 use Rattle.jmodel.specs.LinkedLaw.{CanSetUp}
-use Rattle.jmodel.specs.Opening.{initialisers_from, initialisers, Opening, is_return, Fails}
-use Rattle.jmodel.specs.History.{Call, Told}
-use Rattle.jmodel.specs.Schedule.{call_at}
+use Rattle.jmodel.specs.Opening.{first_region, initialisers_from, initialisers, Opening, is_return, Fails}
+use Rattle.jmodel.specs.declared.op.Access.{Access}
+use Rattle.jmodel.specs.declared.value.Stamp.{Stamp}
+use Rattle.jmodel.specs.Attempt.{Log}
+use Rattle.jmodel.specs.History.{Entry, Told}
+use Rattle.jmodel.specs.Meaning.{region_of}
+use Rattle.jmodel.specs.Region.{Region}
+use Rattle.jmodel.specs.Schedule.{is_memory}
+use Rattle.tx_core.specs.Serial.{StandsFor}
+use Rattle.machine.specs.declared.room.Room.{Room}
 use Rattle.session.specs.declared.record.Record.{Record}
 use Rattle.session.specs.declared.record.Place.{Place}
-use Rattle.session.specs.declared.record.Lane.{Lane}
-use Rattle.session.specs.Lane.{is_placed, record_of}
-use Rattle.session.specs.Rule.{IsState, IsStretch, calls_of}
-use Rattle.driver.specs.Alone.{HasMadeAll}
+use Rattle.session.specs.Lane.{Takes}
+use Rattle.session.specs.Rule.{IsRuled, IsState, IsStretch}
+use Rattle.session.specs.Adds.{call_of, told_by, is_spent, AddsNothing, AddsCall, AddsEntry}
+use Rattle.driver.specs.declared.memory.Memory.{Memory}
+use Rattle.driver.specs.Memory.{used_at_first, Holds}
+use Rattle.driver.proofs.Phased.{memory_is}
+use Rattle.driver.proofs.Stretches.{stretch_of}
 use Rattle.driver.specs.SetUp.{AnswersAlone, OpensTo}
+
+-- what is kept of a call
+abbrev pub record_at : Place → ℕ → Answer → Stamp → Record
+record_at at m x stamp = record { phase = at.phase; lane = at.lane; index = at.first; method = m; stamp = stamp; answer = x }
 
 -- a method that can be called without arguments
 abbrev pub IsCallable : Program → ℕ → Type 0
@@ -47,43 +62,43 @@ pub callable : (P : Program) → AllByRecursion CanSetUp P.methods → AllByRecu
 callable P h = callable_from P 0 P.methods (λ j. let z : 0 + j ≡ j = omega arith in ap (slice_get P.methods) z) h
 
 -- initialisers, and behind them others
-opening_append : (P : Program) (budget : ℕ) (σ ρ τ : State) (ms ns : List ℕ) → Opening P budget σ ms ρ → Opening P budget ρ ns τ → Opening P budget σ (ms ++ ns) τ
-opening_append P budget σ ρ τ [] ns h k = let From : State → Type 0 = λ s. Opening P budget s ns τ in subst From h k
-opening_append P budget σ ρ τ (m ∷ ms) ns (v, θ, calls, rest) k = (v, θ, calls, opening_append P budget θ ρ τ ms ns rest k)
+opening_append : (P : Program) (size budget : ℕ) (σ ρ τ : State) (ms ns : List ℕ) → Opening P size budget σ ms ρ → Opening P size budget ρ ns τ → Opening P size budget σ (ms ++ ns) τ
+opening_append P size budget σ ρ τ [] ns h k = let From : State → Type 0 = λ s. Opening P size budget s ns τ in subst From h k
+opening_append P size budget σ ρ τ (m ∷ ms) ns (v, θ, calls, rest) k = (v, θ, calls, opening_append P size budget θ ρ τ ms ns rest k)
 
-fails_append : (P : Program) (budget : ℕ) (σ ρ : State) (ms ns : List ℕ) (n : ℕ) (x : Answer) → Opening P budget σ ms ρ → Fails P budget ρ ns n x → Fails P budget σ (ms ++ ns) n x
-fails_append P budget σ ρ [] ns n x h k = let From : State → Type 0 = λ s. Fails P budget s ns n x in subst From h k
-fails_append P budget σ ρ (m ∷ ms) ns n x (v, θ, calls, rest) k = inr (v, θ, calls, fails_append P budget θ ρ ms ns n x rest k)
+fails_append : (P : Program) (size budget : ℕ) (σ ρ : State) (ms ns : List ℕ) (n : ℕ) (x : Answer) → Opening P size budget σ ms ρ → Fails P size budget ρ ns n x → Fails P size budget σ (ms ++ ns) n x
+fails_append P size budget σ ρ [] ns n x h k = let From : State → Type 0 = λ s. Fails P size budget s ns n x in subst From h k
+fails_append P size budget σ ρ (m ∷ ms) ns n x (v, θ, calls, rest) k = inr (v, θ, calls, fails_append P size budget θ ρ ms ns n x rest k)
 
 -- none
-pub opens_none : (P : Program) (budget : ℕ) (words : List ℕ) → OpensTo P budget words [] words
-opens_none P budget words σ stands = (σ, refl, stands)
+pub opens_none : (P : Program) (size budget : ℕ) (memory : Memory) → OpensTo P size budget memory [] memory
+opens_none P size budget memory σ stands = (σ, refl, stands)
 
 -- one more that returns
-pub opens_more : (P : Program) (budget : ℕ) (words between left ms : List ℕ) (m : ℕ) (v : Option Value) → OpensTo P budget words ms between
-    → AnswersAlone P budget between m (Returned v) left → OpensTo P budget words (ms ++ m ∷ []) left
-opens_more P budget words between left ms m v h k σ stands =
+pub opens_more : (P : Program) (size budget : ℕ) (memory between left : Memory) (ms : List ℕ) (m : ℕ) (v : Option Value) → OpensTo P size budget memory ms between
+    → AnswersAlone P size budget between m (Returned v) left → OpensTo P size budget memory (ms ++ m ∷ []) left
+opens_more P size budget memory between left ms m v h k σ stands =
     let front = h σ stands in
     let one = k front.0 front.2 in
-    (one.0, opening_append P budget σ front.0 one.0 ms (m ∷ []) front.1 (v, one.0, one.1, refl), one.2)
+    (one.0, opening_append P size budget σ front.0 one.0 ms (m ∷ []) front.1 (v, one.0, one.1, refl), one.2)
 
 -- one more that doesn't, whatever comes behind it
-pub fails_at : (P : Program) (budget : ℕ) (words between left ms rest : List ℕ) (m : ℕ) (x : Answer) → is_return x ≡ false → OpensTo P budget words ms between
-    → AnswersAlone P budget between m x left → (σ : State) → IsState P words σ → Fails P budget σ (ms ++ m ∷ rest) m x
-fails_at P budget words between left ms rest m x none h k σ stands =
+pub fails_at : (P : Program) (size budget : ℕ) (memory between left : Memory) (ms rest : List ℕ) (m : ℕ) (x : Answer) → is_return x ≡ false → OpensTo P size budget memory ms between
+    → AnswersAlone P size budget between m x left → (σ : State) → Holds P size memory σ → Fails P size budget σ (ms ++ m ∷ rest) m x
+fails_at P size budget memory between left ms rest m x none h k σ stands =
     let front = h σ stands in
     let one = k front.0 front.2 in
-    fails_append P budget σ front.0 ms (m ∷ rest) m x front.1 (inl (refl, none, one.0, one.1))
+    fails_append P size budget σ front.0 ms (m ∷ rest) m x front.1 (inl (refl, none, one.0, one.1))
 
-pub opens_after : (P : Program) (budget : ℕ) (words between left ms : List ℕ) (m : ℕ) (x : Answer) → is_return x ≡ true → OpensTo P budget words ms between
-    → AnswersAlone P budget between m x left → OpensTo P budget words (ms ++ m ∷ []) left
-opens_after P budget words between left ms m (Returned v) is h k = opens_more P budget words between left ms m v h k
-opens_after P budget words between left ms m (Threw c) is h k = cc
-opens_after P budget words between left ms m Budget is h k = cc
-opens_after P budget words between left ms m Depth is h k = cc
-opens_after P budget words between left ms m (Heap a b c) is h k = cc
-opens_after P budget words between left ms m Spent is h k = cc
-opens_after P budget words between left ms m NoMemory is h k = cc
+pub opens_after : (P : Program) (size budget : ℕ) (memory between left : Memory) (ms : List ℕ) (m : ℕ) (x : Answer) → is_return x ≡ true → OpensTo P size budget memory ms between
+    → AnswersAlone P size budget between m x left → OpensTo P size budget memory (ms ++ m ∷ []) left
+opens_after P size budget memory between left ms m (Returned v) is h k = opens_more P size budget memory between left ms m v h k
+opens_after P size budget memory between left ms m (Threw c) is h k = cc
+opens_after P size budget memory between left ms m Budget is h k = cc
+opens_after P size budget memory between left ms m Depth is h k = cc
+opens_after P size budget memory between left ms m (Heap a b c) is h k = cc
+opens_after P size budget memory between left ms m Spent is h k = cc
+opens_after P size budget memory between left ms m NoMemory is h k = cc
 
 pub at_index : (Q : ℕ → Type 0) (xs : List ℕ) (i d : ℕ) → AllByRecursion Q xs → i < length xs → Q (slice_index_or xs i d)
 at_index Q [] i d h l = absurd (omega (arith, l))
@@ -92,46 +107,40 @@ at_index Q (x ∷ xs) (suc i) d h l = at_index Q xs i d h.1 (omega (arith, l))
 
 -- ---- one call
 
-no_items : (rs : List Record) (r : Record) → rs ++ r ∷ [] ≡ [] → ⊥
-no_items [] r e = cc
-no_items (q ∷ rs) r e = cc
-
-last_is : (rs : List Record) (r x : Record) → rs ++ r ∷ [] ≡ x ∷ [] → r ≡ x
-last_is [] r x e = cc
-last_is (q ∷ rs) r x e = let rest : rs ++ r ∷ [] ≡ [] = cc in absurd (no_items rs r rest)
-
--- what is kept of one call that is placed
-record IsOne (ts : List Told) (c : Call) (x : Answer) : Type 0 where
-  told : Told
-  alone : filter is_placed ts ≡ told ∷ []
-  call : told.call ≡ c
-  answer : told.answer ≡ x
-
-one_kept : (ts : List Told) (rs : List Record) (r : Record) (c : Call) → calls_of ts ≡ c ∷ [] → rs ++ r ∷ [] ≡ map record_of (filter is_placed ts) → IsOne ts c r.answer
-one_kept [] rs r c e p = cc
-one_kept (t ∷ u ∷ ts) rs r c e p = cc
-one_kept (t ∷ []) rs r c e p = go (is_placed t) refl
+-- how a call over one thread ended that has a place in the history
+pub answered : (S : List Entry → ℕ → Log → Log → Type 0) (before after : ℕ) (t : Told) → ((h : List Entry) (n : ℕ) → S h n [] [] → n ≡ 0)
+    → (t.answer ≡ NoMemory → ⊥) → AddsCall S [] 0 before t after → AddsEntry S [] 0 before t after
+answered S before after t alone placed adds = go (is_spent t.answer) (is_memory t.answer) refl adds
   where
-    call : t.call ≡ c
-    call = cc
+    go : (a b : Bool) → is_memory t.answer ≡ b → MatchBool a (AddsNothing (S []) 1 before after) (MatchBool b (AddsNothing (S []) 0 before after) (AddsEntry S [] 0 before t after))
+        → AddsEntry S [] 0 before t after
+    go true b q m = absurd (let n = m.0 in let none = alone [] n.conflicts n.stands in omega (arith, none, n.later))
+    go false true q m = absurd (placed (memory_is t.answer q))
+    go false false q m = m
 
-    go : (b : Bool) → is_placed t ≡ b → IsOne (t ∷ []) c r.answer
-    go true q =
-        let one : filter is_placed (t ∷ []) ≡ t ∷ [] = rw q refl in
-        let same = last_is rs r (record_of t) (p ∙ ap (map record_of) one) in
-        record { told = t; alone = one; call = call; answer = sym (ap (λ (x : Record). x.answer) same) }
-    go false q =
-        let none : filter is_placed (t ∷ []) ≡ [] = rw q refl in
-        absurd (no_items rs r (p ∙ ap (map record_of) none))
+-- no region but region 0 has used words
+elsewhere : (before after other : ℕ) → other ≢ 0 → used_at_first after other ≡ used_at_first before other
+elsewhere before after zero apart = absurd (apart refl)
+elsewhere before after (suc other) apart = refl
 
 -- a method that is called alone answers so
-pub answers_alone : (P : Program) (budget m : ℕ) (at : Place) (words left : List ℕ) (lane : Lane) → HasMadeAll P budget at (record { method = m; args = [] } ∷ []) words left lane
-    → (rs : List Record) (r : Record) → lane.placed.items ≡ rs ++ r ∷ [] → AnswersAlone P budget words m r.answer left
-answers_alone P budget m at words left lane made rs r items σ stands =
-    let one = one_kept made.tolds rs r (call_at at.phase at.lane at.first (record { method = m; args = [] })) made.calls_are (sym items ∙ made.placed_are) in
-    let stretch : IsStretch P budget σ left (one.told ∷ []) = subst (IsStretch P budget σ left) one.alone (made.stretch σ stands) in
-    let serial = stretch.serial in
-    let Called : Call → Type 0 = λ c. Calls P budget c.method c.args σ one.told.answer serial.0 in
-    let Answered : Answer → Type 0 = λ x. Calls P budget m [] σ x serial.0 in
-    let Left : State → Type 0 = λ s. Calls P budget m [] σ r.answer s in
-    (stretch.after, subst Left (sym serial.2) (subst Answered one.answer (subst Called one.call serial.1)), stretch.stands)
+module _ (P : Program) (size budget : ℕ) (rule : Entry → Type 0) (ruled : (e : Entry) → rule e → IsRuled P size budget e) where
+  pub answers_alone : (first : List ℕ) (memory left : Memory) (clock m : ℕ) (kept : List Access) (x : Answer) (stamp : Stamp) (room : Room) (at : Place)
+      → memory.words.items ≡ first → room.region ≡ 0
+      → AddsEntry (λ h n r w. StandsFor rule first left.words.items clock kept h n r w) [] 0 memory.used (told_by room at (record { method = m; args = [] }) (record_at at m x stamp)) left.used
+      → AnswersAlone P size budget memory m x left
+  answers_alone first memory left clock m kept x stamp room at same region adds σ holds =
+      let e = adds.entry in
+      let stands = subst (λ (n : ℕ). StandsFor rule first left.words.items clock kept (e ∷ []) n [] []) (adds.stands.no_conflict) adds.stands in
+      let of_region : e.call.region ≡ 0 = ap (λ (t : Told). t.call.region) adds.told_is ∙ region in
+      let takes : Takes 0 memory.used (e ∷ []) left.used = (of_region, adds.used_before, sym adds.used_after) in
+      let First : List ℕ → Type 0 = λ l. IsState P size l (used_at_first memory.used) σ in
+      let stretch = stretch_of P size budget rule ruled first left.words.items clock kept (e ∷ []) stands 0 memory.used left.used takes (used_at_first memory.used) (used_at_first left.used) refl
+      (record { here = refl; there = elsewhere memory.used left.used }) σ (subst First same holds) in
+      let told : IsStretch P size budget σ left.words.items (used_at_first left.used) (told_by room at (record { method = m; args = [] }) (record_at at m x stamp) ∷ []) =
+      subst (λ (t : Told). IsStretch P size budget σ left.words.items (used_at_first left.used) (t ∷ [])) adds.told_is stretch in
+      let serial = told.serial in
+      let zero_region : region_of size (call_of room at (record { method = m; args = [] })) ≡ first_region size = ap (λ (r : ℕ). record { number = r; size = size }) region in
+      let Called : Region → Type 0 = λ G. Calls P budget G m [] σ x serial.0 in
+      let Left : State → Type 0 = λ s. Calls P budget (first_region size) m [] σ x s in
+      (told.after, subst Left (sym serial.2) (subst Called zero_region serial.1), told.stands)

@@ -4,7 +4,7 @@ use Rattle.std.proofs.lemmas.List.{length-append}
 use Rattle.jmodel.specs.Schedule.{Phase, ScriptPhase, lists_in, lane_calls, phase_calls, script_calls}
 use Rattle.jmodel.specs.Book.{Book}
 use Rattle.driver.specs.Passing.{call_count, HasRoom}
-use Rattle.driver.proofs.Alone.{lanes_more}
+use Rattle.driver.proofs.More.{lanes_more}
 use Rattle.driver.proofs.Places.{length_lane}
 
 abbrev pub script_count : List ScriptPhase → ℕ

@@ -1,8 +1,11 @@
 -- Calls of the original methods, one after another, from the entries of one thread.
-use Rattle.std.proofs.Common.{◌≡◌, ℕ, suc, List, [], ◌∷◌, map, Bool, true, false, nat_eq, refl, sym, ◌∙◌, ap, subst}
+use Rattle.std.proofs.Common.{◌≡◌, ◌≢◌, ℕ, List, [], ◌∷◌, map, nat_eq, refl, sym, ◌∙◌, ap, subst, arith}
 use Rattle.std.specs.Prelude.{if◌then◌else◌}
 use Rattle.std.specs.List.{AllByRecursion}
 use Rattle.std.proofs.lemmas.Simd.{map-map}
+use Rattle.std.proofs.lemmas.Bool.Decides.{nat_tests}
+use mathlib.Core.Logic.{dite}
+use native.Mathlib.Decide.{ℕ_discrete}
 use Rattle.jmodel.specs.declared.op.Access.{Access}
 use Rattle.jmodel.specs.declared.value.Answer.{Answer}
 use Rattle.jmodel.specs.Program.{Program}
@@ -12,51 +15,63 @@ use Rattle.jmodel.specs.Meaning.{Represents, Explains}
 use Rattle.jmodel.specs.Serial.{Serial}
 use Rattle.jmodel.proofs.SerialProof.{serial_of}
 use Rattle.tx_core.specs.Serial.{IsSerial, StandsFor, word_in}
-use Rattle.session.specs.Rule.{IsRuled, region_words, IsState, IsStretch, calls_of}
+use Rattle.session.specs.Rule.{IsRuled, IsState, IsStretch, calls_of}
+use Rattle.session.specs.Lane.{Takes}
 
--- the region of no lane has used words
-abbrev IsUnused : (ℕ → ℕ) → Type 0
-IsUnused used = (lane : ℕ) → used (suc lane) ≡ 0
+-- the region of an entry has the used words that it left, and each other those from before
+used_here : (used : ℕ → ℕ) (e : Entry) (region : ℕ) → e.call.region ≡ region → used_with used e region ≡ e.used_after
+used_here used e region same = grind (arith, nat_tests)
 
-still : (used : ℕ → ℕ) (e : Entry) → IsUnused used → e.used_after ≡ 0 → IsUnused (used_with used e)
-still used e unused after = λ lane. go lane (nat_eq e.call.region (suc lane))
-  where
-    go : (lane : ℕ) (b : Bool) → (if b then e.used_after else used (suc lane)) ≡ 0
-    go lane true = after
-    go lane false = unused lane
+used_there : (u after region other : ℕ) → other ≢ region → (if nat_eq region other then after else u) ≡ u
+used_there u after region other apart = grind (arith, nat_tests)
 
-module _ (P : Program) (budget : ℕ) (rule : Entry → Type 0) (ruled : (e : Entry) → rule e → IsRuled P budget e) where
-  entries_of : (clock : ℕ) (σ : Words) (used : ℕ → ℕ) (h : List Entry) → IsUnused used → IsSerial rule clock σ h
-      → AreEntries σ used h × AllByRecursion (Explains P region_words budget) h
-  entries_of clock σ used [] unused s = (tt, tt)
-  entries_of clock σ used (e ∷ h) unused s =
+-- the used words after entries of one region
+after_here : (region before after : ℕ) (h : List Entry) → Takes region before h after → used_after h region before ≡ after
+after_here region before after [] takes = sym takes
+after_here region before after (e ∷ h) takes =
+    ap (used_after h region) (used_here (λ r. before) e region takes.0) ∙ after_here region e.used_after after h takes.2
+
+after_there : (region before after other u : ℕ) (h : List Entry) → Takes region before h after → other ≢ region → used_after h other u ≡ u
+after_there region before after other u [] takes apart = refl
+after_there region before after other u (e ∷ h) takes apart =
+    let apart_too : other ≢ e.call.region = λ q. apart (q ∙ takes.0) in
+    ap (used_after h other) (used_there u e.used_after e.call.region other apart_too) ∙ after_there region e.used_after after other u h takes.2 apart
+
+-- used words by region, which are these in one region and as they were in each other
+pub record IsMoved (region after : ℕ) (u v : ℕ → ℕ) : Type 0 where
+  pub here : v region ≡ after
+  pub there : (other : ℕ) → other ≢ region → v other ≡ u other
+
+module _ (P : Program) (size budget : ℕ) (rule : Entry → Type 0) (ruled : (e : Entry) → rule e → IsRuled P size budget e) where
+  entries_of : (clock : ℕ) (σ : Words) (used : ℕ → ℕ) (region before after : ℕ) (h : List Entry) → Takes region before h after → used region ≡ before
+      → IsSerial rule clock σ h → AreEntries σ used h × AllByRecursion (Explains P size budget) h
+  entries_of clock σ used region before after [] takes same s = (tt, tt)
+  entries_of clock σ used region before after (e ∷ h) takes same s =
       let r = ruled e s.0 in
-      let rest = entries_of e.stamp.at (overlaid e.writes σ) (used_with used e) h (still used e unused r.after) s.4 in (
-        (record { update = s.1; reads = s.3; used_before = r.before ∙ sym (ap used r.of_lane ∙ unused e.call.lane); stays = λ d. r.after ∙ sym r.before }, rest.0),
+      let rest = entries_of e.stamp.at (overlaid e.writes σ) (used_with used e) region e.used_after after h takes.2 (used_here used e region takes.0) s.4 in (
+        (record { update = s.1; reads = s.3; used_before = takes.1 ∙ sym (ap used takes.0 ∙ same); stays = r.stays }, rest.0),
         (r.explained, rest.1),
       )
 
-  -- entries by the rule leave no region of a lane with used words
-  unused_after : (clock : ℕ) (σ : Words) (used : ℕ → ℕ) (h : List Entry) → IsUnused used → IsSerial rule clock σ h → (lane : ℕ)
-      → used_after h (suc lane) (used (suc lane)) ≡ 0
-  unused_after clock σ used [] unused s lane = unused lane
-  unused_after clock σ used (e ∷ h) unused s lane =
-      unused_after e.stamp.at (overlaid e.writes σ) (used_with used e) h (still used e unused (ruled e s.0).after) s.4 lane
-
-  -- what one thread's history tells
+  -- what one thread's history of one region tells
   pub stretch_of : (first words : List ℕ) (clock : ℕ) (kept : List Access) (h : List Entry) → StandsFor rule first words clock kept h 0 [] []
-      → (σ : State) → IsState P first σ → IsStretch P budget σ words (map told h)
-  stretch_of first words clock kept h stands σ state =
-      let parts = entries_of 0 (word_in first) σ.used h state.unused stands.serial in
-      let s = serial_of P region_words budget h (word_in first) σ.used σ state.represents (λ region. refl) parts.0 parts.1 in
-      let Calls : List Call → Type 0 = λ cs. Serial P budget σ cs (map (λ (e : Entry). e.answer) h) s.after in
-      let Answers : List Answer → Type 0 = λ xs. Serial P budget σ (calls_of (map told h)) xs s.after in
-      let Stand : Words → Type 0 = λ w. Represents P region_words w s.after in
+      → (region before after : ℕ) → Takes region before h after → (u v : ℕ → ℕ) → u region ≡ before → IsMoved region after u v
+      → (σ : State) → IsState P size first u σ → IsStretch P size budget σ words v (map told h)
+  stretch_of first words clock kept h stands region before after takes u v same moved σ state =
+      let parts = entries_of 0 (word_in first) σ.used region before after h takes (state.used_are region ∙ same) stands.serial in
+      let s = serial_of P size budget h (word_in first) σ.used σ state.represents (λ r. refl) parts.0 parts.1 in
+      let Calls : List Call → Type 0 = λ cs. Serial P size budget σ cs (map (λ (e : Entry). e.answer) h) s.after in
+      let Answers : List Answer → Type 0 = λ xs. Serial P size budget σ (calls_of (map told h)) xs s.after in
+      let Stand : Words → Type 0 = λ w. Represents P size w s.after in
+      let Used : ℕ → Type 0 = λ r. used_after h r (σ.used r) ≡ v r in
+      let at_region : Used region = ap (used_after h region) (state.used_are region ∙ same) ∙ after_here region before after h takes ∙ sym moved.here in
       record {
         after = s.after;
         serial = subst Answers (sym (map-map (λ (t : Told). t.answer) told h)) (subst Calls (sym (map-map (λ (t : Told). t.call) told h)) s.serial);
         stands = record {
           represents = subst Stand (sym stands.memory) s.represents;
-          unused = λ lane. s.used (suc lane) ∙ unused_after 0 (word_in first) σ.used h state.unused stands.serial lane;
+          used_are = λ r. s.used r
+              ∙ dite (ℕ_discrete r region) (λ q. subst Used (sym q) at_region)
+              (λ apart. after_there region before after r (σ.used r) h takes apart ∙ state.used_are r ∙ sym (moved.there r apart));
         };
       }

@@ -1,6 +1,6 @@
 -- A phase of which no call was made.
 use Rattle.std.proofs.Common.{◌≡◌, ◌≤◌, ◌+◌, ℕ, zero, suc, List, [], ◌∷◌, length, take, drop, get_or, map, All, append-nil, refl, sym, ◌∙◌, ap, subst, arith}
-use Rattle.std.specs.Prelude.{filter, IsPermutation}
+use Rattle.std.specs.Prelude.{◌<◌, filter, IsPermutation, slice_index_or}
 use Rattle.std.specs.List.{flat_map}
 use Rattle.std.proofs.lemmas.List.Elements.{All-head, All-tail}
 use Rattle.std.proofs.lemmas.List.Sorted.{IsPermutation-refl}
@@ -10,11 +10,10 @@ use Rattle.jmodel.specs.Schedule.{Known, Phase, lane_calls}
 use Rattle.tx_table.specs.declared.shared.Pass.{Pass}
 use Rattle.tx_table.specs.Passes.{book}
 use Rattle.session.specs.Lane.{is_placed, record_of}
-use Rattle.session.specs.Passes.{MayBegin}
 use Rattle.driver.specs.declared.side.Part.{Part}
 use Rattle.driver.specs.declared.side.Side.{Side}
 use Rattle.driver.specs.Sides.{AreParts, none_made, made_counts}
-use Rattle.driver.specs.Passing.{call_count, HasRoom, IsWhole, IsMidway}
+use Rattle.driver.specs.Passing.{used_of, MayGoOn, call_count, HasRoom, IsWhole, IsMidway}
 
 -- no call was made of a lane
 abbrev pub IsNone : Part → Type 0
@@ -48,8 +47,8 @@ none_count (r ∷ rs) (suc lane) h = none_count rs lane (All-tail IsNone r rs h)
 
 -- a phase that goes on as it began
 pub untouched_side : (t : TableId) (phase : ℕ) (lanes : Phase) (side : Side) (p : Pass) → side.placed.items ≡ [] → length side.parts.items ≡ length lanes
-    → All IsNone side.parts.items → IsWhole t phase p → HasRoom (call_count lanes) (book p) → length lanes ≤ 16 → IsMidway t (book p) phase lanes side p
-untouched_side t phase lanes side p placed same none w room few = record {
+    → All IsNone side.parts.items → ((lane : ℕ) (d : Part) → lane < length lanes → (slice_index_or side.parts.items lane d).used ≡ used_of (book p) lane) → IsWhole t phase p → HasRoom (call_count lanes) (book p) → length lanes ≤ 16 → IsMidway t (book p) phase lanes side p
+untouched_side t phase lanes side p placed same none used w room few = record {
   numbers = w.numbers;
   room = room;
   begins = w.begins;
@@ -72,7 +71,8 @@ untouched_side t phase lanes side p placed same none w room few = record {
     known = λ e i. absurd i;
     back = λ lane low.
         let none_made : 0 ≡ 0 + get_or (made_counts side.parts.items) lane 0 = (let z = none_count side.parts.items lane none in omega arith) in
-        subst (λ (n : ℕ). MayBegin (record { phase = phase; lane = lane; first = n }) (book p)) none_made (w.begins lane (omega arith));
+        subst (λ (n : ℕ). MayGoOn (record { phase = phase; lane = lane; first = n }) (book p)) none_made (w.begins lane (omega arith));
+    used = used;
     gone = λ lane high low. absurd (omega (arith, high, low));
     kept = λ lane any. refl;
   };

@@ -1,7 +1,7 @@
 -- The workers of a bag, as they get their claims and as they come back.
 use Rattle.std.proofs.Common.{◌≡◌, ◌≢◌, ◌≤◌, ◌<◌, ◌+◌, ◌-◌, ◌*◌, ◌^◌, ℕ, zero, suc, List, [], ◌∷◌, ◌++◌, length, length-set, get_or, set, Result, Ok, Err, refl, sym, ap, ◌∙◌, subst, arith}
 use Rattle.std.specs.Prelude.{IfOk, IsPermutation, filter, nat_lt}
-use Rattle.std.specs.List.{All, AllByRecursion, flat_map}
+use Rattle.std.specs.List.{AllByRecursion, flat_map}
 use Rattle.std.specs.Global.{Global}
 use Rattle.std.specs.declared.vec.Vec.{Vec}
 use Rattle.std.specs.declared.alloc.AllocError.{AllocError}
@@ -11,7 +11,7 @@ use Rattle.std.proofs.lemmas.Result.{IfOk-at_ok}
 use Rattle.std.proofs.Math.Nat.{mul-le-mul_right}
 use mathlib.Core.Logic.{dite}
 use native.Mathlib.Decide.{ℕ_discrete}
-use Rattle.claims.specs.Claims.{Claims, Ascends, first_claims, stays, joined}
+use Rattle.claims.specs.Claims.{Claims, Ascends, stays, joined}
 use Rattle.claims.specs.Passes.{claims_of, IsOf}
 use Rattle.claims.specs.declared.bag.Bag.{Bag}
 use Rattle.claims.specs.declared.bag.BagPass.{BagPass}
@@ -25,7 +25,8 @@ use Rattle.session.specs.declared.claimed.Taken.{Taken}
 use Rattle.driver.specs.declared.workers.Worker.{Worker}
 use Rattle.atomic_table.specs.Seated.{TableId}
 use Rattle.session.specs.Lane.{HasMade}
-use Rattle.driver.specs.Passing.{first_of, IsOfOne, AreStarting, IsDone, HasEnded, HaveEnded}
+use Rattle.tx_table.specs.Passes.{book}
+use Rattle.driver.specs.Passing.{used_of, first_of, IsOfOne, AreStarting, IsDone, HasEnded, HaveEnded}
 use Rattle.session.specs.Claimed.{calls_at}
 use Rattle.driver.specs.Bags.{as_lanes, AreTaken, IsRest, lists}
 use Rattle.driver.specs.Workers.{MayClaim, AreWorkers, HasWorked, HaveWorked, AreCollected}
@@ -39,13 +40,6 @@ pub record Handed (b : Bag) (n k : ℕ) (p : BagPass) : Type 0 where
   pub bag : IsOf b p
   pub none : (claims_of p).indexes ≡ []
   pub left : (claims_of p).left + k * (n + 1) ≡ 2 ^ 32
-
-pub handed_first : (b : Bag) (n : ℕ) (p : BagPass) → IsOf b p → claims_of p ≡ first_claims → Handed b n 0 p
-handed_first b n p of is = record {
-  bag = of;
-  none = ap (λ (v : Claims). v.indexes) is;
-  left = let e : (claims_of p).left ≡ 2 ^ 32 = ap (λ (v : Claims). v.left) is in omega arith;
-}
 
 pub handed_more : (b : Bag) (n k : ℕ) (p q : BagPass) → k < 16 → n ≤ 100000 → IsOf b q → claims_of q ≡ stays (n + 1) (claims_of p) → Handed b n k p → Handed b n (k + 1) q
 handed_more b n k p q few small of is h = record {
@@ -65,16 +59,16 @@ workers_push t seen phase b n starts workers s p inside there starting may all i
     w = record { start = s; claims = p }
 
     Fine : ℕ → Worker → Type 0
-    Fine k x = (x.start.lane ≡ k) × IsOfOne t seen (first_of phase k) x.start.pass × MayClaim b n x.claims
+    Fine k x = (x.start.lane ≡ k) × (x.start.used ≡ used_of (book x.start.pass) k) × IsOfOne t seen (first_of phase k) x.start.pass × MayClaim b n x.claims
 
     Starts : Start → Type 0
-    Starts x = (x.lane ≡ length workers) × IsOfOne t seen (first_of phase (length workers)) x.pass
+    Starts x = (x.lane ≡ length workers) × (x.used ≡ used_of (book x.pass) (length workers)) × IsOfOne t seen (first_of phase (length workers)) x.pass
 
     mine : Starts s
     mine = subst Starts (sym there) (starting (length workers) s inside)
 
     last : i ≡ length workers → Fine i (get_or (workers ++ w ∷ []) i d)
-    last e = subst (Fine i) (sym (get_or_push workers w d i (sym e))) (subst (λ (k : ℕ). Fine k w) (sym e) (mine.0, mine.1, may))
+    last e = subst (Fine i) (sym (get_or_push workers w d i (sym e))) (subst (λ (k : ℕ). Fine k w) (sym e) (mine.0, mine.1, mine.2, may))
 
     before : i ≢ length workers → Fine i (get_or (workers ++ w ∷ []) i d)
     before ne = let more = length_push workers w in let low : i < length workers = omega arith in
@@ -84,10 +78,6 @@ workers_push t seen phase b n starts workers s p inside there starting may all i
 worked_at : (P : Taken × BagPass → Type 0) (ends : List (Result (Taken × BagPass) AllocError)) (k : ℕ) (end : Result (Taken × BagPass) AllocError) (taken : Taken)
     (other : BagPass) → end ≡ get_or ends k end → end ≡ Ok (taken, other) → IfOk (get_or ends k end) P → P (taken, other)
 worked_at P ends k end taken other there is holds = IfOk-at_ok P is (subst (λ (r : Result (Taken × BagPass) AllocError). IfOk r P) (sym there) holds)
-
-pub is_of : (b : Bag) (ends : List (Result (Taken × BagPass) AllocError)) (k : ℕ) (end : Result (Taken × BagPass) AllocError) (taken : Taken) (other : BagPass)
-    → All (λ r. IfOk r (λ (x : Taken × BagPass). IsOf b x.1)) ends → k < length ends → end ≡ get_or ends k end → end ≡ Ok (taken, other) → IsOf b other
-is_of b ends k end taken other all inside there is = worked_at (λ x. IsOf b x.1) ends k end taken other there is (all k end inside)
 
 -- one lane more that has ended
 ended_push : (t : TableId) (seen phase : ℕ) (ls : Phase) (ends : List (Result (Lane × Pass) AllocError)) (cs : List Known) (end : Lane × Pass) → HaveEnded t seen phase ls ends
@@ -203,14 +193,16 @@ ended_longer t seen phase calls first rest others ends have = record { len = hav
     at_first (Ok e) h =
         let both : calls_at calls (first ++ rest) ≡ calls_at calls first ++ calls_at calls rest =
         map-append (λ (i : ℕ). get_or calls i (record { method = 0; args = [] })) first rest in
-        let At : List Known → Type 0 = λ l. HasMade (first_of phase 0) l h.history e.0 in
+        let At : List Known → Type 0 = λ l. HasMade (first_of phase 0) h.before l h.history e.0 in
         let Done : List Known → Type 0 = λ l. IsDone t seen (first_of phase 0) (length l) e.0.made h.history e.1 in
         let long = length-append (calls_at calls first) (calls_at calls rest) in
         record {
           history = h.history;
+          before = h.before;
+          used = h.used;
           pass = subst Done (sym both) (done_within t seen (first_of phase 0) (length (calls_at calls first)) (length (calls_at calls first ++ calls_at calls rest)) e.0.made
               h.history e.1 (omega arith) h.pass);
-          made = subst At (sym both) (made_longer (first_of phase 0) (calls_at calls first) (calls_at calls rest) h.history e.0 h.made);
+          made = subst At (sym both) (made_longer (first_of phase 0) h.before (calls_at calls first) (calls_at calls rest) h.history e.0 h.made);
         }
     at_first (Err x) h = tt
 

@@ -1,6 +1,6 @@
 pub mod Sides
 pub mod Runs
-pub mod Alone
+pub mod Memory
 pub mod SetUp
 pub mod Order
 pub mod Gathering

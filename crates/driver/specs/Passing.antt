@@ -1,10 +1,11 @@
 -- The passes of a phase over a table that phases before it had, too: the one that holds every number between phases, and those of lanes.
-use Rattle.std.specs.Prelude.{◌≡◌, ◌≢◌, ◌≤◌, ◌<◌, ◌+◌, ◌*◌, ◌^◌, ℕ, suc, List, [], ◌∷◌, ◌++◌, length, reverse, slice_index_or, Result, IfOk}
+use Rattle.std.specs.Prelude.{◌≡◌, ◌≢◌, ◌≤◌, ◌<◌, ◌+◌, ◌*◌, ◌^◌, ℕ, suc, List, [], ◌∷◌, ◌++◌, length, reverse, slice_index, slice_index_or, Result, IfOk}
 use mathlib.Core.Option.{none}
 use Rattle.std.specs.declared.alloc.AllocError.{AllocError}
 use Rattle.atomic_table.specs.Seated.{TableId}
 use Rattle.jmodel.specs.History.{Entry}
 use Rattle.jmodel.specs.Book.{Book, In, lookup}
+use Rattle.jmodel.specs.Plays.{used_in}
 use Rattle.jmodel.specs.Schedule.{Known, Phase}
 use Rattle.tx_table.specs.declared.shared.Pass.{Pass}
 use Rattle.tx_table.specs.Passes.{book}
@@ -25,6 +26,18 @@ use Rattle.driver.specs.Over.{IsMadeOver}
 abbrev pub first_of : ℕ → ℕ → Place
 first_of phase lane = record { phase = phase; lane = lane; first = 0 }
 
+-- how many words of a lane's region are used, as a book has it
+abbrev pub used_of : Book → ℕ → ℕ
+used_of b lane = used_in (lookup b.regions (suc lane))
+
+-- the calls of a lane from a place on may come next with a book, and its region has the used words that the book says
+abbrev pub MayGoOn : Place → Book → Type 0
+MayGoOn at b = MayBegin at (used_of b at.lane) b
+
+-- how many words of its region each of sixteen lanes has used, as a book has it
+abbrev pub AreUsed : List ℕ → Book → Type 0
+AreUsed used b = (lane : ℕ) → lane < 16 → slice_index used lane ≡ used_of b lane
+
 -- how many calls lanes have
 abbrev pub call_count : Phase → ℕ
 call_count [] = 0
@@ -40,7 +53,7 @@ pub record HasRoom (count : ℕ) (b : Book) : Type 0 where
 pub record IsWhole (t : TableId) (phase : ℕ) (p : Pass) : Type 0 where
   pub seated : IsSeated t p
   pub numbers : (book p).numbers ≡ 1048576
-  pub begins : (lane : ℕ) → lane < 16 → MayBegin (first_of phase lane) (book p)
+  pub begins : (lane : ℕ) → lane < 16 → MayGoOn (first_of phase lane) (book p)
 
 -- a pass with this book had no pass split off from it yet, and moved the clock nowhere
 pub record IsUnused (b : Book) : Type 0 where
@@ -56,13 +69,14 @@ pub record IsOfOne (t : TableId) (seen : ℕ) (at : Place) (p : Pass) : Type 0 w
   pub ticks : (book p).ticks ≡ 0
   pub seen_is : (book p).seen ≡ seen
   pub entries : (book p).entries ≡ []
-  pub begins : MayBegin at (book p)
+  pub begins : MayGoOn at (book p)
   pub others : (r : ℕ) → r ≢ suc at.lane → lookup (book p).regions r ≡ none
 
 -- the lanes of a phase by number, each with a pass of its own
 abbrev pub AreStarting : TableId → ℕ → ℕ → List Start → Type 0
 AreStarting t seen phase starts = (i : ℕ) (s : Start) → i < length starts
-    → ((slice_index_or starts i s).lane ≡ i) × IsOfOne t seen (first_of phase i) (slice_index_or starts i s).pass
+    → ((slice_index_or starts i s).lane ≡ i) × ((slice_index_or starts i s).used ≡ used_of (book (slice_index_or starts i s).pass) i)
+    × IsOfOne t seen (first_of phase i) (slice_index_or starts i s).pass
 
 -- The same pass after so many of the lane's calls, of which some were made and added these entries. They stand behind all that it knew.
 pub record IsDone (t : TableId) (seen : ℕ) (at : Place) (count made : ℕ) (h : List Entry) (p : Pass) : Type 0 where
@@ -74,14 +88,16 @@ pub record IsDone (t : TableId) (seen : ℕ) (at : Place) (count made : ℕ) (h 
   pub entries : (book p).entries ≡ reverse h
   pub stand_behind : (e : Entry) → In e (book p).entries → IsBehind seen e
   pub known : (e : Entry) → In e (book p).entries → e.stamp.at ≤ (book p).seen
-  pub next : MayBegin (behind at made) (book p)
+  pub next : MayGoOn (behind at made) (book p)
   pub others : (r : ℕ) → r ≢ suc at.lane → lookup (book p).regions r ≡ none
 
 -- a lane's calls were made from the first on, and added entries to its pass
 pub record HasEnded (t : TableId) (seen phase lane : ℕ) (calls : List Known) (end : Lane × Pass) : Type 0 where
   pub history : List Entry
+  pub before : ℕ
   pub pass : IsDone t seen (first_of phase lane) (length calls) end.0.made history end.1
-  pub made : HasMade (first_of phase lane) calls history end.0
+  pub made : HasMade (first_of phase lane) before calls history end.0
+  pub used : end.0.used ≡ used_of (book end.1) lane
 
 -- each lane of a phase has ended, or there was no memory for it
 pub record HaveEnded (t : TableId) (seen phase : ℕ) (lanes : Phase) (ends : List (Result (Lane × Pass) AllocError)) : Type 0 where
@@ -120,7 +136,8 @@ pub record IsJoining (t : TableId) (b : Book) (phase all calls : ℕ) (lanes : P
   pub gathered : IsGathered phase lanes since placed parts
   pub stand_behind : (e : Entry) → In e since → IsBehind b.seen e
   pub known : (e : Entry) → In e since → e.stamp.at ≤ (book p).seen
-  pub back : (lane : ℕ) → lane < length lanes → MayBegin (behind (first_of phase lane) (slice_index_or (made_counts parts) lane 0)) (book p)
+  pub back : (lane : ℕ) → lane < length lanes → MayGoOn (behind (first_of phase lane) (slice_index_or (made_counts parts) lane 0)) (book p)
+  pub used : (lane : ℕ) (d : Part) → lane < length lanes → (slice_index_or parts lane d).used ≡ used_of (book p) lane
   pub gone : (lane : ℕ) → length lanes ≤ lane → lane < all → lookup (book p).regions (suc lane) ≡ none
   pub kept : (lane : ℕ) → all ≤ lane → lookup (book p).regions (suc lane) ≡ lookup b.regions (suc lane)
 
@@ -128,7 +145,7 @@ pub record IsJoining (t : TableId) (b : Book) (phase all calls : ℕ) (lanes : P
 pub record IsMidway (t : TableId) (b : Book) (phase : ℕ) (lanes : Phase) (side : Side) (p : Pass) : Type 0 where
   pub numbers : b.numbers ≡ 1048576
   pub room : HasRoom (call_count lanes) b
-  pub begins : (lane : ℕ) → lane < 16 → MayBegin (first_of phase lane) b
+  pub begins : (lane : ℕ) → lane < 16 → MayGoOn (first_of phase lane) b
   pub joining : IsJoining t b phase (length lanes) (call_count lanes) lanes side.placed.items side.parts.items p
 
 -- A pass with every number and the book b, after so many calls of these lanes, each from a place on, with what is kept of them. The calls of
@@ -145,4 +162,4 @@ pub record IsResting (t : TableId) (b : Book) (phase calls : ℕ) (lanes : Phase
   pub stand_behind : (e : Entry) → In e since → IsBehind b.seen e
   pub known : (e : Entry) → In e since → e.stamp.at ≤ (book p).seen
   pub waits : (lane : ℕ) → length lanes ≤ lane → lookup (book p).regions (suc lane) ≡ lookup b.regions (suc lane)
-  pub later : (lane : ℕ) → lane < 16 → MayBegin (first_of (suc phase) lane) (book p)
+  pub later : (lane : ℕ) → lane < 16 → MayGoOn (first_of (suc phase) lane) (book p)

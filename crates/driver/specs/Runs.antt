@@ -5,9 +5,11 @@ use Rattle.jmodel.specs.Program.{Program}
 use Rattle.jmodel.specs.State.{State}
 use Rattle.jmodel.specs.History.{Told}
 use Rattle.jmodel.specs.Schedule.{ScriptPhase, Lanes, Bag, Made, IsJournal, lists_in, script_calls}
-use Rattle.session.specs.Rule.{IsCallOf, IsState}
+use Rattle.session.specs.Rule.{IsCallOf}
 use Rattle.session.specs.Lane.{record_of}
+use Rattle.driver.specs.declared.memory.Memory.{Memory}
 use Rattle.driver.specs.declared.journal.Journal.{Journal}
+use Rattle.driver.specs.Memory.{Holds}
 
 abbrev pub made_of : Told → Made
 made_of t = record { call = t.call; answer = t.answer }
@@ -24,10 +26,10 @@ pub record AreScripted (P : Program) (phases : List ScriptPhase) : Type 0 where
   pub few_phases : length phases ≤ 10000
   pub few_calls : length (script_calls 0 (map lists_in phases)) ≤ 100000
 
--- The journal of the calls of a script, from words on.
-pub record HasRun (P : Program) (budget : ℕ) (phases : List ScriptPhase) (words : List ℕ) (journal : Journal) : Type 0 where
+-- The journal of the calls of a script, from memory on; a region has size words.
+pub record HasRun (P : Program) (size budget : ℕ) (phases : List ScriptPhase) (memory : Memory) (journal : Journal) : Type 0 where
   pub placed : List Told
   pub unplaced : List Told
   pub placed_are : journal.placed.items ≡ map record_of placed
   pub unplaced_are : journal.unplaced.items ≡ map record_of unplaced
-  pub is_journal : (σ : State) → IsState P words σ → IsJournal P budget σ phases (map made_of placed) (map made_of unplaced)
+  pub is_journal : (σ : State) → Holds P size memory σ → IsJournal P size budget σ phases (map made_of placed) (map made_of unplaced)

@@ -1,17 +1,21 @@
--- What a table of shared words is opened for, for the lanes of a phase.
+-- What a table of shared words is opened for, for the lanes of a run.
 use Rattle.std.specs.Prelude.{ℕ, zero, suc, List, [], ◌∷◌, Bool, nat_eq}
 use Rattle.jmodel.specs.History.{Entry}
 use Rattle.jmodel.specs.Book.{Map}
 use Rattle.jmodel.specs.Rule.{Story}
 
--- the regions below n, of which no word is used
-abbrev pub unused_regions : ℕ → Map ℕ
-unused_regions zero = []
-unused_regions (suc n) = (n, 0) ∷ unused_regions n
+-- the regions of the first n lanes, of which no word is used
+abbrev pub lane_regions : ℕ → Map ℕ
+lane_regions zero = []
+lane_regions (suc n) = (suc n, 0) ∷ lane_regions n
 
--- these words, the regions of sixteen lanes, and entries by a rule
-abbrev pub story_of : (Entry → Type 0) → List ℕ → Story
-story_of rule words = record { words = words; regions = unused_regions 17; runs = rule }
+-- region 0, of which so many words are used, and those of sixteen lanes
+abbrev pub first_regions : ℕ → Map ℕ
+first_regions used = (0, used) ∷ lane_regions 16
+
+-- these words, of which so many are used in region 0, the regions of sixteen lanes, and entries by a rule
+abbrev pub story_of : (Entry → Type 0) → List ℕ → ℕ → Story
+story_of rule words used = record { words = words; regions = first_regions used; runs = rule }
 
 -- the region of a lane
 abbrev pub of_lane : ℕ → ℕ → Bool

@@ -13,7 +13,8 @@ use Rattle.session.specs.Claimed.{calls_at, HasTaken}
 use Rattle.driver.specs.declared.workers.Worker.{Worker}
 use Rattle.session.specs.declared.record.Lane.{Lane}
 use Rattle.tx_table.specs.declared.shared.Pass.{Pass}
-use Rattle.driver.specs.Passing.{first_of, IsOfOne, HasEnded, HaveEnded}
+use Rattle.tx_table.specs.Passes.{book}
+use Rattle.driver.specs.Passing.{used_of, first_of, IsOfOne, HasEnded, HaveEnded}
 use Rattle.driver.specs.Bags.{as_lanes}
 
 -- a pass that claimed nothing, for a worker of a bag of n
@@ -23,7 +24,8 @@ MayClaim b n p = IsOf b p × (claims_of p ≡ goes (n + 1))
 -- the workers by number, each with a pass of its own and claims of its own
 abbrev pub AreWorkers : TableId → ℕ → ℕ → Bag → ℕ → List Worker → Type 0
 AreWorkers t seen phase b n workers = (i : ℕ) (w : Worker) → i < length workers
-    → ((slice_index_or workers i w).start.lane ≡ i) × IsOfOne t seen (first_of phase i) (slice_index_or workers i w).start.pass
+    → ((slice_index_or workers i w).start.lane ≡ i) × ((slice_index_or workers i w).start.used ≡ used_of (book (slice_index_or workers i w).start.pass) i)
+    × IsOfOne t seen (first_of phase i) (slice_index_or workers i w).start.pass
     × MayClaim b n (slice_index_or workers i w).claims
 
 -- a worker's calls were claimed and made, and added entries to its pass

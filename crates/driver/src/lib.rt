@@ -3,6 +3,7 @@
 
 mod bag;
 mod journal;
+mod memory;
 mod order;
 mod phase;
 mod rest;
@@ -10,13 +11,12 @@ mod run;
 mod setting_up;
 mod side;
 mod side_by_side;
-mod solo;
 mod table;
 mod taken;
 mod threads;
 mod workers;
 
 pub use journal::Journal;
+pub use memory::{Limits, Memory};
 pub use run::run_phases;
-pub use session::Limits;
 pub use setting_up::{SetUpEnd, set_up};

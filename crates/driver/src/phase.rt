@@ -1,5 +1,5 @@
 //! The calls of a phase, over the table of a run.
-ghost use Rattle.std.specs.Prelude.{◌≡◌, ◌≤◌, ◌<◌, ℕ, suc, List, ◌∷◌, [], length, IfOk, All, count_by, nat_lt};
+ghost use Rattle.std.specs.Prelude.{◌≡◌, ◌≤◌, ◌<◌, ℕ, suc, List, ◌∷◌, [], length, IfOk, OnOk, All, count_by, nat_lt};
 ghost use Rattle.std.specs.List.{AllByRecursion};
 ghost use Rattle.atomic_table.specs.Seated.{TableId};
 ghost use Rattle.jmodel.specs.Book.{Book};
@@ -11,10 +11,11 @@ ghost use Rattle.session.specs.Rule.{IsRuled, IsReady, IsCallOf};
 ghost use Rattle.driver.specs.Sides.{made_counts};
 ghost use Rattle.driver.specs.Runs.{HasLanes};
 ghost use Rattle.driver.specs.Over.{AddsPhase};
-ghost use Rattle.driver.specs.Passing.{call_count, IsWhole, HasRoom, IsMidway};
+ghost use Rattle.driver.specs.Passing.{AreUsed, call_count, IsWhole, HasRoom, IsMidway};
 
 use crate::bag::bag_side;
 use crate::journal::Journal;
+use crate::memory::{LANES, Limits};
 use crate::order::sort_placed;
 use crate::rest::one_after_another;
 use crate::side::{Part, Side};
@@ -23,7 +24,6 @@ use crate::table::{Keeping, Opening};
 use crate::taken::{by_lane, number};
 use hierarchy::Program;
 use script::{Calls, Known, LaneCalls, PhaseCalls};
-use session::Limits;
 use std::alloc::{AllocError, Global};
 use std::slice::from_ref;
 use std::thread::Threads;
@@ -40,6 +40,7 @@ pub(crate) fn run_phase<R: Threads + Sync, K: Keeping + Sync>(
     limits: Limits,
     number: u32,
     phase: &PhaseCalls,
+    used: &mut [u64; LANES],
     journal: &mut Journal,
 ) -> Result<Pass, AllocError>
     requires ready { IsReady original.now rewritten.now }
@@ -47,10 +48,13 @@ pub(crate) fn run_phase<R: Threads + Sync, K: Keeping + Sync>(
     requires few { AllByRecursion (λ (cs : List Form). length cs ≤ 100000) (lists_in phase.now) }
     requires lanes { HasLanes phase.now }
     requires attempts { (1 ≤ limits.attempts) × (limits.attempts ≤ 1000000) }
-    requires rule { (e : Entry) → IsRuled original.now limits.budget e → K.rule e }
+    requires room_size { limits.size ≤ 1048576 }
+    requires rule { (e : Entry) → IsRuled original.now limits.size limits.budget e → K.rule e }
     requires pass { IsWhole shared.now.table.shared.table_id number pass }
     requires room { HasRoom (call_count (lists_in phase.now)) (book pass) }
+    requires used { AreUsed used.old (book pass) }
     ensures whole { IfOk result (IsWhole shared.now.table.shared.table_id (suc number)) }
+    ensures used { IfOk result (λ left. AreUsed used.new (book left)) }
     ensures adds { IfOk result (λ left. AddsPhase number (call_count (lists_in phase.now)) phase.now (book pass) (book left) journal.old journal.new) }
 {
     match &phase.calls {
@@ -64,10 +68,12 @@ pub(crate) fn run_phase<R: Threads + Sync, K: Keeping + Sync>(
             limits,
             number,
             lanes.as_slice(),
+            used,
             journal,
         ),
         Calls::Bag { lanes, calls } => run_bag(
-            rt, alloc, original, rewritten, shared, pass, limits, number, *lanes, calls, journal,
+            rt, alloc, original, rewritten, shared, pass, limits, number, *lanes, calls, used,
+            journal,
         ),
     }
 }
@@ -85,6 +91,7 @@ fn run_bag<R: Threads + Sync, K: Keeping + Sync>(
     phase: u32,
     lanes: u64,
     calls: &LaneCalls,
+    used: &mut [u64; LANES],
     journal: &mut Journal,
 ) -> Result<Pass, AllocError>
     requires ready { IsReady original.now rewritten.now }
@@ -92,10 +99,13 @@ fn run_bag<R: Threads + Sync, K: Keeping + Sync>(
     requires few { length calls.now ≤ 100000 }
     requires lanes { (1 ≤ lanes) × (lanes ≤ 16) }
     requires attempts { (1 ≤ limits.attempts) × (limits.attempts ≤ 1000000) }
-    requires rule { (e : Entry) → IsRuled original.now limits.budget e → K.rule e }
+    requires room_size { limits.size ≤ 1048576 }
+    requires rule { (e : Entry) → IsRuled original.now limits.size limits.budget e → K.rule e }
     requires pass { IsWhole shared.now.table.shared.table_id phase pass }
     requires room { HasRoom (call_count (calls.now ∷ [])) (book pass) }
+    requires used { AreUsed used.old (book pass) }
     ensures whole { IfOk result (IsWhole shared.now.table.shared.table_id (suc phase)) }
+    ensures used { IfOk result (λ left. AreUsed used.new (book left)) }
     ensures adds { IfOk result (λ left. AddsPhase phase (call_count (calls.now ∷ [])) (ABag lanes calls.now) (book pass) (book left) journal.old journal.new) }
 {
     let bag = calls.calls.as_slice();
@@ -111,11 +121,12 @@ fn run_bag<R: Threads + Sync, K: Keeping + Sync>(
             limits,
             phase,
             from_ref(calls),
+            used,
             journal,
         );
     }
     work_bag(
-        rt, alloc, original, rewritten, shared, pass, limits, phase, workers, bag, journal,
+        rt, alloc, original, rewritten, shared, pass, limits, phase, workers, bag, used, journal,
     )
 }
 
@@ -131,6 +142,7 @@ fn work_bag<R: Threads + Sync, K: Keeping + Sync>(
     phase: u32,
     workers: u8,
     bag: &[Known],
+    used: &mut [u64; LANES],
     journal: &mut Journal,
 ) -> Result<Pass, AllocError>
     requires ready { IsReady original.now rewritten.now }
@@ -138,21 +150,24 @@ fn work_bag<R: Threads + Sync, K: Keeping + Sync>(
     requires few { length bag.now ≤ 100000 }
     requires workers { (1 ≤ workers) × (workers ≤ 16) × (workers ≤ length bag.now) }
     requires attempts { (1 ≤ limits.attempts) × (limits.attempts ≤ 1000000) }
-    requires rule { (e : Entry) → IsRuled original.now limits.budget e → K.rule e }
+    requires room_size { limits.size ≤ 1048576 }
+    requires rule { (e : Entry) → IsRuled original.now limits.size limits.budget e → K.rule e }
     requires pass { IsWhole shared.now.table.shared.table_id phase pass }
     requires room { HasRoom (length bag.now) (book pass) }
+    requires used { AreUsed used.old (book pass) }
     ensures whole { IfOk result (IsWhole shared.now.table.shared.table_id (suc phase)) }
+    ensures used { IfOk result (λ left. AreUsed used.new (book left)) }
     ensures adds { (lanes : ℕ) → workers ≤ lanes
         → IfOk result (λ left. AddsPhase phase (length bag.now) (ABag lanes bag.now) (book pass) (book left) journal.old journal.new) }
 {
     let mut pass = pass;
     let (first, taken) = bag_side(
-        rt, alloc, original, rewritten, shared, &mut pass, limits, phase, workers, bag,
+        rt, alloc, original, rewritten, shared, &mut pass, limits, phase, workers, bag, used,
     )?;
     let by_worker = by_lane(alloc, bag, &taken)?;
     let mut made = Journal::new(alloc);
     let left = add_rest(
-        alloc, original, rewritten, shared, pass, first, limits, phase, &by_worker, &mut made,
+        alloc, original, rewritten, shared, pass, first, limits, phase, &by_worker, used, &mut made,
     )?;
     number(&mut made.placed, &taken);
     number(&mut made.unplaced, &taken);
@@ -171,6 +186,7 @@ fn run_lanes<R: Threads + Sync, K: Keeping + Sync>(
     limits: Limits,
     phase: u32,
     lanes: &[LaneCalls],
+    used: &mut [u64; LANES],
     journal: &mut Journal,
 ) -> Result<Pass, AllocError>
     requires ready { IsReady original.now rewritten.now }
@@ -178,18 +194,21 @@ fn run_lanes<R: Threads + Sync, K: Keeping + Sync>(
     requires few { AllByRecursion (λ (cs : List Form). length cs ≤ 100000) lanes.now }
     requires lanes { length lanes.now ≤ 16 }
     requires attempts { (1 ≤ limits.attempts) × (limits.attempts ≤ 1000000) }
-    requires rule { (e : Entry) → IsRuled original.now limits.budget e → K.rule e }
+    requires room_size { limits.size ≤ 1048576 }
+    requires rule { (e : Entry) → IsRuled original.now limits.size limits.budget e → K.rule e }
     requires pass { IsWhole shared.now.table.shared.table_id phase pass }
     requires room { HasRoom (call_count lanes.now) (book pass) }
+    requires used { AreUsed used.old (book pass) }
     ensures whole { IfOk result (IsWhole shared.now.table.shared.table_id (suc phase)) }
+    ensures used { IfOk result (λ left. AreUsed used.new (book left)) }
     ensures adds { IfOk result (λ left. AddsPhase phase (call_count lanes.now) (ALanes lanes.now) (book pass) (book left) journal.old journal.new) }
 {
     let mut pass = pass;
     let first = first_side(
-        rt, alloc, original, rewritten, shared, &mut pass, limits, phase, lanes,
+        rt, alloc, original, rewritten, shared, &mut pass, limits, phase, lanes, used,
     )?;
     add_rest(
-        alloc, original, rewritten, shared, pass, first, limits, phase, lanes, journal,
+        alloc, original, rewritten, shared, pass, first, limits, phase, lanes, used, journal,
     )
 }
 
@@ -204,6 +223,7 @@ fn add_rest<K: Keeping>(
     limits: Limits,
     phase: u32,
     lanes: &[LaneCalls],
+    used: &mut [u64; LANES],
     journal: &mut Journal,
 ) -> Result<Pass, AllocError>
     requires ready { IsReady original.now rewritten.now }
@@ -211,15 +231,18 @@ fn add_rest<K: Keeping>(
     requires few { AllByRecursion (λ (cs : List Form). length cs ≤ 100000) lanes.now }
     requires lanes { length lanes.now ≤ 16 }
     requires attempts { (1 ≤ limits.attempts) × (limits.attempts ≤ 1000000) }
-    requires rule { (e : Entry) → IsRuled original.now limits.budget e → K.rule e }
+    requires room_size { limits.size ≤ 1048576 }
+    requires rule { (e : Entry) → IsRuled original.now limits.size limits.budget e → K.rule e }
     requires side { (b : Book) × IsMidway shared.now.table.shared.table_id b phase lanes.now first pass }
+    requires used { AreUsed used.old (book pass) }
     ensures whole { IfOk result (IsWhole shared.now.table.shared.table_id (suc phase)) }
+    ensures used { IfOk result (λ left. AreUsed used.new (book left)) }
     ensures adds { (b : Book) → IsMidway shared.now.table.shared.table_id b phase lanes.now first pass
         → IfOk result (λ left. AddsPhase phase (call_count lanes.now) (ALanes lanes.now) b (book left) journal.old journal.new) }
 {
     let firsts = made_counts(alloc, &first.parts)?;
     let (mut rest, left) = one_after_another(
-        alloc, original, rewritten, shared, pass, limits, phase, lanes, &firsts,
+        alloc, original, rewritten, shared, pass, limits, phase, lanes, &firsts, used,
     )?;
     let mut placed = first.placed;
     placed.append(&mut rest.placed)?;
@@ -239,23 +262,27 @@ fn first_side<R: Threads + Sync, K: Keeping + Sync>(
     limits: Limits,
     phase: u32,
     lanes: &[LaneCalls],
+    used: &mut [u64; LANES],
 ) -> Result<Side, AllocError>
     requires ready { IsReady original.now rewritten.now }
     requires calls { AllByRecursion (AllByRecursion (IsCallOf original.now)) lanes.now }
     requires few { AllByRecursion (λ (cs : List Form). length cs ≤ 100000) lanes.now }
     requires lanes { length lanes.now ≤ 16 }
     requires attempts { (1 ≤ limits.attempts) × (limits.attempts ≤ 1000000) }
-    requires rule { (e : Entry) → IsRuled original.now limits.budget e → K.rule e }
+    requires room_size { limits.size ≤ 1048576 }
+    requires rule { (e : Entry) → IsRuled original.now limits.size limits.budget e → K.rule e }
     requires pass { IsWhole shared.now.table.shared.table_id phase pass.old }
     requires room { HasRoom (call_count lanes.now) (book pass.old) }
-    ensures { IfOk result (λ side. IsMidway shared.now.table.shared.table_id (book pass.old) phase lanes.now side pass.new) }
+    requires used { AreUsed used.old (book pass.old) }
+    ensures midway { IfOk result (λ side. IsMidway shared.now.table.shared.table_id (book pass.old) phase lanes.now side pass.new) }
+    ensures used { OnOk result (AreUsed used.new (book pass.new)) }
 {
     if has_several(lanes) {
         side_by_side(
-            rt, alloc, original, rewritten, shared, pass, limits, phase, lanes,
+            rt, alloc, original, rewritten, shared, pass, limits, phase, lanes, used,
         )
     } else {
-        untouched(alloc, lanes)
+        untouched(alloc, lanes, used)
     }
 }
 
@@ -267,15 +294,16 @@ fn has_several(lanes: &[LaneCalls]) -> bool
 }
 
 /// No calls of a phase.
-fn untouched(alloc: Global, lanes: &[LaneCalls]) -> Result<Side, AllocError>
+fn untouched(alloc: Global, lanes: &[LaneCalls], used: &[u64; LANES]) -> Result<Side, AllocError>
     requires { length lanes.now ≤ 16 }
-    ensures { (t : TableId) (phase : ℕ) (p : APass) → IsWhole t phase p → HasRoom (call_count lanes.now) (book p)
+    ensures { (t : TableId) (phase : ℕ) (p : APass) → IsWhole t phase p → HasRoom (call_count lanes.now) (book p) → AreUsed used.now (book p)
         → IfOk result (λ side. IsMidway t (book p) phase lanes.now side p) }
 {
     let mut parts = Vec::new(alloc);
-    for _lane in lanes {
+    for lane in 0..lanes.len() {
         parts.push(Part {
             made: 0,
+            used: used[lane],
             unplaced: Vec::new(alloc),
         })?;
     }

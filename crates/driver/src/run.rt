@@ -5,34 +5,36 @@ ghost use Rattle.session.specs.Rule.{IsRuled, IsReady};
 ghost use Rattle.driver.specs.Runs.{AreScripted, HasRun};
 
 use crate::journal::Journal;
+use crate::memory::{LANES, Limits, Memory};
 use crate::phase::run_phase;
 use crate::table::{Keeping, open_table};
 use hierarchy::Program;
 use script::PhaseCalls;
-use session::Limits;
 use std::alloc::{AllocError, Global};
 use std::marker::Brand;
 use std::thread::Threads;
 
-/// Makes the calls of a script, from the words that memory begins with, as transactions over one table of shared words. The phases come one after
+/// Makes the calls of a script, from the memory that a run begins with, as transactions over one table of shared words. The phases come one after
 /// another. The lanes of a phase run side by side, where more than one has calls; what a lane leaves, of which a call used up its attempts, is made
-/// behind them, one lane after another. Each call may take the turns and the attempts of `limits`. The rewritten program is what runs.
+/// behind them, one lane after another. Each call may take the turns and the attempts of `limits`, and those of a lane together the words of its
+/// region. The rewritten program is what runs.
 pub fn run_phases<R: Threads + Sync>(
     rt: &R,
     alloc: Global,
     original: &Program,
     rewritten: &Program,
-    words: Vec<u64>,
+    memory: Memory,
     limits: Limits,
     phases: &[PhaseCalls],
 ) -> Result<Journal, AllocError>
     requires ready { IsReady original.now rewritten.now }
     requires scripted { AreScripted original.now phases.now }
     requires attempts { (1 ≤ limits.attempts) × (limits.attempts ≤ 1000000) }
-    requires size { length words.items + 4097 < 2 ^ 32 }
-    ensures { IfOk result (HasRun original.now limits.budget phases.now words.items) }
+    requires room_size { limits.size ≤ 1048576 }
+    requires size { length memory.words.items + 4097 < 2 ^ 32 }
+    ensures { IfOk result (HasRun original.now limits.size limits.budget phases.now memory) }
 {
-    run_over::<R, Brand>(rt, alloc, original, rewritten, words, limits, phases)
+    run_over::<R, Brand>(rt, alloc, original, rewritten, memory, limits, phases)
 }
 
 fn run_over<R: Threads + Sync, K: Keeping + Sync>(
@@ -40,19 +42,21 @@ fn run_over<R: Threads + Sync, K: Keeping + Sync>(
     alloc: Global,
     original: &Program,
     rewritten: &Program,
-    words: Vec<u64>,
+    memory: Memory,
     limits: Limits,
     phases: &[PhaseCalls],
 ) -> Result<Journal, AllocError>
     requires ready { IsReady original.now rewritten.now }
     requires scripted { AreScripted original.now phases.now }
     requires attempts { (1 ≤ limits.attempts) × (limits.attempts ≤ 1000000) }
-    requires size { length words.items + 4097 < 2 ^ 32 }
-    requires rule { (e : Entry) → IsRuled original.now limits.budget e → K.rule e }
-    requires ruled { (e : Entry) → K.rule e → IsRuled original.now limits.budget e }
-    ensures { IfOk result (HasRun original.now limits.budget phases.now words.items) }
+    requires room_size { limits.size ≤ 1048576 }
+    requires size { length memory.words.items + 4097 < 2 ^ 32 }
+    requires rule { (e : Entry) → IsRuled original.now limits.size limits.budget e → K.rule e }
+    requires ruled { (e : Entry) → K.rule e → IsRuled original.now limits.size limits.budget e }
+    ensures { IfOk result (HasRun original.now limits.size limits.budget phases.now memory) }
 {
-    let (shared, mut pass) = open_table::<K>(alloc, words)?;
+    let (shared, mut pass) = open_table::<K>(alloc, memory)?;
+    let mut used = [0; LANES];
     let mut journal = Journal::new(alloc);
     for (number, phase) in phases.iter().enumerate() {
         pass = run_phase(
@@ -65,6 +69,7 @@ fn run_over<R: Threads + Sync, K: Keeping + Sync>(
             limits,
             number as u32,
             phase,
+            &mut used,
             &mut journal,
         )?;
     }

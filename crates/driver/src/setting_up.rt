@@ -5,15 +5,18 @@ ghost use Rattle.jmodel.specs.Program.{method_at};
 ghost use Rattle.jmodel.specs.Schedule.{takes};
 ghost use Rattle.jmodel.specs.LinkedLaw.{CanSetUp};
 ghost use Rattle.jmodel.specs.Opening.{initialisers, is_return as is_return_of};
-ghost use Rattle.session.specs.Rule.{IsReady};
+ghost use Rattle.jmodel.specs.History.{Entry};
+ghost use Rattle.session.specs.Rule.{IsRuled, IsReady};
 ghost use Rattle.driver.specs.SetUp.{AnswersAlone, OpensTo, EndsSetUp};
 
-use crate::solo::make_rest;
+use crate::memory::{Limits, Memory};
 use hierarchy::Program;
 use jmodel::Answer;
 use script::Known;
-use session::{Limits, Place};
+use session::{Place, make_next};
 use std::alloc::{AllocError, Global};
+use std::marker::Brand;
+use tx_core::{Origin, Solo};
 
 /// Why not all static initialisers of a program returned.
 #[derive(Drop)]
@@ -34,33 +37,34 @@ impl From<AllocError> for SetUpEnd {
     }
 }
 
-/// Runs the static initialisers of a program, each alone, one after another, from the words that memory begins with, and gives the words that
-/// they left. Each may take the turns and the attempts of `limits`. The rewritten program is what runs. At the first that doesn't return, its
-/// number and its answer are given, and no other runs.
+/// Runs the static initialisers of a program, each alone, one after another, from the memory that a run begins with, and gives the memory that
+/// they left. Each may take the turns and the attempts of `limits`, and all together the words of region 0. The rewritten program is what runs. At the
+/// first that doesn't return, its number and its answer are given, and no other runs.
 pub fn set_up(
     alloc: Global,
     original: &Program,
     rewritten: &Program,
-    words: Vec<u64>,
+    memory: Memory,
     limits: Limits,
-) -> Result<Vec<u64>, SetUpEnd>
+) -> Result<Memory, SetUpEnd>
     requires ready { IsReady original.now rewritten.now }
     requires initialisers { AllByRecursion CanSetUp original.now.methods }
     requires attempts { (1 ≤ limits.attempts) × (limits.attempts ≤ 1000000) }
-    ensures opens { IfOk result (λ left. OpensTo original.now limits.budget words.items (initialisers original.now) left.items) }
-    ensures size { IfOk result (λ left. length left.items ≡ length words.items) }
-    ensures cause { IfErr result (EndsSetUp original.now limits.budget words.items) }
+    requires room_size { limits.size ≤ 1048576 }
+    ensures opens { IfOk result (λ left. OpensTo original.now limits.size limits.budget memory (initialisers original.now) left) }
+    ensures size { IfOk result (λ left. length left.words.items ≡ length memory.words.items) }
+    ensures cause { IfErr result (EndsSetUp original.now limits.size limits.budget memory) }
 {
     let numbers = original.initialisers(alloc)?;
-    let mut words = words;
+    let mut memory = memory;
     for number in &numbers {
-        let (answer, left) = call_alone(alloc, original, rewritten, words, limits, *number)?;
+        let (answer, left) = call_alone(alloc, original, rewritten, memory, limits, *number)?;
         if !is_return(&answer) {
             return Err(SetUpEnd::Failed(*number, answer));
         }
-        words = left;
+        memory = left;
     }
-    Ok(words)
+    Ok(memory)
 }
 
 fn is_return(answer: &Answer) -> bool
@@ -69,34 +73,60 @@ fn is_return(answer: &Answer) -> bool
     matches!(answer, Answer::Returned(_))
 }
 
-/// Calls a method without arguments, alone. Gives its answer and the words that it left.
+/// Calls a method without arguments, alone. Gives its answer and the memory that it left.
 fn call_alone(
     alloc: Global,
     original: &Program,
     rewritten: &Program,
-    words: Vec<u64>,
+    memory: Memory,
     limits: Limits,
     method: usize,
-) -> Result<(Answer, Vec<u64>), AllocError>
+) -> Result<(Answer, Memory), AllocError>
     requires ready { IsReady original.now rewritten.now }
     requires callable { takes (method_at original.now method) 0 ≡ true }
     requires attempts { (1 ≤ limits.attempts) × (limits.attempts ≤ 1000000) }
-    ensures answers { IfOk result (λ r. AnswersAlone original.now limits.budget words.items method r.0 r.1.items) }
-    ensures size { IfOk result (λ r. length r.1.items ≡ length words.items) }
+    requires room_size { limits.size ≤ 1048576 }
+    ensures answers { IfOk result (λ r. AnswersAlone original.now limits.size limits.budget memory method r.0 r.1) }
+    ensures size { IfOk result (λ r. length r.1.words.items ≡ length memory.words.items) }
 {
-    let mut calls = Vec::new(alloc);
-    calls.push(Known {
+    call_over::<Brand>(alloc, original, rewritten, memory, limits, method)
+}
+
+/// Calls a method without arguments over an engine on the words of memory.
+fn call_over<K: Origin>(
+    alloc: Global,
+    original: &Program,
+    rewritten: &Program,
+    memory: Memory,
+    limits: Limits,
+    method: usize,
+) -> Result<(Answer, Memory), AllocError>
+    requires ready { IsReady original.now rewritten.now }
+    requires callable { takes (method_at original.now method) 0 ≡ true }
+    requires attempts { (1 ≤ limits.attempts) × (limits.attempts ≤ 1000000) }
+    requires room_size { limits.size ≤ 1048576 }
+    requires first { memory.words.items ≡ K.first }
+    requires rule { (e : Entry) → IsRuled original.now limits.size limits.budget e → K.rule e }
+    requires ruled { (e : Entry) → K.rule e → IsRuled original.now limits.size limits.budget e }
+    ensures answers { IfOk result (λ r. AnswersAlone original.now limits.size limits.budget memory method r.0 r.1) }
+    ensures size { IfOk result (λ r. length r.1.words.items ≡ length memory.words.items) }
+{
+    let Memory { words, used } = memory;
+    let call = Known {
         method,
         args: Vec::new(alloc),
-    })?;
+    };
     let at = Place {
         phase: 0,
         lane: 0,
         first: 0,
     };
-    let (mut lane, left) = make_rest(alloc, original, rewritten, words, limits, at, &calls)?;
-    match lane.placed.pop() {
-        Some(record) => Ok((record.answer, left)),
-        None => Err(AllocError),
+    let mut engine = Solo::<K>::new(alloc, words);
+    let limits = limits.in_region(0, used);
+    let (record, used) = make_next(alloc, original, rewritten, &mut engine, limits, at, &call);
+    let words = engine.into_words();
+    match record.answer {
+        Answer::NoMemory => Err(AllocError),
+        answer => Ok((answer, Memory { words, used })),
     }
 }

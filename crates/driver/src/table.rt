@@ -2,8 +2,9 @@
 ghost use Rattle.std.specs.Prelude.{◌≡◌, ◌≤◌, ◌<◌, ◌+◌, ◌^◌, ℕ, length, IfOk};
 ghost use Rattle.jmodel.specs.History.{Entry};
 ghost use Rattle.tx_table.specs.Passes.{book};
-ghost use Rattle.driver.specs.Passing.{IsWhole, IsUnused, HasRoom, IsSplit, AreStarting};
+ghost use Rattle.driver.specs.Passing.{used_of, AreUsed, IsWhole, IsUnused, HasRoom, IsSplit, AreStarting};
 
+use crate::memory::{LANES, Memory};
 use std::alloc::{AllocError, Global};
 use std::marker::{Brand, PhantomData};
 use std::snapshot::Snapshot;
@@ -19,17 +20,18 @@ impl Keeping for Brand {
     ghost rule = { λ _. Unit {0} };
 }
 
-/// What a table is opened with: its words, and the regions of sixteen lanes.
+/// What a table is opened with: its words, and how many of them are used in region 0.
 #[derive(Drop)]
 pub(crate) struct Opening<K> {
     words: Vec<u64>,
+    used: u64,
     of: PhantomData<K>,
 }
 
 impl<K: Keeping> Story for Opening<K> {
     ghost use Rattle.driver.specs.Stories.{story_of};
 
-    ghost story = { λ o. story_of K.rule o.words.items };
+    ghost story = { λ o. story_of K.rule o.words.items o.used };
 }
 
 impl<K: Keeping> Ruled for Opening<K> {
@@ -38,28 +40,37 @@ impl<K: Keeping> Ruled for Opening<K> {
     ghost keeps = { λ o e r. r };
 }
 
-/// A lane that is to run: its number, and the pass that it starts with.
+/// A lane that is to run: its number, how many words of its region are used, and the pass that it starts with.
 #[derive(Drop)]
 pub(crate) struct Start {
     pub lane: u8,
+    pub used: u64,
     pub pass: Pass,
 }
 
-/// Opens a table over words.
+/// Opens a table over the words of memory.
 pub(crate) fn open_table<K: Keeping>(
     alloc: Global,
-    words: Vec<u64>,
+    memory: Memory,
 ) -> Result<(Shared<Opening<K>>, Pass), AllocError>
-    requires { length words.items + 4097 < 2 ^ 32 }
+    requires { length memory.words.items + 4097 < 2 ^ 32 }
     ensures pass { IfOk result (λ r. IsWhole r.0.table.shared.table_id 0 r.1 × IsUnused (book r.1)) }
-    ensures words { IfOk result (λ r. r.0.table.shared.key.story.value.words.items ≡ words.items) }
+    ensures unused { IfOk result (λ r. (lane : ℕ) → lane < 16 → used_of (book r.1) lane ≡ 0) }
+    ensures words { IfOk result (λ r. r.0.table.shared.key.story.value.words.items ≡ memory.words.items) }
+    ensures used { IfOk result (λ r. r.0.table.shared.key.story.value.used ≡ memory.used) }
 {
+    let Memory { words, used } = memory;
     let opening = Opening::<K> {
         words,
+        used,
         of: PhantomData,
     };
     let story = Snapshot::of(&opening);
-    let Opening { words, of: _ } = opening;
+    let Opening {
+        words,
+        used: _,
+        of: _,
+    } = opening;
     Shared::open(alloc, words, story).map_err(|_| AllocError)
 }
 
@@ -69,10 +80,12 @@ pub(crate) fn start_lanes<K: Keeping>(
     shared: &Shared<Opening<K>>,
     pass: &mut Pass,
     count: u8,
+    used: &[u64; LANES],
 ) -> Result<Vec<Start>, AllocError>
     requires count { count ≤ 16 }
     requires pass { (phase : ℕ) × IsWhole shared.now.table.shared.table_id phase pass.old }
     requires room { HasRoom 0 (book pass.old) }
+    requires used { AreUsed used.now (book pass.old) }
     ensures len { IfOk result (λ starts. length starts.items ≡ count) }
     ensures starts { (phase : ℕ) → IsWhole shared.now.table.shared.table_id phase pass.old
         → IfOk result (λ starts. AreStarting shared.now.table.shared.table_id (book pass.old).seen phase starts.items) }
@@ -81,7 +94,8 @@ pub(crate) fn start_lanes<K: Keeping>(
     let mut starts = Vec::new(alloc);
     for lane in 0..count {
         let pass = pass.split(shared);
-        starts.push(Start { lane, pass })?;
+        let used = used[usize::from(lane)];
+        starts.push(Start { lane, used, pass })?;
     }
     Ok(starts)
 }

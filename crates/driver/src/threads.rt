@@ -6,13 +6,14 @@ ghost use Rattle.jmodel.specs.Book.{Book};
 ghost use Rattle.jmodel.specs.Schedule.{Known as Form, Phase};
 ghost use Rattle.tx_table.specs.Passes.{book};
 ghost use Rattle.session.specs.Rule.{IsRuled, IsReady, IsCallOf};
-ghost use Rattle.driver.specs.Passing.{first_of, call_count, IsOfOne, AreStarting, HasEnded, HaveEnded, AreEnding, IsJoining};
+ghost use Rattle.driver.specs.Passing.{used_of, first_of, call_count, IsOfOne, AreStarting, HasEnded, HaveEnded, AreEnding, IsJoining};
 
+use crate::memory::Limits;
 use crate::side::{Part, Side};
 use crate::table::{Keeping, Opening, Start};
 use hierarchy::Program;
 use script::LaneCalls;
-use session::{Lane, Limits, Place, make_shared};
+use session::{Lane, Place, make_shared};
 use std::alloc::{AllocError, Global};
 use std::thread::{Threads, map_vec};
 use tx_table::{Pass, Shared};
@@ -35,12 +36,15 @@ fn run_lane<K: Keeping>(
     requires calls { AllByRecursion (AllByRecursion (IsCallOf original.now)) lanes.now }
     requires few { AllByRecursion (λ (cs : List Form). length cs ≤ 100000) lanes.now }
     requires attempts { (1 ≤ limits.attempts) × (limits.attempts ≤ 1000000) }
-    requires rule { (e : Entry) → IsRuled original.now limits.budget e → K.rule e }
+    requires room_size { limits.size ≤ 1048576 }
+    requires rule { (e : Entry) → IsRuled original.now limits.size limits.budget e → K.rule e }
     requires lane { start.lane < length lanes.now }
+    requires few_lanes { length lanes.now ≤ 16 }
+    requires used { start.used ≡ used_of (book start.pass) start.lane }
     requires pass { IsOfOne shared.now.table.shared.table_id (book start.pass).seen (first_of phase start.lane) start.pass }
     ensures { IfOk result (HasEnded shared.now.table.shared.table_id (book start.pass).seen phase start.lane (slice_index_or lanes.now start.lane [])) }
 {
-    let Start { lane, pass } = start;
+    let Start { lane, used, pass } = start;
     let at = Place {
         phase,
         lane,
@@ -53,7 +57,7 @@ fn run_lane<K: Keeping>(
         rewritten,
         shared,
         pass,
-        limits,
+        limits.in_region(u64::from(lane) + 1, used),
         at,
         calls.calls.as_slice(),
     )
@@ -75,7 +79,9 @@ pub(crate) fn run_all<R: Threads + Sync, K: Keeping + Sync>(
     requires calls { AllByRecursion (AllByRecursion (IsCallOf original.now)) lanes.now }
     requires few { AllByRecursion (λ (cs : List Form). length cs ≤ 100000) lanes.now }
     requires attempts { (1 ≤ limits.attempts) × (limits.attempts ≤ 1000000) }
-    requires rule { (e : Entry) → IsRuled original.now limits.budget e → K.rule e }
+    requires room_size { limits.size ≤ 1048576 }
+    requires rule { (e : Entry) → IsRuled original.now limits.size limits.budget e → K.rule e }
+    requires few_lanes { length lanes.now ≤ 16 }
     requires len { length starts.items ≡ length lanes.now }
     requires starts { (seen : ℕ) × AreStarting shared.now.table.shared.table_id seen phase starts.items }
     ensures { (seen : ℕ) → AreStarting shared.now.table.shared.table_id seen phase starts.items
@@ -112,9 +118,14 @@ pub(crate) fn gather<K: Keeping>(
             placed: mut more,
             unplaced,
             made,
+            used,
         } = lane;
         placed.append(&mut more)?;
-        parts.push(Part { made, unplaced })?;
+        parts.push(Part {
+            made,
+            used,
+            unplaced,
+        })?;
     }
     Ok(Side { placed, parts })
 }

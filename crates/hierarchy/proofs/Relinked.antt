@@ -1,11 +1,12 @@
 -- The methods of a class's program, seen behind references.
-use Rattle.std.proofs.Common.{◌≡◌, ℕ, ◌-◌, List, length, map, take, drop, Option, None, Bool, true, false, Bor, sym, ap, ◌∙◌}
+use Rattle.std.proofs.Common.{◌≡◌, ℕ, ◌-◌, List, [], ◌∷◌, length, map, take, drop, Option, None, Bool, true, false, Bor, sym, ap, ◌∙◌}
 use Rattle.std.specs.Prelude.{nat_le, zip, if◌then◌else◌}
 use Rattle.std.proofs.lemmas.List.{length-map, take-map, drop-map}
 use Rattle.jmodel.specs.declared.name.MethodName.{MethodName}
 use Rattle.jmodel.specs.ClassFile.{Member, ClassFile}
 use Rattle.jmodel.specs.Program.{Field, Method}
 use Rattle.jmodel.specs.Decoding.{Symbols, each, name_of}
+use Rattle.jmodel.specs.Layout.{base_of}
 use Rattle.jmodel.specs.Linking.{Coded, form_method, method_of, is_untouched, joined, relinked_methods, symbols_of}
 use Rattle.hierarchy.specs.Built.{relinked_seen}
 use Rattle.hierarchy.proofs.Each.{each_seen, map_seen}
@@ -40,7 +41,7 @@ module _ (s : Symbols) (n : ℕ) (ms : List (Bor Member)) where
       ∙ ap (if_enough (nat_le n (length ms)) (each (λ m. old_method m.now) (take (length ms - n) ms))) back_seen
 
 abbrev symbols : ClassFile → List Field → List MethodName → Symbols
-symbols c fields names = record { class = c; fields = fields; methods = names }
+symbols c fields names = record { class = c; fields = fields; methods = names; base = base_of (c ∷ []) 0; classes = [] }
 
 module _ (c : ClassFile) (fields : List Field) (names : List MethodName) (ms : List (Bor Member)) (members : List Member) (are : map (λ m. m.now) ms ≡ members) (named : names ≡ map (λ m. name_of c m.now) ms) where
   same : symbols c fields names ≡ symbols_of c fields members

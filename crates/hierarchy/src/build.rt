@@ -4,15 +4,15 @@ ghost use Rattle.std.specs.List.{list_any};
 ghost use Rattle.hierarchy.specs.Search.{is_called};
 ghost use Rattle.hierarchy.specs.Built.{Builds, Links, relinked_seen};
 ghost use Rattle.jmodel.specs.Source.{IsSource};
-ghost use Rattle.jmodel.specs.Layout.{fields_from, field_type as type_of_field, statics, opening_word as first_word, opening_words as all_opening_words};
+ghost use Rattle.jmodel.specs.Layout.{fields_from, statics};
 ghost use Rattle.jmodel.specs.Decoding.{each, name_of as name_of_member};
 ghost use Rattle.jmodel.specs.Program.{Method as MethodForm};
 ghost use Rattle.jmodel.specs.ClassFile.{Member};
 ghost use Rattle.jmodel.specs.Linking.{Coded as CodedForm, original_fields, symbols_of, method_of as meaning, form_method, form_methods as all_form_methods, form_program as program_of_form, coded_program as program_of_code, linking, program_methods as methods_of_program, relinked_methods, relinked, is_name, takes_context as takes_a_context, is_untouched as untouched, rewritten_methods as methods_of_rewritten};
 
 use crate::code::{Coded, all_decoded};
-use crate::constants::int_value;
 use crate::form::{is_form_outside, methods_in_form, takes_context};
+use crate::layout::field_type;
 use crate::marks::{is_root, marks_fault};
 use crate::meaning::Symbols;
 use crate::method::{form_method, method_of};
@@ -20,18 +20,10 @@ use crate::names::Names;
 use crate::outcome::BuildEnd;
 use crate::program::{Field, Method, Program};
 use crate::symbols::{is_static, names_of, own_name, same, text};
-use crate::word_types::{narrowed, word_type};
 use const_pool::{ClassFile, Member, Pool};
-use jmodel::op::{Place, WordType};
+use jmodel::op::Place;
 use jmodel::{Bytes, MethodName, NoMemory};
 use std::alloc::{AllocError, Global};
-
-// The type of a static field, by its descriptor.
-fn field_type(pool: &Pool, field: &Member) -> WordType
-    ensures { result ≡ type_of_field pool.now field.now }
-{
-    word_type(text(pool, field.descriptor)).unwrap_or(WordType::Int)
-}
 
 // A static field of a lone class, whose static base lies at 2.
 fn field_at(
@@ -61,41 +53,6 @@ fn fields_of(alloc: Global, class: &ClassFile) -> Result<Vec<Field>, AllocError>
         }
     }
     Ok(fields)
-}
-
-/// The words of memory before the first call: two that hold 0, the header of the static base, and a word for each static
-/// field: what its type keeps of its constant, where it has one, else 0. A class without static fields has no static base.
-pub fn opening_words(alloc: Global, class: &ClassFile) -> Result<Vec<u64>, AllocError>
-    ensures { IfOk result (λ v. v.items ≡ all_opening_words (class.now ∷ [])) }
-{
-    let mut words = vec![in alloc; 0; 2]?;
-    let fields = static_words(alloc, class)?;
-    if !fields.is_empty() {
-        words.push(22 << 32)?;
-        words.extend_from_slice(fields.as_slice())?;
-    }
-    Ok(words)
-}
-
-// The word that a static field holds at first: what its type keeps of its constant, with the sign in all 64 bits, or 0.
-fn opening_word(pool: &Pool, field: &Member) -> u64
-    ensures { result ≡ first_word pool.now field.now }
-{
-    let constant = int_value(pool, field).unwrap_or(0);
-    i64::from(narrowed(field_type(pool, field), constant)).cast_unsigned()
-}
-
-// A word for each static field.
-fn static_words(alloc: Global, class: &ClassFile) -> Result<Vec<u64>, AllocError>
-    ensures { IfOk result (λ v. v.items ≡ map (first_word class.now.pool) (statics class.now)) }
-{
-    let mut words = Vec::new(alloc);
-    for member in &class.fields {
-        if is_static(member) {
-            words.push(opening_word(&class.pool, member))?;
-        }
-    }
-    Ok(words)
 }
 
 fn copy(alloc: Global, field: &Field) -> Result<Field, AllocError>

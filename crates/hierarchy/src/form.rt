@@ -301,6 +301,7 @@ fn is_form_op(locals: usize, gives: bool, op: &Op) -> bool
         Op::Constant(Value::Int(_))
         | Op::Rearrange(_)
         | Op::Binary(_)
+        | Op::Divide(_)
         | Op::Unary(_)
         | Op::Branch(_, _)
         | Op::BranchInts(_, _)

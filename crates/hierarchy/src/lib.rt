@@ -5,6 +5,7 @@ mod build;
 pub mod code;
 mod constants;
 mod form;
+mod layout;
 mod marks;
 mod meaning;
 mod method;
@@ -18,8 +19,8 @@ pub mod symbols;
 mod taken;
 pub mod word_types;
 
-pub use build::opening_words;
 pub use code::pc_of;
+pub use layout::{memory_words, opening_words};
 pub use marks::{is_root, retries_of};
 pub use outcome::BuildEnd;
 pub use program::{Field, Method, Program};

@@ -1,5 +1,6 @@
 //! What instructions mean, with every name resolved (JVM Specification, Java SE 7, chapter 6).
 ghost use Rattle.std.specs.Prelude.{◌≡◌, find, option_copied, option_map, IfOk};
+ghost use Rattle.jmodel.specs.Superclasses.{declared_field, declared_method};
 ghost use Rattle.jmodel.specs.Decoding.{is_member as is_member_of, is_field_of as is_same_field, is_method_of as is_same_method, field_number as number_of_field, method_number as number_of_method, long_field as long_field_of, is_base as is_base_of, is_called as is_call_of, is_get_context as is_context_getter, short_local_op as short_local, arithmetic_op as arithmetic, rearranging_op as rearranging, leaving_op as leaving, simple_op as simple, number_op as number, local_op as local, wide_op as wide, test_of as test, jump_to as jump_to_number, jump_op as jump, table_cases as cases_of_table, numbered_case as case_with_number, switch_op as switch, each, get_op as get, put_op as put, static_call_op as static_call, context_op as context_call, virtual_call_op as virtual_call, pool_op as pooled, meaning as meaning_of, op_of as op_of_instr};
 
 use crate::constants::{integer, long_value};
@@ -9,7 +10,7 @@ use crate::reference::{Reference, field_reference, method_reference};
 use crate::symbols::{equal, is_text, own_name, same};
 use crate::word_types::{read_type, type_descriptor, word_type, write_type};
 use const_pool::{ClassFile, Member, Pool};
-use jmodel::op::{Binary, ContextCall, Op, Rearrange, Test, Unary};
+use jmodel::op::{Binary, ContextCall, Division, Op, Rearrange, Test, Unary};
 use jmodel::value::Value;
 use jmodel::{Cases, Instr, MethodName, Operands};
 use std::alloc::{AllocError, Global};
@@ -24,11 +25,13 @@ pub struct Symbols<'a> {
 }
 
 impl<'a> Model for Symbols<'a> {
+    ghost use Rattle.std.specs.Prelude.{[], ◌∷◌};
     ghost use Rattle.jmodel.specs.Decoding.{Symbols as Form};
+    ghost use Rattle.jmodel.specs.Layout.{base_of};
 
     ghost Value = { Form };
 
-    ghost view = { λ s. record { class = s.class.now; fields = s.fields.now; methods = s.methods.items } };
+    ghost view = { λ s. record { class = s.class.now; fields = s.fields.now; methods = s.methods.items; base = base_of (s.class.now ∷ []) 0; classes = [] } };
 }
 
 fn is_member(pool: &Pool, name: &[u8], descriptor: &[u8], member: &Member) -> bool
@@ -119,6 +122,8 @@ fn arithmetic_op(opcode: u8) -> Option<Op>
         96 => Some(Op::Binary(Binary::Add)),
         100 => Some(Op::Binary(Binary::Subtract)),
         104 => Some(Op::Binary(Binary::Multiply)),
+        108 => Some(Op::Divide(Division::Quotient)),
+        112 => Some(Op::Divide(Division::Remainder)),
         116 => Some(Op::Unary(Unary::Negate)),
         120 => Some(Op::Binary(Binary::ShiftLeft)),
         122 => Some(Op::Binary(Binary::ShiftRight)),
@@ -300,11 +305,25 @@ fn switch_op(
     }
 }
 
+// The number of the field that a name stands for.
+fn field_of(symbols: &Symbols, r: &Reference) -> Option<usize>
+    ensures { result ≡ number_of_field symbols.now.fields (declared_field symbols.now.classes r.now) }
+{
+    field_number(symbols.fields, r)
+}
+
+// The number of the method that a name stands for.
+fn method_of(symbols: &Symbols, r: &Reference) -> Option<usize>
+    ensures { result ≡ number_of_method symbols.now.methods (declared_method symbols.now.classes r.now) }
+{
+    method_number(symbols.methods.as_slice(), r)
+}
+
 fn get_op(symbols: &Symbols, r: &Reference) -> Option<Op>
     ensures { result ≡ get symbols.now r.now }
 {
     if word_type(r.descriptor).is_some() {
-        Some(Op::GetStatic(field_number(symbols.fields, r)?))
+        Some(Op::GetStatic(field_of(symbols, r)?))
     } else if equal(r.descriptor, b"J") {
         Some(Op::Constant(Value::Long(long_field(symbols.class, r)?)))
     } else if is_base(symbols.class, r) {
@@ -317,7 +336,7 @@ fn get_op(symbols: &Symbols, r: &Reference) -> Option<Op>
 fn put_op(symbols: &Symbols, r: &Reference) -> Option<Op>
     ensures { result ≡ put symbols.now r.now }
 {
-    Some(Op::PutStatic(field_number(symbols.fields, r)?))
+    Some(Op::PutStatic(field_of(symbols, r)?))
 }
 
 fn is_get_context(r: &Reference) -> bool
@@ -334,7 +353,7 @@ fn static_call_op(symbols: &Symbols, r: &Reference) -> Option<Op>
     if is_get_context(r) {
         return Some(Op::GetContext);
     }
-    Some(Op::InvokeStatic(method_number(symbols.methods.as_slice(), r)?))
+    Some(Op::InvokeStatic(method_of(symbols, r)?))
 }
 
 fn is_called(name: &[u8], descriptor: &[u8], r: &Reference) -> bool

@@ -1,9 +1,10 @@
 -- What an instruction does to a frame of original code, and what the one that stands for it does to the duplicate's frame.
-use Rattle.std.proofs.Common.{◌≡◌, ℕ, ℤ, ◌<◌, ◌^◌, List, [], ◌∷◌, length, Option, Some, None, Bool, true, false, refl, arith}
+use Rattle.std.proofs.Common.{◌≡◌, ℕ, ℤ, ◌<◌, ◌^◌, List, [], ◌∷◌, length, Option, Some, None, Bool, true, false, refl, subst, arith}
 use Rattle.std.specs.Prelude.{pos, negsuc, slice_get, slice_set, nat_lt, FitsSigned}
+use Rattle.std.specs.Ordering.{int_eq}
 use Rattle.std.specs.List.{AllByRecursion}
 use Rattle.std.specs.Int.{w32, int_shr}
-use Rattle.std.proofs.lemmas.Int.{ints}
+use Rattle.std.proofs.lemmas.Int.{ints, rem_is}
 use Rattle.std.proofs.lemmas.Nat.{shr_le}
 use borrow.Author.Gap.{read_sfits}
 use Rattle.jmodel.specs.declared.value.Value.TheVariants as value
@@ -11,14 +12,17 @@ use Rattle.jmodel.specs.declared.op.Slot.{Slot}
 use Rattle.jmodel.specs.declared.op.Slot.TheVariants.{Int, Empty}
 use Rattle.jmodel.specs.declared.op.Op.{Op}
 use Rattle.jmodel.specs.declared.op.Op.TheVariants as op
-use Rattle.jmodel.specs.declared.op.Doing.TheVariants.{Next, Jump, Give}
+use Rattle.jmodel.specs.declared.op.Doing.TheVariants.{Next, Jump, Give, Trap}
 use Rattle.jmodel.specs.declared.op.Binary.{Binary}
 use Rattle.jmodel.specs.declared.op.Binary.TheVariants.{Add, Subtract, Multiply, ShiftLeft, ShiftRight, UnsignedShiftRight, And, Or, Xor}
+use Rattle.jmodel.specs.declared.op.Division.{Division}
+use Rattle.jmodel.specs.declared.op.Division.TheVariants.{Quotient, Remainder}
+use Rattle.jmodel.specs.declared.op.Trap.{Trap as Trapping}
 use Rattle.jmodel.specs.declared.op.Unary.{Unary}
 use Rattle.jmodel.specs.declared.op.Unary.TheVariants.{Negate, ToByte, ToChar, ToShort}
 use Rattle.jmodel.specs.declared.op.Rearrange.TheVariants as rearrange
 use Rattle.jmodel.specs.Program.{Method, Program}
-use Rattle.jmodel.specs.Step.{Did, Does, Wrong, does, on_top, on_int, branches, switched, stores, slot_in, int_in, binary, unary, holds, shift}
+use Rattle.jmodel.specs.Step.{Did, Does, Wrong, does, on_top, on_int, branches, switched, stores, slot_in, int_in, binary, divided, divides, unary, holds, shift}
 use Rattle.jmodel.specs.Rewriting.{moved, moved_cases, block, block_at}
 use Rattle.jmodel.specs.Source.{IsSourceOp}
 use Rattle.jmodel.proofs.Rows.{frame}
@@ -42,6 +46,10 @@ binary_fits And x y h = read_sfits w32 _
 binary_fits Or x y h = read_sfits w32 _
 binary_fits Xor x y h = read_sfits w32 _
 
+divided_fits : (d : Division) (x y : ℤ) → FitsSigned w32 x → FitsSigned w32 y → FitsSigned w32 (divided d x y)
+divided_fits Quotient x y h g = read_sfits w32 _
+divided_fits Remainder x y h g = subst (FitsSigned w32) (rem_is w32 x y h g) (read_sfits w32 _)
+
 unary_fits : (u : Unary) (x : ℤ) → FitsSigned w32 (unary u x)
 unary_fits Negate x = read_sfits w32 _
 unary_fits ToByte x = omega (arith, ints)
@@ -56,6 +64,7 @@ pub data Alike (k : Method) (m pc dn a : ℕ) (l l' : List Slot) : Did → Did �
   goes : (l2 l2' s : List Slot) → Fits k.params l2 l2' → ArePlain l2 → ArePlain s → Alike k m pc dn a l l' (Does Next (frame m pc l2 s)) (Does Next (frame dn a l2' s))
   jumps : (to : ℕ) (s : List Slot) → to < length k.ops → ArePlain s → Alike k m pc dn a l l' (Does (Jump to) (frame m pc l s)) (Does (Jump (block_at k.ops to)) (frame dn a l' s))
   gives_value : (x : ℤ) (s : List Slot) → k.gives ≡ true → FitsSigned w32 x → Alike k m pc dn a l l' (Does (Give (Some (value.Int x))) (frame m pc l s)) (Does (Give (Some (value.Int x))) (frame dn a l' s))
+  traps : (t : Trapping) (s : List Slot) → Alike k m pc dn a l l' (Does (Trap t) (frame m pc l s)) (Does (Trap t) (frame dn a l' s))
   gives_none : (s : List Slot) → k.gives ≡ false → Alike k m pc dn a l l' (Does (Give None) (frame m pc l s)) (Does (Give None) (frame dn a l' s))
 
 module _ (P Q : Program) (k : Method) (m pc dn a : ℕ) (l l' : List Slot) (fits : Fits k.params l l') (plain : ArePlain l) where
@@ -98,6 +107,10 @@ module _ (P Q : Program) (k : Method) (m pc dn a : ℕ) (l l' : List Slot) (fits
   chooses to s lt p true = jumps to s lt p
   chooses to s lt p false = left s p
 
+  divides_alike : (d : Division) (x y : ℤ) (t s : List Slot) → FitsSigned w32 x → FitsSigned w32 y → ArePlain s → (b : Bool) → AreAlike (divides b d x y s (frame m pc l t)) (divides b d x y s (frame dn a l' t))
+  divides_alike d x y t s h g p true = traps _ s
+  divides_alike d x y t s h g p false = left (Int (divided d x y) ∷ s) (divided_fits d x y h g, p)
+
   switches : (other : ℕ) (cases : List (ℤ × ℕ)) → (other < length k.ops) × AllByRecursion (λ (c : ℤ × ℕ). c.1 < length k.ops) cases → (s : List Slot) → ArePlain s → (x : ℤ)
       → AreAlike (Does (Jump (switched other cases x)) (frame m pc l s)) (Does (Jump (switched (block_at k.ops other) (moved_cases (block_at k.ops) cases) x)) (frame dn a l' s))
   switches other cases src s p x = rw (switched_moved (block_at k.ops) other cases x) (jumps (switched other cases x) s (switched_has (λ (to : ℕ). to < length k.ops) other cases x src.0 src.1) p)
@@ -127,6 +140,7 @@ module _ (P Q : Program) (k : Method) (m pc dn a : ℕ) (l l' : List Slot) (fits
       top s p _ _ (λ z t a p. top t p _ _ (λ y t b p. top t p _ _ (λ x t c p. top t p _ _ (λ w t d p. left (z ∷ y ∷ x ∷ w ∷ z ∷ y ∷ t) (a, (b, (c, (d, (a, (b, p))))))))))
   op_alike (op.Rearrange rearrange.Swap) src s p = top s p _ _ (λ y t q p. top t p _ _ (λ x t r p. left (x ∷ y ∷ t) (r, (q, p))))
   op_alike (op.Binary b) src s p = int s p _ _ (λ y t h p. int t p _ _ (λ x t g p. left (Int (binary b x y) ∷ t) (binary_fits b x y g, p)))
+  op_alike (op.Divide d) src s p = int s p _ _ (λ y t h p. int t p _ _ (λ x t g p. divides_alike d x y s t g h p (int_eq y (pos 0))))
   op_alike (op.Unary u) src s p = int s p _ _ (λ x t h p. left (Int (unary u x) ∷ t) (unary_fits u x, p))
   op_alike (op.Increment i n) src s p = rw (fits_get k.params i l l' fits) (adds i n s p (slice_get l i) refl)
   op_alike (op.Branch t to) src s p = int s p _ _ (λ x u h p. chooses to u src p (holds t x (pos 0)))

@@ -1,5 +1,5 @@
 -- The wrapper's part of an attempt, up to the duplicate's first instruction.
-use Rattle.std.proofs.Common.{◌≡◌, ℕ, ℤ, zero, suc, ◌+◌, ◌-◌, ◌<◌, List, [], ◌∷◌, ◌++◌, length, length-append, Option, Some, Bool, true, false, refl, sym, ap, subst, ◌∙◌, arith}
+use Rattle.std.proofs.Common.{◌≡◌, ℕ, ℤ, zero, suc, ◌+◌, ◌-◌, ◌<◌, List, [], ◌∷◌, ◌++◌, length, length-append, Option, Some, None, Bool, true, false, refl, sym, ap, subst, ◌∙◌, arith}
 use Rattle.std.specs.Prelude.{slice_get, slice_set, nat_lt, replicate}
 use Rattle.std.specs.List.{flat_map, AllByRecursion}
 use Rattle.std.proofs.lemmas.Bool.Decides.{nat_tests}
@@ -65,10 +65,10 @@ set_first c slots len = record {
   args = λ j v g. let lt = slice_get_within slots j v g in let ne : j ≡ c → ⊥ = λ d. omega arith in get_set_other (locals_first slots) c j Context ne ∙ get_front slots (Empty ∷ Empty ∷ []) j v g;
 }
 
-pub starts_first : (Q : Program) (m : ℕ) (args : List Value) (used : ℕ) (wm : Method) → slice_get Q.methods m ≡ Some wm → wm.locals - wm.params ≡ 2
-    → run_start Q m args used ≡ On Ready (frame m 0 (locals_first (flat_map slots_of args)) [] ∷ []) (record { turns = 0; tried = 0; used = used }) [] []
-starts_first Q m args used wm is two =
-    ap (λ (o : Option Method). starts o m args used) is ∙ ap (λ (p : ℕ). On Ready (frame m 0 (flat_map slots_of args ++ replicate p Empty) [] ∷ []) (record { turns = 0; tried = 0; used = used }) [] []) two
+pub starts_first : (Q : Program) (B : Bounds) (m : ℕ) (args : List Value) (wm : Method) → slice_get Q.methods m ≡ Some wm → wm.locals - wm.params ≡ 2
+    → run_start Q B m args ≡ On Ready (frame m 0 (locals_first (flat_map slots_of args)) [] ∷ []) (record { turns = 0; tried = 0; used = B.used; thrown = None }) [] []
+starts_first Q B m args wm is two =
+    ap (λ (o : Option Method). starts o B m args) is ∙ ap (λ (p : ℕ). On Ready (frame m 0 (flat_map slots_of args ++ replicate p Empty) [] ∷ []) (record { turns = 0; tried = 0; used = B.used; thrown = None }) [] []) two
 
 -- the original method's first frame
 abbrev pub first_above : ℕ → Method → List Slot → Frames
@@ -84,7 +84,7 @@ module _ (P Q : Program) (R : Rewrites P Q) (S : IsSource P) (B : Bounds) (mn : 
   abbrev above : Frames
   above = first_above mn k0 slots
 
-  module _ (Now Then : Run → Type 0) (Before After : Alone → Log → Log → Type 0) (X : IsWalk P Q B mn k0 slots Now Then Before After)
+  module _ (Now Then : Run → Type 0) (Before After : Alone → ℕ → Log → Log → Type 0) (X : IsWalk P Q B mn k0 slots Now Then Before After)
       (open_fine : IsOpenFine P Q R S B mn k0 slots wm wis id (duplicate P mn) retries z W len After Then) (wl : List Slot) (h : IsSet k0.params slots wl) where
     -- the wrapper puts its arguments on its stack
     load_args : (M : Meter) (ys : List Slot) (i : ℕ) (s : List Slot) → i + length ys ≡ k0.params → ((j : ℕ) (v : Slot) → slice_get ys j ≡ Some v → slice_get wl (i + j) ≡ Some v)
@@ -122,15 +122,15 @@ module _ (P Q : Program) (R : Rewrites P Q) (S : IsSource P) (B : Bounds) (mn : 
         let e : k0.locals - k0.params ≡ k0.locals + 1 - (k0.params + 1) = omega arith in
         ap (λ (n : ℕ). frame (duplicate P mn) 0 ((slots ++ Context ∷ []) ++ replicate n Empty) [] ∷ frame mn (q + 1) wl [] ∷ []) e
 
-    invokes : (M : Meter) (v : Reply) → next_run Q B v (On Open (frame mn (q + 1) wl (Context ∷ pushed_on slots []) ∷ []) M [] []) ≡ with_depth false M.turns first_below M [] []
+    invokes : (M : Meter) (v : Reply) → next_run Q B v (On Open (frame mn (q + 1) wl (Context ∷ pushed_on slots []) ∷ []) M [] []) ≡ with_depth B false M.turns first_below M [] []
     invokes M v =
         let d = R.duplicates mn k0 there in
         let a : next_run Q B v (On Open (frame mn (q + 1) wl (Context ∷ pushed_on slots []) ∷ []) M [] []) ≡ on_asked Q B (with_args Q (take_args (k0.params + 1) [] (Context ∷ pushed_on slots [])) (duplicate P mn) (duplicate_method P k0) (frame mn (q + 1) wl (Context ∷ pushed_on slots [])) []) Open v M [] [] = simp (wis, W.call.1.0, d) in
-        let frames : Frames → Run = λ gs. with_depth (nat_lt 200 (depth Q gs)) M.turns gs M [] [] in
+        let frames : Frames → Run = λ gs. with_depth B (nat_lt 200 (depth Q gs)) M.turns gs M [] [] in
         a ∙ ap (λ (t : Taken). on_asked Q B (with_args Q t (duplicate P mn) (duplicate_method P k0) (frame mn (q + 1) wl (Context ∷ pushed_on slots [])) []) Open v M [] []) taken
-        ∙ sym (ap frames same_spare) ∙ ap (λ (b : Bool). with_depth b M.turns first_below M [] []) not_deep
+        ∙ sym (ap frames same_spare) ∙ ap (λ (b : Bool). with_depth B b M.turns first_below M [] []) not_deep
 
-    pub attempt : (M : Meter) → After (alone.entered false above M.turns) [] [] → Then (On Open (frame mn 6 wl [] ∷ []) M [] [])
+    pub attempt : (M : Meter) → After (alone.entered false above M.turns) M.used [] [] → Then (On Open (frame mn 6 wl [] ∷ []) M [] [])
     attempt M known =
         load_args M slots 0 [] (let e : 0 + length slots ≡ k0.params = omega arith in e) (λ j v g. let e : j ≡ 0 + j = omega arith in ap (slice_get wl) (sym e) ∙ h.args j v g)
         (X.leads 1 _ _ (call_first Q B mn wm wis k0.params id (duplicate P mn) retries q z k0.gives W wl h.here M [] [] (pushed_on slots []))

@@ -1,6 +1,6 @@
 -- What holds after a block, and after a conflict in it.
 use Rattle.std.proofs.Common.{◌≡◌, ℕ, ℤ, ◌+◌, ◌<◌, List, [], ◌∷◌, length, Some, None, Bool, true, false, refl, sym, subst, arith, suc}
-use Rattle.std.specs.Prelude.{slice_get, nat_lt, nat_le, ◌&&◌}
+use Rattle.std.specs.Prelude.{slice_get, nat_lt, nat_le, nat_eq, ◌&&◌, if◌then◌else◌}
 use Rattle.std.proofs.lemmas.Bool.Decides.{nat_tests}
 use Rattle.jmodel.specs.declared.value.Value.TheVariants as value
 use Rattle.jmodel.specs.declared.op.Slot.{Slot}
@@ -12,7 +12,7 @@ use Rattle.jmodel.specs.WordTypes.{narrowed}
 use Rattle.jmodel.specs.Value.{word_of, number_of}
 use Rattle.jmodel.specs.Program.{Field, Method, Program, find_catch}
 use Rattle.jmodel.specs.Step.{Frames, Asked, Asks, unwinds}
-use Rattle.jmodel.specs.Attempt.{Log, Reply, Gives, Refuses, Bounds, Meter, Run, On, next_run, address, answered, written, recorded, access, on_look, on_read, on_write, unwound}
+use Rattle.jmodel.specs.Attempt.{Log, Reply, Gives, Refuses, Bounds, Meter, Run, On, next_run, address, answered, written, recorded, access, on_look, on_read, on_write, unwound, set_back}
 use Rattle.jmodel.specs.Rewriting.{getter_method, setter_method, block_at, duplicate_method}
 use Rattle.jmodel.proofs.Places.{HasAt, has_stub}
 use Rattle.jmodel.proofs.Replies.{IsOfEnds, Holds, on_leads, on_more, on_reply}
@@ -24,6 +24,8 @@ pub record IsDuplicate (dm : Method) (end : ℕ) : Type 0 where
   pub counted : dm.counted ≡ true
   pub caught_in : (pc : ℕ) → pc < end → find_catch dm.catches pc 1 ≡ Some end
   pub uncaught : find_catch dm.catches end 1 ≡ None
+  -- it takes the conflict alone
+  pub passes : (pc e : ℕ) → nat_eq e 1 ≡ false → find_catch dm.catches pc e ≡ None
   pub stub : slice_get dm.ops end ≡ Some Throw
 
 within : (pc end : ℕ) → pc < end → (nat_le 0 pc && nat_lt pc end) ≡ true
@@ -32,11 +34,16 @@ within pc end h = grind (arith, nat_tests)
 without : (end : ℕ) → (nat_le 0 end && nat_lt end end) ≡ false
 without end = grind (arith, nat_tests)
 
+takes_none : (b : Bool) (to : ℕ) → (if b && false then Some to else None) ≡ None
+takes_none true to = refl
+takes_none false to = refl
+
 pub duplicate_is : (P : Program) (k : Method) → k.catches ≡ [] → IsDuplicate (duplicate_method P k) (block_at k.ops (length k.ops))
 duplicate_is P k h = record {
   counted = refl;
   caught_in = λ pc lt. rw (within pc (block_at k.ops (length k.ops)) lt) refl;
   uncaught = rw (without (block_at k.ops (length k.ops)), h) refl;
+  passes = λ pc e other. let end = block_at k.ops (length k.ops) in rw (other, h) (takes_none (nat_le 0 pc && nat_lt pc end) end);
   stub = has_stub P k;
 }
 
@@ -49,14 +56,14 @@ module _ (Q : Program) (B : Bounds) (F : Run → Type 0) (n : ℕ) where
 
 module _ (Q : Program) (B : Bounds) (F : Run → Type 0) (fine : IsOfEnds F) (n : ℕ) where
   pub refused_in_wrapper : (mn : ℕ) (wm : Method) (is : slice_get Q.methods mn ≡ Some wm) (c id dn : ℕ) (retries : ℤ) (gives : Bool) (q z : ℕ) (W : IsWrapper wm c id dn retries gives q z) (l s : List Slot) → slice_get l c ≡ Some Context
-      → ((m : Meter) → Holds Q B F n (On Ready (frame mn 2 l [] ∷ []) m [] [])) → Refused Q B F n (frame mn (q + 1) l s ∷ [])
+      → ((m : Meter) → Holds Q B F n (On Ready (frame mn 2 l [] ∷ []) (set_back B m) [] [])) → Refused Q B F n (frame mn (q + 1) l s ∷ [])
   refused_in_wrapper mn wm is c id dn retries gives q z W l s here loop = record {
     to = frame mn z l (Ref 1 ∷ []) ∷ [];
-    goes = call_refused Q B mn wm is c id dn retries q z gives W l here (record { turns = 0; tried = 0; used = 0 }) [] [] s;
+    goes = call_refused Q B mn wm is c id dn retries q z gives W l here (record { turns = 0; tried = 0; used = 0; thrown = None }) [] [] s;
     safe = λ m w r. on_leads Q B F fine 4 n _ _ (rolls_back Q B mn wm is c id dn retries q z gives W l here m w r) (loop m);
   }
 
-  refused_safe : (fs : Frames) (h : Refused Q B F n fs) (m : Meter) (w r : Log) → Holds Q B F n (unwound (unwinds Q 1 fs) m w r)
+  pub refused_safe : (fs : Frames) (h : Refused Q B F n fs) (m : Meter) (w r : Log) → Holds Q B F n (unwound (unwinds Q 1 fs) m w r)
   refused_safe fs h m w r = subst (λ (a : Asked). Holds Q B F n (unwound a m w r)) (sym h.goes) (h.safe m w r)
 
   pub refused_in_duplicate : (dn : ℕ) (dm : Method) (is : slice_get Q.methods dn ≡ Some dm) (end : ℕ) (D : IsDuplicate dm end) (pc : ℕ) (lt : pc < end) (l s : List Slot) (fs : Frames) → Refused Q B F n fs → Refused Q B F n (frame dn pc l s ∷ fs)

@@ -10,7 +10,7 @@ use Rattle.jmodel.specs.declared.typing.VType.{VType}
 use Rattle.jmodel.specs.declared.typing.VType.TheVariants.{Int, Null, Ref, Top}
 use Rattle.jmodel.specs.declared.value.Value.TheVariants as value
 use Rattle.jmodel.specs.declared.op.Op.{Op}
-use Rattle.jmodel.specs.declared.op.Op.TheVariants.{Constant, Load, Store, Binary, Unary, Increment, Branch, BranchInts, Goto, Switch, GetStatic, PutStatic, InvokeStatic, Return, ReturnValue, Throw, GetContext, Context}
+use Rattle.jmodel.specs.declared.op.Op.TheVariants.{Constant, Load, Store, Binary, Divide, Unary, Increment, Branch, BranchInts, Goto, Switch, GetStatic, PutStatic, InvokeStatic, Return, ReturnValue, Throw, GetContext, Context}
 use Rattle.jmodel.specs.declared.op.Op.TheVariants as op
 use Rattle.jmodel.specs.declared.op.Rearrange.{Rearrange}
 use Rattle.jmodel.specs.declared.op.Rearrange.TheVariants as rearrange
@@ -462,6 +462,9 @@ module _ (P : Program) (S : IsSource P) (k : Method) (src : IsSourceMethod P k) 
     fine_op (op.Rearrange r) src is = one pc (op.Rearrange r) is h typed _ (has_block P k pc _ is) refl (λ a next. rearranged_moved p k.locals at pc a next r h same_size)
     fine_op (Binary b) src is =
         one pc (Binary b) is h typed _ (has_block P k pc _ is) refl
+        (λ a next. int_moved p k.locals at h.stack _ _ (λ s. int_moved p k.locals at s _ _ (λ s. leaves_moved p k.locals at pc a next h _ same_size)))
+    fine_op (Divide d) src is =
+        one pc (Divide d) is h typed _ (has_block P k pc _ is) refl
         (λ a next. int_moved p k.locals at h.stack _ _ (λ s. int_moved p k.locals at s _ _ (λ s. leaves_moved p k.locals at pc a next h _ same_size)))
     fine_op (Unary u) src is = one pc (Unary u) is h typed _ (has_block P k pc _ is) refl (λ a next. int_moved p k.locals at h.stack _ _ (λ s. leaves_moved p k.locals at pc a next h _ same_size))
     fine_op (Increment i n) src is =

@@ -9,6 +9,7 @@ use Rattle.jmodel.specs.declared.op.Binary.TheVariants.{Add}
 use Rattle.jmodel.specs.declared.op.Rearrange.TheVariants.{Duplicate}
 use Rattle.jmodel.specs.declared.op.WordType.TheVariants as word
 use Rattle.jmodel.specs.Program.{Field, Method, Program}
+use Rattle.jmodel.specs.Region.{Region}
 use Rattle.jmodel.specs.State.{Object, State}
 use Rattle.jmodel.specs.Call.{Direct, Ended, direct, call_start}
 use Rattle.jmodel.specs.Attempt.{Bounds, Meter, Reply, Gives, Refuses, run, run_start, access}
@@ -41,6 +42,9 @@ statics x = record { type = 22; values = Int (pos x) ∷ [] }
 abbrev state : ℕ → State
 state x = record { objects = λ r. if nat_eq r 2 then Some (statics x) else None; used = λ k. 0 }
 
+abbrev pub region : Region
+region = record { number = 1; size = 16 }
+
 -- the bound of steps computes, and the state after them has the new value
 abbrev held_after : Direct → Option Object
 held_after (Ended x σ) = σ.objects 2
@@ -50,21 +54,21 @@ abbrev answer_of : Direct → Option Answer
 answer_of (Ended x σ) = Some x
 answer_of d = None
 
-pub alone_answers : answer_of (direct counter_program 6 (call_start counter_program 0 [] 9 (state 4))) ≡ Some (Returned (Some (Int (pos 5))))
+pub alone_answers : answer_of (direct counter_program region 6 (call_start counter_program 0 [] 9 (state 4))) ≡ Some (Returned (Some (Int (pos 5))))
 alone_answers = refl
 
-pub alone_leaves : held_after (direct counter_program 6 (call_start counter_program 0 [] 9 (state 4))) ≡ Some (statics 5)
+pub alone_leaves : held_after (direct counter_program region 6 (call_start counter_program 0 [] 9 (state 4))) ≡ Some (statics 5)
 alone_leaves = refl
 
 abbrev pub bounds : Bounds
-bounds = record { budget = 9; attempts = 3 }
+bounds = record { budget = 9; attempts = 3; region = region; used = 0 }
 
 -- one attempt that meets no conflict
-pub attempt_answers : run (rewritten counter_program) bounds (replicate 41 (Gives 4)) (run_start (rewritten counter_program) 0 [] 0)
-    ≡ attempt.Ended (Returned (Some (Int (pos 5)))) (record { turns = 8; tried = 1; used = 0 }) (access 3 5 ∷ []) (access 3 4 ∷ [])
+pub attempt_answers : run (rewritten counter_program) bounds (replicate 41 (Gives 4)) (run_start (rewritten counter_program) bounds 0 [])
+    ≡ attempt.Ended (Returned (Some (Int (pos 5)))) (record { turns = 8; tried = 1; used = 0; thrown = None }) (access 3 5 ∷ []) (access 3 4 ∷ [])
 attempt_answers = refl
 
 -- The first attempt meets a conflict at its read, and the second reads 4.
-pub second_answers : run (rewritten counter_program) bounds (replicate 18 (Gives 9) ++ Refuses ∷ replicate 60 (Gives 4)) (run_start (rewritten counter_program) 0 [] 0)
-    ≡ attempt.Ended (Returned (Some (Int (pos 5)))) (record { turns = 8; tried = 2; used = 0 }) (access 3 5 ∷ []) (access 3 4 ∷ [])
+pub second_answers : run (rewritten counter_program) bounds (replicate 18 (Gives 9) ++ Refuses ∷ replicate 60 (Gives 4)) (run_start (rewritten counter_program) bounds 0 [])
+    ≡ attempt.Ended (Returned (Some (Int (pos 5)))) (record { turns = 8; tried = 2; used = 0; thrown = None }) (access 3 5 ∷ []) (access 3 4 ∷ [])
 second_answers = refl

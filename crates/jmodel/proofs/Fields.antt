@@ -20,7 +20,7 @@ some_at [] i h = absurd (omega arith)
 some_at (x ∷ xs) zero h = (x, refl)
 some_at (x ∷ xs) (suc i) h = let h' : i < length xs = omega arith in some_at xs i h'
 
-some_object : (o : ℕ) → 0 < o → (n : ℕ) × (o ≡ suc n)
+pub some_object : (o : ℕ) → 0 < o → (n : ℕ) × (o ≡ suc n)
 some_object zero h = absurd (omega arith)
 some_object (suc n) h = (n, refl)
 

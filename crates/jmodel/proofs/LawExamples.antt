@@ -1,5 +1,5 @@
 -- Counter meets what the laws ask: it is a straight-line program, there are words for its state, and a run of it is explained.
-use Rattle.std.proofs.Common.{◌≡◌, ℕ, zero, suc, [], ◌∷◌, ◌++◌, Some, refl, ap, arith, lit<}
+use Rattle.std.proofs.Common.{◌≡◌, zero, suc, [], ◌∷◌, ◌++◌, Some, None, refl, ap, arith, lit<}
 use Rattle.std.specs.Prelude.{pos, replicate}
 use Rattle.jmodel.specs.declared.value.Value.TheVariants.{Int}
 use Rattle.jmodel.specs.declared.value.Answer.TheVariants.{Returned}
@@ -28,8 +28,8 @@ pub counter_straight : IsStraightProgram counter_program
 counter_straight = record { source = counter_source; straight = (record { no_params = refl; gives_value = refl; code = refl }, tt) }
 
 -- the run whose first attempt meets a conflict
-second_runs : Runs (rewritten counter_program) bounds 0 [] 0 (Returned (Some (Int (pos 5)))) (access 3 5 ∷ []) (access 3 4 ∷ [])
-second_runs = record { meter = record { turns = 8; tried = 2; used = 0 }; comes = (replicate 18 (Gives 9) ++ Refuses ∷ replicate 60 (Gives 4), second_answers); made = λ h. cc }
+second_runs : Runs (rewritten counter_program) bounds 0 [] (Returned (Some (Int (pos 5)))) 0 (access 3 5 ∷ []) (access 3 4 ∷ [])
+second_runs = record { meter = record { turns = 8; tried = 2; used = 0; thrown = None }; comes = (replicate 18 (Gives 9) ++ Refuses ∷ replicate 60 (Gives 4), second_answers); leaves = refl; made = λ h. cc }
 
-pub second_explained : (size : ℕ) (e : Entry) → TellsOf 0 [] 0 (Returned (Some (Int (pos 5)))) (access 3 5 ∷ []) (access 3 4 ∷ []) e → Explains counter_program size 9 e
-second_explained size e tells = simulation counter_program counter_source bounds size 0 method_inc (pos 2147483647) refl refl [] tt refl 0 _ _ _ second_runs e tells
+pub second_explained : (e : Entry) → TellsOf bounds 0 [] (Returned (Some (Int (pos 5)))) 0 (access 3 5 ∷ []) (access 3 4 ∷ []) e → Explains counter_program 16 9 e
+second_explained e tells = simulation counter_program counter_source bounds 0 method_inc (pos 2147483647) refl refl [] tt refl _ _ _ _ second_runs e tells

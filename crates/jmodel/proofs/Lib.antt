@@ -1,4 +1,5 @@
 pub mod Examples
+pub mod Divisions
 pub mod Places
 pub mod Replies
 pub mod Rows
@@ -8,6 +9,9 @@ pub mod Fields
 pub mod Moved
 pub mod WordTypes
 pub mod Memory
+pub mod Objects
+pub mod Regions
+pub mod Trapped
 pub mod Follow
 pub mod Callers
 pub mod Alone
@@ -34,6 +38,12 @@ pub mod Untypable
 pub mod Formed
 pub mod Told
 pub mod Taken
+pub mod ClassesTaken
+pub mod ClassesFormed
+pub mod ClassesFields
+pub mod ClassesLinked
+pub mod ClassesLone
+pub mod TwoClasses
 pub mod Returns
 pub mod Tables
 pub mod AccessorTypes

@@ -1,5 +1,5 @@
 -- What is linked is a program of source code.
-use Rattle.std.proofs.Common.{◌≡◌, ℕ, ℤ, zero, suc, ◌+◌, ◌-◌, ◌<◌, ◌≤◌, List, [], ◌∷◌, ◌++◌, length, Bool, true, false, not, ◌&&◌, nat_le, nat_eq, nat_lt, Option, Some, None, Result, Ok, Err, refl, sym, ◌∙◌, ap, subst, arith, ◌⊎◌, inl, inr}
+use Rattle.std.proofs.Common.{◌≡◌, ℕ, ℤ, zero, suc, ◌+◌, ◌-◌, ◌<◌, ◌≤◌, List, [], ◌∷◌, ◌++◌, length, Bool, true, false, not, ◌&&◌, nat_le, nat_eq, nat_lt, Option, Some, None, Result, Ok, Err, refl, sym, ◌∙◌, ap, subst, arith}
 use Rattle.std.specs.Prelude.{slice_get, if◌then◌else◌, codes, filter, map, replicate, is_some, bytes_eq, ◌||◌, pos, option_map, option_and_then, zip, ◌==◌, ◌-ℤ◌, FitsSigned, IfSome, int_lt, ◌≤ℤ◌}
 use Rattle.std.specs.List.{AllByRecursion, list_all, list_any}
 use Rattle.std.specs.Int.{w32}
@@ -26,13 +26,13 @@ use Rattle.jmodel.specs.declared.op.Op.TheVariants as op
 use Rattle.jmodel.specs.declared.op.Rearrange.TheVariants as rearrange
 use Rattle.jmodel.specs.declared.op.Binary.TheVariants as binary
 use Rattle.jmodel.specs.declared.op.Unary.TheVariants as unary
+use Rattle.jmodel.specs.declared.op.Division.TheVariants as division
 use Rattle.jmodel.specs.declared.op.ContextCall.TheVariants as context
 use Rattle.jmodel.specs.declared.op.Catch.{Catch}
 use Rattle.jmodel.specs.declared.op.Place.{Place}
 use Rattle.jmodel.specs.WordTypes.{read_descriptor, write_descriptor, type_with}
 use Rattle.jmodel.specs.ClassFile.{Member, Pool, ClassFile, Code}
 use Rattle.jmodel.specs.Pool.{utf8, MemberName, field_name, method_name}
-use Rattle.jmodel.specs.ClassRules.{same_text}
 use Rattle.jmodel.specs.Descriptor.{Signature}
 use Rattle.jmodel.specs.DescriptorReading.{signature_of, types_at, result_of}
 use Rattle.jmodel.specs.Constants.{integer}
@@ -40,10 +40,11 @@ use Rattle.jmodel.specs.Instruction.{ascend}
 use Rattle.jmodel.specs.Reading.{◌>>=◌}
 use Rattle.jmodel.specs.Program.{Field, Method, Program}
 use Rattle.jmodel.specs.Source.{IsSourceOp, IsSourceMethod, IsSourceField}
+use Rattle.jmodel.specs.Superclasses.{declared_field, declared_method}
 use Rattle.jmodel.specs.Decoding.{context_class, Symbols, number_at, name_of, simple_op, short_local_op, arithmetic_op, rearranging_op, leaving_op, number_op, local_op, wide_op, test_of, jump_to, jump_op, table_cases, numbered_case, ascending_op, switch_op, get_op, put_op, static_call_op, context_op, virtual_call_op, pool_op, meaning, op_of, ops_of, in_front, each, field_number, method_number, is_field_of, is_method_of, long_field}
 use Rattle.jmodel.specs.InstructionReading.{instrs_of}
-use Rattle.jmodel.specs.Linking.{catch_of, Shape, is_context, is_parameter, parameter_type, is_result, shape_in, has_context, takes_context, code_in, retries_of, Coded, make_method, descriptor_of, shape_of, named_fault, decoded_code, decoded, all_decoded, is_marked, program_methods, is_form_atomic, is_form_method, is_form_field, are_form_fields, are_form_methods, is_form_code, is_form_instr, is_form_op, is_form_method_of, if_form, form_method, symbols_of, original_fields, form_methods, form_program, program_in, linked, is_form_name, is_initialiser, is_root}
-use Rattle.jmodel.specs.Layout.{fields_from, statics, base_of, text_or_none}
+use Rattle.jmodel.specs.Linking.{catch_of, Shape, is_context, is_parameter, parameter_type, is_result, shape_in, has_context, takes_context, code_in, retries_of, Coded, make_method, descriptor_of, shape_of, named_fault, decoded_code, decoded, all_decoded, is_marked, program_methods, is_form_atomic, is_form_method, is_form_field, are_form_fields, are_form_methods, is_form_code, is_form_instr, is_form_op, is_form_method_of, if_form, form_method, symbols_of, original_fields, form_methods, form_program, linked, is_form_name, is_initialiser, is_root}
+use Rattle.jmodel.specs.Layout.{fields_from, statics, text_or_none}
 use Rattle.jmodel.specs.LinkedLaw.{CanSetUp, IsLinked, MayAttempt}
 use Rattle.jmodel.specs.declared.mark.AnnotationFault.TheVariants.{Retries}
 use Rattle.jmodel.specs.Mark.{retries_in, answer}
@@ -54,16 +55,16 @@ use Rattle.jmodel.proofs.Constants.{IsSmall, integer_small}
 use Rattle.jmodel.proofs.Numbers.{Has, IsSmallNumber, IsSmallInstr, read_small}
 
 -- both tests hold
-both : (a b : Bool) → (a && b) ≡ true → (a ≡ true) × (b ≡ true)
+pub both : (a b : Bool) → (a && b) ≡ true → (a ≡ true) × (b ≡ true)
 both true b h = (refl, h)
 both false b h = cc
 
-both_true : (a b : Bool) → a ≡ true → b ≡ true → (a && b) ≡ true
+pub both_true : (a b : Bool) → a ≡ true → b ≡ true → (a && b) ≡ true
 both_true true true p q = refl
 both_true true false p q = q
 both_true false b p q = p
 
-is_not : (b : Bool) → not b ≡ true → b ≡ false
+pub is_not : (b : Bool) → not b ≡ true → b ≡ false
 is_not false h = refl
 is_not true h = cc
 
@@ -135,10 +136,11 @@ short_fine b c =
 
 arithmetic_fine : (b : Bounds) (c : ℕ) → Fine b (arithmetic_op c)
 arithmetic_fine b c =
-    plain b _ (op.Binary binary.Add) _ tt (plain b _ (op.Binary binary.Subtract) _ tt (plain b _ (op.Binary binary.Multiply) _ tt (plain b _ (op.Unary unary.Negate) _ tt
+    plain b _ (op.Binary binary.Add) _ tt (plain b _ (op.Binary binary.Subtract) _ tt (plain b _ (op.Binary binary.Multiply) _ tt
+    (plain b _ (op.Divide division.Quotient) _ tt (plain b _ (op.Divide division.Remainder) _ tt (plain b _ (op.Unary unary.Negate) _ tt
     (plain b _ (op.Binary binary.ShiftLeft) _ tt (plain b _ (op.Binary binary.ShiftRight) _ tt (plain b _ (op.Binary binary.UnsignedShiftRight) _ tt
     (plain b _ (op.Binary binary.And) _ tt (plain b _ (op.Binary binary.Or) _ tt (plain b _ (op.Binary binary.Xor) _ tt
-    (plain b _ (op.Unary unary.ToByte) _ tt (plain b _ (op.Unary unary.ToChar) _ tt (plain b _ (op.Unary unary.ToShort) None tt (nothing b)))))))))))))
+    (plain b _ (op.Unary unary.ToByte) _ tt (plain b _ (op.Unary unary.ToChar) _ tt (plain b _ (op.Unary unary.ToShort) None tt (nothing b)))))))))))))))
 
 rearranging_fine : (b : Bounds) (c : ℕ) → Fine b (rearranging_op c)
 rearranging_fine b c =
@@ -240,15 +242,15 @@ module _ (s : Symbols) (is : List Instr) where
 
   get_fine : (m : MemberName) → Fine bounds (get_op s m)
   get_fine m =
-      either bounds _ _ _ (mapped bounds op.GetStatic (field_number s.fields m) (field_there s.fields m))
+      either bounds _ _ _ (mapped bounds op.GetStatic (field_number s.fields (declared_field s.classes m)) (field_there s.fields (declared_field s.classes m)))
       (either bounds _ _ _ (mapped bounds (λ x. op.Constant (value.Long x)) (long_field s.class m) (λ x e. tt))
-      (plain bounds _ (op.Constant (value.Ref (base_of (s.class ∷ []) 0))) None tt (nothing bounds)))
+      (plain bounds _ (op.Constant (value.Ref s.base)) None tt (nothing bounds)))
 
   put_fine : (m : MemberName) → Fine bounds (put_op s m)
-  put_fine m = mapped bounds op.PutStatic (field_number s.fields m) (field_there s.fields m)
+  put_fine m = mapped bounds op.PutStatic (field_number s.fields (declared_field s.classes m)) (field_there s.fields (declared_field s.classes m))
 
   static_fine : (m : MemberName) → Fine bounds (static_call_op s m)
-  static_fine m = plain bounds _ op.GetContext _ tt (mapped bounds op.InvokeStatic (method_number s.methods m) (method_there s.methods m))
+  static_fine m = plain bounds _ op.GetContext _ tt (mapped bounds op.InvokeStatic (method_number s.methods (declared_method s.classes m)) (method_there s.methods (declared_method s.classes m)))
 
   context_fine : (m : MemberName) → Fine bounds (context_op m)
   context_fine m =
@@ -303,6 +305,7 @@ form_source P k (op.Load i) h b = below i k.locals h
 form_source P k (op.Store i) h b = below i k.locals h
 form_source P k (op.Rearrange r) h b = tt
 form_source P k (op.Binary x) h b = tt
+form_source P k (op.Divide d) h b = tt
 form_source P k (op.Unary x) h b = tt
 form_source P k (op.Increment i n) h b = below i k.locals h
 form_source P k (op.Branch t to) h b = b
@@ -483,10 +486,10 @@ sets_up s m k shape ops catches form shaped named =
 -- ---- a method of the program
 
 -- what a linked method keeps
-record IsMethodOf (P : Program) (k : Method) : Type 0 where
-  source : IsSourceMethod P k
-  marked : MayAttempt k
-  sets_up : CanSetUp k
+pub record IsMethodOf (P : Program) (k : Method) : Type 0 where
+  pub source : IsSourceMethod P k
+  pub marked : MayAttempt k
+  pub sets_up : CanSetUp k
 
 may_attempt : (pool : Pool) (m : Member) → IfSome (retries_of pool m) (λ n. pos 1 ≤ℤ n)
 may_attempt pool m = by_kind (is_initialiser pool m)
@@ -512,7 +515,7 @@ each_none : {A B : Type 0} (f : A → Option B) (xs : List A) (ys : List B) → 
 each_none f [] ys e h = cc
 each_none f (x ∷ xs) ys e h = cc
 
-method_of : (P : Program) (s : Symbols) (m : Member) (k : Coded) (p : Method) → takes_context s.class.pool m ≡ false → is_form_atomic s.class.pool m ≡ true → length P.fields ≡ length s.fields → length P.methods ≡ length s.methods
+pub method_of : (P : Program) (s : Symbols) (m : Member) (k : Coded) (p : Method) → takes_context s.class.pool m ≡ false → is_form_atomic s.class.pool m ≡ true → length P.fields ≡ length s.fields → length P.methods ≡ length s.methods
     → AllByRecursion IsSmallInstr k.instrs → form_method s m k ≡ Some p → IsMethodOf P p
 method_of P s m k p plain formal same many smalls h =
     let means = means_of s m k p h in
@@ -544,7 +547,7 @@ fields_source c j [] h = tt
 fields_source c j (m ∷ ms) h =
     (record { object = omega arith; index = omega arith; address = omega (arith, h) }, fields_source c (suc j) ms (omega (arith, h)))
 
-same_item : {A : Type 0} (o : Option A) (x y : A) → o ≡ Some x → o ≡ Some y → x ≡ y
+pub same_item : {A : Type 0} (o : Option A) (x y : A) → o ≡ Some x → o ≡ Some y → x ≡ y
 same_item o x y p q = let e : Some x ≡ Some y = sym p ∙ q in cc
 
 -- a static field lies at the place of its number
@@ -563,7 +566,7 @@ fields_shared c i j f g is js e =
     let field : f ≡ g = same_item _ f g is both_are in
     ap (λ (f : Field). f.type) field
 
-split_methods : (P : Program) (ks : List Method) → AllByRecursion (IsMethodOf P) ks
+pub split_methods : (P : Program) (ks : List Method) → AllByRecursion (IsMethodOf P) ks
     → AllByRecursion (IsSourceMethod P) ks × AllByRecursion MayAttempt ks × AllByRecursion CanSetUp ks
 split_methods P [] h = (tt, tt, tt)
 split_methods P (k ∷ ks) h =
@@ -574,10 +577,10 @@ pub few_statics : (c : ClassFile) → are_form_fields c ≡ true → length (sta
 few_statics c h = let few = (both (nat_le (length (statics c)) 100) (list_all (is_form_field c.pool) c.fields) (both _ _ h).0).0 in grind (arith, nat_tests)
 
 -- code that is decoded has small numbers alone
-abbrev IsSmallCode : Coded → Type 0
+abbrev pub IsSmallCode : Coded → Type 0
 IsSmallCode k = AllByRecursion IsSmallInstr k.instrs
 
-small_code : (pool : Pool) (o : Option Code) (k : Coded) → decoded_code pool o ≡ Ok k → IsSmallCode k
+pub small_code : (pool : Pool) (o : Option Code) (k : Coded) → decoded_code pool o ≡ Ok k → IsSmallCode k
 small_code pool None k h = cc
 small_code pool (Some code) k h = go (instrs_of pool code.handlers code.code) (read_small pool code.handlers code.code) h
   where
@@ -585,7 +588,7 @@ small_code pool (Some code) k h = go (instrs_of pool code.handlers code.code) (r
     go (Ok is) s e = let same : k ≡ record { code = code; instrs = is } = cc in rw same s
     go (Err f) s e = cc
 
-small_named : (n : MethodName) (r : Result Coded Refusal) (k : Coded) → ((j : Coded) → r ≡ Ok j → IsSmallCode j) → named_fault n r ≡ Ok k → IsSmallCode k
+pub small_named : (n : MethodName) (r : Result Coded Refusal) (k : Coded) → ((j : Coded) → r ≡ Ok j → IsSmallCode j) → named_fault n r ≡ Ok k → IsSmallCode k
 small_named n (Ok j) k s h = let same : k ≡ j = cc in rw same (s j refl)
 small_named n (Err e) k s h = cc
 

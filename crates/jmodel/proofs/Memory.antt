@@ -65,7 +65,7 @@ holds_at P size ws τ i f R h =
     record { x = t.0; held = t.1; fits = t.2; word = ap ws e ∙ laid_at ws (f.place.object + 1) k.o.values k.i _ l k.there }
 
 -- words that differ at one place
-laid_same : (ws ws' : Words) (b : ℕ) (vs : List Value) → ((i : ℕ) → i < length vs → ws' (b + i) ≡ ws (b + i)) → AreLaid ws b vs → AreLaid ws' b vs
+pub laid_same : (ws ws' : Words) (b : ℕ) (vs : List Value) → ((i : ℕ) → i < length vs → ws' (b + i) ≡ ws (b + i)) → AreLaid ws b vs → AreLaid ws' b vs
 laid_same ws ws' b [] s l = tt
 laid_same ws ws' b (v ∷ vs) s l =
     let z : b + 0 ≡ b = omega arith in
@@ -84,7 +84,7 @@ laid_set ws ws' b (x ∷ vs) (suc j) v s e l =
     (s b n ∙ l.0, laid_set ws ws' (b + 1) vs j v (λ c h. s c (λ q. h (q ∙ z))) (ap ws' (sym z) ∙ e) l.1)
 
 -- a place inside an object's region
-same_region : (size r d n : ℕ) → r % size + n + 1 ≤ size → d ≤ n → ((r + d) / size ≡ r / size) × ((r + d) % size ≡ r % size + d)
+pub same_region : (size r d n : ℕ) → r % size + n + 1 ≤ size → d ≤ n → ((r + d) / size ≡ r / size) × ((r + d) % size ≡ r % size + d)
 same_region size r d n h le =
     let e : r + d ≡ r / size * size + (r % size + d) = omega (arith, div-add-mod' r size) in
     let lt : r % size + d < size = omega arith in
@@ -211,10 +211,10 @@ module _ (P : Program) (size : ℕ) (ws ws' : Words) (τ : State) (p : Place) (t
   represents_after = record { laid = laid_after; regions = regions_after; apart = apart_after; fields = all_held P.fields shared R.fields; free = free_after }
 
 -- a write in the log is a write of the words
-overlaid_here : (a y : ℕ) (w : Log) (ws : Words) → overlaid (access a y ∷ w) ws a ≡ y
+pub overlaid_here : (a y : ℕ) (w : Log) (ws : Words) → overlaid (access a y ∷ w) ws a ≡ y
 overlaid_here a y w ws = let e : nat_eq a a ≡ true = grind (arith, nat_tests) in rw e refl
 
-overlaid_there : (a y : ℕ) (w : Log) (ws : Words) (b : ℕ) → b ≢ a → overlaid (access a y ∷ w) ws b ≡ overlaid w ws b
+pub overlaid_there : (a y : ℕ) (w : Log) (ws : Words) (b : ℕ) → b ≢ a → overlaid (access a y ∷ w) ws b ≡ overlaid w ws b
 overlaid_there a y w ws b n = let e : nat_eq a b ≡ false = grind (arith, nat_tests) in rw e refl
 
 pub represents_write : (P : Program) → AreShared P → (size : ℕ) (w : Log) (ws : Words) (τ : State) (i : ℕ) (f : Field) (x : ℤ) → IsNumberOf f.type x → slice_get P.fields i ≡ Some f → Represents P size (overlaid w ws) τ

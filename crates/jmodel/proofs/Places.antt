@@ -146,7 +146,7 @@ next_block (x ∷ code) (suc pc) o h =
     let i = next_block code pc o h in
     ap (block_at (x ∷ code)) e ∙ (omega (arith, at_cons x code (pc + 1), at_cons x code pc))
 
-some_len : (o : Op) → 1 ≤ block_len o
+pub some_len : (o : Op) → 1 ≤ block_len o
 some_len Throw = omega arith
 some_len o = omega arith
 

@@ -116,9 +116,9 @@ from_start P fs zero h = ended_safe P _
 from_start P fs (suc t) h = h t
 
 pub soundness : Soundness
-soundness P S B m k n here marked used vs =
+soundness P S B m k n here marked vs =
     let s = each_at IsStraight P.methods m k S.straight here in
     let src = each_at (IsSourceMethod P) P.methods m k S.source.methods here in
     let never : IsNeverStuck P B.budget m [] = subst (λ (o : Option Method). IsSafe P (any.starts o m [] B.budget)) (sym here)
     (from_start P _ B.budget (λ t. straight P S.source m k here src.each (replicate (k.locals - k.params) Empty) t k.ops 0 (λ i. let z : i ≡ 0 + i = omega arith in ap (slice_get k.ops) z) [] s.code)) in
-    preservation P S.source B m k n here marked [] tt (sym s.no_params) never used vs
+    preservation P S.source B m k n here marked [] tt (sym s.no_params) never vs

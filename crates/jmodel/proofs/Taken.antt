@@ -43,7 +43,7 @@ pub filter_same : {A : Type 0} (p q : A → Bool) (xs : List A) → Same p q xs 
 filter_same p q [] w = refl
 filter_same {A} p q (x ∷ xs) w = ap (λ (b : Bool). cond b (x ∷ filter p xs) (filter p xs)) w.0 ∙ ap (λ (l : List A). cond (q x) (x ∷ l) l) (filter_same p q xs w.1)
 
-filter_fewer : {A : Type 0} (p q : A → Bool) (xs : List A) → Within p q xs → length (filter p xs) ≤ length (filter q xs)
+pub filter_fewer : {A : Type 0} (p q : A → Bool) (xs : List A) → Within p q xs → length (filter p xs) ≤ length (filter q xs)
 filter_fewer p q [] w = omega arith
 filter_fewer p q (x ∷ xs) w = go (p x) (q x) w.0 (filter_fewer p q xs w.1)
   where
@@ -62,7 +62,7 @@ filter_few p (x ∷ xs) = go (p x) (filter_few p xs)
     go false h = omega (arith, h)
 
 -- a set within another that isn't smaller is the same
-same_size : {A : Type 0} (p q : A → Bool) (xs : List A) → Within p q xs → length (filter q xs) ≤ length (filter p xs) → Same p q xs
+pub same_size : {A : Type 0} (p q : A → Bool) (xs : List A) → Within p q xs → length (filter q xs) ≤ length (filter p xs) → Same p q xs
 same_size p q [] w h = tt
 same_size p q (x ∷ xs) w h = go (p x) (q x) w.0 refl refl (λ k. same_size p q xs w.1 k) (filter_fewer p q xs w.1) h
   where

@@ -16,7 +16,7 @@ use Rattle.jmodel.specs.ClassReading.{attributes_at, handlers_at, body_at, code_
 use Rattle.jmodel.specs.Program.{Method, Program}
 use Rattle.jmodel.specs.Decoding.{Symbols, name_of, in_front, each, op_of}
 use Rattle.jmodel.specs.InstructionReading.{instr_at, instrs_at, targets_fit, places_fit, instrs_of}
-use Rattle.jmodel.specs.Linking.{Coded, code_in, named_fault, decoded_code, decoded, all_decoded, program_methods, form_method, form_methods, form_program, symbols_of, original_fields, linked, pc_in, pc_of}
+use Rattle.jmodel.specs.Linking.{Coded, code_in, named_fault, decoded_code, decoded, all_decoded, program_methods, form_method, form_methods, symbols_of, original_fields, linked, pc_in, pc_of}
 use Rattle.jmodel.proofs.Numbers.{Has, then_has, after}
 use Rattle.jmodel.proofs.Formed.{formed}
 use Rattle.jmodel.proofs.Linked.{each_all, means_of}

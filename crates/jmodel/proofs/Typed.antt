@@ -1,6 +1,7 @@
 -- A call of a program each of whose methods has a typing is never stuck.
 use Rattle.std.proofs.Common.{◌≡◌, ◌≢◌, ℕ, ℤ, zero, suc, ◌+◌, ◌-◌, List, [], ◌∷◌, ◌++◌, length, reverse, ◌≤◌, Option, Some, None, Bool, true, false, refl, sym, ap, subst, ◌∙◌, arith}
 use Rattle.std.specs.Prelude.{pos, slice_get, slice_set, nat_lt, replicate, not}
+use Rattle.std.specs.Ordering.{int_eq}
 use Rattle.std.specs.List.{flat_map, AllByRecursion}
 use Rattle.std.proofs.lemmas.List.{reverse-append}
 use Rattle.std.proofs.lemmas.Grind.{replicate_next}
@@ -13,6 +14,7 @@ use Rattle.jmodel.specs.declared.op.Slot.TheVariants as slot
 use Rattle.jmodel.specs.declared.op.WordType.TheVariants as word
 use Rattle.jmodel.specs.declared.op.Op.{Op}
 use Rattle.jmodel.specs.declared.op.Op.TheVariants as op
+use Rattle.jmodel.specs.declared.op.Division.{Division}
 use Rattle.jmodel.specs.declared.op.Rearrange.{Rearrange}
 use Rattle.jmodel.specs.declared.op.Rearrange.TheVariants as rearrange
 use Rattle.jmodel.specs.declared.op.Place.{Place}
@@ -23,7 +25,7 @@ use Rattle.jmodel.specs.declared.op.Doing.TheVariants as doing
 use Rattle.jmodel.specs.declared.op.Asking.TheVariants as asking
 use Rattle.jmodel.specs.Value.{IsOfType, slots_of, stored}
 use Rattle.jmodel.specs.Program.{Field, Method, Program, op_at, method_at, place_at}
-use Rattle.jmodel.specs.Step.{Frame, Frames, Did, Does, Asked, Asks, Fails, with_stack, with_locals, at, next, started, received, does, step, on_top, on_int, int_in, slot_in, value_in, field_in, holds, branches, stores, rearranged, Took, take_args, goes, enters, invokes, gives, on_doing, on_did, acts, advanced, resumed}
+use Rattle.jmodel.specs.Step.{Frame, Frames, Did, Does, Asked, Asks, Fails, with_stack, with_locals, at, next, started, received, does, step, on_top, on_int, int_in, slot_in, value_in, field_in, holds, branches, divides, stores, rearranged, unwinds, Took, take_args, goes, enters, invokes, gives, on_doing, on_did, acts, advanced, resumed}
 use Rattle.jmodel.specs.Step as wrong
 use Rattle.jmodel.specs.Free.{Free, On, Ended, Stuck, next_free, free, free_start, turned, IsNeverStuck}
 use Rattle.jmodel.specs.Free as any
@@ -154,6 +156,7 @@ module _ (P : Program) (S : IsTypedProgram P) where
   AsksFine (Asks asking.Turn fs) = AreTyped fs
   AsksFine (Asks (asking.Enter deep) fs) = AreTyped fs
   AsksFine (Asks (asking.Return v) fs) = Unit {0}
+  AsksFine (Asks (asking.Trap t) fs) = unwinds P 2 fs ≡ Asks (asking.Throw 2) []
   AsksFine (Asks (asking.Ask (request.Get p t)) fs) = (x : ℤ) → AreTyped (resumed (slot.Int x ∷ []) fs)
   AsksFine (Asks (asking.Ask (request.Put p v)) fs) = AreTyped (advanced fs)
   AsksFine (Asks a fs) = ⊥
@@ -178,6 +181,7 @@ module _ (P : Program) (S : IsTypedProgram P) where
     DoingFine (doing.Jump to) f = Goes to f
     DoingFine (doing.Invoke c) f = CallsFine c f
     DoingFine (doing.Give v) f = IsResult k.gives v
+    DoingFine (doing.Trap t) f = Unit {0}
     DoingFine (doing.Ask (request.Get p t)) f = (x : ℤ) → Goes (pc + 1) (with_stack f (slot.Int x ∷ f.stack))
     DoingFine (doing.Ask (request.Put p v)) f = Goes (pc + 1) f
     DoingFine d f = ⊥
@@ -251,6 +255,10 @@ module _ (P : Program) (S : IsTypedProgram P) where
         go true g = goes_next _ (slice_set l i v) s g (set_types h.locals l i t v hl ht) hs
         go false g = absurd g
 
+    divides_fine : (b : Bool) (d : Division) (x y : ℤ) (h : Types) (l t s : List Slot) → Lets k T (Leads ((pc + 1) ∷ []) (typed.with_stack h (Int ∷ h.stack))) → HaveTypes h.locals l → HaveTypes h.stack s → DidFine (divides b d x y s (here l t))
+    divides_fine true d x y h l t s e hl hs = (tt, refl, refl)
+    divides_fine false d x y h l t s e hl hs = goes_next _ l _ e hl (tt, hs)
+
     branches_fine : (b : Bool) (to : ℕ) (h : Types) (l s : List Slot) → Lets k T (Leads ((pc + 1) ∷ to ∷ []) h) → HaveTypes h.locals l → HaveTypes h.stack s → DidFine (branches b to (here l s))
     branches_fine true to h l s e hl hs = (record { types = h; covers = e.1.1.0; locals = hl; stack = hs }, refl, refl)
     branches_fine false to h l s e hl hs = (goes_on h (pc + 1) (to ∷ []) l s e hl hs, refl, refl)
@@ -299,6 +307,8 @@ module _ (P : Program) (S : IsTypedProgram P) where
     op_fine (op.Store i) src h l s hl hs e = on_one_fine h.stack s _ _ hs (λ t v us r a hr e. stores_fine (length h.locals) i t v h l us r (same_length h.locals l hl) hl a hr e) e
     op_fine (op.Rearrange r) src h l s hl hs e = rearranged_fine r h l s hl hs e
     op_fine (op.Binary b) src h l s hl hs e = on_int_fine h.stack s _ _ hs (λ y us r hr e. on_int_fine us r _ _ hr (λ x us r hr e. goes_next _ l _ e hl (tt, hr)) e) e
+    op_fine (op.Divide d) src h l s hl hs e =
+        on_int_fine h.stack s _ _ hs (λ y us r hr e. on_int_fine us r _ _ hr (λ x us r hr e. divides_fine (int_eq y (pos 0)) d x y (typed.with_stack h us) l s r e hl hr) e) e
     op_fine (op.Unary u) src h l s hl hs e = on_int_fine h.stack s _ _ hs (λ x us r hr e. goes_next _ l _ e hl (tt, hr)) e
     op_fine (op.Increment i n) src h l s hl hs e = int_fine (slice_get h.locals i) (slice_get l i) _ _ (get_types h.locals l i hl) (λ is x e. goes_next _ _ s e (same_types h.locals l i Int _ is hl tt) hs) e
     op_fine (op.Branch t to) src h l s hl hs e = on_int_fine h.stack s _ _ hs (λ x us r hr e. branches_fine (holds t x (pos 0)) to _ l r e hl hr) e
@@ -372,6 +382,18 @@ module _ (P : Program) (S : IsTypedProgram P) where
         stack = tt;
       }
 
+  -- an exception leaves the frames, since no method has entries
+  passed : (f : Frame) (fs : Frames) (k : Method) → slice_get P.methods f.method ≡ Some k → (x : ℕ) → unwinds P x fs ≡ Asks (asking.Throw x) [] → unwinds P x (f ∷ fs) ≡ Asks (asking.Throw x) []
+  passed f fs k code x h = let none = (each_at (IsSourceMethod P) P.methods f.method k S.source.methods code).no_entries in simp (code, none, h)
+
+  waits_code : (g : Bool) (f : Frame) (k : Method) → Waits g f k → slice_get P.methods f.method ≡ Some k
+  waits_code true f k w = (w (Some (value.Int (pos 0))) tt).code
+  waits_code false f k w = (w None tt).code
+
+  passes : (g : Bool) (fs : Frames) → AllWait g fs → (x : ℕ) → unwinds P x fs ≡ Asks (asking.Throw x) []
+  passes g [] w x = refl
+  passes g (f ∷ fs) (k, b, w) x = passed f fs k (waits_code g f k b) x (passes k.gives fs w x)
+
   enters_fine : (b : Bool) (fs : Frames) → AreTyped fs → AsksFine (enters P b fs)
   enters_fine true fs h = h
   enters_fine false fs h = h
@@ -404,6 +426,7 @@ module _ (P : Program) (S : IsTypedProgram P) where
     doing_fine (doing.Invoke c) l s fs h w = invokes_fine (method_at P c) c h.types l s fs refl h.locals h.stack w h.keeps
     doing_fine (doing.Give v) l s fs h w = gives_fine k.gives v fs h w
     doing_fine (doing.Throw o) l s fs h w = absurd h
+    doing_fine (doing.Trap t) l s fs h w = passed (here m pc k code T typing l s) fs k code 2 (passes k.gives fs w 2)
     doing_fine (doing.Ask (request.Get p t)) l s fs h w = λ x. (k, typed_frame m pc k code T typing (pc + 1) _ (h x) refl, w)
     doing_fine (doing.Ask (request.Put p v)) l s fs h w = (k, typed_frame m pc k code T typing (pc + 1) _ h refl, w)
     doing_fine (doing.Ask r) l s fs h w = absurd h
@@ -431,7 +454,7 @@ module _ (P : Program) (S : IsTypedProgram P) where
   IsFine (Ended x) = Unit {0}
   IsFine Stuck = ⊥
 
-  asked_fine : (a : Asked) (x : ℤ) (t : ℕ) → AsksFine a → IsFine (any.on_asked a x t)
+  asked_fine : (a : Asked) (x : ℤ) (t : ℕ) → AsksFine a → IsFine (any.on_asked P a x t)
   asked_fine Fails x t h = absurd h
   asked_fine (Asks asking.Go fs) x t h = h
   asked_fine (Asks asking.Turn fs) x zero h = tt
@@ -441,6 +464,7 @@ module _ (P : Program) (S : IsTypedProgram P) where
   asked_fine (Asks (asking.Enter false) fs) x (suc t) h = h
   asked_fine (Asks (asking.Return v) fs) x t h = tt
   asked_fine (Asks (asking.Throw o) fs) x t h = absurd h
+  asked_fine (Asks (asking.Trap o) fs) x t h = rw h tt
   asked_fine (Asks (asking.Ask (request.Get p w)) fs) x t h = h x
   asked_fine (Asks (asking.Ask (request.Put p v)) fs) x t h = h
   asked_fine (Asks (asking.Ask r) fs) x t h = absurd h
@@ -476,5 +500,5 @@ safety P S budget m k there args ints count xs fits =
     (not_stuck P S _ (run_fine P S xs _ (turned_fine P S _ budget (k, starts_typed P S m k _ there slots, tt))))
 
 pub soundness : TypedSoundness
-soundness P S B m k n there marked args ints count used vs =
-    preservation P S.source B m k n there marked args ints count (safety P S B.budget m k there args ints count) used vs
+soundness P S B m k n there marked args ints count vs =
+    preservation P S.source B m k n there marked args ints count (safety P S B.budget m k there args ints count) vs

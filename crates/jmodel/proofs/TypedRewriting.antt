@@ -59,6 +59,7 @@ module _ (P : Program) (S : IsTypedProgram P) where
   same_flow k pc (op.Store i) h src = refl
   same_flow k pc (op.Rearrange r) h src = refl
   same_flow k pc (op.Binary b) h src = refl
+  same_flow k pc (op.Divide d) h src = refl
   same_flow k pc (op.Unary u) h src = refl
   same_flow k pc (op.Increment i n) h src = refl
   same_flow k pc (op.Branch t to) h src = refl

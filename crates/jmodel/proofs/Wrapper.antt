@@ -1,9 +1,9 @@
 -- What the parts of a wrapper do.
 use Rattle.std.proofs.Common.{◌≡◌, ℕ, ℤ, zero, suc, ◌+◌, ◌<◌, List, [], ◌∷◌, ◌++◌, length, Some, Bool, true, false, refl, ap, subst, ◌∙◌, arith, append_assoc, length-append, None}
-use Rattle.std.specs.Prelude.{pos, slice_get, slice_set, nat_lt, nat_le, ◌&&◌, min}
+use Rattle.std.specs.Prelude.{pos, slice_get, slice_set, nat_lt, nat_le, nat_eq, ◌&&◌, min}
 use Rattle.std.proofs.lemmas.Bool.Decides.{nat_tests}
 use Rattle.jmodel.specs.declared.value.Value.TheVariants as value
-use Rattle.jmodel.specs.declared.value.Answer.TheVariants.{Returned}
+use Rattle.jmodel.specs.declared.value.Answer.TheVariants.{Returned, Threw}
 use Rattle.jmodel.specs.declared.op.Slot.{Slot}
 use Rattle.jmodel.specs.declared.op.Slot.TheVariants.{Int, Ref, Context}
 use Rattle.jmodel.specs.declared.op.Op.{Op}
@@ -12,7 +12,7 @@ use Rattle.jmodel.specs.declared.op.Phase.TheVariants.{Ready, Open, Doomed, Clos
 use Rattle.jmodel.specs.declared.op.Asking.TheVariants.{Go}
 use Rattle.jmodel.specs.Program.{Method, Program, find_catch}
 use Rattle.jmodel.specs.Step.{Asks, unwinds}
-use Rattle.jmodel.specs.Attempt.{Log, Reply, Bounds, Meter, On, Ended, next_run, count_of, begun, on_commit}
+use Rattle.jmodel.specs.Attempt.{Log, Reply, Bounds, Meter, On, Ended, next_run, count_of, begun, on_commit, set_back, class_of}
 use Rattle.jmodel.specs.Rewriting.{loads, entry_code, begin_code, body_code, end_code, conflict_code, exception_code, body_end, conflict_at, duplicate, wrapper_method}
 use Rattle.jmodel.proofs.Places.{HasAt, has_all, get_front}
 use Rattle.jmodel.proofs.Replies.{Leads}
@@ -28,6 +28,9 @@ pub record IsWrapper (wm : Method) (c id dn : ℕ) (retries : ℤ) (gives : Bool
   pub conflict : HasAt wm.ops z (conflict_code c)
   pub exception : HasAt wm.ops (z + 4) (exception_code c)
   pub catch : find_catch wm.catches (q + 1) 1 ≡ Some z
+  -- another exception of the call goes on at its own part, whose end throws it past each entry
+  pub catch_other : (e : ℕ) → nat_eq e 1 ≡ false → find_catch wm.catches (q + 1) e ≡ Some (z + 4)
+  pub past : (e : ℕ) → find_catch wm.catches (z + 4 + 1 + 1 + 1 + 1 + 1) e ≡ None
   pub counted : wm.counted ≡ false
 
 loads_length : (i n : ℕ) → length (loads i n) ≡ n
@@ -83,6 +86,9 @@ module _ (c id dn : ℕ) (retries : ℤ) (gives : Bool) where
 in_call : (c : ℕ) → (nat_le 6 (6 + c + 1) && nat_lt (6 + c + 1) (body_end c)) ≡ true
 in_call c = grind (arith, nat_tests)
 
+behind_call : (c : ℕ) (gives : Bool) → (nat_le 6 (conflict_at gives c + 4 + 1 + 1 + 1 + 1 + 1) && nat_lt (conflict_at gives c + 4 + 1 + 1 + 1 + 1 + 1) (body_end c)) ≡ false
+behind_call c gives = grind (arith, nat_tests)
+
 pub wrapper_is : (P : Program) (id m : ℕ) (retries : ℤ) (k : Method) → IsWrapper (wrapper_method P id m retries k) k.params id (duplicate P m) retries k.gives (6 + k.params) (conflict_at k.gives k.params)
 wrapper_is P id m retries k = record {
   entry = (refl, (refl, tt));
@@ -93,6 +99,8 @@ wrapper_is P id m retries k = record {
   conflict = code_conflict k.params id (duplicate P m) retries k.gives;
   exception = code_exception k.params id (duplicate P m) retries k.gives;
   catch = rw (in_call k.params) refl;
+  catch_other = λ e other. rw (in_call k.params, other) refl;
+  past = λ e. rw (behind_call k.params k.gives) refl;
   counted = refl;
 }
 
@@ -111,18 +119,35 @@ module _ (Q : Program) (B : Bounds) (mn : ℕ) (wm : Method) (is : slice_get Q.m
     pub call_refused : (s : List Slot) → unwinds Q 1 (frame mn (q + 1) l s ∷ []) ≡ Asks Go (frame mn z l (Ref 1 ∷ []) ∷ [])
     call_refused s = simp (is, W.catch, W.counted)
 
-    pub rolls_back : Leads Q B 4 (On Doomed (frame mn z l (Ref 1 ∷ []) ∷ []) m w r) (On Ready (frame mn 2 l [] ∷ []) m [] [])
+    pub call_throws : (e : ℕ) (s : List Slot) → nat_eq e 1 ≡ false → unwinds Q e (frame mn (q + 1) l s ∷ []) ≡ Asks Go (frame mn (z + 4) l (Ref e ∷ []) ∷ [])
+    call_throws e s other = let catch = W.catch_other e other in simp (is, catch, W.counted)
+
+    pub rolls_back : Leads Q B 4 (On Doomed (frame mn z l (Ref 1 ∷ []) ∷ []) m w r) (On Ready (frame mn 2 l [] ∷ []) (set_back B m) [] [])
     rolls_back = λ v1 v2 v3 v4. simp (is, W.conflict.0, W.conflict.1.0, W.conflict.1.1.0, W.conflict.1.1.1.0, here, W.counted)
 
     pub starts_up : (l0 : List Slot) → nat_lt c (length l0) ≡ true → slice_set l0 c Context ≡ l → Leads Q B 2 (On Ready (frame mn 0 l0 [] ∷ []) m w r) (On Ready (frame mn 2 l [] ∷ []) m w r)
     starts_up l0 room set = λ v1 v2. simp (is, W.entry.0, W.entry.1.0, room, set)
+
+  -- the end of a call that throws
+  module _ (gives : Bool) (W : IsWrapper wm c id dn retries gives q z) (l l2 : List Slot) (e : ℕ) (room : nat_lt (c + 1) (length l) ≡ true) (set : slice_set l (c + 1) (Ref (suc e)) ≡ l2) (here : slice_get l2 c ≡ Some Context) (kept : slice_get l2 (c + 1) ≡ Some (Ref (suc e))) (m : Meter) (w r : Log) where
+    pub throw_first : Leads Q B 2 (On Open (frame mn (z + 4) l (Ref (suc e) ∷ []) ∷ []) m w r) (On Open (frame mn (z + 4 + 1 + 1) l2 (Context ∷ []) ∷ []) m w r)
+    throw_first = λ v1 v2. simp (is, W.exception.0, W.exception.1.0, room, set, here)
+
+    pub throw_commits : (v : Reply) → next_run Q B v (On Open (frame mn (z + 4 + 1 + 1) l2 (Context ∷ []) ∷ []) m w r) ≡ on_commit B v (frame mn (z + 4 + 1 + 1) l2 [] ∷ []) m w r
+    throw_commits v = simp (is, W.exception.1.1.0)
+
+    pub throw_again : Leads Q B 1 (On Ready (frame mn (z + 4 + 1 + 1 + 1) l2 (Int (pos 0) ∷ []) ∷ []) m w r) (On Ready (frame mn 2 l2 [] ∷ []) m w r)
+    throw_again = λ v. simp (is, W.exception.1.1.1.0, W.counted)
+
+    pub throw_last : (class : List ℕ) → class_of m.thrown (suc e) ≡ Some class → Leads Q B 3 (On Closed (frame mn (z + 4 + 1 + 1 + 1) l2 (Int (pos 1) ∷ []) ∷ []) m w r) (Ended (Threw class) m w r)
+    throw_last class named = let past = W.past (suc e) in λ v1 v2 v3. simp (is, W.exception.1.1.1.0, W.exception.1.1.1.1.0, W.exception.1.1.1.1.1.0, kept, past, named)
 
   -- the end of a call that gives a value
   module _ (W : IsWrapper wm c id dn retries true q z) (l l2 : List Slot) (x : ℤ) (room : nat_lt (c + 1) (length l) ≡ true) (set : slice_set l (c + 1) (Int x) ≡ l2) (here : slice_get l2 c ≡ Some Context) (kept : slice_get l2 (c + 1) ≡ Some (Int x)) (m : Meter) (w r : Log) where
     pub end_first : Leads Q B 2 (On Open (frame mn (q + 1 + 1) l (Int x ∷ []) ∷ []) m w r) (On Open (frame mn (q + 1 + 1 + 1 + 1) l2 (Context ∷ []) ∷ []) m w r)
     end_first = λ v1 v2. simp (is, W.call.1.1.0, W.call.1.1.1.0, room, set, here)
 
-    pub end_commits : (v : Reply) → next_run Q B v (On Open (frame mn (q + 1 + 1 + 1 + 1) l2 (Context ∷ []) ∷ []) m w r) ≡ on_commit v (frame mn (q + 1 + 1 + 1 + 1) l2 [] ∷ []) m w r
+    pub end_commits : (v : Reply) → next_run Q B v (On Open (frame mn (q + 1 + 1 + 1 + 1) l2 (Context ∷ []) ∷ []) m w r) ≡ on_commit B v (frame mn (q + 1 + 1 + 1 + 1) l2 [] ∷ []) m w r
     end_commits v = simp (is, W.call.1.1.1.1.0)
 
     pub end_again : Leads Q B 1 (On Ready (frame mn (q + 1 + 1 + 1 + 1 + 1) l2 (Int (pos 0) ∷ []) ∷ []) m w r) (On Ready (frame mn 2 l2 [] ∷ []) m w r)
@@ -136,7 +161,7 @@ module _ (Q : Program) (B : Bounds) (mn : ℕ) (wm : Method) (is : slice_get Q.m
     pub bare_first : Leads Q B 1 (On Open (frame mn (q + 1 + 1) l [] ∷ []) m w r) (On Open (frame mn (q + 1 + 1 + 1) l (Context ∷ []) ∷ []) m w r)
     bare_first = λ v. simp (is, W.call.1.1.0, here)
 
-    pub bare_commits : (v : Reply) → next_run Q B v (On Open (frame mn (q + 1 + 1 + 1) l (Context ∷ []) ∷ []) m w r) ≡ on_commit v (frame mn (q + 1 + 1 + 1) l [] ∷ []) m w r
+    pub bare_commits : (v : Reply) → next_run Q B v (On Open (frame mn (q + 1 + 1 + 1) l (Context ∷ []) ∷ []) m w r) ≡ on_commit B v (frame mn (q + 1 + 1 + 1) l [] ∷ []) m w r
     bare_commits v = simp (is, W.call.1.1.1.0)
 
     pub bare_again : Leads Q B 1 (On Ready (frame mn (q + 1 + 1 + 1 + 1) l (Int (pos 0) ∷ []) ∷ []) m w r) (On Ready (frame mn 2 l [] ∷ []) m w r)

@@ -10,19 +10,21 @@ use Rattle.jmodel.specs.declared.op.Op.{Op}
 use Rattle.jmodel.specs.declared.op.Op.TheVariants as op
 use Rattle.jmodel.specs.declared.op.Rearrange.TheVariants.{Nothing, Pop, PopTwo, Duplicate, DuplicateUnder, DuplicateUnderTwo, DuplicateTwo, DuplicateTwoUnder, DuplicateTwoUnderTwo, Swap}
 use Rattle.jmodel.specs.declared.op.Binary.TheVariants.{Add, Subtract, Multiply, ShiftLeft, ShiftRight, UnsignedShiftRight, And, Or, Xor}
+use Rattle.jmodel.specs.declared.op.Division.TheVariants.{Quotient, Remainder}
 use Rattle.jmodel.specs.declared.op.Unary.TheVariants.{Negate, ToByte, ToChar, ToShort}
 use Rattle.jmodel.specs.declared.op.Test.{Test}
 use Rattle.jmodel.specs.declared.op.Test.TheVariants.{Equal, NotEqual, Less, GreaterOrEqual, Greater, LessOrEqual}
 use Rattle.jmodel.specs.declared.op.ContextCall.TheVariants.{Init, BeforeRead, OnRead, OnWrite, Commit, Rollback}
-use Rattle.jmodel.specs.ClassFile.{Member, Pool, ClassFile}
-use Rattle.jmodel.specs.Pool.{utf8, class_name, MemberName, field_name, method_name}
-use Rattle.jmodel.specs.ClassRules.{same_text}
+use Rattle.jmodel.specs.ClassFile.{Member, ClassFile}
+use Rattle.jmodel.specs.Pool.{utf8, MemberName, field_name, method_name}
 use Rattle.jmodel.specs.Instruction.{ascend}
 use Rattle.jmodel.specs.Constants.{integer, long_value}
 use Rattle.jmodel.specs.WordTypes.{type_descriptor, read_descriptor, write_descriptor, type_with, word_type}
 use Rattle.jmodel.specs.Program.{Field}
 pub use Rattle.jmodel.specs.TypeOrder.{context_class}
-use Rattle.jmodel.specs.Layout.{text_or_none, base_of}
+use Rattle.jmodel.specs.Layout.{text_or_none}
+pub use Rattle.jmodel.specs.Superclasses.{own_name, is_member}
+use Rattle.jmodel.specs.Superclasses.{declared_field, declared_method}
 
 -- the number of the instruction at a place of code
 abbrev pub number_at : List Instr → ℕ → Option ℕ
@@ -30,14 +32,14 @@ number_at is pc = position (λ (i : Instr). nat_eq i.pc pc) is
 
 -- ---- what names stand for
 
--- a class, the static fields of its program, and the names of its methods in order of their numbers
+-- A class, the static fields of its program, the names of its methods in order of their numbers, where the class's static base lies, and
+-- the classes among which the one is sought that declares a member; a lone class needs none.
 pub record Symbols : Type 0 where
   pub class : ClassFile
   pub fields : List Field
   pub methods : List MethodName
-
-abbrev pub own_name : ClassFile → List ℕ
-own_name c = text_or_none (class_name c.pool c.this_class)
+  pub base : ℕ
+  pub classes : List ClassFile
 
 abbrev pub name_of : ClassFile → Member → MethodName
 name_of c m = record { class = own_name c; name = text_or_none (utf8 c.pool m.name); descriptor = text_or_none (utf8 c.pool m.descriptor) }
@@ -55,9 +57,6 @@ is_method_of m k = bytes_eq k.name m.name && bytes_eq k.descriptor m.descriptor 
 -- the number of a method
 abbrev pub method_number : List MethodName → MemberName → Option ℕ
 method_number methods m = position (is_method_of m) methods
-
-abbrev pub is_member : Pool → List ℕ → List ℕ → Member → Bool
-is_member pool name descriptor m = same_text (utf8 pool m.name) name && same_text (utf8 pool m.descriptor) descriptor
 
 -- the constant of a class's own long field
 abbrev pub long_field : ClassFile → MemberName → Option ℤ
@@ -87,6 +86,8 @@ arithmetic_op c =
     if c == 96 then Some (op.Binary Add)
     else if c == 100 then Some (op.Binary Subtract)
     else if c == 104 then Some (op.Binary Multiply)
+    else if c == 108 then Some (op.Divide Quotient)
+    else if c == 112 then Some (op.Divide Remainder)
     else if c == 116 then Some (op.Unary Negate)
     else if c == 120 then Some (op.Binary ShiftLeft)
     else if c == 122 then Some (op.Binary ShiftRight)
@@ -197,20 +198,20 @@ switch_op is other cases = ascending_op (number_at is other) (each (numbered_cas
 
 abbrev pub get_op : Symbols → MemberName → Option Op
 get_op s m =
-    if is_some (word_type m.descriptor) then option_map op.GetStatic (field_number s.fields m)
+    if is_some (word_type m.descriptor) then option_map op.GetStatic (field_number s.fields (declared_field s.classes m))
     else if bytes_eq m.descriptor (codes "J") then option_map (λ n. op.Constant (value.Long n)) (long_field s.class m)
-    else if is_base s.class m then Some (op.Constant (value.Ref (base_of (s.class ∷ []) 0)))
+    else if is_base s.class m then Some (op.Constant (value.Ref s.base))
     else None
 
 abbrev pub put_op : Symbols → MemberName → Option Op
-put_op s m = option_map op.PutStatic (field_number s.fields m)
+put_op s m = option_map op.PutStatic (field_number s.fields (declared_field s.classes m))
 
 abbrev pub is_get_context : MemberName → Bool
 is_get_context m = bytes_eq m.class (codes "org/deuce/transaction/ContextDelegator") && bytes_eq m.name (codes "getInstance")
     && bytes_eq m.descriptor (codes "()Lorg/deuce/transaction/Context;")
 
 abbrev pub static_call_op : Symbols → MemberName → Option Op
-static_call_op s m = if is_get_context m then Some op.GetContext else option_map op.InvokeStatic (method_number s.methods m)
+static_call_op s m = if is_get_context m then Some op.GetContext else option_map op.InvokeStatic (method_number s.methods (declared_method s.classes m))
 
 abbrev pub is_called : List ℕ → List ℕ → MemberName → Bool
 is_called name descriptor m = bytes_eq m.name name && bytes_eq m.descriptor descriptor

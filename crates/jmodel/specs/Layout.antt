@@ -1,5 +1,5 @@
 -- Where the fixed parts of memory lie, and the state before the first call.
-use Rattle.std.specs.Prelude.{ℕ, ℤ, suc, pos, ◌+◌, List, [], ◌∷◌, ◌++◌, length, map, take, filter, sum_by, Option, Some, None, Bool, not, nat_eq, ◌==◌, if◌then◌else◌, codes, bit_and, slice_index, unwrap_or}
+use Rattle.std.specs.Prelude.{ℕ, ℤ, suc, pos, ◌+◌, List, [], ◌∷◌, ◌++◌, length, map, take, filter, sum_by, Option, Some, None, Bool, not, nat_eq, ◌==◌, if◌then◌else◌, bit_and, slice_index, unwrap_or}
 use Rattle.jmodel.specs.declared.value.Value.{Value}
 use Rattle.jmodel.specs.declared.value.Value.TheVariants.{Int}
 use Rattle.jmodel.specs.declared.op.WordType.{WordType}
@@ -10,17 +10,8 @@ use Rattle.jmodel.specs.WordTypes.{word_type, narrowed}
 use Rattle.jmodel.specs.Value.{word_of}
 use Rattle.jmodel.specs.Constants.{int_value}
 use Rattle.jmodel.specs.Program.{Field}
-use Rattle.jmodel.specs.State.{Object, State}
-use Rattle.jmodel.specs.Meaning.{header}
-
--- the classes that every program knows, in the order of their type numbers, which begin at 1
-abbrev pub library : List (List ℕ)
-library = map (λ n. codes "java/lang/" ++ n) (
-    codes "Object" ∷ codes "String" ∷ codes "Math" ∷ codes "Throwable" ∷ codes "Exception" ∷ codes "Error" ∷ codes "RuntimeException"
-    ∷ codes "ArithmeticException" ∷ codes "ArrayStoreException" ∷ codes "ClassCastException" ∷ codes "IllegalArgumentException"
-    ∷ codes "IllegalStateException" ∷ codes "IndexOutOfBoundsException" ∷ codes "NegativeArraySizeException" ∷ codes "NullPointerException"
-    ∷ codes "UnsupportedOperationException" ∷ codes "ArrayIndexOutOfBoundsException" ∷ codes "LinkageError"
-    ∷ codes "IncompatibleClassChangeError" ∷ codes "AbstractMethodError" ∷ [])
+use Rattle.jmodel.specs.State.{Object, State, header}
+pub use Rattle.jmodel.specs.Library.{library}
 
 -- the flag 0008
 abbrev pub is_static : Member → Bool

@@ -9,6 +9,8 @@ pub mod WordTypes
 pub mod Value
 pub mod Program
 pub mod Step
+pub mod Library
+pub mod Region
 pub mod State
 pub mod Call
 pub mod Attempt
@@ -28,6 +30,7 @@ pub mod Output
 pub mod SerialLaw
 pub mod OpeningLaw
 pub mod LinkedLaw
+pub mod RegionLaw
 pub mod Reading
 pub mod DescriptorReading
 pub mod PoolReading
@@ -37,11 +40,16 @@ pub mod Instruction
 pub mod InstructionReading
 pub mod Relocation
 pub mod Engine
+pub mod Superclasses
 pub mod Decoding
 pub mod Coded
 pub mod Taken
 pub mod Opening
 pub mod Linking
+pub mod Classes
+pub mod ClassesTaken
+pub mod ClassesLinking
+pub mod ClassesLaw
 pub mod PoolAdding
 pub mod Book
 pub mod Rule

@@ -1,6 +1,6 @@
 -- What a class means as a program: original classes of a temporary form, and rewritten ones. The form has the int code of static
 -- methods that take ints, of any type of one word, and give one or nothing.
-use Rattle.std.specs.Prelude.{ℕ, ℤ, pos, ◌-◌, List, [], ◌∷◌, ◌++◌, length, map, filter, take, drop, zip, Option, Some, None, Result, Ok, Err, Bool, true, false, not, ◌==◌, ◌&&◌, ◌||◌, nat_lt, nat_le, nat_eq, if◌then◌else◌, codes, bytes_eq, bit_and, option_map, option_and_then, is_some, slice_get}
+use Rattle.std.specs.Prelude.{ℕ, pos, ◌-◌, List, [], ◌∷◌, ◌++◌, length, map, filter, take, drop, zip, Option, Some, None, Result, Ok, Err, Bool, true, false, not, ◌==◌, ◌&&◌, ◌||◌, nat_lt, nat_le, nat_eq, if◌then◌else◌, codes, bytes_eq, bit_and, option_map, option_and_then, is_some, slice_get}
 use Rattle.std.specs.List.{list_any, list_all, starts_with}
 use Rattle.std.specs.Option.{option_or}
 use Rattle.jmodel.specs.declared.class_file.Constant.{Constant}
@@ -25,15 +25,15 @@ use Rattle.jmodel.specs.declared.op.Op.TheVariants as op
 use Rattle.jmodel.specs.declared.op.Catch.{Catch}
 use Rattle.jmodel.specs.declared.op.Catches.{Catches}
 use Rattle.jmodel.specs.declared.op.Catches.TheVariants.{Conflict, Any}
-use Rattle.jmodel.specs.ClassFile.{Attribute, Member, Pool, ClassFile, Code}
+use Rattle.jmodel.specs.ClassFile.{Member, Pool, ClassFile, Code}
 use Rattle.jmodel.specs.Pool.{utf8, class_name, MemberName}
-use Rattle.jmodel.specs.ClassRules.{same_text, is_named}
+use Rattle.jmodel.specs.ClassRules.{same_text}
 use Rattle.jmodel.specs.Descriptor.{Signature}
 use Rattle.jmodel.specs.DescriptorReading.{signature_of}
 use Rattle.jmodel.specs.Reading.{◌>>=◌, place}
 use Rattle.jmodel.specs.WordTypes.{word_type, as_word}
 use Rattle.jmodel.specs.Program.{Field, Method, Program}
-use Rattle.jmodel.specs.Layout.{library, is_static, statics, text_or_none, fields_of}
+use Rattle.jmodel.specs.Layout.{library, is_static, statics, text_or_none, base_of, fields_of}
 pub use Rattle.jmodel.specs.Coded.{code_in, mark_retries, is_marked, names_initialiser, is_initialiser, retries_of, is_root, Coded, in_method, named_fault, decoded_code, decoded}
 use Rattle.jmodel.specs.Taken.{invoked, is_taken}
 use Rattle.jmodel.specs.Name.{printed}
@@ -239,6 +239,7 @@ is_form_op locals gives (op.Store i) = nat_lt i locals
 is_form_op locals gives (op.Increment i n) = nat_lt i locals
 is_form_op locals gives (op.Rearrange r) = true
 is_form_op locals gives (op.Binary b) = true
+is_form_op locals gives (op.Divide d) = true
 is_form_op locals gives (op.Unary u) = true
 is_form_op locals gives (op.Branch t to) = true
 is_form_op locals gives (op.BranchInts t to) = true
@@ -290,9 +291,15 @@ unless (Some fault) r = Err fault
 
 -- ---- programs
 
--- a class, with the fields and the methods of its program
+-- a lone class, with the fields and the methods of its program
 abbrev pub symbols_of : ClassFile → List Field → List Member → Symbols
-symbols_of c fields ms = record { class = c; fields = fields; methods = map (name_of c) ms }
+symbols_of c fields ms = record {
+  class = c;
+  fields = fields;
+  methods = map (name_of c) ms;
+  base = base_of (c ∷ []) 0;
+  classes = [];
+}
 
 abbrev pub original_fields : ClassFile → List Field
 original_fields c = fields_of (c ∷ []) 0 (c ∷ [])

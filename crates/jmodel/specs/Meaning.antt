@@ -1,16 +1,14 @@
 -- How words stand for a state, and what it is that an entry says of the original method.
-use Rattle.std.specs.Prelude.{◌≡◌, ◌≢◌, ℕ, ◌+◌, ◌*◌, ◌/◌, ◌%◌, ◌^◌, ◌<◌, ◌≤◌, List, [], ◌∷◌, length, Some, IsSomeAnd}
+use Rattle.std.specs.Prelude.{◌≡◌, ◌≢◌, ℕ, ◌+◌, ◌/◌, ◌%◌, ◌<◌, ◌≤◌, List, [], ◌∷◌, length, Some, IsSomeAnd}
 use Rattle.std.specs.List.{AllByRecursion}
 use Rattle.jmodel.specs.declared.value.Value.{Value}
 use Rattle.jmodel.specs.Value.{word_of, IsOfType}
 use Rattle.jmodel.specs.Program.{Field, Program}
+use Rattle.jmodel.specs.Region.{Region}
 use Rattle.jmodel.specs.State.{Object, State, value_held}
+pub use Rattle.jmodel.specs.State.{header}
 use Rattle.jmodel.specs.Call.{Calls}
-use Rattle.jmodel.specs.History.{Entry, Words, overlaid, Agrees}
-
--- the word before an object's values
-abbrev pub header : Object → ℕ
-header o = o.type * 2 ^ 32
+use Rattle.jmodel.specs.History.{Call, Entry, Words, overlaid, Agrees}
 
 -- values lie one after another from an address on
 abbrev pub AreLaid : Words → ℕ → List Value → Type 0
@@ -40,11 +38,15 @@ pub record Represents (P : Program) (size : ℕ) (words : Words) (σ : State) : 
   pub fields : AllByRecursion (IsFieldHeld σ) P.fields
   pub free : (a : ℕ) → σ.used (a / size) ≤ a % size → words a ≡ 0
 
+-- the region of a call
+abbrev pub region_of : ℕ → Call → Region
+region_of size c = record { number = c.region; size = size }
+
 -- An entry is explained by the original program: from each state that words stand for, if these have what the entry read
 -- and its region its used words, the call, run alone, gives the entry's answer and the state that its writes leave.
 pub record ExplainsFrom (P : Program) (size budget : ℕ) (e : Entry) (words : Words) (σ : State) : Type 0 where
   pub after : State
-  pub calls : Calls P budget e.call.method e.call.args σ e.answer after
+  pub calls : Calls P budget (region_of size e.call) e.call.method e.call.args σ e.answer after
   pub represents : Represents P size (overlaid e.writes words) after
   pub used : after.used e.call.region ≡ e.used_after
   pub others : (region : ℕ) → region ≢ e.call.region → after.used region ≡ σ.used region

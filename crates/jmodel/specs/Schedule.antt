@@ -112,7 +112,7 @@ pub record IsAccepted (phases : List ScriptPhase) (placed unplaced : List Made) 
   pub no_memory : AllByRecursion (λ m. m.answer ≡ NoMemory) unplaced
 
 -- The placed calls, each run alone by its original method from what those before it left, answer so. The unplaced ones left nothing.
-pub record IsJournal (P : Program) (budget : ℕ) (opening : State) (phases : List ScriptPhase) (placed unplaced : List Made) : Type 0 where
+pub record IsJournal (P : Program) (size budget : ℕ) (opening : State) (phases : List ScriptPhase) (placed unplaced : List Made) : Type 0 where
   pub accepted : IsAccepted phases placed unplaced
   pub after : State
-  pub serial : Serial P budget opening (map call_of placed) (map answer_of placed) after
+  pub serial : Serial P size budget opening (map call_of placed) (map answer_of placed) after

@@ -5,9 +5,10 @@ use Rattle.jmodel.specs.Program.{Program}
 use Rattle.jmodel.specs.State.{State}
 use Rattle.jmodel.specs.Call.{Calls}
 use Rattle.jmodel.specs.History.{Call}
+use Rattle.jmodel.specs.Meaning.{region_of}
 
--- the calls, each run alone from the state that the ones before it left, give these answers and leave the last state
-abbrev pub Serial : Program → ℕ → State → List Call → List Answer → State → Type 0
-Serial P budget σ [] [] τ = τ ≡ σ
-Serial P budget σ (c ∷ cs) (x ∷ xs) τ = (ρ : State) × Calls P budget c.method c.args σ x ρ × Serial P budget ρ cs xs τ
-Serial P budget σ cs xs τ = ⊥
+-- The calls, each run alone from the state that the ones before it left, give these answers and leave the last state; a region has size words.
+abbrev pub Serial : Program → ℕ → ℕ → State → List Call → List Answer → State → Type 0
+Serial P size budget σ [] [] τ = τ ≡ σ
+Serial P size budget σ (c ∷ cs) (x ∷ xs) τ = (ρ : State) × Calls P budget (region_of size c) c.method c.args σ x ρ × Serial P size budget ρ cs xs τ
+Serial P size budget σ cs xs τ = ⊥

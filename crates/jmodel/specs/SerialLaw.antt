@@ -15,7 +15,7 @@ HasUsed σ used = (region : ℕ) → σ.used region ≡ used region
 -- entries leave stand for the state that the calls leave, with the used words of the entries.
 pub record IsSerial (P : Program) (size budget : ℕ) (h : List Entry) (words : Words) (σ : State) : Type 0 where
   pub after : State
-  pub serial : Serial P budget σ (map (λ (e : Entry). e.call) h) (map (λ (e : Entry). e.answer) h) after
+  pub serial : Serial P size budget σ (map (λ (e : Entry). e.call) h) (map (λ (e : Entry). e.answer) h) after
   pub represents : Represents P size (memory_after h words) after
   pub used : (region : ℕ) → after.used region ≡ used_after h region (σ.used region)
 

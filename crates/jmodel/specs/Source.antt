@@ -5,7 +5,7 @@ use Rattle.std.specs.Int.{w32}
 use Rattle.jmodel.specs.declared.value.Value.TheVariants.{Int}
 use Rattle.jmodel.specs.declared.typing.VType.TheVariants as type
 use Rattle.jmodel.specs.declared.op.Op.{Op}
-use Rattle.jmodel.specs.declared.op.Op.TheVariants.{Constant, Load, Store, Rearrange, Binary, Unary, Increment, Branch, BranchInts, Goto, Switch, GetStatic, PutStatic, InvokeStatic, Return, ReturnValue}
+use Rattle.jmodel.specs.declared.op.Op.TheVariants.{Constant, Load, Store, Rearrange, Binary, Divide, Unary, Increment, Branch, BranchInts, Goto, Switch, GetStatic, PutStatic, InvokeStatic, Return, ReturnValue}
 use Rattle.jmodel.specs.declared.op.Rearrange.TheVariants.{Pop, PopTwo, Duplicate, DuplicateUnder, DuplicateUnderTwo, DuplicateTwo, DuplicateTwoUnder, DuplicateTwoUnderTwo, Swap}
 use Rattle.jmodel.specs.Program.{Field, Method, Program}
 
@@ -16,6 +16,7 @@ IsSourceOp P k (Load i) = i < k.locals
 IsSourceOp P k (Store i) = i < k.locals
 IsSourceOp P k (Rearrange r) = Unit {0}
 IsSourceOp P k (Binary b) = Unit {0}
+IsSourceOp P k (Divide d) = Unit {0}
 IsSourceOp P k (Unary u) = Unit {0}
 IsSourceOp P k (Increment i n) = i < k.locals
 IsSourceOp P k (Branch t to) = to < length k.ops

@@ -1,7 +1,10 @@
 -- The state that original methods run over.
-use Rattle.std.specs.Prelude.{ℕ, zero, suc, List, Option, Some, None, nat_eq, if◌then◌else◌, slice_get, slice_set, option_and_then}
+use Rattle.std.specs.Prelude.{ℕ, zero, suc, ◌+◌, ◌*◌, ◌^◌, List, [], length, Option, Some, None, nat_eq, if◌then◌else◌, slice_get, slice_set, option_and_then}
 use Rattle.jmodel.specs.declared.value.Value.{Value}
 use Rattle.jmodel.specs.declared.op.Place.{Place}
+use Rattle.jmodel.specs.declared.op.Trap.{Trap}
+use Rattle.jmodel.specs.Library.{library_type, trap_class}
+use Rattle.jmodel.specs.Region.{Region, next_reference}
 
 -- an object, an array or a class's static fields: its type's number, and its values
 pub record Object : Type 0 where
@@ -32,3 +35,22 @@ changed i v (Some o) = Some (object_with i v o)
 -- the state with another value at a place
 abbrev pub put : State → Place → Value → State
 put σ p v = record σ { objects = λ r. if nat_eq r p.object then changed p.index v (σ.objects r) else σ.objects r }
+
+-- the word before an object's values
+abbrev pub header : Object → ℕ
+header o = o.type * 2 ^ 32
+
+-- the words that an object takes: the header, and one for each value
+abbrev pub words_of : Object → ℕ
+words_of o = length o.values + 1
+
+-- the state with an object more, behind the used words of a region
+abbrev pub with_object : Region → Object → State → State
+with_object G o σ = record {
+  objects = λ r. if nat_eq r (next_reference G (σ.used G.number)) then Some o else σ.objects r;
+  used = λ region. if nat_eq region G.number then σ.used region + words_of o else σ.used region;
+}
+
+-- an exception that an instruction throws
+abbrev pub trap_object : Trap → Object
+trap_object t = record { type = library_type (trap_class t); values = [] }

@@ -1,7 +1,7 @@
 -- One instruction on a list of frames (JVM Specification, Java SE 7, chapter 6). A step asks for all that lies outside the frames.
-use Rattle.std.specs.Prelude.{ℕ, ℤ, zero, suc, pos, ◌+◌, ◌-◌, ◌/◌, ◌%◌, ◌^◌, List, [], ◌∷◌, ◌++◌, length, Option, Some, None, Bool, true, false, nat_le, nat_lt, int_le, int_lt, not, ◌&&◌, if◌then◌else◌, slice_get, slice_set, replicate, count_by}
+use Rattle.std.specs.Prelude.{ℕ, ℤ, zero, suc, pos, ◌+◌, ◌-◌, ◌/◌, ◌%◌, ◌^◌, List, [], ◌∷◌, ◌++◌, length, Option, Some, None, Bool, true, false, nat_le, nat_lt, int_le, int_lt, not, ◌&&◌, if◌then◌else◌, slice_get, slice_set, replicate, count_by, int_rem}
 use Rattle.std.specs.Ordering.{int_eq}
-use Rattle.std.specs.Int.{w8, w16, w32, w64, cast_signed, cast_unsigned, int_wrapping_add, int_wrapping_sub, int_wrapping_mul, int_wrapping_neg, int_shl, int_shr, int_bit_and, int_bit_or, int_bit_xor}
+use Rattle.std.specs.Int.{w8, w16, w32, w64, cast_signed, cast_unsigned, int_wrapping_add, int_wrapping_sub, int_wrapping_mul, int_wrapping_div, int_wrapping_neg, int_shl, int_shr, int_bit_and, int_bit_or, int_bit_xor}
 use Rattle.jmodel.specs.declared.value.Value.{Value}
 use Rattle.jmodel.specs.declared.op.Slot.{Slot}
 use Rattle.jmodel.specs.declared.op.Slot.TheVariants.{Int, Long, Second, Ref, Context, Loaded, Empty}
@@ -10,6 +10,9 @@ use Rattle.jmodel.specs.declared.op.Op.TheVariants as op
 use Rattle.jmodel.specs.declared.op.Place.{Place}
 use Rattle.jmodel.specs.declared.op.Binary.{Binary}
 use Rattle.jmodel.specs.declared.op.Binary.TheVariants.{Add, Subtract, Multiply, ShiftLeft, ShiftRight, UnsignedShiftRight, And, Or, Xor}
+use Rattle.jmodel.specs.declared.op.Division.{Division}
+use Rattle.jmodel.specs.declared.op.Division.TheVariants.{Quotient, Remainder}
+use Rattle.jmodel.specs.declared.op.Trap.TheVariants.{Arithmetic}
 use Rattle.jmodel.specs.declared.op.Unary.{Unary}
 use Rattle.jmodel.specs.declared.op.Unary.TheVariants.{Negate, ToByte, ToChar, ToShort}
 use Rattle.jmodel.specs.declared.op.Test.{Test}
@@ -20,7 +23,7 @@ use Rattle.jmodel.specs.declared.op.ContextCall.{ContextCall}
 use Rattle.jmodel.specs.declared.op.ContextCall.TheVariants as call
 use Rattle.jmodel.specs.declared.op.Request.TheVariants as request
 use Rattle.jmodel.specs.declared.op.Doing.{Doing}
-use Rattle.jmodel.specs.declared.op.Doing.TheVariants.{Next, Jump, Invoke, Give, Throw, Ask}
+use Rattle.jmodel.specs.declared.op.Doing.TheVariants.{Next, Jump, Invoke, Give, Throw, Trap, Ask}
 use Rattle.jmodel.specs.declared.op.Asking.{Asking}
 use Rattle.jmodel.specs.declared.op.Asking.TheVariants as asking
 use Rattle.jmodel.specs.Value.{pushed, stored, word_of, given}
@@ -129,6 +132,10 @@ binary And x y = int_bit_and w32 x y
 binary Or x y = int_bit_or w32 x y
 binary Xor x y = int_bit_xor w32 x y
 
+abbrev pub divided : Division → ℤ → ℤ → ℤ
+divided Quotient x y = int_wrapping_div w32 x y
+divided Remainder x y = int_rem x y
+
 abbrev pub unary : Unary → ℤ → ℤ
 unary Negate x = int_wrapping_neg w32 x
 unary ToByte x = cast_signed w8 (cast_unsigned w32 x % 2 ^ 8)
@@ -142,6 +149,11 @@ holds Less x y = int_lt x y
 holds GreaterOrEqual x y = int_le y x
 holds Greater x y = int_lt y x
 holds LessOrEqual x y = int_le x y
+
+-- a division, where the second int is 0 or isn't
+abbrev pub divides : Bool → Division → ℤ → ℤ → List Slot → Frame → Did
+divides true d x y s f = Does (Trap Arithmetic) (with_stack f s)
+divides false d x y s f = leaves f (Int (divided d x y) ∷ s)
 
 abbrev pub branches : Bool → ℕ → Frame → Did
 branches true to f = Does (Jump to) f
@@ -187,6 +199,7 @@ does P (op.Load i) f = slot_in (slice_get f.locals i) (λ v. leaves f (v ∷ f.s
 does P (op.Store i) f = on_top f.stack (λ v s. stores (nat_lt i (length f.locals)) i v (with_stack f s))
 does P (op.Rearrange r) f = rearranged r f
 does P (op.Binary b) f = on_int f.stack (λ y s. on_int s (λ x s. leaves f (Int (binary b x y) ∷ s)))
+does P (op.Divide d) f = on_int f.stack (λ y s. on_int s (λ x s. divides (int_eq y (pos 0)) d x y s f))
 does P (op.Unary u) f = on_int f.stack (λ x s. leaves f (Int (unary u x) ∷ s))
 does P (op.Increment i n) f = slot_in (slice_get f.locals i) (λ v. int_in v (λ x. Does Next (with_locals f (slice_set f.locals i (Int (int_wrapping_add w32 x n))))))
 does P (op.Branch t to) f = on_int f.stack (λ x s. branches (holds t x (pos 0)) to (with_stack f s))
@@ -274,6 +287,7 @@ on_doing P (Jump to) f fs = jumps P to f fs
 on_doing P (Invoke m) f fs = invokes P (method_at P m) m f fs
 on_doing P (Give v) f fs = gives v fs
 on_doing P (Throw o) f fs = unwinds P o (f ∷ fs)
+on_doing P (Trap t) f fs = Asks (asking.Trap t) (f ∷ fs)
 on_doing P (Ask r) f fs = Asks (asking.Ask r) (f ∷ fs)
 
 abbrev pub on_did : Program → Did → Frames → Asked

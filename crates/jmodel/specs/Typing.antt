@@ -153,6 +153,7 @@ flow P k pc (op.Load i) h = one_in (slice_get h.locals i) (λ t. leaves pc h (t 
 flow P k pc (op.Store i) h = on_one h.stack (λ t s. stores (nat_lt i (length h.locals)) i t pc h s)
 flow P k pc (op.Rearrange r) h = rearranged r pc h
 flow P k pc (op.Binary b) h = on_int h.stack (λ s. on_int s (λ s. leaves pc h (Int ∷ s)))
+flow P k pc (op.Divide d) h = on_int h.stack (λ s. on_int s (λ s. leaves pc h (Int ∷ s)))
 flow P k pc (op.Unary u) h = on_int h.stack (λ s. leaves pc h (Int ∷ s))
 flow P k pc (op.Increment i n) h = int_in (slice_get h.locals i) (leaves pc h h.stack)
 flow P k pc (op.Branch t to) h = on_int h.stack (λ s. Leads ((pc + 1) ∷ to ∷ []) (with_stack h s))

@@ -25,7 +25,7 @@ TypedSafety = (P : Program) → IsTypedProgram P → (budget m : ℕ) (k : Metho
 abbrev pub TypedSoundness : Type 0
 TypedSoundness = (P : Program) → IsTypedProgram P → (B : Bounds) (m : ℕ) (k : Method) (n : ℤ) → slice_get P.methods m ≡ Some k → k.retries ≡ Some n
     → (args : List Value) → AllByRecursion (IsOfType word.Int) args → length args ≡ k.params
-    → (used : ℕ) (vs : List Reply) → run (rewritten P) B vs (run_start (rewritten P) m args used) ≢ Stuck
+    → (vs : List Reply) → run (rewritten P) B vs (run_start (rewritten P) B m args) ≢ Stuck
 
 -- Each method of the rewriting of a typed program has a typing: duplicates, accessors, wrappers, and what stayed as it was.
 abbrev pub TypedRewriting : Type 0

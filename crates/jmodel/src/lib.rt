@@ -3,6 +3,7 @@
 
 pub mod bytes;
 pub mod class_file;
+pub mod classes_law;
 pub mod instruction;
 pub mod laws;
 pub mod mark;

@@ -1,5 +1,9 @@
 //! Instructions by kind, with every name resolved (JVM Specification, Java SE 7, chapter 6). Places in code are counted
 //! in instructions, from 0.
+ghost use Rattle.std.specs.Prelude.{◌≡◌};
+ghost use Rattle.jmodel.specs.Library.{trap_class};
+ghost use Rattle.jmodel.specs.State.{header, trap_object};
+
 use crate::switch::Cases;
 use crate::value::Value;
 
@@ -58,6 +62,42 @@ pub enum Binary {
     And,
     Or,
     Xor,
+}
+
+/// Two ints to one, the second topmost, which isn't 0.
+#[derive(Clone, Copy, Debug)]
+pub enum Division {
+    /// Cut to a whole number; of -2147483648 by -1 that number itself.
+    Quotient,
+    /// What the quotient leaves, with the sign of the first.
+    Remainder,
+}
+
+/// An exception that an instruction throws.
+#[derive(Clone, Copy, Debug)]
+pub enum Trap {
+    /// A division by 0.
+    Arithmetic,
+}
+
+impl Trap {
+    /// The name of the exception's class.
+    pub fn class(self) -> &'static [u8]
+        ensures { result.now ≡ trap_class self }
+    {
+        match self {
+            Trap::Arithmetic => b"java/lang/ArithmeticException",
+        }
+    }
+
+    /// The word that lies at the exception's reference, which has the number of its class among types.
+    pub fn header(self) -> u64
+        ensures { result ≡ header (trap_object self) }
+    {
+        match self {
+            Trap::Arithmetic => 8 << 32,
+        }
+    }
 }
 
 /// An int to another.
@@ -126,6 +166,8 @@ pub enum Op {
     Store(usize),
     Rearrange(Rearrange),
     Binary(Binary),
+    /// Throws an exception where the second int is 0.
+    Divide(Division),
     Unary(Unary),
     /// Adds to a local, which holds an int.
     Increment(usize, i32),
@@ -191,6 +233,8 @@ pub enum Doing {
     Invoke(usize),
     Give(Option<Value>),
     Throw(u64),
+    /// Throws a new exception.
+    Trap(Trap),
     Ask(Request),
 }
 
@@ -207,6 +251,8 @@ pub enum Asking {
     Return(Option<Value>),
     /// No frame took this exception.
     Throw(u64),
+    /// The instruction has taken its operands, and a new exception is to be thrown from where it stands.
+    Trap(Trap),
     /// The instruction has taken its operands and waits for this.
     Ask(Request),
 }

@@ -35,3 +35,11 @@ ghost use Rattle.jmodel.specs.Opening.{ReturnLaw};
 pub fn return_law()
     ensures { ReturnLaw }
 {}
+
+ghost use Rattle.jmodel.specs.RegionLaw.{RegionLaw};
+
+/// A call, whatever its code, gives back no word of its region that was used before and takes none beyond it; it takes none at all where it wrote
+/// nothing or was refused.
+pub fn region_law()
+    ensures { RegionLaw }
+{}

@@ -2,13 +2,15 @@
 use Rattle.std.proofs.Common.{◌≡◌, ℕ, Bool, List, [], ◌∷◌, ◌++◌, Result, Ok, Err, ◌⊎◌, inl, inr, refl, ap, ◌∙◌}
 use Rattle.jmodel.specs.declared.op.Phase.TheVariants.{Closed}
 use Rattle.jmodel.specs.declared.op.Asking.{Asking}
-use Rattle.jmodel.specs.declared.op.Asking.TheVariants.{Go, Turn, Enter, Return, Throw, Ask}
+use Rattle.jmodel.specs.declared.op.Asking.TheVariants.{Go, Turn, Enter, Return, Throw, Trap, Ask}
+use Rattle.jmodel.specs.declared.op.Trap.{Trap as ATrap}
 use Rattle.jmodel.specs.declared.op.Request.{Request}
 use Rattle.jmodel.specs.declared.op.Request.TheVariants as request
+use Rattle.jmodel.specs.declared.value.Answer.{Answer}
 use Rattle.jmodel.specs.declared.value.Answer.TheVariants.{Returned}
 use Rattle.jmodel.specs.Program.{Program}
 use Rattle.jmodel.specs.Step.{Frames, Asked, Fails, step}
-use Rattle.jmodel.specs.Attempt.{Log, Bounds, Meter, Run, On, Ended, Stuck, Reply, Gives, on_request, on_asked, next_run, run, Comes}
+use Rattle.jmodel.specs.Attempt.{Log, Bounds, Meter, Run, On, Ended, Stuck, Reply, Gives, class_of, threw_of, on_request, on_asked, next_run, run, Comes}
 use Rattle.machine.specs.declared.failure.Failure.{Failure}
 use Rattle.machine.specs.declared.failure.Failure.TheVariants as failure
 use Rattle.jmodel.specs.History.{Call, Entry}
@@ -38,6 +40,7 @@ comes_on P B c d e v h p = comes_trans P B c d e h (comes_next P B d e v p)
 abbrev pub after_commit : Log → Log → Meter → Frames → Result Asking Failure → Run
 after_commit w r m gs (Ok Go) = On Closed gs m w r
 after_commit w r m gs (Ok (Return x)) = Ended (Returned x) m w r
+after_commit w r m gs (Ok (Throw o)) = threw_of (class_of m.thrown o) m w r
 after_commit w r m gs result = Stuck
 
 closed_request : (P : Program) (B : Bounds) (q : Request) (v : Reply) (fs : Frames) (m : Meter) (w r : Log) → on_request P B q Closed v fs m w r ≡ Stuck
@@ -58,6 +61,7 @@ closed_step P B fs gs m w r Turn e = ap (λ (x : Asked). on_asked P B x Closed (
 closed_step P B fs gs m w r (Enter deep) e = ap (λ (x : Asked). on_asked P B x Closed (Gives 0) m w r) e
 closed_step P B fs gs m w r (Return x) e = ap (λ (x : Asked). on_asked P B x Closed (Gives 0) m w r) e
 closed_step P B fs gs m w r (Throw o) e = ap (λ (x : Asked). on_asked P B x Closed (Gives 0) m w r) e
+closed_step P B fs gs m w r (Trap t) e = ap (λ (x : Asked). on_asked P B x Closed (Gives 0) m w r) e
 closed_step P B fs gs m w r (Ask q) e = ap (λ (x : Asked). on_asked P B x Closed (Gives 0) m w r) e ∙ closed_request P B q (Gives 0) gs m w r
 
 -- a step that fails is stuck
@@ -70,20 +74,26 @@ pub finish_fails : (P : Program) (B : Bounds) (c : Run) (fs gs : Frames) (m : Me
 finish_fails P B c fs gs m w r failure.Wrong h e = comes_on P B c _ _ (Gives 0) h (fails P B fs m w r e)
 finish_fails P B c fs gs m w r failure.NoMemory h e = tt
 
+-- a run that comes to another ends as that does
+pub finish_from : (P : Program) (B : Bounds) (c d : Run) (m : Meter) (w r : Log) (x : Result Answer Failure) → Comes P B c d → IsFinished P B d m w r x → IsFinished P B c m w r x
+finish_from P B c d m w r (Ok x) h t = (comes_trans P B c d _ h t.0, t.1)
+finish_from P B c d m w r (Err failure.Wrong) h t = comes_trans P B c d Stuck h t
+finish_from P B c d m w r (Err failure.NoMemory) h t = tt
+
 -- a commit whose call has no value
-pub commit_fails : (P : Program) (B : Bounds) (c : Reply → Run) (A : Call → ℕ → Type 0) (allows : Entry → Type 0) (S : List Entry → ℕ → Log → Log → Type 0) (h : List Entry) (n used : ℕ) (r w : Log) (a : Running) (m : Meter) (e : Failure)
-    → IsFinished P B (c (Gives 0)) m w r (Err e) → Holds (S h) n a.stage a.tried r w → IsCommit P B c A allows S h n used r w a (Err e)
-commit_fails P B c A allows S h n used r w a m failure.Wrong f s = (s, f)
-commit_fails P B c A allows S h n used r w a m failure.NoMemory f s =
+pub commit_fails : (P : Program) (B : Bounds) (c : Reply → Run) (A : Call → ℕ → Type 0) (allows : Entry → Type 0) (S : List Entry → ℕ → Log → Log → Type 0) (h : List Entry) (n : ℕ) (r w : Log) (a : Running) (m : Meter) (e : Failure)
+    → IsFinished P B (c (Gives 0)) m w r (Err e) → Holds (S h) n a.stage a.tried r w → IsCommit P B c A allows S h n m r w a (Err e)
+commit_fails P B c A allows S h n r w a m failure.Wrong f s = (s, f)
+commit_fails P B c A allows S h n r w a m failure.NoMemory f s =
     record { conflicts = s.conflicts; reads = r; writes = w; later = s.later; stands = s.stands; idle = s.idle }
 
--- what isn't Go and isn't Return is stuck
+-- what isn't Go, Return or Throw is stuck
 pub closed_stuck : (P : Program) (B : Bounds) (fs gs : Frames) (m : Meter) (w r : Log) (a : Asking)
-    → (a ≡ Turn) ⊎ (((x : Bool) × (a ≡ Enter x)) ⊎ (((x : ℕ) × (a ≡ Throw x)) ⊎ ((x : Request) × (a ≡ Ask x))))
+    → (a ≡ Turn) ⊎ (((x : Bool) × (a ≡ Enter x)) ⊎ (((x : ATrap) × (a ≡ Trap x)) ⊎ ((x : Request) × (a ≡ Ask x))))
     → IsStep (Ok a) gs (step P fs) → next_run P B (Gives 0) (On Closed fs m w r) ≡ Stuck
 closed_stuck P B fs gs m w r a k e = closed_step P B fs gs m w r a e ∙ is_stuck k
   where
-    is_stuck : (a ≡ Turn) ⊎ (((x : Bool) × (a ≡ Enter x)) ⊎ (((x : ℕ) × (a ≡ Throw x)) ⊎ ((x : Request) × (a ≡ Ask x)))) → after_commit w r m gs (Ok a) ≡ Stuck
+    is_stuck : (a ≡ Turn) ⊎ (((x : Bool) × (a ≡ Enter x)) ⊎ (((x : ATrap) × (a ≡ Trap x)) ⊎ ((x : Request) × (a ≡ Ask x)))) → after_commit w r m gs (Ok a) ≡ Stuck
     is_stuck (inl q) = rw q refl
     is_stuck (inr (inl q)) = rw q.1 refl
     is_stuck (inr (inr (inl q))) = rw q.1 refl

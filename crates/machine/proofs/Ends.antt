@@ -1,23 +1,25 @@
 -- How calls end.
-use Rattle.std.proofs.Common.{◌≡◌, ◌≢◌, ℕ, ◌+◌, ◌<◌, ◌≤◌, ◌^◌, List, [], Result, Ok, Err, refl, arith}
+use Rattle.std.proofs.Common.{◌≡◌, ◌≢◌, ℕ, ◌+◌, ◌<◌, ◌≤◌, ◌^◌, List, [], ◌∷◌, ◌++◌, Result, Ok, Err, refl, sym, subst, arith}
 use Rattle.jmodel.specs.declared.value.Answer.{Answer}
 use Rattle.jmodel.specs.declared.value.Answer.TheVariants as answer
 use Rattle.jmodel.specs.declared.value.Value.{Value}
-use Rattle.jmodel.specs.declared.value.Stamp.{Stamp}
 use Rattle.jmodel.specs.Program.{Program}
-use Rattle.jmodel.specs.Attempt.{Log, Bounds, Meter, Run, Ended, Reply, Gives, next_run, run_start, Comes, Runs}
+use Rattle.jmodel.specs.Attempt.{Log, Bounds, Meter, Run, Ended, Reply, Gives, set_back, next_run, run_start, Comes, Runs}
 use Rattle.jmodel.specs.History.{Call, Entry}
+use Rattle.jmodel.specs.Engine.{made}
+use Rattle.jmodel.proofs.Regions.{keeps_region}
 use Rattle.machine.specs.declared.failure.Failure.{Failure}
 use Rattle.machine.specs.declared.failure.Failure.TheVariants as failure
 use Rattle.machine.specs.declared.running.Running.{Running}
 use Rattle.machine.specs.declared.running.Stage.{Stage}
 use Rattle.machine.specs.declared.running.Stage.TheVariants.{Ready, Open}
 use Rattle.machine.specs.declared.running.Todo.TheVariants.{Go}
+use Rattle.machine.specs.declared.machine.End.{End}
 use Rattle.tx_core.specs.declared.engine.TxEnd.{TxEnd}
 use Rattle.tx_core.specs.declared.engine.TxEnd.TheVariants.{Conflict, NoMemory}
-use Rattle.tx_core.specs.Engine.{raised, MayEnd}
-use Rattle.machine.specs.Machine.{MayRun, MayStart, AddsEntry, AddsNone, AddsRun}
-use Rattle.machine.specs.Running.{at, Holds, Leaves, IsWithin, IsTurn, IsCommit, IsStarted, HasAdded, Ends, OnWay, IsEnd}
+use Rattle.tx_core.specs.Engine.{raised, IsAllowed, IsOfWrites, Adds, MayEnd}
+use Rattle.machine.specs.Machine.{MayRun, MayStart, AddsEntry, AddsNone, AddsBy, AddsRun}
+use Rattle.machine.specs.Running.{at, Holds, Leaves, IsWithin, IsTurn, IsCommit, IsLast, IsStarted, HasAdded, Ends, OnWay, IsEndBy, IsEnd}
 use Rattle.machine.proofs.Comes.{comes_on, comes_trans, comes_here}
 
 -- within the attempts the clock stays low
@@ -31,23 +33,23 @@ pub leaves_of : (S : ℕ → Log → Log → Type 0) (n : ℕ) (s : Stage) (trie
 leaves_of S n s tried r w h = record { conflicts = h.conflicts; reads = r; writes = w; later = h.later; stands = h.stands; idle = h.idle }
 
 -- one turn more
-pub way_on : (P : Program) (B : Bounds) (c : Run) (S S' : ℕ → Log → Log → Type 0) (n : ℕ) (a a' : Running) (used : ℕ) → (o : OnWay P B c S n a used)
-    → IsTurn (λ v. next_run P B v (at a used o.writes o.reads)) (Holds S' n a'.stage a'.tried) used a' (Ok Go) → OnWay P B c S' n a' used
-way_on P B c S S' n a a' used o t = record { reads = t.0; writes = t.1; holds = t.2; comes = comes_on P B c _ _ t.3.0 o.comes t.3.1 }
+pub way_on : (P : Program) (B : Bounds) (c : Run) (S S' : ℕ → Log → Log → Type 0) (n : ℕ) (a a' : Running) → (o : OnWay P B c S n a)
+    → IsTurn B (λ v. next_run P B v (at a o.writes o.reads)) (Holds S' n a'.stage a'.tried) a' (Ok Go) → OnWay P B c S' n a'
+way_on P B c S S' n a a' o t = record { reads = t.0; writes = t.1; holds = t.2; comes = comes_on P B c _ _ t.3.0 o.comes t.3.1 }
 
 -- an error in a turn
-pub turn_fails : (P : Program) (B : Bounds) (c d : Run) (A : Call → ℕ → Type 0) (allows : Entry → Type 0) (S : List Entry → ℕ → Log → Log → Type 0) (h : List Entry) (n : ℕ) (a : Running) (used : ℕ) (e : Failure)
-    → Comes P B c d → IsTurn (λ v. next_run P B v d) (Holds (S h) n a.stage a.tried) used a (Err e)
+pub turn_fails : (P : Program) (B : Bounds) (c d : Run) (A : Call → ℕ → Type 0) (allows : Entry → Type 0) (S : List Entry → ℕ → Log → Log → Type 0) (h : List Entry) (n : ℕ) (a : Running) (e : Failure)
+    → Comes P B c d → IsTurn B (λ v. next_run P B v d) (Holds (S h) n a.stage a.tried) a (Err e)
     → IsEnd P B c A allows S h n (Leaves (S h) n a.stage) (Err e)
-turn_fails P B c d A allows S h n a used failure.Wrong m t = (leaves_of (S h) n a.stage a.tried t.0 t.1 t.2, comes_on P B c d _ t.3.0 m t.3.1)
-turn_fails P B c d A allows S h n a used failure.NoMemory m t = leaves_of (S h) n a.stage a.tried t.0 t.1 t.2
+turn_fails P B c d A allows S h n a failure.Wrong m t = (leaves_of (S h) n a.stage a.tried t.0 t.1 t.2, comes_on P B c d _ t.3.0 m t.3.1)
+turn_fails P B c d A allows S h n a failure.NoMemory m t = leaves_of (S h) n a.stage a.tried t.0 t.1 t.2
 
 -- an error in a commit
-pub commit_ends : (P : Program) (B : Bounds) (c : Run) (f : Reply → Run) (A A' : Call → ℕ → Type 0) (allows : Entry → Type 0) (S : List Entry → ℕ → Log → Log → Type 0) (h : List Entry) (n : ℕ) (a : Running) (used : ℕ) (r w : Log) (e : Failure)
-    → Comes P B c (f (Gives 0)) → IsCommit P B f A' allows S h n used r w a (Err e)
+pub commit_ends : (P : Program) (B : Bounds) (c : Run) (f : Reply → Run) (A A' : Call → ℕ → Type 0) (allows : Entry → Type 0) (S : List Entry → ℕ → Log → Log → Type 0) (h : List Entry) (n : ℕ) (a : Running) (m : Meter) (r w : Log) (e : Failure)
+    → Comes P B c (f (Gives 0)) → IsCommit P B f A' allows S h n m r w a (Err e)
     → IsEnd P B c A allows S h n (Leaves (S h) n a.stage) (Err e)
-commit_ends P B c f A A' allows S h n a used r w failure.Wrong m t = (leaves_of (S h) n a.stage a.tried r w t.0, comes_trans P B c _ _ m t.1)
-commit_ends P B c f A A' allows S h n a used r w failure.NoMemory m t = t
+commit_ends P B c f A A' allows S h n a m r w failure.Wrong k t = (leaves_of (S h) n a.stage a.tried r w t.0, comes_trans P B c _ _ k t.1)
+commit_ends P B c f A A' allows S h n a m r w failure.NoMemory k t = t
 
 -- an end takes no conflict back
 pub raised_later : (e : TxEnd) (n m : ℕ) → n ≤ m → n ≤ raised e m
@@ -55,19 +57,19 @@ raised_later (Conflict k) n m l = omega arith
 raised_later NoMemory n m l = l
 
 -- where a call starts
-pub way_here : (P : Program) (B : Bounds) (S : ℕ → Log → Log → Type 0) (n : ℕ) (a : Running) (used : ℕ) → a.stage ≡ Ready → a.tried ≡ 0 → S n [] []
-    → OnWay P B (at a used [] []) S n a used
-way_here P B S n a used e t s =
+pub way_here : (P : Program) (B : Bounds) (S : ℕ → Log → Log → Type 0) (n : ℕ) (a : Running) → a.stage ≡ Ready → a.tried ≡ 0 → S n [] []
+    → OnWay P B (at a [] []) S n a
+way_here P B S n a e t s =
     record { reads = []; writes = []; holds = rw (e, t) (record { conflicts = n; later = omega arith; stands = s; tries = refl; idle = (refl, refl) }); comes = comes_here P B _ }
 
 -- the start of a call that isn't there
-pub start_fails : (P : Program) (B : Bounds) (m : ℕ) (args : List Value) (A : Call → ℕ → Type 0) (allows : Entry → Type 0) (S : List Entry → ℕ → Log → Log → Type 0) (h : List Entry) (n used : ℕ) (e : Failure)
-    → IsStarted P m args used (Err e) → S h n [] [] → IsEnd P B (run_start P m args used) A allows S h n (AddsNone (S h) n) (Err e)
-start_fails P B m args A allows S h n used failure.Wrong t s = (record { conflicts = n; later = omega arith; stands = s }, ([], t))
-start_fails P B m args A allows S h n used failure.NoMemory t s = record { conflicts = n; later = omega arith; stands = s }
+pub start_fails : (P : Program) (B : Bounds) (m : ℕ) (args : List Value) (A : Call → ℕ → Type 0) (allows : Entry → Type 0) (S : List Entry → ℕ → Log → Log → Type 0) (h : List Entry) (n : ℕ) (e : Failure)
+    → IsStarted P B m args (Err e) → S h n [] [] → IsEnd P B (run_start P B m args) A allows S h n (AddsNone (S h) n) (Err e)
+start_fails P B m args A allows S h n failure.Wrong t s = (record { conflicts = n; later = omega arith; stands = s }, ([], t))
+start_fails P B m args A allows S h n failure.NoMemory t s = record { conflicts = n; later = omega arith; stands = s }
 
 -- the same end of an equal run
-pub end_from : (P : Program) (B : Bounds) (c d : Run) (A : Call → ℕ → Type 0) (allows : Entry → Type 0) (S : List Entry → ℕ → Log → Log → Type 0) (h : List Entry) (n : ℕ) (E : Type 0) (x : Result (Answer × Stamp) Failure)
+pub end_from : (P : Program) (B : Bounds) (c d : Run) (A : Call → ℕ → Type 0) (allows : Entry → Type 0) (S : List Entry → ℕ → Log → Log → Type 0) (h : List Entry) (n : ℕ) (E : Type 0) (x : Result End Failure)
     → c ≡ d → IsEnd P B d A allows S h n E x → IsEnd P B c A allows S h n E x
 end_from P B c d A allows S h n E x e t = rw e t
 
@@ -77,22 +79,32 @@ pub end_left : (P : Program) (B : Bounds) (c : Run) (A : Call → ℕ → Type 0
 end_left P B c A allows S S' h n s failure.Wrong f t = (f t.0, t.1)
 end_left P B c A allows S S' h n s failure.NoMemory f t = f t
 
--- what an entry says does not hang on what errors say
-pub end_right : (P : Program) (B : Bounds) (c : Run) (A : Call → ℕ → Type 0) (allows : Entry → Type 0) (S : List Entry → ℕ → Log → Log → Type 0) (h : List Entry) (n : ℕ) (E E' : Type 0) (x : Answer × Stamp)
-    → IsEnd P B c A allows S h n E (Ok x) → IsEnd P B c A allows S h n E' (Ok x)
-end_right P B c A allows S h n E E' (answer.Returned v, stamp) t = t
-end_right P B c A allows S h n E E' (answer.Threw k, stamp) t = t
-end_right P B c A allows S h n E E' (answer.Budget, stamp) t = t
-end_right P B c A allows S h n E E' (answer.Depth, stamp) t = t
-end_right P B c A allows S h n E E' (answer.Heap u v z, stamp) t = t
-end_right P B c A allows S h n E E' (answer.Spent, stamp) t = t
-end_right P B c A allows S h n E E' (answer.NoMemory, stamp) t = t
+-- a run that ended with an entry has an answer of one
+pub ends_by : (P : Program) (B : Bounds) (c : Run) (A : Call → ℕ → Type 0) (allows : Entry → Type 0) (S : List Entry → ℕ → Log → Log → Type 0) (h : List Entry) (n : ℕ) (e : End) (x : Answer)
+    → IsLast x → Ends P B c A allows S h n e → IsEndBy x P B c A allows S h n e
+ends_by P B c A allows S h n e (answer.Returned v) l t = t
+ends_by P B c A allows S h n e (answer.Threw k) l t = t
+ends_by P B c A allows S h n e answer.Budget l t = absurd l
+ends_by P B c A allows S h n e answer.Depth l t = absurd l
+ends_by P B c A allows S h n e (answer.Heap u v z) l t = absurd l
+ends_by P B c A allows S h n e answer.Spent l t = absurd l
+ends_by P B c A allows S h n e answer.NoMemory l t = absurd l
+
+-- the same by the answer that it has
+pub end_by : (P : Program) (B : Bounds) (c : Run) (A : Call → ℕ → Type 0) (allows : Entry → Type 0) (S : List Entry → ℕ → Log → Log → Type 0) (h : List Entry) (n : ℕ) (e : End) (x : Answer)
+    → e.answer ≡ x → IsEndBy x P B c A allows S h n e → IsEndBy e.answer P B c A allows S h n e
+end_by P B c A allows S h n e x q t = subst (λ (y : Answer). IsEndBy y P B c A allows S h n e) (sym q) t
+
+-- the attempts aren't used up at such an end
+pub last_made : (x : Answer) → IsLast x → x ≢ answer.Spent
+last_made x l e = subst IsLast e l
 
 -- an entry that a call may leave stands
-pub adds_entry : (P : Program) (B : Bounds) (c : Call) (used : ℕ) (A : Call → ℕ → Type 0) (allows : Entry → Type 0) (S : List Entry → ℕ → Log → Log → Type 0) (h : List Entry) (n : ℕ) (x : Answer) (stamp : Stamp)
-    → (x ≡ answer.Spent → ⊥) → A c used → MayRun allows P B c used → Ends P B (run_start P c.method c.args used) A allows S h n x stamp → AddsEntry P B c used S h n x stamp
-adds_entry P B c used A allows S h n x stamp other aw may t =
-    let k : Runs P B c.method c.args used x t.writes t.reads = record { meter = t.meter_then; comes = t.comes; made = other } in
+pub adds_entry : (P : Program) (B : Bounds) (c : Call) (A : Call → ℕ → Type 0) (allows : Entry → Type 0) (S : List Entry → ℕ → Log → Log → Type 0) (h : List Entry) (n : ℕ) (e : End)
+    → e.answer ≢ answer.Spent → A c B.used → MayRun allows P B c → Ends P B (run_start P B c.method c.args) A allows S h n e → AddsEntry P B c S h n e
+adds_entry P B c A allows S h n e other aw may t =
+    let k : Runs P B c.method c.args e.answer e.used t.writes t.reads = record { meter = t.meter_then; comes = t.comes; leaves = t.leaves; made = other } in
+    let taking = keeps_region P B c.method c.args e.answer e.used t.writes t.reads k in
     record {
       conflicts = t.added.conflicts;
       later = t.added.later;
@@ -100,41 +112,65 @@ adds_entry P B c used A allows S h n x stamp other aw may t =
       writes = t.writes;
       runs = k;
       stamped = t.added.stamped;
-      stands = t.added.adds c used aw (λ at. may x at t.reads t.writes k);
+      stands = t.added.adds c aw (record { anywhere = λ at. may e.answer e.used at t.reads t.writes k; stays = taking.stays });
     }
 
 -- a call of the same method with the same arguments
-pub end_of_call : (P : Program) (B : Bounds) (c : Call) (m : ℕ) (args : List Value) (used : ℕ) (A : Call → ℕ → Type 0) (allows : Entry → Type 0) (S : List Entry → ℕ → Log → Log → Type 0) (h : List Entry) (n : ℕ) (E : Type 0) (x : Result (Answer × Stamp) Failure)
-    → c.method ≡ m → c.args ≡ args → IsEnd P B (run_start P m args used) A allows S h n E x → IsEnd P B (run_start P c.method c.args used) A allows S h n E x
-end_of_call P B c m args used A allows S h n E x p q t = rw (p, q) t
+pub end_of_call : (P : Program) (B : Bounds) (c : Call) (m : ℕ) (args : List Value) (A : Call → ℕ → Type 0) (allows : Entry → Type 0) (S : List Entry → ℕ → Log → Log → Type 0) (h : List Entry) (n : ℕ) (E : Type 0) (x : Result End Failure)
+    → c.method ≡ m → c.args ≡ args → IsEnd P B (run_start P B m args) A allows S h n E x → IsEnd P B (run_start P B c.method c.args) A allows S h n E x
+end_of_call P B c m args A allows S h n E x p q t = rw (p, q) t
 
 -- how a call ends is what it adds
-pub adds_of : (P : Program) (B : Bounds) (c : Call) (used : ℕ) (A : Call → ℕ → Type 0) (allows : Entry → Type 0) (S : List Entry → ℕ → Log → Log → Type 0) (h : List Entry) (n : ℕ) (x : Answer × Stamp) → A c used → MayRun allows P B c used
-    → IsEnd P B (run_start P c.method c.args used) A allows S h n (AddsNone (S h) n) (Ok x) → AddsRun P B c used S h n (Ok x)
-adds_of P B c used A allows S h n (answer.Returned v, stamp) aw may t = adds_entry P B c used A allows S h n (answer.Returned v) stamp (λ q. cc) aw may t
-adds_of P B c used A allows S h n (answer.Threw k, stamp) aw may t = t
-adds_of P B c used A allows S h n (answer.Budget, stamp) aw may t = adds_entry P B c used A allows S h n answer.Budget stamp (λ q. cc) aw may t
-adds_of P B c used A allows S h n (answer.Depth, stamp) aw may t = adds_entry P B c used A allows S h n answer.Depth stamp (λ q. cc) aw may t
-adds_of P B c used A allows S h n (answer.Heap u v z, stamp) aw may t = t
-adds_of P B c used A allows S h n (answer.Spent, stamp) aw may t = record { meter = t.0.meter_then; comes = t.0.comes; stands = t.0.stands; unstamped = t.1 }
-adds_of P B c used A allows S h n (answer.NoMemory, stamp) aw may t = absurd t
+pub adds_of : (P : Program) (B : Bounds) (c : Call) (A : Call → ℕ → Type 0) (allows : Entry → Type 0) (S : List Entry → ℕ → Log → Log → Type 0) (h : List Entry) (n : ℕ) (e : End) → A c B.used → MayRun allows P B c
+    → IsEnd P B (run_start P B c.method c.args) A allows S h n (AddsNone (S h) n) (Ok e) → AddsRun P B c S h n (Ok e)
+adds_of P B c A allows S h n e aw may t = go e.answer refl t
+  where
+    more : e.answer ≢ answer.Spent → Ends P B (run_start P B c.method c.args) A allows S h n e → AddsEntry P B c S h n e
+    more other t = adds_entry P B c A allows S h n e other aw may t
+
+    go : (x : Answer) → e.answer ≡ x → IsEndBy x P B (run_start P B c.method c.args) A allows S h n e → AddsBy x P B c S h n e
+    go (answer.Returned v) q t = more (λ s. cc) t
+    go (answer.Threw k) q t = more (λ s. cc) t
+    go answer.Budget q t = more (λ s. cc) t
+    go answer.Depth q t = more (λ s. cc) t
+    go (answer.Heap u v z) q t = more (λ s. cc) t
+    go answer.Spent q t = record { meter = t.meter_then; comes = t.comes; stands = t.stands; unplaced = t.unplaced }
+    go answer.NoMemory q t = absurd t
 
 -- what is awaited at first is awaited still
-pub added_as : (A A' : Call → ℕ → Type 0) (allows : Entry → Type 0) (S : List Entry → ℕ → Log → Log → Type 0) (h : List Entry) (n : ℕ) (x : Answer) (stamp : Stamp) (r w : Log)
-    → ((c : Call) (used : ℕ) → A c used → A' c used) → HasAdded A' allows S h n x stamp r w → HasAdded A allows S h n x stamp r w
-added_as A A' allows S h n x stamp r w k t = record { conflicts = t.conflicts; later = t.later; stamped = t.stamped; adds = λ c used a may. t.adds c used (k c used a) may }
+pub added_as : (A A' : Call → ℕ → Type 0) (allows : Entry → Type 0) (S : List Entry → ℕ → Log → Log → Type 0) (h : List Entry) (n before : ℕ) (e : End) (r w : Log)
+    → ((c : Call) (used : ℕ) → A c used → A' c used) → HasAdded A' allows S h n before e r w → HasAdded A allows S h n before e r w
+added_as A A' allows S h n before e r w k t = record { conflicts = t.conflicts; later = t.later; stamped = t.stamped; adds = λ c a may. t.adds c (k c before a) may }
 
 -- the entry of a refusal, which a turn has come to
-pub may_refuse : (P : Program) (B : Bounds) (start : ℕ → Run) (allows : Entry → Type 0) (S S' : List Entry → ℕ → Log → Log → Type 0) (A A' : Call → ℕ → Type 0) (m : MayStart P B start allows S A) (x : Answer) (M : Meter) (r w : Log) (n : ℕ)
-    → ((c : Call) (used : ℕ) → A c used → A' c used) → S' m.history n r w → x ≢ answer.Spent → Comes P B (start m.used) (Ended x M [] r) → MayEnd S' A' allows (λ _. []) x
+pub may_refuse : (P : Program) (B : Bounds) (start : Run) (allows : Entry → Type 0) (S S' : List Entry → ℕ → Log → Log → Type 0) (A A' : Call → ℕ → Type 0) (m : MayStart P B start allows S A) (x : Answer) (M : Meter) (r w : Log) (n : ℕ)
+    → ((c : Call) (used : ℕ) → A c used → A' c used) → S' m.history n r w → x ≢ answer.Spent → Comes P B start (Ended x (set_back B M) [] r) → MayEnd S' A' allows (λ _. []) x (λ used. used)
 may_refuse P B start allows S S' A A' m x M r w n k s other comes = record {
   history = m.history;
   conflicts = n;
   reads = r;
   writes = w;
   call = m.call;
-  used = m.used;
+  used = B.used;
   stands = s;
-  awaits = k m.call m.used m.awaits;
-  allowed = m.allowed x M r [] other comes;
+  awaits = k m.call B.used m.awaits;
+  allowed = m.allowed x (set_back B M) r [] other comes;
+}
+
+-- a refusal that a turn has come to ends the run
+pub refuses : (P : Program) (B : Bounds) (start : Run) (allows : Entry → Type 0) (S S' : List Entry → ℕ → Log → Log → Type 0) (A A' : Call → ℕ → Type 0) (h : List Entry) (n k : ℕ) (e : End) (M : Meter) (r : Log)
+    → ((c : Call) (used : ℕ) → A c used → A' c used) → n ≤ k → e.used ≡ B.used → Comes P B start (Ended e.answer (set_back B M) [] r)
+    → IsOfWrites e.stamp [] × Adds A' allows S' h k e.answer (λ used. used) e.stamp r [] → Ends P B start A allows S' h n e
+refuses P B start allows S S' A A' h n k e M r aw later used comes f = record {
+  reads = r;
+  writes = [];
+  meter_then = set_back B M;
+  comes = comes;
+  leaves = sym used;
+  added = record {
+    conflicts = k;
+    later = later;
+    stamped = f.0;
+    adds = λ c a may. subst (λ (u : ℕ). IsAllowed allows e.answer c B.used u r [] → S' (h ++ made c e.answer B.used u e.stamp r [] ∷ []) k [] []) (sym used) (f.1 c B.used (aw c B.used a)) may;
+  };
 }

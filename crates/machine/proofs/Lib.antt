@@ -1,3 +1,4 @@
 pub mod Turn
 pub mod Comes
 pub mod Ends
+pub mod Thrown

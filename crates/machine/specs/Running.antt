@@ -1,5 +1,5 @@
 -- A call on its way, as a run of the definitions over an engine.
-use Rattle.std.specs.Prelude.{◌≡◌, ℕ, ◌+◌, ◌≤◌, List, [], ◌∷◌, Result, Ok, Err, Option, Some, None}
+use Rattle.std.specs.Prelude.{◌≡◌, ℕ, ◌+◌, ◌≤◌, List, [], ◌∷◌, ◌++◌, Result, Ok, Err, Option, Some, None}
 use Rattle.jmodel.specs.declared.value.Value.{Value}
 use Rattle.jmodel.specs.declared.value.Answer.{Answer}
 use Rattle.jmodel.specs.declared.value.Answer.TheVariants as answer
@@ -8,17 +8,21 @@ use Rattle.jmodel.specs.declared.op.Phase.{Phase}
 use Rattle.jmodel.specs.declared.op.Phase.TheVariants as phase
 use Rattle.jmodel.specs.Program.{Program}
 use Rattle.jmodel.specs.Step.{Frames}
-use Rattle.jmodel.specs.Attempt.{Log, Bounds, Meter, Run, On, Ended, Stuck, Reply, Gives, Refuses, on_commit, Comes, run_start}
+use Rattle.jmodel.specs.State.{trap_object}
+use Rattle.jmodel.specs.Attempt.{Thrown as ThrownAs, Log, Bounds, Meter, Run, On, Ended, Stuck, Reply, Gives, Refuses, set_back, on_commit, Comes, run_start}
 use Rattle.jmodel.specs.History.{Call, Entry}
+use Rattle.jmodel.specs.Engine.{made}
 use Rattle.machine.specs.declared.failure.Failure.{Failure}
 use Rattle.machine.specs.declared.failure.Failure.TheVariants as failure
 use Rattle.machine.specs.declared.running.Stage.{Stage}
 use Rattle.machine.specs.declared.running.Stage.TheVariants.{Ready, Open, Doomed}
 use Rattle.machine.specs.declared.running.Todo.{Todo}
-use Rattle.machine.specs.declared.running.Todo.TheVariants.{Commit, Budget, Depth, Spent}
+use Rattle.machine.specs.declared.running.Todo.TheVariants.{Commit, Budget, Depth, Heap, Spent}
+use Rattle.machine.specs.declared.room.Thrown.{Thrown}
 use Rattle.machine.specs.declared.running.Running.{Running}
-use Rattle.machine.specs.Machine.{unplaced}
-use Rattle.tx_core.specs.Engine.{Adds, IsAllowed, IsOfWrites}
+use Rattle.machine.specs.declared.machine.End.{End}
+use Rattle.machine.specs.Machine.{IsUnplaced}
+use Rattle.tx_core.specs.Engine.{IsAllowed, IsOfWrites}
 
 abbrev pub phase_of : Stage → Phase
 phase_of Ready = phase.Ready
@@ -28,11 +32,15 @@ phase_of Doomed = phase.Doomed
 abbrev pub frames : Running → Frames
 frames a = a.frame ∷ a.callers
 
-abbrev pub meter : Running → ℕ → Meter
-meter a used = record { turns = a.turns; tried = a.tried; used = used }
+abbrev pub thrown_of : Option Thrown → Option ThrownAs
+thrown_of None = None
+thrown_of (Some t) = Some (record { reference = t.reference; type = (trap_object t.trap).type })
 
-abbrev pub at : Running → ℕ → Log → Log → Run
-at a used w r = On (phase_of a.stage) (frames a) (meter a used) w r
+abbrev pub meter : Running → Meter
+meter a = record { turns = a.turns; tried = a.tried; used = a.used; thrown = thrown_of a.thrown }
+
+abbrev pub at : Running → Log → Log → Run
+at a w r = On (phase_of a.stage) (frames a) (meter a) w r
 
 -- attempts that have neither ended nor met a conflict
 abbrev pub opened : Stage → ℕ
@@ -67,93 +75,101 @@ pub record IsWithin (first attempts clock : ℕ) (s : Stage) (tried : ℕ) : Typ
   pub tried_below : tried ≤ attempts
 
 -- what the state and an answer stand for
-abbrev pub land : Running → ℕ → Log → Log → Result Todo Failure → Run
-land a used w r (Ok Budget) = Ended answer.Budget (meter a used) [] r
-land a used w r (Ok Depth) = Ended answer.Depth (meter a used) [] r
-land a used w r (Ok Spent) = Ended answer.Spent (meter a used) [] []
-land a used w r (Ok t) = at a used w r
-land a used w r (Err e) = Stuck
+abbrev pub land : Bounds → Running → Log → Log → Result Todo Failure → Run
+land B a w r (Ok Budget) = Ended answer.Budget (set_back B (meter a)) [] r
+land B a w r (Ok Depth) = Ended answer.Depth (set_back B (meter a)) [] r
+land B a w r (Ok (Heap wanted)) = Ended (answer.Heap a.used wanted B.region.size) (set_back B (meter a)) [] r
+land B a w r (Ok Spent) = Ended answer.Spent (meter a) [] []
+land B a w r (Ok t) = at a w r
+land B a w r (Err e) = Stuck
 
 -- memory may be short
-abbrev pub Lands : Run → Running → ℕ → Log → Log → Result Todo Failure → Type 0
-Lands x a used w r (Err failure.NoMemory) = Unit {0}
-Lands x a used w r (Ok Commit) = ⊥
-Lands x a used w r result = x ≡ land a used w r result
+abbrev pub Lands : Bounds → Run → Running → Log → Log → Result Todo Failure → Type 0
+Lands B x a w r (Err failure.NoMemory) = Unit {0}
+Lands B x a w r (Ok Commit) = ⊥
+Lands B x a w r result = x ≡ land B a w r result
 
 -- a turn of the machine: f is the next run by the engine's reply, and H what holds after it
-abbrev pub IsTurn : (Reply → Run) → (Log → Log → Type 0) → ℕ → Running → Result Todo Failure → Type 0
-IsTurn f H used a (Err failure.NoMemory) = (r : Log) × (w : Log) × H r w
-IsTurn f H used a (Ok Commit) = (r : Log) × (w : Log) × H r w × ((v : Reply) → f v ≡ on_commit v (frames a) (meter a used) w r)
-IsTurn f H used a result = (r : Log) × (w : Log) × H r w × ((v : Reply) × (f v ≡ land a used w r result))
+abbrev pub IsTurn : Bounds → (Reply → Run) → (Log → Log → Type 0) → Running → Result Todo Failure → Type 0
+IsTurn B f H a (Err failure.NoMemory) = (r : Log) × (w : Log) × H r w
+IsTurn B f H a (Ok Commit) = (r : Log) × (w : Log) × H r w × ((v : Reply) → f v ≡ on_commit B v (frames a) (meter a) w r)
+IsTurn B f H a result = (r : Log) × (w : Log) × H r w × ((v : Reply) × (f v ≡ land B a w r result))
+
+-- the wrapper returns or throws
+abbrev pub IsLast : Answer → Type 0
+IsLast (answer.Returned v) = Unit {0}
+IsLast (answer.Threw class) = Unit {0}
+IsLast x = ⊥
 
 -- what the code after a commit comes to
-abbrev pub IsFinished : Program → Bounds → Run → Meter → Log → Log → Result (Option Value) Failure → Type 0
-IsFinished P B c m w r (Ok v) = Comes P B c (Ended (answer.Returned v) m w r)
+abbrev pub IsFinished : Program → Bounds → Run → Meter → Log → Log → Result Answer Failure → Type 0
+IsFinished P B c m w r (Ok x) = Comes P B c (Ended x m w r) × IsLast x
 IsFinished P B c m w r (Err failure.Wrong) = Comes P B c Stuck
 IsFinished P B c m w r (Err failure.NoMemory) = Unit {0}
 
--- an entry of the awaited call with this answer and these reads and writes was added
-pub record HasAdded (A : Call → ℕ → Type 0) (allows : Entry → Type 0) (S : List Entry → ℕ → Log → Log → Type 0) (h : List Entry) (n : ℕ) (x : Answer) (stamp : Stamp) (r w : Log) : Type 0 where
+-- an entry of the awaited call that ended so, with these reads and writes, was added where it is allowed
+pub record HasAdded (A : Call → ℕ → Type 0) (allows : Entry → Type 0) (S : List Entry → ℕ → Log → Log → Type 0) (h : List Entry) (n before : ℕ) (e : End) (r w : Log) : Type 0 where
   pub conflicts : ℕ
   pub later : n ≤ conflicts
-  pub stamped : IsOfWrites stamp w
-  pub adds : Adds A allows S h conflicts x stamp r w
+  pub stamped : IsOfWrites e.stamp w
+  pub adds : (c : Call) → A c before → IsAllowed allows e.answer c before e.used r w → S (h ++ made c e.answer before e.used e.stamp r w ∷ []) conflicts [] []
 
--- An open attempt, in which each value that the code after the commit may give may be the answer of an entry.
-pub record MayCommit (P : Program) (a : Running) (allows : Entry → Type 0) (S : List Entry → ℕ → Log → Log → Type 0) (A : Call → ℕ → Type 0) : Type 0 where
+-- An open attempt, in which each answer that the code after the commit may give may be that of an entry.
+pub record MayCommit (P : Program) (B : Bounds) (a : Running) (allows : Entry → Type 0) (S : List Entry → ℕ → Log → Log → Type 0) (A : Call → ℕ → Type 0) : Type 0 where
   pub history : List Entry
   pub conflicts : ℕ
   pub reads : Log
   pub writes : Log
   pub call : Call
-  pub used : ℕ
-  pub bounds : Bounds
   pub stands : S history conflicts reads writes
-  pub awaits : A call used
-  pub allowed : (v : Option Value) → Comes P bounds (on_commit (Gives 0) (frames a) (meter a used) writes reads) (Ended (answer.Returned v) (meter a used) writes reads)
-      → IsAllowed allows (answer.Returned v) call used reads writes
+  pub awaits : A call B.used
+  pub allowed : (x : Answer) → IsLast x → Comes P B (on_commit B (Gives 0) (frames a) (meter a) writes reads) (Ended x (meter a) writes reads)
+      → IsAllowed allows x call B.used a.used reads writes
 
 -- a commit: c is the run by the engine's reply
-abbrev pub IsCommit : Program → Bounds → (Reply → Run) → (Call → ℕ → Type 0) → (Entry → Type 0) → (List Entry → ℕ → Log → Log → Type 0) → List Entry → ℕ → ℕ → Log → Log → Running → Result (Option (Option Value × Stamp)) Failure → Type 0
-IsCommit P B c A allows S h n used r w a (Ok (Some x)) =
-    Comes P B (c (Gives 0)) (Ended (answer.Returned x.0) (meter a used) w r) × HasAdded A allows S h n (answer.Returned x.0) x.1 r w
-IsCommit P B c A allows S h n used r w a (Ok None) = (c Refuses ≡ at a used [] []) × Holds (S h) n a.stage a.tried [] []
-IsCommit P B c A allows S h n used r w a (Err failure.Wrong) = Holds (S h) n a.stage a.tried r w × Comes P B (c (Gives 0)) Stuck
-IsCommit P B c A allows S h n used r w a (Err failure.NoMemory) = Leaves (S h) n a.stage
+abbrev pub IsCommit : Program → Bounds → (Reply → Run) → (Call → ℕ → Type 0) → (Entry → Type 0) → (List Entry → ℕ → Log → Log → Type 0) → List Entry → ℕ → Meter → Log → Log → Running → Result (Option End) Failure → Type 0
+IsCommit P B c A allows S h n m r w a (Ok (Some e)) = (Comes P B (c (Gives 0)) (Ended e.answer m w r) × IsLast e.answer × (e.used ≡ m.used)) × HasAdded A allows S h n B.used e r w
+IsCommit P B c A allows S h n m r w a (Ok None) = (c Refuses ≡ at a [] []) × Holds (S h) n a.stage a.tried [] []
+IsCommit P B c A allows S h n m r w a (Err failure.Wrong) = Holds (S h) n a.stage a.tried r w × Comes P B (c (Gives 0)) Stuck
+IsCommit P B c A allows S h n m r w a (Err failure.NoMemory) = Leaves (S h) n a.stage
 
 -- the start of a call
-abbrev pub IsStarted : Program → ℕ → List Value → ℕ → Result Running Failure → Type 0
-IsStarted P m args used (Ok a) = (run_start P m args used ≡ at a used [] []) × (a.stage ≡ Ready) × (a.tried ≡ 0)
-IsStarted P m args used (Err failure.Wrong) = run_start P m args used ≡ Stuck
-IsStarted P m args used (Err failure.NoMemory) = Unit {0}
+abbrev pub IsStarted : Program → Bounds → ℕ → List Value → Result Running Failure → Type 0
+IsStarted P B m args (Ok a) = (run_start P B m args ≡ at a [] []) × (a.stage ≡ Ready) × (a.tried ≡ 0)
+IsStarted P B m args (Err failure.Wrong) = run_start P B m args ≡ Stuck
+IsStarted P B m args (Err failure.NoMemory) = Unit {0}
 
 -- a run that ended with an entry
-pub record Ends (P : Program) (B : Bounds) (c : Run) (A : Call → ℕ → Type 0) (allows : Entry → Type 0) (S : List Entry → ℕ → Log → Log → Type 0) (h : List Entry) (n : ℕ) (x : Answer) (stamp : Stamp) : Type 0 where
+pub record Ends (P : Program) (B : Bounds) (c : Run) (A : Call → ℕ → Type 0) (allows : Entry → Type 0) (S : List Entry → ℕ → Log → Log → Type 0) (h : List Entry) (n : ℕ) (e : End) : Type 0 where
   pub reads : Log
   pub writes : Log
   pub meter_then : Meter
-  pub comes : Comes P B c (Ended x meter_then writes reads)
-  pub added : HasAdded A allows S h n x stamp reads writes
+  pub comes : Comes P B c (Ended e.answer meter_then writes reads)
+  pub leaves : meter_then.used ≡ e.used
+  pub added : HasAdded A allows S h n B.used e reads writes
 
 -- the attempts were used up, each by a conflict
-pub record IsSpent (P : Program) (B : Bounds) (c : Run) (S : ℕ → Log → Log → Type 0) (n : ℕ) : Type 0 where
+pub record IsSpent (P : Program) (B : Bounds) (c : Run) (S : ℕ → Log → Log → Type 0) (n : ℕ) (e : End) : Type 0 where
   pub meter_then : Meter
   pub comes : Comes P B c (Ended answer.Spent meter_then [] [])
   pub stands : S (n + meter_then.tried) [] []
+  pub unplaced : IsUnplaced B e
+
+-- how a run ends, by its answer
+abbrev pub IsEndBy : Answer → Program → Bounds → Run → (Call → ℕ → Type 0) → (Entry → Type 0) → (List Entry → ℕ → Log → Log → Type 0) → List Entry → ℕ → End → Type 0
+IsEndBy answer.Spent P B c A allows S h n e = IsSpent P B c (S h) n e
+IsEndBy answer.NoMemory P B c A allows S h n e = ⊥
+IsEndBy x P B c A allows S h n e = Ends P B c A allows S h n e
 
 -- how a run ends; E says what is known after an error
-abbrev pub IsEnd : Program → Bounds → Run → (Call → ℕ → Type 0) → (Entry → Type 0) → (List Entry → ℕ → Log → Log → Type 0) → List Entry → ℕ → Type 0 → Result (Answer × Stamp) Failure → Type 0
-IsEnd P B c A allows S h n E (Ok (answer.Returned v, stamp)) = Ends P B c A allows S h n (answer.Returned v) stamp
-IsEnd P B c A allows S h n E (Ok (answer.Budget, stamp)) = Ends P B c A allows S h n answer.Budget stamp
-IsEnd P B c A allows S h n E (Ok (answer.Depth, stamp)) = Ends P B c A allows S h n answer.Depth stamp
-IsEnd P B c A allows S h n E (Ok (answer.Spent, stamp)) = IsSpent P B c (S h) n × (stamp ≡ unplaced)
-IsEnd P B c A allows S h n E (Ok x) = ⊥
+abbrev pub IsEnd : Program → Bounds → Run → (Call → ℕ → Type 0) → (Entry → Type 0) → (List Entry → ℕ → Log → Log → Type 0) → List Entry → ℕ → Type 0 → Result End Failure → Type 0
+IsEnd P B c A allows S h n E (Ok e) = IsEndBy e.answer P B c A allows S h n e
 IsEnd P B c A allows S h n E (Err failure.Wrong) = E × Comes P B c Stuck
 IsEnd P B c A allows S h n E (Err failure.NoMemory) = E
 
 -- a call that began as c has come to where it stands
-pub record OnWay (P : Program) (B : Bounds) (c : Run) (S : ℕ → Log → Log → Type 0) (n : ℕ) (a : Running) (used : ℕ) : Type 0 where
+pub record OnWay (P : Program) (B : Bounds) (c : Run) (S : ℕ → Log → Log → Type 0) (n : ℕ) (a : Running) : Type 0 where
   pub reads : Log
   pub writes : Log
   pub holds : Holds S n a.stage a.tried reads writes
-  pub comes : Comes P B c (at a used writes reads)
+  pub comes : Comes P B c (at a writes reads)

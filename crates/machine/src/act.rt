@@ -5,13 +5,13 @@ ghost use Rattle.jmodel.specs.Step.{Frame as JFrame, Does, does, branches};
 ghost use Rattle.jmodel.specs.declared.op.Op.TheVariants as op;
 ghost use Rattle.machine.specs.Meets.{Meets, CanDo};
 
-use crate::arithmetic::{binary, holds, unary};
+use crate::arithmetic::{binary, divided, holds, unary};
 use crate::failure::Failure;
 use crate::frame::Frame;
 use crate::value::{given, stored};
 use hierarchy::program::Program;
 use jmodel::Cases;
-use jmodel::op::{Binary, Doing, Op, Request, Slot, Test, Unary};
+use jmodel::op::{Binary, Division, Doing, Op, Request, Slot, Test, Trap, Unary};
 use jmodel::value::Value;
 
 /// Where a branch goes, whose test holds or doesn't.
@@ -39,6 +39,7 @@ impl Frame {
             Op::Store(i) => self.store(*i),
             Op::Rearrange(r) => self.rearrange(*r),
             Op::Binary(b) => self.binary(*b),
+            Op::Divide(d) => self.divide(*d),
             Op::Unary(u) => self.unary(*u),
             Op::Increment(i, n) => self.increment(*i, *n),
             Op::Branch(test, to) => self.branch(*test, *to),
@@ -96,6 +97,20 @@ impl Frame {
         let y = self.stack.take_int()?;
         let x = self.stack.take_int()?;
         self.stack.push(Slot::Int(binary(b, x, y)))?;
+        Ok(Doing::Next)
+    }
+
+    fn divide(&mut self, d: Division) -> Result<Doing, Failure>
+        ensures does { (P : JProgram) → Meets result self.new (does P (op.Divide d) self.old) }
+        ensures can { IfOk result CanDo }
+        ensures pc { self.new.pc ≡ self.old.pc }
+    {
+        let y = self.stack.take_int()?;
+        let x = self.stack.take_int()?;
+        if y == 0 {
+            return Ok(Doing::Trap(Trap::Arithmetic));
+        }
+        self.stack.push(Slot::Int(divided(d, x, y)))?;
         Ok(Doing::Next)
     }
 

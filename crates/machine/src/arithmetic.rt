@@ -1,8 +1,8 @@
 //! The arithmetic of ints (JVM Specification, Java SE 7, chapter 6).
-ghost use Rattle.std.specs.Prelude.{◌≡◌};
-ghost use Rattle.jmodel.specs.Step.{binary as binary_of, unary as unary_of, holds as test_holds};
+ghost use Rattle.std.specs.Prelude.{◌≡◌, ◌≢◌, pos};
+ghost use Rattle.jmodel.specs.Step.{binary as binary_of, divided as divided_of, unary as unary_of, holds as test_holds};
 
-use jmodel::op::{Binary, Test, Unary};
+use jmodel::op::{Binary, Division, Test, Unary};
 
 /// Two ints to one. Sums and products wrap around, and shifts go by the low five bits of the second.
 pub fn binary(operation: Binary, x: i32, y: i32) -> i32
@@ -18,6 +18,17 @@ pub fn binary(operation: Binary, x: i32, y: i32) -> i32
         Binary::And => x & y,
         Binary::Or => x | y,
         Binary::Xor => x ^ y,
+    }
+}
+
+/// Two ints to one, the second of which isn't 0. The quotient of the least int by -1 wraps around.
+pub fn divided(operation: Division, x: i32, y: i32) -> i32
+    requires { y ≢ pos 0 }
+    ensures { result ≡ divided_of operation x y }
+{
+    match operation {
+        Division::Quotient => x.wrapping_div(y),
+        Division::Remainder => x.wrapping_rem(y),
     }
 }
 

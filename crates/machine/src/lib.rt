@@ -10,9 +10,12 @@ pub mod failure;
 pub mod frame;
 pub mod machine;
 mod rearrange;
+pub mod room;
 pub mod running;
 pub mod stack;
 pub mod step;
+mod trap;
 pub mod value;
 
-pub use machine::{Limits, Machine, Stuck};
+pub use machine::{End, Limits, Machine, Stuck};
+pub use room::Room;

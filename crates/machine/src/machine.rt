@@ -1,12 +1,14 @@
 //! Calls of rewritten code, as transactions over an engine.
-ghost use Rattle.std.specs.Prelude.{◌≡◌, ◌≤◌, ◌+◌, ◌^◌, ℕ, List, [], IfOk};
-ghost use Rattle.jmodel.specs.Attempt.{run_start};
+ghost use Rattle.std.specs.Prelude.{◌≡◌, ◌≤◌, ◌<◌, ◌+◌, ◌*◌, ◌^◌, ℕ, List, []};
+ghost use Rattle.jmodel.specs.Attempt.{Log, run_start};
 ghost use Rattle.jmodel.specs.History.{Call, Entry};
+ghost use Rattle.tx_core.specs.Engine.{Adds, MayEnd, IsOfWrites};
 ghost use Rattle.machine.specs.declared.running.Stage.TheVariants as stage;
-ghost use Rattle.machine.specs.Machine.{bounds_of, MayRun, MayStart, AddsRun, AddsNone, CanAnswer};
+ghost use Rattle.machine.specs.Machine.{bounds_of, unplaced, MayRun, MayStart, AddsRun, AddsNone};
 ghost use Rattle.machine.specs.Running.{at, Leaves, IsEnd};
 
 use crate::failure::Failure;
+use crate::room::Room;
 use crate::running::{Running, Stage, Todo};
 use hierarchy::program::Program;
 use jmodel::value::{Answer, Stamp, Value};
@@ -14,11 +16,20 @@ use std::alloc::Global;
 use std::snapshot::Snapshot;
 use tx_core::Engine;
 
-/// What a call may use: turns in each attempt, and attempts.
+/// What a call may use: turns in each attempt, attempts, and words of a region.
 #[derive(Clone, Copy, Debug)]
 pub struct Limits {
     pub budget: u64,
     pub attempts: u64,
+    pub room: Room,
+}
+
+/// How a call ended: its answer, its place in the history, and how many words of its region are used then.
+#[derive(Debug, Drop)]
+pub struct End {
+    pub answer: Answer,
+    pub stamp: Stamp,
+    pub used: u64,
 }
 
 /// The code isn't well formed: an instruction that isn't there, a stack or local that hasn't what an instruction needs,
@@ -35,9 +46,32 @@ const UNPLACED: Stamp = Stamp {
     update: false,
 };
 
+impl Limits {
+    /// The same for a next call, before which so many words of the region are used.
+    pub fn with_used(self, used: u64) -> Self
+        ensures { result ≡ record self { room = record self.room { used = used } } }
+    {
+        Limits {
+            room: Room { used, ..self.room },
+            ..self
+        }
+    }
+
+    /// The end of a call that added no entry.
+    fn unplaced(self, answer: Answer) -> End
+        ensures { result ≡ record { answer = answer; stamp = unplaced; used = self.room.used } }
+    {
+        End {
+            answer,
+            stamp: UNPLACED,
+            used: self.room.used,
+        }
+    }
+}
+
 impl Machine {
     /// Calls a method of a program with these arguments, as a transaction, which is tried again where it meets a conflict.
-    /// Answers how it ended, with its place in the history. `Spent` and `NoMemory` have no place there.
+    /// Answers how it ended. `Spent` and `NoMemory` have no place in the history, and leave the region as it was.
     pub fn call<E: Engine>(
         alloc: Global,
         program: &Program,
@@ -45,20 +79,20 @@ impl Machine {
         limits: Limits,
         method: usize,
         args: &[Value],
-    ) -> Result<(Answer, Stamp), Stuck>
+    ) -> Result<End, Stuck>
         requires clock { E.clock tx.old + limits.attempts ≤ 2 ^ 40 }
+        requires fits { limits.room.region * limits.room.size + limits.room.size < 2 ^ 64 }
         // Over an engine that is shared: it awaits a call of this method, and each entry that the call may leave may be committed.
-        requires ready { E.is_shared → MayStart program.now (bounds_of limits) (run_start program.now method args.now) E.allows (E.stands tx.old) (E.awaits tx.old) }
+        requires ready { E.is_shared → MayStart program.now (bounds_of limits) (run_start program.now (bounds_of limits) method args.now) E.allows (E.stands tx.old) (E.awaits tx.old) }
         // The call adds an entry, or says why it adds none.
-        ensures run { (h : List Entry) (n : ℕ) (c : Call) (used : ℕ) → E.stands tx.old h n [] [] → E.awaits tx.old c used → c.method ≡ method → c.args ≡ args.now
-            → MayRun E.allows program.now (bounds_of limits) c used
-            → AddsRun program.now (bounds_of limits) c used (E.stands tx.new) h n result }
-        ensures answers { IfOk result (λ p. CanAnswer p.0) }
+        ensures run { (h : List Entry) (n : ℕ) (c : Call) → E.stands tx.old h n [] [] → E.awaits tx.old c limits.room.used → c.method ≡ method → c.args ≡ args.now
+            → MayRun E.allows program.now (bounds_of limits) c
+            → AddsRun program.now (bounds_of limits) c (E.stands tx.new) h n result }
         ensures ticks { E.clock tx.new ≤ E.clock tx.old + limits.attempts }
     {
         match attempts(alloc, program, tx, limits, method, args) {
             Ok(end) => Ok(end),
-            Err(Failure::NoMemory) => Ok((Answer::NoMemory, UNPLACED)),
+            Err(Failure::NoMemory) => Ok(limits.unplaced(Answer::NoMemory)),
             Err(Failure::Wrong) => Err(Stuck),
         }
     }
@@ -72,21 +106,39 @@ fn attempts<E: Engine>(
     limits: Limits,
     method: usize,
     args: &[Value],
-) -> Result<(Answer, Stamp), Failure>
+) -> Result<End, Failure>
     requires clock { E.clock tx.old + limits.attempts ≤ 2 ^ 40 }
-    requires ready { E.is_shared → MayStart program.now (bounds_of limits) (run_start program.now method args.now) E.allows (E.stands tx.old) (E.awaits tx.old) }
-    ensures run { (h : List Entry) (n used : ℕ) → E.stands tx.old h n [] []
-        → IsEnd program.now (bounds_of limits) (run_start program.now method args.now used) (E.awaits tx.old) E.allows (E.stands tx.new) h n (AddsNone (E.stands tx.new h) n) result }
-    ensures answers { IfOk result (λ p. CanAnswer p.0) }
+    requires fits { limits.room.region * limits.room.size + limits.room.size < 2 ^ 64 }
+    requires ready { E.is_shared → MayStart program.now (bounds_of limits) (run_start program.now (bounds_of limits) method args.now) E.allows (E.stands tx.old) (E.awaits tx.old) }
+    ensures run { (h : List Entry) (n : ℕ) → E.stands tx.old h n [] []
+        → IsEnd program.now (bounds_of limits) (run_start program.now (bounds_of limits) method args.now) (E.awaits tx.old) E.allows (E.stands tx.new) h n (AddsNone (E.stands tx.new h) n) result }
     ensures ticks { E.clock tx.new ≤ E.clock tx.old + limits.attempts }
 {
-    let mut running = Running::start(alloc, program, method, args)?;
+    let mut running = Running::start(alloc, program, limits, method, args)?;
     match running.run(alloc, program, limits, tx) {
         Ok(end) => Ok(end),
         Err(failure) => {
             running.leave(tx);
             Err(failure)
         }
+    }
+}
+
+/// Ends an attempt as a refusal, which leaves the region as it was before the call.
+fn refuse<E: Engine>(tx: &mut E, limits: Limits, answer: Answer) -> End
+    requires open { E.is_open tx.old }
+    requires allowed { E.is_shared → MayEnd (E.stands tx.old) (E.awaits tx.old) E.allows (λ _. []) answer (λ used. used) }
+    ensures answer { result.answer ≡ answer }
+    ensures used { result.used ≡ limits.room.used }
+    ensures run { (h : List Entry) (n : ℕ) (r w : Log) → E.stands tx.old h n r w
+        → IsOfWrites result.stamp [] × Adds (E.awaits tx.old) E.allows (E.stands tx.new) h n answer (λ used. used) result.stamp r [] }
+    ensures ticks { E.clock tx.new ≡ E.clock tx.old }
+{
+    let stamp = tx.finish_refused(Snapshot::of(&answer));
+    End {
+        answer,
+        stamp,
+        used: limits.room.used,
     }
 }
 
@@ -98,33 +150,35 @@ impl Running {
         program: &Program,
         limits: Limits,
         tx: &mut E,
-    ) -> Result<(Answer, Stamp), Failure>
+    ) -> Result<End, Failure>
         requires stage { self.old.stage ≡ stage.Ready }
         requires tried { self.old.tried ≡ 0 }
         requires clock { E.clock tx.old + limits.attempts ≤ 2 ^ 40 }
-        requires ready { E.is_shared → MayStart program.now (bounds_of limits) (λ used. at self.old used [] []) E.allows (E.stands tx.old) (E.awaits tx.old) }
-        ensures run { (h : List Entry) (n used : ℕ) → E.stands tx.old h n [] []
-            → IsEnd program.now (bounds_of limits) (at self.old used [] []) (E.awaits tx.old) E.allows (E.stands tx.new) h n (Leaves (E.stands tx.new h) n self.new.stage) result }
-        ensures answers { IfOk result (λ p. CanAnswer p.0) }
+        requires fits { limits.room.region * limits.room.size + limits.room.size < 2 ^ 64 }
+        requires ready { E.is_shared → MayStart program.now (bounds_of limits) (at self.old [] []) E.allows (E.stands tx.old) (E.awaits tx.old) }
+        ensures run { (h : List Entry) (n : ℕ) → E.stands tx.old h n [] []
+            → IsEnd program.now (bounds_of limits) (at self.old [] []) (E.awaits tx.old) E.allows (E.stands tx.new) h n (Leaves (E.stands tx.new h) n self.new.stage) result }
         ensures ticks { E.clock tx.new ≤ E.clock tx.old + limits.attempts }
     {
         for _ in 0..u64::MAX {
             match self.turn(alloc, program, limits, tx)? {
                 Todo::Go => {}
                 Todo::Commit => {
-                    if let Some((value, stamp)) = self.commit(alloc, program, tx)? {
-                        return Ok((Answer::Returned(value), stamp));
+                    if let Some(end) = self.commit(alloc, program, limits, tx)? {
+                        return Ok(end);
                     }
                 }
-                Todo::Budget => {
-                    let stamp = tx.finish_refused(Snapshot::of(&Answer::Budget));
-                    return Ok((Answer::Budget, stamp));
+                Todo::Budget => return Ok(refuse(tx, limits, Answer::Budget)),
+                Todo::Depth => return Ok(refuse(tx, limits, Answer::Depth)),
+                Todo::Heap(wanted) => {
+                    let full = Answer::Heap {
+                        used: self.used,
+                        wanted,
+                        size: limits.room.size,
+                    };
+                    return Ok(refuse(tx, limits, full));
                 }
-                Todo::Depth => {
-                    let stamp = tx.finish_refused(Snapshot::of(&Answer::Depth));
-                    return Ok((Answer::Depth, stamp));
-                }
-                Todo::Spent => return Ok((Answer::Spent, UNPLACED)),
+                Todo::Spent => return Ok(limits.unplaced(Answer::Spent)),
             }
         }
         Err(Failure::NoMemory)

@@ -1,5 +1,5 @@
 //! A call on its way: what it asks of the engine, step by step.
-ghost use Rattle.std.specs.Prelude.{◌≡◌, ◌≢◌, ◌<◌, ◌+◌, ◌^◌, ℕ, List, [], ◌∷◌, IfOk};
+ghost use Rattle.std.specs.Prelude.{◌≡◌, ◌≢◌, ◌<◌, ◌+◌, ◌*◌, ◌^◌, ℕ, List, [], ◌∷◌, IfOk};
 ghost use Rattle.jmodel.specs.Attempt.{Log, Bounds, On, address, next_run, on_request, entered, unwound};
 ghost use Rattle.jmodel.specs.Program.{Program as JProgram};
 ghost use Rattle.jmodel.specs.History.{Call, Entry};
@@ -15,6 +15,7 @@ use crate::callers::Callers;
 use crate::failure::Failure;
 use crate::frame::Frame;
 use crate::machine::Limits;
+use crate::room::Thrown;
 use crate::stack::Locals;
 use crate::step::{step, unwind};
 use crate::value::value_of;
@@ -45,6 +46,8 @@ pub enum Todo {
     Budget,
     /// There are too many frames.
     Depth,
+    /// The region has no room for so many words more.
+    Heap(u64),
     /// The attempts are used up.
     Spent,
 }
@@ -59,6 +62,10 @@ pub struct Running {
     pub turns: u64,
     /// The attempts begun.
     pub tried: u64,
+    /// The used words of the region.
+    pub used: u64,
+    /// What the attempt threw last.
+    pub thrown: Option<Thrown>,
 }
 
 impl Running {
@@ -68,10 +75,11 @@ impl Running {
     pub fn start(
         alloc: Global,
         program: &Program,
+        limits: Limits,
         method: usize,
         args: &[Value],
     ) -> Result<Self, Failure>
-        ensures { (used : ℕ) → IsStarted program.now method args.now used result }
+        ensures { IsStarted program.now (bounds_of limits) method args.now result }
     {
         let entry = program.method(method).ok_or(Failure::Wrong)?.entry();
         let locals = Locals::of_values(alloc, args)?;
@@ -81,6 +89,8 @@ impl Running {
             callers: Callers::new(alloc),
             turns: 0,
             tried: 0,
+            used: limits.room.used,
+            thrown: None,
         })
     }
 }
@@ -90,10 +100,18 @@ impl Running {
     ghost use Rattle.jmodel.specs.Value.{pushed};
     ghost use Rattle.machine.specs.Running.{Lands};
 
+    /// What an attempt that met a conflict took of the region is given back.
+    pub(crate) fn set_back(&mut self, limits: Limits)
+        ensures { self.new ≡ record self.old { used = limits.room.used; thrown = None } }
+    {
+        self.used = limits.room.used;
+        self.thrown = None;
+    }
+
     /// Counts a turn, before the test whether there are too many frames.
-    fn count(&mut self, deep: bool) -> Result<Todo, Failure>
-        ensures run { (used : ℕ) (r w : Log)
-            → Lands (entered (phase_of self.old.stage) deep (frames self.old) (meter self.old used) w r) self.new used w r result }
+    pub(crate) fn count(&mut self, deep: bool) -> Result<Todo, Failure>
+        ensures run { (B : Bounds) (r w : Log)
+            → Lands B (entered B (phase_of self.old.stage) deep (frames self.old) (meter self.old) w r) self.new w r result }
         ensures no_commit { result ≢ Ok Todo.Commit }
         ensures not_spent { result ≢ Ok Todo.Spent }
         ensures stage { self.new.stage ≡ self.old.stage }
@@ -116,8 +134,8 @@ impl Running {
     /// Goes on to the next instruction, with a slot on the stack.
     fn resume(&mut self, slot: Slot) -> Result<Todo, Failure>
         requires { self.old.frame.pc + 1 < 2 ^ 64 }
-        ensures run { (used : ℕ) (r w : Log)
-            → Lands (On (phase_of self.old.stage) (resumed (slot ∷ []) (frames self.old)) (meter self.old used) w r) self.new used w r result }
+        ensures run { (B : Bounds) (r w : Log)
+            → Lands B (On (phase_of self.old.stage) (resumed (slot ∷ []) (frames self.old)) (meter self.old) w r) self.new w r result }
         ensures go { IfOk result (λ todo. todo ≡ Todo.Go) }
         ensures stage { self.new.stage ≡ self.old.stage }
         ensures tried { self.new.tried ≡ self.old.tried }
@@ -129,8 +147,8 @@ impl Running {
     /// Goes on to the next instruction, with a value on the stack.
     fn resume_with(&mut self, value: Value) -> Result<Todo, Failure>
         requires { self.old.frame.pc + 1 < 2 ^ 64 }
-        ensures run { (used : ℕ) (r w : Log)
-            → Lands (On (phase_of self.old.stage) (resumed (pushed value []) (frames self.old)) (meter self.old used) w r) self.new used w r result }
+        ensures run { (B : Bounds) (r w : Log)
+            → Lands B (On (phase_of self.old.stage) (resumed (pushed value []) (frames self.old)) (meter self.old) w r) self.new w r result }
         ensures go { IfOk result (λ todo. todo ≡ Todo.Go) }
         ensures stage { self.new.stage ≡ self.old.stage }
         ensures tried { self.new.tried ≡ self.old.tried }
@@ -140,9 +158,9 @@ impl Running {
     }
 
     /// Throws the conflict, which ends the attempt's reads and writes.
-    fn doom(&mut self, program: &Program) -> Result<Todo, Failure>
-        ensures run { (used : ℕ) (r w : Log)
-            → Lands (unwound (unwinds program.now 1 (frames self.old)) (meter self.old used) w r) self.new used w r result }
+    pub(crate) fn doom(&mut self, program: &Program) -> Result<Todo, Failure>
+        ensures run { (B : Bounds) (r w : Log)
+            → Lands B (unwound (unwinds program.now 1 (frames self.old)) (meter self.old) w r) self.new w r result }
         ensures go { IfOk result (λ todo. todo ≡ Todo.Go) }
         ensures stage { self.new.stage ≡ stage.Doomed }
         ensures tried { self.new.tried ≡ self.old.tried }
@@ -176,9 +194,9 @@ impl Running {
     ) -> Result<Todo, Failure>
         requires stage { self.old.stage ≡ stage.Ready }
         requires next { self.old.frame.pc + 1 < 2 ^ 64 }
-        ensures run { (h : List Entry) (n used : ℕ) (r w : Log) → Holds (E.stands engine.old h) n stage.Ready self.old.tried r w
-            → (P : JProgram) → IsTurn (λ v. on_request P (bounds_of limits) (request.Begin retries) phase.Ready v (frames self.old) (meter self.old used) w r)
-            (Holds (E.stands engine.new h) n self.new.stage self.new.tried) used self.new result }
+        ensures run { (h : List Entry) (n : ℕ) (r w : Log) → Holds (E.stands engine.old h) n stage.Ready self.old.tried r w
+            → (P : JProgram) → IsTurn (bounds_of limits) (λ v. on_request P (bounds_of limits) (request.Begin retries) phase.Ready v (frames self.old) (meter self.old) w r)
+            (Holds (E.stands engine.new h) n self.new.stage self.new.tried) self.new result }
         ensures no_commit { result ≢ Ok Todo.Commit }
         ensures spent { result ≡ Ok Todo.Spent → self.new.stage ≡ stage.Ready }
         ensures ticks { (t : ℕ) → IsWithin t limits.attempts (E.clock engine.old) self.old.stage self.old.tried
@@ -187,6 +205,7 @@ impl Running {
         ensures awaits { (c : Call) (used : ℕ) → E.awaits engine.old c used → E.awaits engine.new c used }
         ensures budget { result ≡ Ok Todo.Budget → self.new.stage ≡ stage.Open }
         ensures depth { result ≡ Ok Todo.Depth → self.new.stage ≡ stage.Open }
+        ensures heap { (wanted : ℕ) → result ≡ Ok (Todo.Heap wanted) → self.new.stage ≡ stage.Open }
     {
         let most = u64::try_from(retries).unwrap_or(0).min(limits.attempts);
         if self.tried >= most {
@@ -211,9 +230,9 @@ impl Running {
         requires next { self.old.frame.pc + 1 < 2 ^ 64 }
         requires address { place.object + place.index < 2 ^ 64 }
         requires begun { E.is_open engine.old }
-        ensures run { (h : List Entry) (n used : ℕ) (r w : Log) → Holds (E.stands engine.old h) n stage.Open self.old.tried r w
-            → (B : Bounds) → IsTurn (λ v. on_request program.now B (request.Look place) phase.Open v (frames self.old) (meter self.old used) w r)
-            (Holds (E.stands engine.new h) n self.new.stage self.new.tried) used self.new result }
+        ensures run { (h : List Entry) (n : ℕ) (r w : Log) → Holds (E.stands engine.old h) n stage.Open self.old.tried r w
+            → (B : Bounds) → IsTurn B (λ v. on_request program.now B (request.Look place) phase.Open v (frames self.old) (meter self.old) w r)
+            (Holds (E.stands engine.new h) n self.new.stage self.new.tried) self.new result }
         ensures go { IfOk result (λ todo. todo ≡ Todo.Go) }
         ensures ticks { (t attempts : ℕ) → IsWithin t attempts (E.clock engine.old) self.old.stage self.old.tried
             → IsWithin t attempts (E.clock engine.new) self.new.stage self.new.tried }
@@ -241,9 +260,9 @@ impl Running {
         requires next { self.old.frame.pc + 1 < 2 ^ 64 }
         requires address { place.object + place.index < 2 ^ 64 }
         requires begun { E.is_open engine.old }
-        ensures run { (h : List Entry) (n used : ℕ) (r w : Log) → Holds (E.stands engine.old h) n stage.Open self.old.tried r w
-            → (B : Bounds) → IsTurn (λ v. on_request program.now B (request.Read place word_type) phase.Open v (frames self.old) (meter self.old used) w r)
-            (Holds (E.stands engine.new h) n self.new.stage self.new.tried) used self.new result }
+        ensures run { (h : List Entry) (n : ℕ) (r w : Log) → Holds (E.stands engine.old h) n stage.Open self.old.tried r w
+            → (B : Bounds) → IsTurn B (λ v. on_request program.now B (request.Read place word_type) phase.Open v (frames self.old) (meter self.old) w r)
+            (Holds (E.stands engine.new h) n self.new.stage self.new.tried) self.new result }
         ensures go { IfOk result (λ todo. todo ≡ Todo.Go) }
         ensures ticks { (t attempts : ℕ) → IsWithin t attempts (E.clock engine.old) self.old.stage self.old.tried
             → IsWithin t attempts (E.clock engine.new) self.new.stage self.new.tried }
@@ -271,9 +290,9 @@ impl Running {
         requires next { self.old.frame.pc + 1 < 2 ^ 64 }
         requires address { place.object + place.index < 2 ^ 64 }
         requires begun { E.is_open engine.old }
-        ensures run { (h : List Entry) (n used : ℕ) (r w : Log) → Holds (E.stands engine.old h) n stage.Open self.old.tried r w
-            → (B : Bounds) → IsTurn (λ v. on_request program.now B (request.Write place word) phase.Open v (frames self.old) (meter self.old used) w r)
-            (Holds (E.stands engine.new h) n self.new.stage self.new.tried) used self.new result }
+        ensures run { (h : List Entry) (n : ℕ) (r w : Log) → Holds (E.stands engine.old h) n stage.Open self.old.tried r w
+            → (B : Bounds) → IsTurn B (λ v. on_request program.now B (request.Write place word) phase.Open v (frames self.old) (meter self.old) w r)
+            (Holds (E.stands engine.new h) n self.new.stage self.new.tried) self.new result }
         ensures go { IfOk result (λ todo. todo ≡ Todo.Go) }
         ensures ticks { (t attempts : ℕ) → IsWithin t attempts (E.clock engine.old) self.old.stage self.old.tried
             → IsWithin t attempts (E.clock engine.new) self.new.stage self.new.tried }
@@ -291,12 +310,12 @@ impl Running {
     }
 
     /// Rolls back an attempt that met a conflict.
-    fn rollback<E: Engine>(&mut self, engine: &mut E) -> Result<Todo, Failure>
+    fn rollback<E: Engine>(&mut self, limits: Limits, engine: &mut E) -> Result<Todo, Failure>
         requires stage { self.old.stage ≡ stage.Doomed }
         requires next { self.old.frame.pc + 1 < 2 ^ 64 }
-        ensures run { (h : List Entry) (n used : ℕ) (r w : Log) → Holds (E.stands engine.old h) n stage.Doomed self.old.tried r w
-            → (P : JProgram) (B : Bounds) → IsTurn (λ v. on_request P B request.Rollback phase.Doomed v (frames self.old) (meter self.old used) w r)
-            (Holds (E.stands engine.new h) n self.new.stage self.new.tried) used self.new result }
+        ensures run { (h : List Entry) (n : ℕ) (r w : Log) → Holds (E.stands engine.old h) n stage.Doomed self.old.tried r w
+            → (P : JProgram) → IsTurn (bounds_of limits) (λ v. on_request P (bounds_of limits) request.Rollback phase.Doomed v (frames self.old) (meter self.old) w r)
+            (Holds (E.stands engine.new h) n self.new.stage self.new.tried) self.new result }
         ensures go { IfOk result (λ todo. todo ≡ Todo.Go) }
         ensures ticks { (t attempts : ℕ) → IsWithin t attempts (E.clock engine.old) self.old.stage self.old.tried
             → IsWithin t attempts (E.clock engine.new) self.new.stage self.new.tried }
@@ -305,6 +324,7 @@ impl Running {
     {
         engine.rollback();
         self.stage = Stage::Ready;
+        self.set_back(limits);
         self.frame.advance();
         Ok(Todo::Go)
     }
@@ -319,9 +339,9 @@ impl Running {
     ) -> Result<Todo, Failure>
         requires can { HasAddress request × (self.old.frame.pc + 1 < 2 ^ 64) }
         requires begun { self.old.stage ≡ stage.Open → E.is_open engine.old }
-        ensures run { (h : List Entry) (n used : ℕ) (r w : Log) → Holds (E.stands engine.old h) n self.old.stage self.old.tried r w
-            → IsTurn (λ v. on_request program.now (bounds_of limits) request (phase_of self.old.stage) v (frames self.old) (meter self.old used) w r)
-            (Holds (E.stands engine.new h) n self.new.stage self.new.tried) used self.new result }
+        ensures run { (h : List Entry) (n : ℕ) (r w : Log) → Holds (E.stands engine.old h) n self.old.stage self.old.tried r w
+            → IsTurn (bounds_of limits) (λ v. on_request program.now (bounds_of limits) request (phase_of self.old.stage) v (frames self.old) (meter self.old) w r)
+            (Holds (E.stands engine.new h) n self.new.stage self.new.tried) self.new result }
         ensures ticks { (t : ℕ) → IsWithin t limits.attempts (E.clock engine.old) self.old.stage self.old.tried
             → IsWithin t limits.attempts (E.clock engine.new) self.new.stage self.new.tried }
         ensures open { result ≡ Ok Todo.Commit → self.new.stage ≡ stage.Open }
@@ -331,6 +351,7 @@ impl Running {
         ensures awaits { (c : Call) (used : ℕ) → E.awaits engine.old c used → E.awaits engine.new c used }
         ensures budget { result ≡ Ok Todo.Budget → self.new.stage ≡ stage.Open }
         ensures depth { result ≡ Ok Todo.Depth → self.new.stage ≡ stage.Open }
+        ensures heap { (wanted : ℕ) → result ≡ Ok (Todo.Heap wanted) → self.new.stage ≡ stage.Open }
     {
         match (request, self.stage) {
             (Request::Begin(retries), Stage::Ready) => self.begin(limits, engine, retries),
@@ -341,7 +362,7 @@ impl Running {
             }
             (Request::Write(place, word), Stage::Open) => self.write(program, engine, place, word),
             (Request::Commit, Stage::Open) => Ok(Todo::Commit),
-            (Request::Rollback, Stage::Doomed) => self.rollback(engine),
+            (Request::Rollback, Stage::Doomed) => self.rollback(limits, engine),
             _ => Err(Failure::Wrong),
         }
     }
@@ -354,9 +375,10 @@ impl Running {
         limits: Limits,
         engine: &mut E,
     ) -> Result<Todo, Failure>
+        requires fits { limits.room.region * limits.room.size + limits.room.size < 2 ^ 64 }
         requires begun { self.old.stage ≡ stage.Open → E.is_open engine.old }
-        ensures run { (h : List Entry) (n used : ℕ) (r w : Log) → Holds (E.stands engine.old h) n self.old.stage self.old.tried r w
-            → IsTurn (λ v. next_run program.now (bounds_of limits) v (at self.old used w r)) (Holds (E.stands engine.new h) n self.new.stage self.new.tried) used self.new result }
+        ensures run { (h : List Entry) (n : ℕ) (r w : Log) → Holds (E.stands engine.old h) n self.old.stage self.old.tried r w
+            → IsTurn (bounds_of limits) (λ v. next_run program.now (bounds_of limits) v (at self.old w r)) (Holds (E.stands engine.new h) n self.new.stage self.new.tried) self.new result }
         ensures ticks { (t : ℕ) → IsWithin t limits.attempts (E.clock engine.old) self.old.stage self.old.tried
             → IsWithin t limits.attempts (E.clock engine.new) self.new.stage self.new.tried }
         ensures open { result ≡ Ok Todo.Commit → self.new.stage ≡ stage.Open }
@@ -366,12 +388,14 @@ impl Running {
         ensures awaits { (c : Call) (used : ℕ) → E.awaits engine.old c used → E.awaits engine.new c used }
         ensures budget { result ≡ Ok Todo.Budget → self.new.stage ≡ stage.Open }
         ensures depth { result ≡ Ok Todo.Depth → self.new.stage ≡ stage.Open }
+        ensures heap { (wanted : ℕ) → result ≡ Ok (Todo.Heap wanted) → self.new.stage ≡ stage.Open }
     {
         match step(alloc, program, &mut self.frame, &mut self.callers)? {
             Asking::Go => Ok(Todo::Go),
             Asking::Turn => self.count(false),
             Asking::Enter(deep) => self.count(deep),
             Asking::Return(_) | Asking::Throw(_) => Err(Failure::Wrong),
+            Asking::Trap(trap) => self.trap(program, limits, engine, trap),
             Asking::Ask(request) => self.serve(program, limits, engine, request),
         }
     }

@@ -36,6 +36,7 @@ pub fn step(
         Doing::Invoke(method) => invoke(alloc, program, method, frame, callers),
         Doing::Give(value) => give(value, frame, callers),
         Doing::Throw(exception) => unwind(program, exception, frame, callers),
+        Doing::Trap(trap) => Ok(Asking::Trap(trap)),
         Doing::Ask(request) => Ok(Asking::Ask(request)),
     }
 }

@@ -154,6 +154,7 @@ module _ (c new : ClassFile) (P : Program) (K : Known c new P) (L : linked c ≡
   calls_one n k e j (op.Store i) t = tt
   calls_one n k e j (op.Rearrange r) t = tt
   calls_one n k e j (op.Binary b) t = tt
+  calls_one n k e j (op.Divide d) t = tt
   calls_one n k e j (op.Unary u) t = tt
   calls_one n k e j (op.Increment i x) t = tt
   calls_one n k e j (op.Branch q to) t = tt

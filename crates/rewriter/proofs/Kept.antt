@@ -9,6 +9,7 @@ use Rattle.jmodel.specs.declared.value.Value.{Value}
 use Rattle.jmodel.specs.declared.value.Value.TheVariants as value
 use Rattle.jmodel.specs.declared.op.Rearrange.{Rearrange}
 use Rattle.jmodel.specs.declared.op.Binary.{Binary}
+use Rattle.jmodel.specs.declared.op.Division.{Division}
 use Rattle.jmodel.specs.declared.op.Unary.{Unary}
 use Rattle.jmodel.specs.declared.op.ContextCall.{ContextCall}
 use Rattle.jmodel.specs.declared.instruction.EntryKind.{EntryKind}
@@ -26,10 +27,10 @@ use Rattle.jmodel.specs.declared.op.ContextCall.TheVariants as context
 use Rattle.jmodel.specs.ClassFile.{Pool}
 use Rattle.jmodel.specs.Pool.{entry, MemberName, field_name, method_name}
 use Rattle.jmodel.specs.Constants.{integer}
-use Rattle.jmodel.specs.Layout.{base_of}
 use Rattle.jmodel.specs.Instruction.{form_of, targets_of, ascend, ascend_after, IsSizedAs, is_kind_in, FitsWide, Names, Counts, FitPoolAs, IsInstrOver}
 use Rattle.jmodel.specs.Rewriting.{moved_cases}
 use Rattle.jmodel.specs.Relocation.{retarget, IsShapedAs}
+use Rattle.jmodel.specs.Superclasses.{declared_field, declared_method}
 use Rattle.jmodel.specs.Decoding.{number_at, Symbols, field_number, method_number, long_field, simple_op, number_op, local_op, wide_op, test_of, jump_to, jump_op, in_front, each, table_cases, numbered_case, ascending_op, switch_op, get_op, put_op, static_call_op, context_op, virtual_call_op, pool_op, meaning, op_of}
 use Rattle.rewriter.proofs.Grown.{Grown, entry_grown, integer_grown}
 use Rattle.jmodel.specs.Relocation.{Block}
@@ -43,6 +44,7 @@ abbrev pub is_same : Op → Bool
 is_same (op.Constant (value.Int n)) = true
 is_same (op.Rearrange r) = true
 is_same (op.Binary b) = true
+is_same (op.Divide d) = true
 is_same (op.Unary u) = true
 is_same op.Return = true
 is_same op.ReturnValue = true
@@ -109,14 +111,14 @@ local_other p c n h k = either p ((c == 21) || (c == 25)) (Some (op.Load n)) _ (
 
 get_other : (s : Symbols) (m : MemberName) → None_of is_same (get_op s m)
 get_other s m =
-    either is_same _ _ _ (mapped is_same op.GetStatic (field_number s.fields m) (λ x. refl)) (either is_same _ _ _ (mapped is_same (λ x. op.Constant (value.Long x)) (long_field s.class m) (λ x. refl))
-    (either is_same _ (Some (op.Constant (value.Ref (base_of (s.class ∷ []) 0)))) None (leaf is_same _ refl) (nothing is_same)))
+    either is_same _ _ _ (mapped is_same op.GetStatic (field_number s.fields (declared_field s.classes m)) (λ x. refl)) (either is_same _ _ _ (mapped is_same (λ x. op.Constant (value.Long x)) (long_field s.class m) (λ x. refl))
+    (either is_same _ (Some (op.Constant (value.Ref s.base))) None (leaf is_same _ refl) (nothing is_same)))
 
 put_other : (s : Symbols) (m : MemberName) → None_of is_same (put_op s m)
-put_other s m = mapped is_same op.PutStatic (field_number s.fields m) (λ x. refl)
+put_other s m = mapped is_same op.PutStatic (field_number s.fields (declared_field s.classes m)) (λ x. refl)
 
 static_other : (s : Symbols) (m : MemberName) → None_of is_same (static_call_op s m)
-static_other s m = either is_same _ (Some op.GetContext) _ (leaf is_same _ refl) (mapped is_same op.InvokeStatic (method_number s.methods m) (λ x. refl))
+static_other s m = either is_same _ (Some op.GetContext) _ (leaf is_same _ refl) (mapped is_same op.InvokeStatic (method_number s.methods (declared_method s.classes m)) (λ x. refl))
 
 context_other : (m : MemberName) → None_of is_same (context_op m)
 context_other m =
@@ -175,6 +177,7 @@ record IsFar (p : Op → Bool) : Type 0 where
   constant : (v : Value) → p (op.Constant v) ≡ false
   rearrange : (r : Rearrange) → p (op.Rearrange r) ≡ false
   binary : (b : Binary) → p (op.Binary b) ≡ false
+  divide : (d : Division) → p (op.Divide d) ≡ false
   unary : (u : Unary) → p (op.Unary u) ≡ false
   gives : p op.ReturnValue ≡ false
   returns : p op.Return ≡ false
@@ -196,10 +199,11 @@ module _ (p : Op → Bool) (F : IsFar p) where
       (either p (c == 90) _ _ (leaf p _ (F.rearrange _)) (either p (c == 91) _ _ (leaf p _ (F.rearrange _)) (either p (c == 92) _ _ (leaf p _ (F.rearrange _)) (either p (c == 93) _ _ (leaf p _ (F.rearrange _))
       (either p (c == 94) _ _ (leaf p _ (F.rearrange _)) (either p (c == 95) _ None (leaf p _ (F.rearrange _)) (nothing p)))))))))))
       (either p (nat_le 96 c && nat_le c 147) _ _
-      (either p (c == 96) _ _ (leaf p _ (F.binary _)) (either p (c == 100) _ _ (leaf p _ (F.binary _)) (either p (c == 104) _ _ (leaf p _ (F.binary _)) (either p (c == 116) _ _ (leaf p _ (F.unary _))
+      (either p (c == 96) _ _ (leaf p _ (F.binary _)) (either p (c == 100) _ _ (leaf p _ (F.binary _)) (either p (c == 104) _ _ (leaf p _ (F.binary _)) (either p (c == 108) _ _ (leaf p _ (F.divide _))
+      (either p (c == 112) _ _ (leaf p _ (F.divide _)) (either p (c == 116) _ _ (leaf p _ (F.unary _))
       (either p (c == 120) _ _ (leaf p _ (F.binary _)) (either p (c == 122) _ _ (leaf p _ (F.binary _)) (either p (c == 124) _ _ (leaf p _ (F.binary _)) (either p (c == 126) _ _ (leaf p _ (F.binary _))
       (either p (c == 128) _ _ (leaf p _ (F.binary _)) (either p (c == 130) _ _ (leaf p _ (F.binary _)) (either p (c == 145) _ _ (leaf p _ (F.unary _)) (either p (c == 146) _ _ (leaf p _ (F.unary _))
-      (either p (c == 147) _ None (leaf p _ (F.unary _)) (nothing p))))))))))))))
+      (either p (c == 147) _ None (leaf p _ (F.unary _)) (nothing p))))))))))))))))
       (either p (nat_le 172 c) _ _
       (either p (c == 172) _ _ (leaf p _ F.gives) (either p (c == 177) _ _ (leaf p _ F.returns) (either p (c == 191) _ None (leaf p _ F.throws) (nothing p))))
       (either p (nat_le 26 c && nat_le c 29) _ _ (leaf p _ (F.load _)) (either p (nat_le 42 c && nat_le c 45) _ _ (leaf p _ (F.load _)) (either p (nat_le 59 c && nat_le c 62) _ _ (leaf p _ (F.store _))
@@ -214,20 +218,21 @@ module _ (p : Op → Bool) (F : IsFar p) where
   pool_far : (s : Symbols) (c i : ℕ) → None_of p (pool_op s c i)
   pool_far s c i =
       either p ((c == 18) || (c == 19)) _ _ (mapped p (λ n. op.Constant (value.Int n)) (integer s.class.pool i) (λ x. F.constant _))
-      (either p (c == 178) _ _ (chained p (get_op s) (field_name s.class.pool i) (λ m. either p _ _ _ (mapped p op.GetStatic (field_number s.fields m) (λ x. F.get x)) (either p _ _ _ (mapped p (λ x. op.Constant (value.Long x)) (long_field s.class m) (λ x. F.constant _))
-      (either p _ (Some (op.Constant (value.Ref (base_of (s.class ∷ []) 0)))) None (leaf p _ (F.constant _)) (nothing p)))))
-      (either p (c == 179) _ _ (chained p (put_op s) (field_name s.class.pool i) (λ m. mapped p op.PutStatic (field_number s.fields m) (λ x. F.put x)))
+      (either p (c == 178) _ _ (chained p (get_op s) (field_name s.class.pool i) (λ m. either p _ _ _ (mapped p op.GetStatic (field_number s.fields (declared_field s.classes m)) (λ x. F.get x)) (either p _ _ _ (mapped p (λ x. op.Constant (value.Long x)) (long_field s.class m) (λ x. F.constant _))
+      (either p _ (Some (op.Constant (value.Ref s.base))) None (leaf p _ (F.constant _)) (nothing p)))))
+      (either p (c == 179) _ _ (chained p (put_op s) (field_name s.class.pool i) (λ m. mapped p op.PutStatic (field_number s.fields (declared_field s.classes m)) (λ x. F.put x)))
       (either p (c == 182) _ _ (chained p virtual_call_op (method_name s.class.pool i) (λ m. either p _ _ None
       (either p _ (Some (op.Context context.Init)) _ (leaf p _ (F.context _)) (either p _ (Some (op.Context context.BeforeRead)) _ (leaf p _ (F.context _)) (either p _ _ _ (mapped p (λ t. op.Context (context.OnRead t)) (type_with read_descriptor m.descriptor) (λ t. F.context _))
       (either p _ _ _ (mapped p (λ t. op.Context (context.OnWrite t)) (type_with write_descriptor m.descriptor) (λ t. F.context _)) (either p _ (Some (op.Context context.Commit)) _ (leaf p _ (F.context _)) (either p _ (Some (op.Context context.Rollback)) None (leaf p _ (F.context _)) (nothing p)))))))
       (nothing p)))
-      (either p (c == 184) _ None (chained p (static_call_op s) (method_name s.class.pool i) (λ m. either p _ (Some op.GetContext) _ (leaf p _ F.begin) (mapped p op.InvokeStatic (method_number s.methods m) (λ x. F.call x)))) (nothing p)))))
+      (either p (c == 184) _ None (chained p (static_call_op s) (method_name s.class.pool i) (λ m. either p _ (Some op.GetContext) _ (leaf p _ F.begin) (mapped p op.InvokeStatic (method_number s.methods (declared_method s.classes m)) (λ x. F.call x)))) (nothing p)))))
 
 far_jump : IsFar is_jump
 far_jump = record {
   constant = λ v. refl;
   rearrange = λ r. refl;
   binary = λ b. refl;
+  divide = λ d. refl;
   unary = λ u. refl;
   gives = refl;
   returns = refl;
@@ -255,6 +260,7 @@ far_increment = record {
   constant = λ v. refl;
   rearrange = λ r. refl;
   binary = λ b. refl;
+  divide = λ d. refl;
   unary = λ u. refl;
   gives = refl;
   returns = refl;
@@ -367,6 +373,7 @@ far_switch = record {
   constant = λ v. refl;
   rearrange = λ r. refl;
   binary = λ b. refl;
+  divide = λ d. refl;
   unary = λ u. refl;
   gives = refl;
   returns = refl;

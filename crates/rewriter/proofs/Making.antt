@@ -110,6 +110,7 @@ module _ (names : Names) (small : AreSmallNames names) (p : ℕ) (few : p < 6000
   block_stands (op.Constant v) i s h = (h, tt)
   block_stands (op.Rearrange r) i s h = (h, tt)
   block_stands (op.Binary b) i s h = (h, tt)
+  block_stands (op.Divide d) i s h = (h, tt)
   block_stands (op.Unary u) i s h = (h, tt)
   block_stands (op.Branch t to) i s h = (h, tt)
   block_stands (op.BranchInts t to) i s h = (h, tt)
@@ -181,6 +182,7 @@ small_op s0 is0 locals gives (op.Increment n x) i few h = (omega (arith, less_of
 small_op s0 is0 locals gives (op.Constant v) i few h = tt
 small_op s0 is0 locals gives (op.Rearrange r) i few h = tt
 small_op s0 is0 locals gives (op.Binary b) i few h = tt
+small_op s0 is0 locals gives (op.Divide d) i few h = tt
 small_op s0 is0 locals gives (op.Unary u) i few h = tt
 small_op s0 is0 locals gives (op.Branch t to) i few h = tt
 small_op s0 is0 locals gives (op.BranchInts t to) i few h = tt

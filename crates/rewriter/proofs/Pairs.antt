@@ -130,6 +130,7 @@ module _ (s0 s : Symbols) (G : Grown s0.class.pool s.class.pool) (P : Program) (
   sound (op.Constant (value.Int n)) i h c = record { some = omega arith; count = refl; laid = (same_sound (op.Constant (value.Int n)) i h, tt) }
   sound (op.Rearrange r) i h c = record { some = omega arith; count = refl; laid = (same_sound (op.Rearrange r) i h, tt) }
   sound (op.Binary b) i h c = record { some = omega arith; count = refl; laid = (same_sound (op.Binary b) i h, tt) }
+  sound (op.Divide d) i h c = record { some = omega arith; count = refl; laid = (same_sound (op.Divide d) i h, tt) }
   sound (op.Unary u) i h c = record { some = omega arith; count = refl; laid = (same_sound (op.Unary u) i h, tt) }
   sound (op.Branch t to) i h c = record { some = omega arith; count = refl; laid = (same_sound (op.Branch t to) i h, tt) }
   sound (op.BranchInts t to) i h c = record { some = omega arith; count = refl; laid = (same_sound (op.BranchInts t to) i h, tt) }
@@ -278,6 +279,7 @@ module _ (s0 s : Symbols) (G : Grown s0.class.pool s.class.pool) (P : Program) (
     good (op.Constant (value.Int n)) i h c = same_good (op.Constant (value.Int n)) i refl h refl refl
     good (op.Rearrange r) i h c = same_good (op.Rearrange r) i refl h refl refl
     good (op.Binary b) i h c = same_good (op.Binary b) i refl h refl refl
+    good (op.Divide d) i h c = same_good (op.Divide d) i refl h refl refl
     good (op.Unary u) i h c = same_good (op.Unary u) i refl h refl refl
     good op.Return i h c = same_good op.Return i refl h refl refl
     good op.ReturnValue i h c = same_good op.ReturnValue i refl h refl refl

@@ -16,8 +16,8 @@ use Rattle.jmodel.specs.ClassReading.{code_of}
 use Rattle.jmodel.specs.Constants.{integer}
 use Rattle.jmodel.specs.Instruction.{IsInstrOver, SpellsInstrs}
 use Rattle.jmodel.specs.InstructionReading.{instrs_of}
+use Rattle.jmodel.specs.Superclasses.{declared_field, declared_method}
 use Rattle.jmodel.specs.Decoding.{Symbols, field_number, method_number, long_field, is_get_context, is_base, get_op, put_op, static_call_op, virtual_call_op, pool_op, meaning, each, op_of}
-use Rattle.jmodel.specs.Layout.{base_of}
 use Rattle.jmodel.specs.Linking.{is_form_op}
 use Rattle.const_pool.proofs.Takes.{IsBytes}
 use Rattle.const_pool.proofs.Parts.{code_is_found, code_is_read}
@@ -106,17 +106,17 @@ module _ (locals : ℕ) (gives : Bool) where
   never false true n r y = record { stays = λ o e t. let f : is_form_op locals gives (op.Constant (value.Ref r)) ≡ true = (let same : op.Constant (value.Ref r) ≡ o = cc in ap (is_form_op locals gives) same ∙ t) in absurd cc }
   never false false n r y = record { stays = λ o e t. absurd cc }
 
-  module _ (s0 s : Symbols) (G : Grown s0.class.pool s.class.pool) (field_stays : (m : MemberName) (i : ℕ) → field_number s0.fields m ≡ Some i → field_number s.fields m ≡ Some i)
-      (method_stays : (m : MemberName) (i : ℕ) → method_number s0.methods m ≡ Some i → method_number s.methods m ≡ Some i) (is : List Instr) where
+  module _ (s0 s : Symbols) (G : Grown s0.class.pool s.class.pool) (field_stays : (m : MemberName) (i : ℕ) → field_number s0.fields (declared_field s0.classes m) ≡ Some i → field_number s.fields (declared_field s.classes m) ≡ Some i)
+      (method_stays : (m : MemberName) (i : ℕ) → method_number s0.methods (declared_method s0.classes m) ≡ Some i → method_number s.methods (declared_method s.classes m) ≡ Some i) (is : List Instr) where
     get_stays : (m : MemberName) → Stays (get_op s0 m) (get_op s m)
     get_stays m =
-        stays_when _ _ _ _ _ (mapped op.GetStatic (field_number s0.fields m) (field_number s.fields m) (field_stays m)) (never _ (is_base s0.class m) (long_field s0.class m) (base_of (s0.class ∷ []) 0) _)
+        stays_when _ _ _ _ _ (mapped op.GetStatic (field_number s0.fields (declared_field s0.classes m)) (field_number s.fields (declared_field s.classes m)) (field_stays m)) (never _ (is_base s0.class m) (long_field s0.class m) s0.base _)
 
     put_stays : (m : MemberName) → Stays (put_op s0 m) (put_op s m)
-    put_stays m = mapped op.PutStatic (field_number s0.fields m) (field_number s.fields m) (field_stays m)
+    put_stays m = mapped op.PutStatic (field_number s0.fields (declared_field s0.classes m)) (field_number s.fields (declared_field s.classes m)) (field_stays m)
 
     static_stays : (m : MemberName) → Stays (static_call_op s0 m) (static_call_op s m)
-    static_stays m = stays_when (is_get_context m) _ _ _ _ (stays_refl (Some op.GetContext)) (mapped op.InvokeStatic (method_number s0.methods m) (method_number s.methods m) (method_stays m))
+    static_stays m = stays_when (is_get_context m) _ _ _ _ (stays_refl (Some op.GetContext)) (mapped op.InvokeStatic (method_number s0.methods (declared_method s0.classes m)) (method_number s.methods (declared_method s.classes m)) (method_stays m))
 
     pool_stays : (c i : ℕ) → Stays (pool_op s0 c i) (pool_op s c i)
     pool_stays c i =

@@ -209,10 +209,12 @@ phase_of file P lanes p (InBag calls) = bag_of file P p calls >>= λ cs. Ok (Bag
 
 -- ---- scripts
 
--- the turns and the attempts that each call may take, and what each phase calls
+-- the turns and the attempts that each call may take, how many lanes there are, how many words each region has, and what each phase calls
 pub record Script : Type 0 where
   pub budget : ℕ
   pub attempts : ℕ
+  pub lanes : ℕ
+  pub region : ℕ
   pub phases : List ScriptPhase
 
 -- how many calls a phase has
@@ -223,7 +225,7 @@ calls_of phase = sum_by length (lists_in phase)
 abbrev pub script_with : Head → List ScriptPhase → Result Script Refusal
 script_with h phases =
     must (nat_le (sum_by calls_of phases) 100000) (OverLimit (codes "calls") (pos (sum_by calls_of phases)))
-    (Ok (record { budget = unsigned_abs h.budget; attempts = unsigned_abs h.attempts; phases = phases }))
+    (Ok (record { budget = unsigned_abs h.budget; attempts = unsigned_abs h.attempts; lanes = unsigned_abs h.lanes; region = unsigned_abs h.region; phases = phases }))
 
 -- the script of a head and of the lists of its calls
 abbrev pub script_of : ClassFile → Program → Head → List Listed → Result Script Refusal

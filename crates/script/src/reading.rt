@@ -31,11 +31,13 @@ const KEYS: [&str; 7] = [
     "form", "engine", "lanes", "budget", "attempts", "region", "phases",
 ];
 
-/// A script: the turns and the attempts that each call may take, and what each phase calls.
+/// A script: the turns and the attempts that each call may take, how many lanes there are, how many words each region has, and what each phase calls.
 #[derive(Debug, Drop)]
 pub struct Script {
     pub budget: u64,
     pub attempts: u64,
+    pub lanes: u64,
+    pub region: u64,
     pub phases: Vec<PhaseCalls>,
 }
 
@@ -44,7 +46,7 @@ impl Model for Script {
 
     ghost Value = { Form };
 
-    ghost view = { λ s. record { budget = s.budget; attempts = s.attempts; phases = s.phases.items } };
+    ghost view = { λ s. record { budget = s.budget; attempts = s.attempts; lanes = s.lanes; region = s.region; phases = s.phases.items } };
 }
 
 /// How many calls lanes have, or None where a number doesn't hold as many.
@@ -93,6 +95,8 @@ fn script_with(alloc: Global, head: Head, phases: Vec<PhaseCalls>) -> Result<Scr
     Ok(Script {
         budget: head.budget.unsigned_abs(),
         attempts: head.attempts.unsigned_abs(),
+        lanes: head.lanes.unsigned_abs(),
+        region: head.region.unsigned_abs(),
         phases,
     })
 }

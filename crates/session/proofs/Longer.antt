@@ -14,12 +14,13 @@ take_left (suc n) [] ys h = absurd (omega (arith, h))
 take_left (suc n) (x ∷ xs) ys h = ap (λ l. x ∷ l) (take_left n xs ys (omega (arith, h)))
 
 -- what was made of calls was made of them with others behind
-pub made_longer : (at : Place) (cs ds : List Known) (h : List Entry) (lane : Lane) → HasMade at cs h lane → HasMade at (cs ++ ds) h lane
-made_longer at cs ds h lane made = record {
+pub made_longer : (at : Place) (used : ℕ) (cs ds : List Known) (h : List Entry) (lane : Lane) → HasMade at used cs h lane → HasMade at used (cs ++ ds) h lane
+made_longer at used cs ds h lane made = record {
   tolds = made.tolds;
   within = let long = length-append cs ds in omega (arith, long, made.within);
   calls_are = made.calls_are ∙ ap (lane_calls at.phase at.lane at.first) (sym (take_left lane.made cs ds made.within));
   history = made.history;
+  takes = made.takes;
   placed_are = made.placed_are;
   unplaced_are = made.unplaced_are;
 }
@@ -37,11 +38,11 @@ call_last cs is next i c pushed there = there ∙ last is ∙ ap (λ (l : List �
     last [] = refl
     last (j ∷ js) = last js
 
-pub made_next : (at : Place) (cs : List Known) (is next : List ℕ) (i : ℕ) (h : List Entry) (lane : Lane) → next ≡ is ++ i ∷ [] → HasMade at (calls_at cs is) h lane
-    → HasMade at (calls_at cs next) h lane
-made_next at cs is next i h lane pushed made =
-    let At : List Known → Type 0 = λ l. HasMade at l h lane in
-    subst At (sym (calls_push cs is next i pushed)) (made_longer at (calls_at cs is) (calls_at cs (i ∷ [])) h lane made)
+pub made_next : (at : Place) (used : ℕ) (cs : List Known) (is next : List ℕ) (i : ℕ) (h : List Entry) (lane : Lane) → next ≡ is ++ i ∷ [] → HasMade at used (calls_at cs is) h lane
+    → HasMade at used (calls_at cs next) h lane
+made_next at used cs is next i h lane pushed made =
+    let At : List Known → Type 0 = λ l. HasMade at used l h lane in
+    subst At (sym (calls_push cs is next i pushed)) (made_longer at used (calls_at cs is) (calls_at cs (i ∷ [])) h lane made)
 
 pub length_calls : (cs : List Known) (is : List ℕ) → length (calls_at cs is) ≡ length is
 length_calls cs is = length-map is (λ (j : ℕ). get_or cs j (record { method = 0; args = [] }))

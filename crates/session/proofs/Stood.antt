@@ -10,67 +10,67 @@ use native.Mathlib.Decide.{ℕ_discrete}
 use Rattle.std.proofs.lemmas.List.Elements.{All-append, All-weaker, All-from_recursion}
 use Rattle.atomic_table.specs.Seated.{TableId}
 use Rattle.jmodel.specs.Attempt.{Log}
-use Rattle.jmodel.specs.History.{Call, Entry, Told, round}
+use Rattle.jmodel.specs.History.{Call, Entry, Told, round, used_after}
 use Rattle.jmodel.specs.Schedule.{Known, call_at, is_memory}
 use Rattle.jmodel.specs.Book.{Book, Lost, Region, Unticked, In, lookup, rises}
 use Rattle.jmodel.specs.Rule.{Succeeds, last_of}
 use Rattle.jmodel.specs.declared.op.Access.{Access}
-use Rattle.machine.specs.Machine.{AddsNone}
+use Rattle.machine.specs.declared.room.Room.{Room}
 use Rattle.tx_table.specs.declared.shared.Pass.{Pass}
 use Rattle.tx_table.specs.Passes.{book}
 use Rattle.tl2.specs.declared.attempt.At.{At}
 use Rattle.tx_table.proofs.MapLaws.{eq_cond, ne_cond}
 use Rattle.tl2.specs.Standing.{Awaits, IsEarlier, IsSince, Keeps, Stands, region_since}
 use Rattle.tl2.proofs.Updating.{all_in, all_reversed}
-use Rattle.tl2.proofs.Waiting.{awaits_later, earlier_still, rises_in_lane, made_are, since_here}
+use Rattle.tl2.proofs.Waiting.{used_since, after_last, awaits_later, earlier_still, rises_in_lane, made_are, since_here}
 use Rattle.session.specs.declared.record.Lane.{Lane}
 use Rattle.session.specs.declared.record.Record.{Record}
 use Rattle.session.specs.declared.record.Place.{Place}
-use Rattle.session.specs.Lane.{record_of, HasMade}
-use Rattle.session.specs.Adds.{call_of, told_by, is_spent, AddsEntry, AddsCall, AddsRecord, IsEmpty}
+use Rattle.session.specs.Lane.{record_of, Takes, HasMade}
+use Rattle.session.specs.Adds.{call_of, told_by, is_spent, AddsEntry, AddsNothing, AddsCall, AddsRecord, IsEmpty}
 use Rattle.session.specs.Passes.{IsSeated, MayFollow, MayBegin, IsStarting, behind, IsEnding, HasLost}
-use Rattle.session.proofs.Lanes.{lane_empty, made_more, goes_on}
+use Rattle.session.proofs.Lanes.{takes_after, lane_empty, call_there, made_more, goes_on}
 
 -- What an engine stands for, S, is that behind these first entries the calls of a lane made others so far, which are earlier than the next
 -- call; there were so many conflicts before.
-pub record Stood (S : List Entry → ℕ → Log → Log → Type 0) (first : List Entry) (met : ℕ) (at : Place) (calls : List Known) (lane : Lane) : Type 0 where
+pub record Stood (S : List Entry → ℕ → Log → Log → Type 0) (first : List Entry) (met : ℕ) (at : Place) (used : ℕ) (calls : List Known) (lane : Lane) : Type 0 where
   pub history : List Entry
   pub conflicts : ℕ
   pub later : met ≤ conflicts
   pub stands : S (first ++ history) conflicts [] []
-  pub made : HasMade at calls history lane
+  pub made : HasMade at used calls history lane
   pub earlier : (c : Known) → All (IsEarlier (call_at at.phase at.lane (at.first + lane.made) c)) history
 
 -- entries of a call of a lane are earlier than the lane's next one
 pub earlier_all : (phase lane k n : ℕ) (c d : Known) (h added : List Entry) → n ≡ k + 1 → All (IsEarlier (call_at phase lane k c)) h
-    → AllByRecursion (λ (e : Entry). (e.call ≡ call_at phase lane k c) × (e.used_after ≡ 0)) added → All (IsEarlier (call_at phase lane n d)) (h ++ added)
+    → AllByRecursion (λ (e : Entry). e.call ≡ call_at phase lane k c) added → All (IsEarlier (call_at phase lane n d)) (h ++ added)
 earlier_all phase lane k n c d h added next before are =
     let less : k < n = omega arith in
     All-append (IsEarlier (call_at phase lane n d)) h added (earlier_still (call_at phase lane k c) (call_at phase lane n d) h refl refl less before)
-    (All-weaker (λ (e : Entry). (e.call ≡ call_at phase lane k c) × (e.used_after ≡ 0)) (IsEarlier (call_at phase lane n d))
-    (λ e is. (ap (λ (x : Call). x.phase) is.0, ap (λ (x : Call). x.lane) is.0, subst (λ (i : ℕ). i < n) (sym (ap (λ (x : Call). x.index) is.0)) less, is.1))
+    (All-weaker (λ (e : Entry). e.call ≡ call_at phase lane k c) (IsEarlier (call_at phase lane n d))
+    (λ e is. (ap (λ (x : Call). x.phase) is, ap (λ (x : Call). x.lane) is, subst (λ (i : ℕ). i < n) (sym (ap (λ (x : Call). x.index) is)) less))
     added (All-from_recursion _ added are))
 
 -- One turn of the loop over the calls.
-module _ (S : List Entry → ℕ → Log → Log → Type 0) (at here : Place) (calls : List Known) (i : ℕ) (old new : Lane) (c : Known) (r : Record)
-    (place : here ≡ record at { first = at.first + i }) (count : old.made ≡ i) (less : i < length calls) (is : c ≡ get_or calls i c)
-    (tells : r ≡ record_of (told_by here c r)) (adds : AddsRecord old new r) where
-  pub stood_more : (first h : List Entry) (met n : ℕ) → met ≤ n → HasMade at calls h old
+module _ (S : List Entry → ℕ → Log → Log → Type 0) (room : Room) (at here : Place) (used : ℕ) (calls : List Known) (i : ℕ) (old new : Lane) (c : Known) (r : Record) (after : ℕ)
+    (region : room.region ≡ suc at.lane) (place : here ≡ record at { first = at.first + i }) (count : old.made ≡ i) (less : i < length calls) (is : c ≡ get_or calls i c)
+    (tells : r ≡ record_of (told_by room here c r)) (adds : AddsRecord old new r after) where
+  pub stood_more : (first h : List Entry) (met n : ℕ) → met ≤ n → HasMade at used calls h old
       → ((d : Known) → All (IsEarlier (call_at at.phase at.lane (at.first + old.made) d)) h)
-      → is_spent r.answer ≡ false → AddsCall S (first ++ h) n (told_by here c r) → Stood S first met at calls new
+      → is_spent r.answer ≡ false → AddsCall S (first ++ h) n old.used (told_by room here c r) after → Stood S first met at used calls new
   stood_more first h met n low made earlier unspent call =
-      let goes = goes_on S (first ++ h) n (told_by here c r) unspent call in
+      let goes = goes_on S (first ++ h) n old.used (told_by room here c r) after unspent call in
       let more = goes.later in
-      let Of : Call → Type 0 = λ k. AllByRecursion (λ (e : Entry). (e.call ≡ k) × (e.used_after ≡ 0)) goes.added in
-      let there : call_of here c ≡ call_at at.phase at.lane (at.first + old.made) c =
-      ap (λ (p : Place). call_of p c) place ∙ ap (λ (j : ℕ). call_at at.phase at.lane (at.first + j) c) (sym count) in
+      let Of : Call → Type 0 = λ k. AllByRecursion (λ (e : Entry). e.call ≡ k) goes.added in
+      let there : call_of room here c ≡ call_at at.phase at.lane (at.first + old.made) c =
+      call_there S room at here used calls i old new c r after region place count less is tells adds ∙ ap (λ (j : ℕ). call_at at.phase at.lane (at.first + j) c) (sym count) in
       let later : at.first + new.made ≡ at.first + old.made + 1 = omega (arith, adds.made) in
       record {
         history = h ++ goes.added;
         conflicts = goes.conflicts;
         later = omega arith;
         stands = subst (λ (l : List Entry). S l goes.conflicts [] []) (append_assoc first h goes.added) goes.stands;
-        made = made_more S at here calls i old new c r place count less is tells adds h goes.added made goes.are;
+        made = made_more S room at here used calls i old new c r after region place count less is tells adds h goes.added made goes.are goes.takes;
         earlier = λ d. earlier_all at.phase at.lane (at.first + old.made) (at.first + new.made) c d h goes.added later (earlier c) (subst Of there goes.entries);
       }
 
@@ -83,28 +83,37 @@ keeps_first began t p only seated = λ u b o.
       subst (λ (c : Book). IsSince c (book p)) (sym is.1) (since_here (book p)),
     )
 
-pub stood_first : (S : List Entry → ℕ → Log → Log → Type 0) (first : List Entry) (at : Place) (calls : List Known) (lane : Lane) (n : ℕ) → IsEmpty lane
-    → S first n [] [] → Stood S first n at calls lane
-stood_first S first at calls lane n empty stands = record {
+pub stood_first : (S : List Entry → ℕ → Log → Log → Type 0) (first : List Entry) (at : Place) (used : ℕ) (calls : List Known) (lane : Lane) (n : ℕ) → IsEmpty lane used
+    → S first n [] [] → Stood S first n at used calls lane
+stood_first S first at used calls lane n empty stands = record {
   history = [];
   conflicts = n;
   later = omega arith;
   stands = subst (λ (l : List Entry). S l n [] []) (sym (append-nil first)) stands;
-  made = lane_empty at calls lane empty;
+  made = lane_empty at used calls lane empty;
   earlier = λ c. All-from_recursion _ [] tt;
 }
 
--- what holds of a region, and of what each entry in it leaves, holds of it after them
-since_keeps : (Q : Region → Type 0) (r : ℕ) (g : Option Region) (es : List Entry)
+-- what holds of a region, and of what each entry in it leaves, holds of it after them; its used words are those that the last one left
+since_keeps : (Q : Region → Type 0) (r : ℕ) (g : Option Region) (used : ℕ) (es : List Entry)
     → ((e : Entry) → In e es → e.call.region ≡ r → Q (record { used = e.used_after; last = some e.call }))
-    → (k : Region) × (g ≡ some k) × Q k → (k : Region) × (region_since g (last_of es r) ≡ some k) × Q k
-since_keeps Q r g [] leaves first = first
-since_keeps Q r g (e ∷ es) leaves first = dite (ℕ_discrete e.call.region r)
-    (λ here.
-    (record { used = e.used_after; last = some e.call }, ap (region_since g) (eq_cond e.call.region r (some e) (last_of es r) here), leaves e (inl refl) here))
+    → (k : Region) × (g ≡ some k) × (k.used ≡ used) × Q k
+    → (k : Region) × (region_since g (last_of es r) ≡ some k) × (k.used ≡ used_since used (last_of es r)) × Q k
+since_keeps Q r g used [] leaves first = first
+since_keeps Q r g used (e ∷ es) leaves first = dite (ℕ_discrete e.call.region r)
+    (λ here. (
+      record { used = e.used_after; last = some e.call },
+      ap (region_since g) (eq_cond e.call.region r (some e) (last_of es r) here),
+      sym (ap (used_since used) (eq_cond e.call.region r (some e) (last_of es r) here)),
+      leaves e (inl refl) here,
+    ))
     (λ other.
-    let rest = since_keeps Q r g es (λ d i. leaves d (inr i)) first in
-    (rest.0, ap (region_since g) (ne_cond e.call.region r (some e) (last_of es r) other) ∙ rest.1, rest.2))
+    let rest = since_keeps Q r g used es (λ d i. leaves d (inr i)) first in (
+      rest.0,
+      ap (region_since g) (ne_cond e.call.region r (some e) (last_of es r) other) ∙ rest.1,
+      rest.2 ∙ sym (ap (used_since used) (ne_cond e.call.region r (some e) (last_of es r) other)),
+      rest.3,
+    ))
 
 -- calls of lanes are of the round of their phase
 round_of : (c : Call) (lane : ℕ) → c.region ≡ suc lane → round c ≡ c.phase + 1
@@ -118,13 +127,13 @@ rises_later a b lane here there l =
     grind (arith, nat_tests)
 
 -- the calls of a lane may go on behind the entries of those before
-next_of : (began : TableId → Book → Type 0) (t : TableId) (b : Book) (place : Place) (made words : ℕ) (at : At) (kept : List Access) (p : Pass) (h : List Entry) (n : ℕ)
-    → began t b → Stands began words at kept p (reverse b.entries ++ h) n [] [] → MayBegin place b
-    → ((c : Known) → All (IsEarlier (call_at place.phase place.lane (place.first + made) c)) h) → MayBegin (behind place made) (book p)
-next_of began t b place made words at kept p h n of stands begins earlier =
+next_of : (began : TableId → Book → Type 0) (t : TableId) (b : Book) (place : Place) (used made after words : ℕ) (at : At) (kept : List Access) (p : Pass) (h : List Entry) (n : ℕ)
+    → began t b → Stands began words at kept p (reverse b.entries ++ h) n [] [] → MayBegin place used b → Takes (suc place.lane) used h after
+    → ((c : Known) → All (IsEarlier (call_at place.phase place.lane (place.first + made) c)) h) → MayBegin (behind place made) after (book p)
+next_of began t b place used made after words at kept p h n of stands begins takes earlier =
     let since = made_are b (book p) (reverse b.entries) h (stands.keeps t b of).1 (sym (reverse-reverse b.entries)) stands.entries in
     let es = since.0.made in
-    let Q : Region → Type 0 = λ k. (k.used ≡ 0) × MayFollow (behind place made) k.last in
+    let Q : Region → Type 0 = λ k. MayFollow (behind place made) k.last in
     let any : Known = record { method = 0; args = [] } in
     let all : All (IsEarlier (call_at place.phase place.lane (place.first + made) any)) (reverse es) =
     subst (All (IsEarlier (call_at place.phase place.lane (place.first + made) any))) (sym (ap reverse since.1 ∙ reverse-reverse h)) (earlier any) in
@@ -132,39 +141,38 @@ next_of began t b place made words at kept p h n of stands begins earlier =
     λ e i. all_in (IsEarlier (call_at place.phase place.lane (place.first + made) any)) es e
     (all_reversed (IsEarlier (call_at place.phase place.lane (place.first + made) any)) es all) i in
     let leaves : (e : Entry) → In e es → e.call.region ≡ suc place.lane → Q (record { used = e.used_after; last = some e.call }) = λ e i here.
-    let k = each e i in (
-      k.3,
-      λ phase index c.
-          ⊎_elim
-          (λ (l : place.phase < phase).
-          rises_later e.call (call_at phase place.lane index c) place.lane here refl (subst (λ (m : ℕ). m < phase) (sym k.0) l))
-          (λ (both : (place.phase ≡ phase) × (place.first + made ≤ index)).
-          rises_in_lane e.call (call_at phase place.lane index c) here (k.0 ∙ both.0) k.1 (let below = k.2 in let from = both.1 in omega arith)),
-    ) in
-    let last = since_keeps Q (suc place.lane) (lookup b.regions (suc place.lane)) es leaves (
-      record { used = 0; last = begins.last },
+    let k = each e i in
+    λ phase index c.
+    ⊎_elim
+    (λ (l : place.phase < phase).
+    rises_later e.call (call_at phase place.lane index c) place.lane here refl (subst (λ (m : ℕ). m < phase) (sym k.0) l))
+    (λ (both : (place.phase ≡ phase) × (place.first + made ≤ index)).
+    rises_in_lane e.call (call_at phase place.lane index c) here (k.0 ∙ both.0) k.1 (let below = k.2 in let from = both.1 in omega arith)) in
+    let last = since_keeps Q (suc place.lane) (lookup b.regions (suc place.lane)) used es leaves (
+      record { used = used; last = begins.last },
       begins.region,
-      (
-        refl,
-        λ phase index c later.
-            begins.follows phase index c (⊎_elim (λ (l : place.phase < phase). inl l)
-            (λ (both : (place.phase ≡ phase) × (place.first + made ≤ index)). inr (both.0, let from = both.1 in omega arith)) later),
-      ),
+      refl,
+      λ phase index c later.
+          begins.follows phase index c (⊎_elim (λ (l : place.phase < phase). inl l)
+          (λ (both : (place.phase ≡ phase) × (place.first + made ≤ index)). inr (both.0, let from = both.1 in omega arith)) later),
     ) in
     let is : lookup (book p).regions (suc place.lane) ≡ some last.0 = since.0.regions (suc place.lane) ∙ last.1 in
-    let unused : last.0 ≡ record { used = 0; last = last.0.last } = λ i. record { used = last.2.0 i; last = last.0.last } in
-    record { last = last.0.last; region = is ∙ ap (λ (k : Region). some k) unused; follows = last.2.1 }
+    let left : last.0.used ≡ after =
+    last.2 ∙ after_last es (suc place.lane) used ∙ ap (λ (g : List Entry). used_after g (suc place.lane) used) (ap reverse since.1 ∙ reverse-reverse h)
+    ∙ takes_after (suc place.lane) used after h takes in
+    let so : last.0 ≡ record { used = after; last = last.0.last } = λ i. record { used = left i; last = last.0.last } in
+    record { last = last.0.last; region = is ∙ ap (λ (k : Region). some k) so; follows = last.3 }
 
 -- the pass that is given back
-pub ending : (began : TableId → Book → Type 0) (t : TableId) (b : Book) (place : Place) (count made words : ℕ) (at : At) (kept : List Access) (p q : Pass)
+pub ending : (began : TableId → Book → Type 0) (t : TableId) (b : Book) (place : Place) (used count made after words : ℕ) (at : At) (kept : List Access) (p q : Pass)
     (h : List Entry) (n : ℕ)
     → began t b → q ≡ p → Stands began words at kept p (reverse b.entries ++ h) n [] [] → ((book q).face.held ≡ []) × ((book q).face.stage ≡ Unticked)
-    → MayBegin place b → ((c : Known) → All (IsEarlier (call_at place.phase place.lane (place.first + made) c)) h)
-    → (book p).ticks ≤ b.ticks + count * 1000000 → IsEnding t b place count made h q
-ending began t b place count made words at kept p q h n of same stands free begins earlier ticks =
+    → MayBegin place used b → Takes (suc place.lane) used h after → ((c : Known) → All (IsEarlier (call_at place.phase place.lane (place.first + made) c)) h)
+    → (book p).ticks ≤ b.ticks + count * 1000000 → IsEnding t b place count made after h q
+ending began t b place used count made after words at kept p q h n of same stands free begins takes earlier ticks =
     let k = stands.keeps t b of in
     let since = made_are b (book p) (reverse b.entries) h k.1 (sym (reverse-reverse b.entries)) stands.entries in
-    subst (IsEnding t b place count made h) (sym same) (record {
+    subst (IsEnding t b place count made after h) (sym same) (record {
       seated = record {
         table = k.0;
         held = ap (λ (x : Pass). (book x).face.held) (sym same) ∙ free.0;
@@ -172,13 +180,13 @@ ending began t b place count made words at kept p q h n of same stands free begi
       };
       since = since.0;
       entries = since.1;
-      next = next_of began t b place made words at kept p h n of stands begins earlier;
+      next = next_of began t b place used made after words at kept p h n of stands begins takes earlier;
       ticks = ticks;
     })
 
 -- a pass of a lane of whose calls none was made
-pub unused : (t : TableId) (place : Place) (count any made : ℕ) (p : Pass) → made ≡ 0 → IsStarting t place count p → IsEnding t (book p) place any made [] p
-unused t place count any made p none starting =
+pub untouched : (t : TableId) (place : Place) (used count any made after : ℕ) (p : Pass) → made ≡ 0 → after ≡ used → IsStarting t place used count p → IsEnding t (book p) place any made after [] p
+untouched t place used count any made after p none kept starting =
     let es = (book p).entries in
     let first = reverse es in
     let back : es ≡ reverse first = sym (reverse-reverse es) in
@@ -189,7 +197,7 @@ unused t place count any made p none starting =
       entries = same.1;
       next = record {
         last = starting.begins.last;
-        region = starting.begins.region;
+        region = starting.begins.region ∙ ap (λ (u : ℕ). let k : Option Region = some (record { used = u; last = starting.begins.last }) in k) (sym kept);
         follows = λ phase index c later.
             starting.begins.follows phase index c (⊎_elim (λ (l : place.phase < phase). inl l)
             (λ (both : (place.phase ≡ phase) × (place.first + made ≤ index)). inr (both.0, let from = both.1 in omega arith)) later);
@@ -198,13 +206,13 @@ unused t place count any made p none starting =
     }
 
 -- a call that was spent adds nothing, and met a conflict
-pub stands_still : (S : List Entry → ℕ → Log → Log → Type 0) (h : List Entry) (n : ℕ) (t : Told) → is_spent t.answer ≡ true → AddsCall S h n t
+pub stands_still : (S : List Entry → ℕ → Log → Log → Type 0) (h : List Entry) (n before : ℕ) (t : Told) (after : ℕ) → is_spent t.answer ≡ true → AddsCall S h n before t after
     → (m : ℕ) × (n < m) × S h m [] []
-stands_still S h n t spent adds = go (is_spent t.answer) spent adds
+stands_still S h n before t after spent adds = go (is_spent t.answer) spent adds
   where
-    go : (b : Bool) → b ≡ true → MatchBool b (AddsNone (S h) (n + 1)) (MatchBool (is_memory t.answer) (AddsNone (S h) n) (AddsEntry S h n t))
+    go : (b : Bool) → b ≡ true → MatchBool b (AddsNothing (S h) (n + 1) before after) (MatchBool (is_memory t.answer) (AddsNothing (S h) n before after) (AddsEntry S h n before t after))
         → (m : ℕ) × (n < m) × S h m [] []
-    go true is a = let later = a.later in (a.conflicts, omega (arith, later), a.stands)
+    go true is a = let later = a.0.later in (a.0.conflicts, omega (arith, later), a.0.stands)
     go false is a = cc
 
 pub has_lost : (began : TableId → Book → Type 0) (words : ℕ) (at : At) (kept : List Access) (b : Book) (p q : Pass) (h : List Entry) (n : ℕ) → length b.lost < n
@@ -220,17 +228,20 @@ pub meets_none : (began : TableId → Book → Type 0) (t : TableId) (words : �
 meets_none began t words at kept b p h n of whole stands = sym stands.lost ∙ ap (λ (l : List Lost). length l) ((stands.keeps t b of).1.lost whole)
 
 -- behind the entries of its lane's calls an engine awaits the next one
-pub awaits_next : (began : TableId → Book → Type 0) (t : TableId) (b : Book) (place here : Place) (made i words : ℕ) (at : At) (kept : List Access) (p : Pass)
+pub awaits_next : (began : TableId → Book → Type 0) (t : TableId) (b : Book) (room : Room) (place here : Place) (used made i after words : ℕ) (at : At) (kept : List Access) (p : Pass)
     (h : List Entry) (n : ℕ) (c : Known) (named : Call)
-    → began t b → Stands began words at kept p (reverse b.entries ++ h) n [] [] → MayBegin place b → here ≡ record place { first = place.first + i } → made ≡ i
-    → call_of here c ≡ named → ((d : Known) → All (IsEarlier (call_at place.phase place.lane (place.first + made) d)) h)
-    → Awaits named (book p) (call_of here c) 0
-awaits_next began t b place here made i words at kept p h n c named of stands start is count told earlier =
-    let there : call_at place.phase place.lane (place.first + made) c ≡ call_of here c =
-    ap (λ (j : ℕ). call_at place.phase place.lane (place.first + j) c) count ∙ ap (λ (q : Place). call_of q c) (sym is) in
-    let lane : place.lane ≡ (call_of here c).lane = ap (λ (q : Place). q.lane) (sym is) in
-    let region = subst (λ (m : ℕ). lookup b.regions (suc m) ≡ some (record { used = 0; last = start.last })) lane start.region in
-    let next : Succeeds (call_of here c) start.last =
+    → began t b → Stands began words at kept p (reverse b.entries ++ h) n [] [] → MayBegin place used b → Takes (suc place.lane) used h after → room.region ≡ suc place.lane
+    → here ≡ record place { first = place.first + i } → made ≡ i
+    → call_of room here c ≡ named → ((d : Known) → All (IsEarlier (call_at place.phase place.lane (place.first + made) d)) h)
+    → Awaits named (book p) (call_of room here c) after
+awaits_next began t b room place here used made i after words at kept p h n c named of stands start takes region is count told earlier =
+    let there : call_at place.phase place.lane (place.first + made) c ≡ call_of room here c =
+    ap (λ (j : ℕ). call_at place.phase place.lane (place.first + j) c) count ∙ sym (λ j. record { phase = (is j).phase; lane = (is j).lane; index = (is j).first; method = c.method; args = c.args; region = region j }) in
+    let own : lookup b.regions room.region ≡ some (record { used = used; last = start.last }) = ap (lookup b.regions) region ∙ start.region in
+    let lane : suc place.lane ≡ suc here.lane = ap (λ (q : Place). suc q.lane) (sym is) in
+    let next : Succeeds (call_of room here c) start.last =
     subst (λ (k : Call). Succeeds k start.last) there (start.follows place.phase (place.first + made) c (inr (refl, omega arith))) in
-    awaits_later {words = words} {at = at} {kept = kept} {p = p} (reverse b.entries) h named (call_of here c) t b (record { used = 0; last = start.last })
-    stands told (inr refl) of (sym (reverse-reverse b.entries)) region refl next (subst (λ (k : Call). All (IsEarlier k) h) there (earlier c))
+    let later = awaits_later {words = words} {at = at} {kept = kept} {p = p} (reverse b.entries) h named (call_of room here c) t b (record { used = used; last = start.last })
+    stands told (inr (region ∙ lane)) of (sym (reverse-reverse b.entries)) own next (subst (λ (k : Call). All (IsEarlier k) h) there (earlier c)) in
+    let left : used_after h room.region used ≡ after = ap (λ (r : ℕ). used_after h r used) region ∙ takes_after (suc place.lane) used after h takes in
+    subst (Awaits named (book p) (call_of room here c)) left later

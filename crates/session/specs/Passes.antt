@@ -21,29 +21,29 @@ pub record IsSeated (t : TableId) (p : Pass) : Type 0 where
 abbrev pub MayFollow : Place → Option Call → Type 0
 MayFollow at last = (phase index : ℕ) (c : Known) → (at.phase < phase) ⊎ ((at.phase ≡ phase) × (at.first ≤ index)) → Succeeds (call_at phase at.lane index c) last
 
--- A pass with this book has a lane's region, of which no word is used, and the lane's calls from a place on may come next in it.
-pub record MayBegin (at : Place) (b : Book) : Type 0 where
+-- A pass with this book has a lane's region, of which so many words are used, and the lane's calls from a place on may come next in it.
+pub record MayBegin (at : Place) (used : ℕ) (b : Book) : Type 0 where
   pub last : Option Call
-  pub region : lookup b.regions (suc at.lane) ≡ some (record { used = 0; last = last })
+  pub region : lookup b.regions (suc at.lane) ≡ some (record { used = used; last = last })
   pub follows : MayFollow at last
 
--- a pass that so many calls of a lane may begin with, from a place on, and which has moved the clock seldom enough
-pub record IsStarting (t : TableId) (at : Place) (count : ℕ) (p : Pass) : Type 0 where
+-- a pass that so many calls of a lane may begin with, from a place on and with so many words used, and which has moved the clock seldom enough
+pub record IsStarting (t : TableId) (at : Place) (used count : ℕ) (p : Pass) : Type 0 where
   pub seated : IsSeated t p
-  pub begins : MayBegin at (book p)
+  pub begins : MayBegin at used (book p)
   pub ticks : (book p).ticks + count * 1000000 ≤ 2 ^ 40
 
 -- the place behind so many calls
 abbrev pub behind : Place → ℕ → Place
 behind at n = record at { first = at.first + n }
 
--- The pass after so many calls of a lane, of which some were made and added these entries since its book was b. The lane's calls behind those
--- may begin with it.
-pub record IsEnding (t : TableId) (b : Book) (at : Place) (count made : ℕ) (h : List Entry) (p : Pass) : Type 0 where
+-- The pass after so many calls of a lane, of which some were made and added these entries since its book was b, and left so many words of the
+-- lane's region used. The lane's calls behind those may begin with it.
+pub record IsEnding (t : TableId) (b : Book) (at : Place) (count made used : ℕ) (h : List Entry) (p : Pass) : Type 0 where
   pub seated : IsSeated t p
   pub since : IsSince b (book p)
   pub entries : since.made ≡ reverse h
-  pub next : MayBegin (behind at made) (book p)
+  pub next : MayBegin (behind at made) used (book p)
   pub ticks : (book p).ticks ≤ b.ticks + count * 1000000
 
 -- an attempt of it met a conflict since

@@ -1,5 +1,5 @@
 //! Calls over an engine that meets no conflict.
-ghost use Rattle.std.specs.Prelude.{◌≡◌, ◌≤◌, ◌+◌, ◌*◌, ◌^◌, ◌++◌, ℕ, List, [], length, IfOk};
+ghost use Rattle.std.specs.Prelude.{◌≡◌, ◌≤◌, ◌<◌, ◌+◌, ◌*◌, ◌^◌, ◌++◌, ℕ, suc, List, [], length, IfOk};
 ghost use Rattle.std.specs.List.{AllByRecursion};
 ghost use Rattle.jmodel.specs.Attempt.{Log};
 ghost use Rattle.jmodel.specs.History.{Call, Entry};
@@ -15,7 +15,8 @@ use std::alloc::{AllocError, Global};
 use tx_core::Engine;
 
 /// Makes the calls of a lane from a place on, one after another, over an engine that meets no conflict, so that each of them is made. Each
-/// call may take the turns and the attempts of `limits`. The rewritten program is what runs.
+/// call may take the turns and the attempts of `limits`, and the calls together the words of its room, which is that of the lane. The rewritten
+/// program is what runs.
 pub fn make_alone<E: Engine>(
     alloc: Global,
     original: &Program,
@@ -30,26 +31,28 @@ pub fn make_alone<E: Engine>(
     requires few { at.first + length calls.now ≤ 100000 }
     requires attempts { (1 ≤ limits.attempts) × (limits.attempts ≤ 1000000) }
     requires alone { (s : E) (h : List Entry) (n : ℕ) (r w : Log) → E.stands s h n r w → n ≡ 0 }
+    requires region { limits.room.region ≡ suc at.lane }
+    requires fits { limits.room.region * limits.room.size + limits.room.size < 2 ^ 64 }
     requires awaits { (s : E) (c : Call) (used : ℕ) → E.awaits s c used }
-    requires rule { (e : Entry) → IsRuled original.now limits.budget e → E.allows e }
+    requires rule { (e : Entry) → IsRuled original.now limits.room.size limits.budget e → E.allows e }
     requires clock { E.clock engine.old + length calls.now * 1000000 ≤ 2 ^ 40 }
     requires stands { (h : List Entry) × E.stands engine.old h 0 [] [] }
-    ensures made { (before : List Entry) → E.stands engine.old before 0 [] [] → IfOk result (λ lane. (h : List Entry) × E.stands engine.new (before ++ h) 0 [] [] × HasMade at calls.now h lane) }
+    ensures made { (before : List Entry) → E.stands engine.old before 0 [] [] → IfOk result (λ lane. (h : List Entry) × E.stands engine.new (before ++ h) 0 [] [] × HasMade at limits.room.used calls.now h lane) }
     ensures all { IfOk result (λ lane. lane.made ≡ length calls.now) }
     ensures clock { E.clock engine.new ≤ E.clock engine.old + length calls.now * 1000000 }
 {
-    let mut lane = Lane::new(alloc);
+    let mut lane = Lane::new(alloc, limits.room.used);
     for (index, call) in calls.iter().enumerate() {
-        let one = make_next(
+        let (one, used) = make_next(
             alloc,
             original,
             rewritten,
             engine,
-            limits,
+            limits.with_used(lane.used),
             at.onward(index),
             call,
         );
-        lane.add(one)?;
+        lane.add(one, used)?;
     }
     Ok(lane)
 }

@@ -1,5 +1,5 @@
 //! Calls that are claimed of a bag, over a table of shared words, by TL2.
-ghost use Rattle.std.specs.Prelude.{◌≡◌, ◌≢◌, ◌≤◌, ◌+◌, ℕ, List, [], length, IfOk};
+ghost use Rattle.std.specs.Prelude.{◌≡◌, ◌≢◌, ◌≤◌, ◌<◌, ◌+◌, ◌*◌, ◌^◌, ℕ, suc, List, [], length, IfOk};
 ghost use Rattle.std.specs.List.{AllByRecursion};
 ghost use Rattle.atomic_table.specs.Seated.{TableId};
 ghost use Rattle.claims.specs.Claims.{goes};
@@ -36,7 +36,7 @@ pub struct Taken {
 }
 
 /// Claims the calls of a bag, one after another, and makes each over a pass of a table that others share, up to the first whose attempts are used up by
-/// conflicts, or until all calls are claimed. Each call may take the turns and the attempts of `limits`. The rewritten program is what runs. The calls
+/// conflicts, or until all calls are claimed. Each call may take the turns and the attempts of `limits`, and the calls together the words of its room, which is that of the lane. The rewritten program is what runs. The calls
 /// are numbered from the place on. Gives the pass back; the entries that it got stand behind all that it knew.
 pub fn make_claimed<T: Ruled>(
     alloc: Global,
@@ -54,11 +54,13 @@ pub fn make_claimed<T: Ruled>(
     requires calls { AllByRecursion (IsCallOf original.now) calls.now }
     requires few { at.first + length calls.now ≤ 100000 }
     requires attempts { (1 ≤ limits.attempts) × (limits.attempts ≤ 1000000) }
-    requires rule { (e : Entry) → IsRuled original.now limits.budget e → T.rule e }
-    requires pass { IsStarting shared.now.table.shared.table_id at (length calls.now) pass }
+    requires region { limits.room.region ≡ suc at.lane }
+    requires fits { limits.room.region * limits.room.size + limits.room.size < 2 ^ 64 }
+    requires rule { (e : Entry) → IsRuled original.now limits.room.size limits.budget e → T.rule e }
+    requires pass { IsStarting shared.now.table.shared.table_id at limits.room.used (length calls.now) pass }
     requires bag { IsOf bag.now claims.old × (bag.now.length ≡ length calls.now) }
     requires claims { claims_of claims.old ≡ goes (length calls.now + 1) }
-    ensures made { IfOk result (λ r. (h : List Entry) × IsEnding shared.now.table.shared.table_id (book pass) at (length r.indexes.items) r.lane.made h r.pass × HasMade at (calls_at calls.now r.indexes.items) h r.lane) }
+    ensures made { IfOk result (λ r. (h : List Entry) × IsEnding shared.now.table.shared.table_id (book pass) at (length r.indexes.items) r.lane.made r.lane.used h r.pass × HasMade at limits.room.used (calls_at calls.now r.indexes.items) h r.lane) }
     ensures stopped { IfOk result (λ r. r.lane.made ≢ length r.indexes.items → HasLost (book pass) r.pass) }
     ensures emptied { IfOk result (λ r. r.lane.made ≡ length r.indexes.items → HasEmptied (length calls.now) (claims_of claims.new) r.indexes.items) }
     ensures bag { IsOf bag.now claims.new }
@@ -85,19 +87,21 @@ fn claim_over<K: Beginning, T: Ruled>(
     requires calls { AllByRecursion (IsCallOf original.now) calls.now }
     requires few { at.first + length calls.now ≤ 100000 }
     requires attempts { (1 ≤ limits.attempts) × (limits.attempts ≤ 1000000) }
-    requires rule { (e : Entry) → IsRuled original.now limits.budget e → T.rule e }
-    requires pass { IsStarting shared.now.table.shared.table_id at (length calls.now) pass }
+    requires region { limits.room.region ≡ suc at.lane }
+    requires fits { limits.room.region * limits.room.size + limits.room.size < 2 ^ 64 }
+    requires rule { (e : Entry) → IsRuled original.now limits.room.size limits.budget e → T.rule e }
+    requires pass { IsStarting shared.now.table.shared.table_id at limits.room.used (length calls.now) pass }
     requires began { K.began shared.now.table.shared.table_id (book pass) }
     requires only { (t : TableId) (b : Book) → K.began t b → (t ≡ shared.now.table.shared.table_id) × (b ≡ book pass) }
     requires bag { IsOf bag.now claims.old × (bag.now.length ≡ length calls.now) }
     requires claims { claims_of claims.old ≡ goes (length calls.now + 1) }
-    ensures made { IfOk result (λ r. (h : List Entry) × IsEnding shared.now.table.shared.table_id (book pass) at (length r.indexes.items) r.lane.made h r.pass × HasMade at (calls_at calls.now r.indexes.items) h r.lane) }
+    ensures made { IfOk result (λ r. (h : List Entry) × IsEnding shared.now.table.shared.table_id (book pass) at (length r.indexes.items) r.lane.made r.lane.used h r.pass × HasMade at limits.room.used (calls_at calls.now r.indexes.items) h r.lane) }
     ensures stopped { IfOk result (λ r. r.lane.made ≢ length r.indexes.items → HasLost (book pass) r.pass) }
     ensures emptied { IfOk result (λ r. r.lane.made ≡ length r.indexes.items → HasEmptied (length calls.now) (claims_of claims.new) r.indexes.items) }
     ensures bag { IsOf bag.now claims.new }
     ensures claims { IfOk result (λ r. HasTaken (length calls.now) (claims_of claims.new) r.indexes.items) }
 {
-    let mut lane = Lane::new(alloc);
+    let mut lane = Lane::new(alloc, limits.room.used);
     let mut indexes = Vec::new(alloc);
     let Some(first) = calls.first() else {
         return Ok(Taken {
@@ -106,7 +110,7 @@ fn claim_over<K: Beginning, T: Ruled>(
             pass,
         });
     };
-    let mut engine = Tl2::new(alloc, shared, pass, Named::<K>::of(at, first));
+    let mut engine = Tl2::new(alloc, shared, pass, Named::<K>::of(limits.room, at, first));
     for count in 0..calls.len() {
         let Some(index) = claims.claim(bag) else {
             break;
@@ -114,12 +118,20 @@ fn claim_over<K: Beginning, T: Ruled>(
         indexes.push(index)?;
         let call = &calls[index as usize];
         let here = at.onward(count);
-        engine.set_call(Named::of(here, call));
-        let one = make_next(alloc, original, rewritten, &mut engine, limits, here, call);
+        engine.set_call(Named::of(limits.room, here, call));
+        let (one, used) = make_next(
+            alloc,
+            original,
+            rewritten,
+            &mut engine,
+            limits.with_used(lane.used),
+            here,
+            call,
+        );
         if one.is_spent() {
             break;
         }
-        lane.add(one)?;
+        lane.add(one, used)?;
     }
     let pass = engine.into_pass();
     Ok(Taken {

@@ -8,7 +8,8 @@ mod record;
 mod shared;
 
 pub use alone::make_alone;
+pub use call::make_next;
 pub use claimed::{Taken, make_claimed};
-pub use machine::Limits;
+pub use machine::{Limits, Room};
 pub use record::{Lane, Place, Record};
 pub use shared::make_shared;

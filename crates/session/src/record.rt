@@ -31,6 +31,8 @@ pub struct Lane {
     pub unplaced: Vec<Record>,
     /// How many calls were made: all, or those before the first whose attempts were used up.
     pub made: usize,
+    /// How many words of the lane's region are used after them.
+    pub used: u64,
 }
 
 impl Place {
@@ -65,21 +67,22 @@ impl Lane {
     ghost use Rattle.std.specs.Prelude.{◌<◌, OnOk};
     ghost use Rattle.session.specs.Adds.{IsEmpty, AddsRecord};
 
-    /// A lane of which no call was made yet. No memory.
-    pub(crate) fn new(alloc: Global) -> Self
-        ensures { IsEmpty result }
+    /// A lane of which no call was made yet, with so many words of its region used. No memory.
+    pub(crate) fn new(alloc: Global, used: u64) -> Self
+        ensures { IsEmpty result used }
     {
         Lane {
             placed: Vec::new(alloc),
             unplaced: Vec::new(alloc),
             made: 0,
+            used,
         }
     }
 
-    /// Keeps the record of one call more.
-    pub(crate) fn add(&mut self, one: Record) -> Result<(), AllocError>
+    /// Keeps the record of one call more, after which so many words of the region are used.
+    pub(crate) fn add(&mut self, one: Record, used: u64) -> Result<(), AllocError>
         requires { self.old.made < 100000 }
-        ensures { OnOk result (AddsRecord self.old self.new one) }
+        ensures { OnOk result (AddsRecord self.old self.new one used) }
     {
         if matches!(one.answer, Answer::NoMemory) {
             self.unplaced.push(one)?;
@@ -87,6 +90,7 @@ impl Lane {
             self.placed.push(one)?;
         }
         self.made += 1;
+        self.used = used;
         Ok(())
     }
 }

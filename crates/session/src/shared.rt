@@ -1,5 +1,5 @@
 //! Calls over a table of shared words, by TL2.
-ghost use Rattle.std.specs.Prelude.{◌≡◌, ◌≢◌, ◌≤◌, ◌+◌, ◌^◌, ℕ, List, [], length, IfOk};
+ghost use Rattle.std.specs.Prelude.{◌≡◌, ◌≢◌, ◌≤◌, ◌<◌, ◌+◌, ◌*◌, ◌^◌, ℕ, suc, List, [], length, IfOk};
 ghost use Rattle.std.specs.List.{AllByRecursion};
 ghost use Rattle.atomic_table.specs.Seated.{TableId};
 ghost use Rattle.jmodel.specs.History.{Entry};
@@ -12,7 +12,7 @@ ghost use Rattle.session.specs.Passes.{IsStarting, IsEnding, HasLost};
 use crate::call::make_next;
 use crate::record::{Lane, Place};
 use hierarchy::Program;
-use machine::Limits;
+use machine::{Limits, Room};
 use script::Known;
 use std::alloc::{AllocError, Global};
 use std::marker::{Brand, PhantomData};
@@ -21,7 +21,7 @@ use tl2::{Calling, Ruled, Tl2};
 use tx_table::{Pass, Shared};
 
 /// Makes the calls of a lane from a place on, one after another, over a pass of a table that others share, up to the first whose attempts are used
-/// up by conflicts. A pass that holds every number meets none, so that all are made. Each call may take the turns and the attempts of `limits`. The
+/// up by conflicts. A pass that holds every number meets none, so that all are made. Each call may take the turns and the attempts of `limits`, and the calls together the words of its room, which is that of the lane. The
 /// rewritten program is what runs. Gives the pass back; the entries that it got stand behind all that it knew.
 pub fn make_shared<T: Ruled>(
     alloc: Global,
@@ -37,9 +37,11 @@ pub fn make_shared<T: Ruled>(
     requires calls { AllByRecursion (IsCallOf original.now) calls.now }
     requires few { at.first + length calls.now ≤ 100000 }
     requires attempts { (1 ≤ limits.attempts) × (limits.attempts ≤ 1000000) }
-    requires rule { (e : Entry) → IsRuled original.now limits.budget e → T.rule e }
-    requires pass { IsStarting shared.now.table.shared.table_id at (length calls.now) pass }
-    ensures made { IfOk result (λ r. (h : List Entry) × IsEnding shared.now.table.shared.table_id (book pass) at (length calls.now) r.0.made h r.1 × HasMade at calls.now h r.0) }
+    requires region { limits.room.region ≡ suc at.lane }
+    requires fits { limits.room.region * limits.room.size + limits.room.size < 2 ^ 64 }
+    requires rule { (e : Entry) → IsRuled original.now limits.room.size limits.budget e → T.rule e }
+    requires pass { IsStarting shared.now.table.shared.table_id at limits.room.used (length calls.now) pass }
+    ensures made { IfOk result (λ r. (h : List Entry) × IsEnding shared.now.table.shared.table_id (book pass) at (length calls.now) r.0.made r.0.used h r.1 × HasMade at limits.room.used calls.now h r.0) }
     ensures stopped { IfOk result (λ r. r.0.made ≢ length calls.now → HasLost (book pass) r.1) }
     ensures all { (book pass).numbers ≡ 2 ^ 20 → IfOk result (λ r. r.0.made ≡ length calls.now) }
 {
@@ -61,6 +63,7 @@ impl Beginning for Brand {
 /// Names the call at a place, for contracts alone.
 #[derive(Drop)]
 pub(crate) struct Named<'a, K> {
+    room: Room,
     at: Place,
     call: &'a Known,
     of: PhantomData<K>,
@@ -69,7 +72,7 @@ pub(crate) struct Named<'a, K> {
 impl<'a, K: Beginning> Calling for Named<'a, K> {
     ghost use Rattle.session.specs.Adds.{call_of};
 
-    ghost call = { λ n. call_of n.at n.call.now };
+    ghost call = { λ n. call_of n.room n.at n.call.now };
 
     ghost began = { K.began };
 }
@@ -77,11 +80,13 @@ impl<'a, K: Beginning> Calling for Named<'a, K> {
 impl<'a, K> Named<'a, K> {
     ghost use Rattle.std.specs.Prelude.{◌≡◌};
 
-    pub(crate) fn of(at: Place, call: &'a Known) -> Snapshot<Self>
+    pub(crate) fn of(room: Room, at: Place, call: &'a Known) -> Snapshot<Self>
+        ensures room { result.value.room ≡ room }
         ensures at { result.value.at ≡ at }
         ensures call { result.value.call.now ≡ call.now }
     {
         Snapshot::of(&Named {
+            room,
             at,
             call,
             of: PhantomData,
@@ -103,27 +108,37 @@ fn make_over<K: Beginning, T: Ruled>(
     requires calls { AllByRecursion (IsCallOf original.now) calls.now }
     requires few { at.first + length calls.now ≤ 100000 }
     requires attempts { (1 ≤ limits.attempts) × (limits.attempts ≤ 1000000) }
-    requires rule { (e : Entry) → IsRuled original.now limits.budget e → T.rule e }
-    requires pass { IsStarting shared.now.table.shared.table_id at (length calls.now) pass }
+    requires region { limits.room.region ≡ suc at.lane }
+    requires fits { limits.room.region * limits.room.size + limits.room.size < 2 ^ 64 }
+    requires rule { (e : Entry) → IsRuled original.now limits.room.size limits.budget e → T.rule e }
+    requires pass { IsStarting shared.now.table.shared.table_id at limits.room.used (length calls.now) pass }
     requires began { K.began shared.now.table.shared.table_id (book pass) }
     requires only { (t : TableId) (b : Book) → K.began t b → (t ≡ shared.now.table.shared.table_id) × (b ≡ book pass) }
-    ensures made { IfOk result (λ r. (h : List Entry) × IsEnding shared.now.table.shared.table_id (book pass) at (length calls.now) r.0.made h r.1 × HasMade at calls.now h r.0) }
+    ensures made { IfOk result (λ r. (h : List Entry) × IsEnding shared.now.table.shared.table_id (book pass) at (length calls.now) r.0.made r.0.used h r.1 × HasMade at limits.room.used calls.now h r.0) }
     ensures stopped { IfOk result (λ r. r.0.made ≢ length calls.now → HasLost (book pass) r.1) }
     ensures all { (book pass).numbers ≡ 2 ^ 20 → IfOk result (λ r. r.0.made ≡ length calls.now) }
 {
-    let mut lane = Lane::new(alloc);
+    let mut lane = Lane::new(alloc, limits.room.used);
     let Some(first) = calls.first() else {
         return Ok((lane, pass));
     };
-    let mut engine = Tl2::new(alloc, shared, pass, Named::<K>::of(at, first));
+    let mut engine = Tl2::new(alloc, shared, pass, Named::<K>::of(limits.room, at, first));
     for (index, call) in calls.iter().enumerate() {
         let here = at.onward(index);
-        engine.set_call(Named::of(here, call));
-        let one = make_next(alloc, original, rewritten, &mut engine, limits, here, call);
+        engine.set_call(Named::of(limits.room, here, call));
+        let (one, used) = make_next(
+            alloc,
+            original,
+            rewritten,
+            &mut engine,
+            limits.with_used(lane.used),
+            here,
+            call,
+        );
         if one.is_spent() {
             break;
         }
-        lane.add(one)?;
+        lane.add(one, used)?;
     }
     Ok((lane, engine.into_pass()))
 }

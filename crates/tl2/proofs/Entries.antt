@@ -1,5 +1,5 @@
 -- The entries of attempts.
-use Rattle.std.proofs.Common.{◌≡◌, ◌≢◌, ◌<◌, ◌+◌, ℕ, false, true, arith, List, [], ◌∷◌, length, refl, sym, ap, ◌∙◌, subst}
+use Rattle.std.proofs.Common.{◌≡◌, ◌≢◌, ◌⊎◌, inl, ◌<◌, ◌+◌, ℕ, false, true, arith, List, [], ◌∷◌, ◌++◌, length, refl, sym, ap, ◌∙◌, subst}
 use Rattle.std.proofs.lemmas.List.{reverse-append}
 use Rattle.std.proofs.lemmas.List.Elements.{All-nil}
 use mathlib.Core.Option.{some}
@@ -8,12 +8,12 @@ use Rattle.jmodel.specs.declared.op.Access.{Access}
 use Rattle.jmodel.specs.declared.value.Answer.{Answer}
 use Rattle.jmodel.specs.declared.value.Stamp.{Stamp}
 use Rattle.jmodel.specs.Attempt.{Log}
-use Rattle.jmodel.specs.History.{Call, Entry}
+use Rattle.jmodel.specs.History.{Call, Entry, leaves_words}
 use Rattle.jmodel.specs.Engine.{made}
 use Rattle.jmodel.specs.Book.{Map, Book, Lost, Region, lookup, pairs}
 use Rattle.jmodel.specs.Rule.{Story, Succeeds}
 use Rattle.jmodel.specs.Plays.{accesses, reader_entry, used_in, finished, region_of, Fits, Reads}
-use Rattle.tx_core.specs.Engine.{Adds}
+use Rattle.tx_core.specs.Engine.{IsAllowed, Adds}
 use Rattle.tx_table.specs.declared.shared.Pass.{Pass}
 use Rattle.tx_table.specs.Passes.{book, IsSame}
 use Rattle.tl2.specs.declared.attempt.At.{At}
@@ -76,7 +76,7 @@ pub adds_reader : (began : TableId → Book → Type 0) (words : ℕ) (named : C
     (p q : Pass) (h : List Entry) (n : ℕ) (r w : Log) (x : Answer)
     → (book p).call ≡ named → at ≢ Outside → IsSame p q → book q ≡ finished (book p) (reader_entry (book p) x)
     → Stands began words at kept p h n r w
-    → Adds (Awaits named (book p)) rule (Stands began words Outside [] q) h n x (record { at = (book p).bound; update = false }) r []
+    → Adds (Awaits named (book p)) rule (Stands began words Outside [] q) h n x (λ used. used) (record { at = (book p).bound; update = false }) r []
 adds_reader began words named rule at kept p q h n r w x on inside same e s c used aw may =
     let entries : (book q).entries ≡ reader_entry (book p) x ∷ (book p).entries = ap (λ (b : Book). b.entries) e in
     let numbers = ap (λ (b : Book). b.numbers) e in
@@ -107,10 +107,20 @@ reader_region named v x c used on aw =
     let held : used_in (lookup v.regions v.call.region) ≡ used = ap (λ (k : Call). used_in (lookup v.regions k.region)) same ∙ ap used_in aw.2.1 ∙ aw.2.2 in
     λ i. ((same i).region, record { used = held i; last = some (same i) }) ∷ v.regions
 
+-- the used words of the awaited call's region are those that the book has
+pub awaits_used : (named : Call) (v : Book) (c : Call) (used : ℕ) → Awaits named v c used → used_in (lookup v.regions named.region) ≡ used
+awaits_used named v c used aw = ap (λ (k : Call). used_in (lookup v.regions k.region)) (sym aw.0) ∙ ap used_in aw.2.1 ∙ aw.2.2
+
+-- an entry that wrote nothing leaves the used words as they were
+pub adds_nothing : (A : Call → ℕ → Type 0) (allows : Entry → Type 0) (S : List Entry → ℕ → Log → Log → Type 0) (h : List Entry) (n : ℕ) (x : Answer) (after : ℕ) (s : Stamp) (r : Log)
+    → Adds A allows S h n x (λ used. used) s r [] → Adds A allows S h n x (λ _. after) s r []
+adds_nothing A allows S h n x after s r adds c used aw may =
+    subst (λ (k : ℕ). IsAllowed allows x c used k r [] → S (h ++ made c x used k s r [] ∷ []) n [] []) (sym (may.stays (inl refl))) (adds c used aw) may
+
 -- the update of the awaited call is the one that the pass adds
-pub update_made : (named : Call) (v : Book) (c : Call) (used : ℕ) (r w : Log) (x : Answer) (s : Stamp) → s.update ≡ true → v.call ≡ named → Awaits named v c used → v.reads ≡ pairs r
-    → update_of v s.at w x ≡ made c x used used s r w
-update_made named v c used r w x s u on aw reads =
+pub update_made : (named : Call) (v : Book) (c : Call) (used after : ℕ) (r w : Log) (x : Answer) (s : Stamp) → s.update ≡ true → v.call ≡ named → Awaits named v c used → v.reads ≡ pairs r
+    → update_of v s.at w x after ≡ made c x used after s r w
+update_made named v c used after r w x s u on aw reads =
     let same : v.call ≡ c = on ∙ sym aw.0 in
     let held : used_in (lookup v.regions v.call.region) ≡ used = ap (λ (k : Call). used_in (lookup v.regions k.region)) same ∙ ap used_in aw.2.1 ∙ aw.2.2 in
     let log : accesses v.reads ≡ r = ap accesses reads ∙ accesses_pairs r in
@@ -121,35 +131,36 @@ update_made named v c used r w x s u on aw reads =
       reads = log i;
       writes = w;
       used_before = held i;
-      used_after = held i;
+      used_after = after;
     }
 
 -- it owes nothing to the attempt
-pub update_fits : (S : Story) (named : Call) (v : Book) (c : Call) (used : ℕ) (r w : Log) (x : Answer) (t : ℕ) → v.call ≡ named → Awaits named v c used → v.reads ≡ pairs r
-    → S.runs (made c x used used (record { at = t; update = true }) r w) → Fits S v (update_of v t w x)
-update_fits S named v c used r w x t on aw reads runs =
+pub update_fits : (S : Story) (named : Call) (v : Book) (c : Call) (used after : ℕ) (r w : Log) (x : Answer) (t : ℕ) → v.call ≡ named → Awaits named v c used → v.reads ≡ pairs r
+    → S.runs (made c x used after (record { at = t; update = true }) r w) → ((w ≡ []) ⊎ (leaves_words x ≡ false) → after ≡ used) → Fits S v (update_of v t w x after)
+update_fits S named v c used after r w x t on aw reads runs stays =
     let same : v.call ≡ c = on ∙ sym aw.0 in
+    let held : used_in (lookup v.regions v.call.region) ≡ used = ap (λ (k : Call). used_in (lookup v.regions k.region)) same ∙ ap used_in aw.2.1 ∙ aw.2.2 in
     record {
       call = refl;
       reads = pairs_accesses v.reads;
       region = subst (λ (k : Call). (g : Region) × (lookup v.regions k.region ≡ some g) × (g.used ≡ used_in (lookup v.regions k.region)) × Succeeds k g.last) (sym same)
           (aw.2.0, aw.2.1, sym (ap used_in aw.2.1), aw.2.3);
       lane = rw same aw.1;
-      runs = subst S.runs (sym (update_made named v c used r w x (record { at = t; update = true }) refl on aw reads)) runs;
-      stays = λ q. refl;
+      runs = subst S.runs (sym (update_made named v c used after r w x (record { at = t; update = true }) refl on aw reads)) runs;
+      stays = λ q. stays q ∙ sym held;
     }
 
 -- the engine stands for one update more
 pub adds_update : (began : TableId → Book → Type 0) (words : ℕ) (named : Call) (rule : Entry → Type 0) (at : At) (kept : List Access)
-    (p q : Pass) (h : List Entry) (n : ℕ) (r w : Log) (x : Answer) (s : Stamp)
-    → (book p).call ≡ named → at ≢ Outside → s.update ≡ true → (book p).seen < s.at → IsSame p q → IsAdded (update_of (book p) s.at w x) (book p) (book q)
+    (p q : Pass) (h : List Entry) (n : ℕ) (r w : Log) (x : Answer) (after : ℕ) (s : Stamp)
+    → (book p).call ≡ named → at ≢ Outside → s.update ≡ true → (book p).seen < s.at → IsSame p q → IsAdded (update_of (book p) s.at w x after) (book p) (book q)
     → Stands began words at kept p h n r w
-    → Adds (Awaits named (book p)) rule (Stands began words Outside [] q) h n x s r w
-adds_update began words named rule at kept p q h n r w x s on inside u over same a st c used aw may = record {
+    → Adds (Awaits named (book p)) rule (Stands began words Outside [] q) h n x (λ _. after) s r w
+adds_update began words named rule at kept p q h n r w x after s on inside u over same a st c used aw may = record {
   entries = a.entries
-      ∙ ap (λ (e : Entry). e ∷ (book p).entries) (update_made named (book p) c used r w x s u on aw (st.reads inside))
-      ∙ ap (λ (t : List Entry). made c x used used s r w ∷ t) st.entries
-      ∙ sym (reverse-append h (made c x used used s r w ∷ []));
+      ∙ ap (λ (e : Entry). e ∷ (book p).entries) (update_made named (book p) c used after r w x s u on aw (st.reads inside))
+      ∙ ap (λ (t : List Entry). made c x used after s r w ∷ t) st.entries
+      ∙ sym (reverse-append h (made c x used after s r w ∷ []));
   lost = ap length a.lost ∙ st.lost;
   reads = λ q. absurd (q refl);
   writes = refl;
@@ -157,15 +168,14 @@ adds_update began words named rule at kept p q h n r w x s on inside u over same
   bound = λ q. absurd (q refl);
   keeps =
       let known = a.seen in
-      keeps_more began p q same a.numbers a.fresh (update_of (book p) s.at w x) a.regions a.entries (omega arith) a.lost (omega arith, λ t. omega arith) a.seen st.keeps;
+      keeps_more began p q same a.numbers a.fresh (update_of (book p) s.at w x after) a.regions a.entries (omega arith) a.lost (omega arith, λ t. omega arith) a.seen st.keeps;
 }
 
-pub update_region : (named : Call) (v v' : Book) (t : ℕ) (w : Log) (x : Answer) (c : Call) (used : ℕ) → v.call ≡ named → IsAdded (update_of v t w x) v v' → Awaits named v c used
-    → v'.regions ≡ (c.region, record { used = used; last = some c }) ∷ v.regions
-update_region named v v' t w x c used on a aw =
+pub update_region : (named : Call) (v v' : Book) (t : ℕ) (w : Log) (x : Answer) (c : Call) (used after : ℕ) → v.call ≡ named → IsAdded (update_of v t w x after) v v' → Awaits named v c used
+    → v'.regions ≡ (c.region, record { used = after; last = some c }) ∷ v.regions
+update_region named v v' t w x c used after on a aw =
     let same : v.call ≡ c = on ∙ sym aw.0 in
-    let held : used_in (lookup v.regions v.call.region) ≡ used = ap (λ (k : Call). used_in (lookup v.regions k.region)) same ∙ ap used_in aw.2.1 ∙ aw.2.2 in
-    let it : region_of (update_of v t w x) ∷ v.regions ≡ (c.region, record { used = used; last = some c }) ∷ v.regions = λ i. ((same i).region, record { used = held i; last = some (same i) }) ∷ v.regions in
+    let it : region_of (update_of v t w x after) ∷ v.regions ≡ (c.region, record { used = after; last = some c }) ∷ v.regions = λ i. ((same i).region, record { used = after; last = some (same i) }) ∷ v.regions in
     a.regions ∙ it
 
 -- a conflict in a commit is counted, and the attempt leaves nothing

@@ -18,17 +18,17 @@ either_way (Ok a) m f g = f a m
 either_way (Err e) m f g = g e m
 
 -- the lane's next call may come
-pub awaits_next : (lane index : ℕ) (v : Book) → IsWaiting lane index v → (used : ℕ) × Awaits (the_call lane index) v (the_call lane index) used
-awaits_next lane index v w = (w.0.used, (refl, inr refl, (w.0, w.1, refl, comes_after lane index w.0.last w.2)))
+pub awaits_next : (lane index : ℕ) (v : Book) → IsWaiting lane index v → Awaits (the_call lane index) v (the_call lane index) 0
+awaits_next lane index v w = (refl, inr refl, (w.0, w.1, w.2, comes_after lane index w.0.last w.3))
 
 -- and the one after it, whether or not it came
-pub waits_more : (lane index used : ℕ) (v w : Book) → w.regions ≡ (suc lane, record { used = used; last = some (the_call lane index) }) ∷ v.regions → IsWaiting lane (index + 1) w
-waits_more lane index used v w e =
+pub waits_more : (lane index used : ℕ) (v w : Book) → used ≡ 0 → w.regions ≡ (suc lane, record { used = used; last = some (the_call lane index) }) ∷ v.regions → IsWaiting lane (index + 1) w
+waits_more lane index used v w unused e =
     let g : Region = record { used = used; last = some (the_call lane index) } in
-    (g, ap (λ m. lookup m (suc lane)) e ∙ lookup_here v.regions (suc lane) g, (index, omega arith, refl))
+    (g, ap (λ m. lookup m (suc lane)) e ∙ lookup_here v.regions (suc lane) g, unused, (index, omega arith, refl))
 
 pub waits_still : (lane index : ℕ) (v w : Book) → w.regions ≡ v.regions → IsWaiting lane index v → IsWaiting lane (index + 1) w
-waits_still lane index v w e k = (k.0, ap (λ m. lookup m (suc lane)) e ∙ k.1, later k.0.last k.2)
+waits_still lane index v w e k = (k.0, ap (λ m. lookup m (suc lane)) e ∙ k.1, k.2, later k.0.last k.3)
   where
     later : (z : Option Call) → Before lane index z → Before lane (index + 1) z
     later none b = tt
@@ -54,7 +54,7 @@ opened_at (suc n) k l =
 
 -- the pass of a lane has its region
 pub lane_waits : (lane : ℕ) (v : Book) → lookup v.regions (suc lane) ≡ some (record { used = 0; last = none }) → IsWaiting lane 0 (goes_out (of_lane lane) v)
-lane_waits lane v e = (record { used = 0; last = none }, kept_by (of_lane lane) v.regions (suc lane) (eq-eqb (suc lane) (suc lane) refl) ∙ e, tt)
+lane_waits lane v e = (record { used = 0; last = none }, kept_by (of_lane lane) v.regions (suc lane) (eq-eqb (suc lane) (suc lane) refl) ∙ e, refl, tt)
 
 -- the other regions stay
 pub lane_stays : (lane k : ℕ) (v : Book) → lane < k → lookup (stays_here (of_lane lane) v).regions (suc k) ≡ lookup v.regions (suc k)

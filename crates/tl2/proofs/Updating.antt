@@ -160,14 +160,14 @@ all_safe owners words reads v w c cover e = each_read Safe reads w.reads e (All-
         (λ z. inl (subst (In (slice_index reads i % 4096)) (sym (ap (λ (b : Book). b.checked) c.1)) (c.2 i l z)))
         (λ n. inr (slice_index words (slice_index reads i % 4096), cover.each (slice_index reads i % 4096) (omega arith) (omega arith) n))
 
-module _ (t : ℕ) (wr : Log) (v w : Book) (x : Answer) (k : IsTicked t (pairs wr) v w) where
+module _ (t : ℕ) (wr : Log) (v w : Book) (x : Answer) (after : ℕ) (k : IsTicked t (pairs wr) v w) where
   abbrev used : Book → ℕ
   used b = used_in (lookup b.regions b.call.region)
 
   same_used : used w ≡ used v
   same_used = ap (λ (m : Map Region). used_in (lookup m w.call.region)) k.regions ∙ ap (λ (c : Call). used_in (lookup v.regions c.region)) k.call
 
-  pub entry_is : update_entry w x (used w) ≡ update_of v t wr x
+  pub entry_is : update_entry w x after ≡ update_of v t wr x after
   entry_is = λ i. record {
     stamp = record { at = k.tick i; update = true };
     call = k.call i;
@@ -175,10 +175,10 @@ module _ (t : ℕ) (wr : Log) (v w : Book) (x : Answer) (k : IsTicked t (pairs w
     reads = accesses (k.reads i);
     writes = (ap accesses k.due ∙ accesses_pairs wr) i;
     used_before = same_used i;
-    used_after = same_used i;
+    used_after = after;
   }
 
-  pub updates : (S : Story) → Fits S v (update_of v t wr x) → Updates S w (update_entry w x (used w))
+  pub updates : (S : Story) → Fits S v (update_of v t wr x after) → Updates S w (update_entry w x after)
   updates S f = record {
     fits = subst (Fits S w) (sym entry_is) (record {
       call = f.call ∙ sym k.call;
@@ -193,14 +193,14 @@ module _ (t : ℕ) (wr : Log) (v w : Book) (x : Answer) (k : IsTicked t (pairs w
     writes = pairs_accesses w.face.due;
   }
 
-  pub added : (left : Map ℕ) (w4 w5 : Book) → w4 ≡ stored w (update_entry w x (used w)) left → IsRest [] 0 w4 w5 → IsAdded (update_of v t wr x) v w5
+  pub added : (left : Map ℕ) (w4 w5 : Book) → w4 ≡ stored w (update_entry w x after) left → IsRest [] 0 w4 w5 → IsAdded (update_of v t wr x after) v w5
   added left w4 w5 e r = record {
     number = r.number ∙ ap (λ (b : Book). b.face.number) e ∙ k.number;
     numbers = r.numbers ∙ ap (λ (b : Book). b.numbers) e ∙ k.numbers;
     fresh = r.fresh ∙ ap (λ (b : Book). b.fresh) e ∙ k.fresh;
     ticks = let p = r.ticks in let q = ap (λ (b : Book). b.ticks) e in let o = k.ticks in omega arith;
-    regions = r.regions ∙ ap (λ (b : Book). b.regions) e ∙ ap (λ (d : Entry). region_of d ∷ w.regions) entry_is ∙ ap (λ (m : Map Region). region_of (update_of v t wr x) ∷ m) k.regions;
-    entries = r.entries ∙ ap (λ (b : Book). b.entries) e ∙ ap (λ (d : Entry). d ∷ w.entries) entry_is ∙ ap (λ (es : List Entry). update_of v t wr x ∷ es) k.entries;
+    regions = r.regions ∙ ap (λ (b : Book). b.regions) e ∙ ap (λ (d : Entry). region_of d ∷ w.regions) entry_is ∙ ap (λ (m : Map Region). region_of (update_of v t wr x after) ∷ m) k.regions;
+    entries = r.entries ∙ ap (λ (b : Book). b.entries) e ∙ ap (λ (d : Entry). d ∷ w.entries) entry_is ∙ ap (λ (es : List Entry). update_of v t wr x after ∷ es) k.entries;
     lost = r.lost ∙ ap (λ (b : Book). b.lost) e ∙ k.lost;
     seen = let p = r.seen in let q = ap (λ (b : Book). b.seen) e in let o = k.seen.1 in omega arith;
   }

@@ -51,16 +51,16 @@ IsReleasing v = ((v.face.stage ≡ Decided) × (v.face.held ≢ [])) ⊎ ((v.fac
 abbrev pub stored : Book → Entry → Map ℕ → Book
 stored v e left = record v { face = record v.face { stage = Decided; left = left }; live = false; look = Away; entries = e ∷ v.entries; regions = region_of e ∷ v.regions }
 
--- the entry of an attempt that ticked at t, wrote this and answers x
-abbrev pub update_of : Book → ℕ → Log → Answer → Entry
-update_of v t w x = record {
+-- the entry of an attempt that ticked at t, wrote this, answers x and leaves its region with these used words
+abbrev pub update_of : Book → ℕ → Log → Answer → ℕ → Entry
+update_of v t w x used = record {
   stamp = record { at = t; update = true };
   call = v.call;
   answer = x;
   reads = accesses v.reads;
   writes = w;
   used_before = used_in (lookup v.regions v.call.region);
-  used_after = used_in (lookup v.regions v.call.region);
+  used_after = used;
 }
 
 -- The books of one pass before and after an attempt that moved the clock once and added an entry.

@@ -35,13 +35,13 @@ IsOpen words at c v = (v.live ≡ true) × (v.call ≡ c) × IsAt words at v
 abbrev pub Awaits : Call → Book → Call → ℕ → Type 0
 Awaits named v c used = (c ≡ named) × IsOfLane c × ((g : Region) × (lookup v.regions c.region ≡ some g) × (g.used ≡ used) × Succeeds c g.last)
 
--- An entry is before a call where, if it is of the call's region, its call comes first and it left no word there used.
+-- An entry is before a call where, if it is of the call's region, its call comes first.
 abbrev pub IsBefore : Call → Entry → Type 0
-IsBefore c e = e.call.region ≡ c.region → (rises e.call c ≡ true) × (e.used_after ≡ 0)
+IsBefore c e = e.call.region ≡ c.region → rises e.call c ≡ true
 
--- An entry of the same phase and lane as a call, with a lower index, that left no word of its region used.
+-- An entry of the same phase and lane as a call, with a lower index.
 abbrev pub IsEarlier : Call → Entry → Type 0
-IsEarlier c e = (e.call.phase ≡ c.phase) × (e.call.lane ≡ c.lane) × (e.call.index < c.index) × (e.used_after ≡ 0)
+IsEarlier c e = (e.call.phase ≡ c.phase) × (e.call.lane ≡ c.lane) × (e.call.index < c.index)
 
 -- An entry stands behind all that was known at a value of the clock: an update is over it, and a reader isn't below it.
 abbrev pub IsBehind : ℕ → Entry → Type 0

@@ -16,9 +16,9 @@ use Rattle.tl2.specs.Standing.{Stands}
 abbrev pub StandsSomehow : ℕ → At → List Access → Pass → Type 0
 StandsSomehow words at kept p = (h : List Entry) × (n : ℕ) × (r : Log) × (w : Log) × Stands (λ _ _. ⊥) words at kept p h n r w
 
--- the pass holds the lane's region, whose last call is one before the n-th
+-- the pass holds the lane's region, of which no word is used and whose last call is one before the n-th
 abbrev pub IsWaiting : ℕ → ℕ → Book → Type 0
-IsWaiting lane n b = (g : Region) × (lookup b.regions (suc lane) ≡ some g) × Before lane n g.last
+IsWaiting lane n b = (g : Region) × (lookup b.regions (suc lane) ≡ some g) × (g.used ≡ 0) × Before lane n g.last
 
 -- the regions below n, of which no word is used
 abbrev pub regions_below : ℕ → Map ℕ

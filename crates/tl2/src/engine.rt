@@ -48,8 +48,8 @@ impl<'a, T: Ruled, C: Calling> Engine for Tl2<'a, T, C> {
         Tl2::on_write(self, address, word)
     }
 
-    fn commit(&mut self, answer: Snapshot<Answer>) -> Result<Stamp, TxEnd> {
-        Tl2::commit(self, answer)
+    fn commit(&mut self, answer: Snapshot<Answer>, used: Snapshot<u64>) -> Result<Stamp, TxEnd> {
+        Tl2::commit(self, answer, used)
     }
 
     fn finish_refused(&mut self, answer: Snapshot<Answer>) -> Stamp {

@@ -174,12 +174,12 @@ impl<'a, T: Ruled, C: Calling> Tl2<'a, T, C> {
         Ok(())
     }
 
-    /// Ends the attempt as an entry with this answer that wrote nothing. No memory.
+    /// Ends the attempt as an entry with this answer that wrote nothing and leaves the used words of its region as they were. No memory.
     pub fn finish_refused(&mut self, answer: Snapshot<Answer>) -> Stamp
         requires open { IsOpen self.old.shared.now.words self.old.at (C.call self.old.call.value) (book self.old.pass) }
-        requires allowed { MayEnd (Stands C.began self.old.shared.now.words self.old.at self.old.writes.items self.old.pass) (Awaits (C.call self.old.call.value) (book self.old.pass)) T.rule (λ _. []) answer.value }
+        requires allowed { MayEnd (Stands C.began self.old.shared.now.words self.old.at self.old.writes.items self.old.pass) (Awaits (C.call self.old.call.value) (book self.old.pass)) T.rule (λ _. []) answer.value (λ used. used) }
         ensures run { (h : List Entry) (n : ℕ) (r w : Log) → Stands C.began self.old.shared.now.words self.old.at self.old.writes.items self.old.pass h n r w
-            → IsOfWrites result [] × Adds (Awaits (C.call self.old.call.value) (book self.old.pass)) T.rule (Stands C.began self.new.shared.now.words self.new.at self.new.writes.items self.new.pass) h n answer.value result r [] }
+            → IsOfWrites result [] × Adds (Awaits (C.call self.old.call.value) (book self.old.pass)) T.rule (Stands C.began self.new.shared.now.words self.new.at self.new.writes.items self.new.pass) h n answer.value (λ used. used) result r [] }
         ensures ticks { (book self.new.pass).ticks ≡ (book self.old.pass).ticks }
         ensures region { (c : Call) (used : ℕ) → Awaits (C.call self.old.call.value) (book self.old.pass) c used → (book self.new.pass).regions ≡ (c.region, record { used = used; last = Found c }) ∷ (book self.old.pass).regions }
         ensures same { IsSame self.old.pass self.new.pass × ((book self.new.pass).numbers ≡ (book self.old.pass).numbers) × ((book self.new.pass).fresh ≡ (book self.old.pass).fresh) }

@@ -39,6 +39,7 @@ fn store_all<T: Story>(
     shared: &Shared<T>,
     newest: &[Access],
     _answer: Snapshot<Answer>,
+    _used: Snapshot<u64>,
 )
     ghost entry: { Entry }
     requires table { IsOf shared.now.table.shared.table_id pass.old }
@@ -59,7 +60,8 @@ fn store_all<T: Story>(
     }
 }
 
-/// Ends an attempt that wrote this, the oldest first, and read these addresses, as an entry with this answer. The stripes of
+/// Ends an attempt that wrote this, the oldest first, and read these addresses, as an entry with this answer, which leaves so many words of its region
+/// used. The stripes of
 /// what it wrote are taken, the clock is moved, and what it read is looked at once more; then its words are stored, and the
 /// stripes get the clock's value as their version. After a conflict they get back the words that they had.
 pub(crate) fn update<T: Story>(
@@ -69,6 +71,7 @@ pub(crate) fn update<T: Story>(
     writes: &[Access],
     reads: &[u64],
     answer: Snapshot<Answer>,
+    used: Snapshot<u64>,
 ) -> Result<Stamp, Conflict>
     requires table { IsOf shared.now.table.shared.table_id pass.old }
     requires ready { ((book pass.old).face.held ≡ []) × ((book pass.old).face.stage ≡ Unticked) × ((book pass.old).live ≡ true) × ((book pass.old).ticks < 2 ^ 40) }
@@ -76,10 +79,10 @@ pub(crate) fn update<T: Story>(
     requires heap { All (λ l. l.address < shared.now.words) (reverse writes.now) × All (λ a. a < shared.now.words) reads.now }
     requires reads { reverse reads.now ≡ keys (book pass.old).reads }
     requires plan { IsPlan (pairs (reverse writes.now)) reads.now plan.owners.items plan.was_read.items plan.words.items plan.newest.items }
-    requires entry { (t : ℕ) → Fits (T.story shared.now.table.shared.key.story.value) (book pass.old) (update_of (book pass.old) t (reverse writes.now) answer.value) }
+    requires entry { (t : ℕ) → Fits (T.story shared.now.table.shared.key.story.value) (book pass.old) (update_of (book pass.old) t (reverse writes.now) answer.value used.value) }
     ensures same { IsSame pass.old pass.new }
     ensures free { ((book pass.new).face.held ≡ []) × ((book pass.new).face.stage ≡ Unticked) }
-    ensures ok { IfOk result (λ stamp. (stamp.update ≡ true) × ((book pass.old).seen < stamp.at) × IsAdded (update_of (book pass.old) stamp.at (reverse writes.now) answer.value) (book pass.old) (book pass.new)) }
+    ensures ok { IfOk result (λ stamp. (stamp.update ≡ true) × ((book pass.old).seen < stamp.at) × IsAdded (update_of (book pass.old) stamp.at (reverse writes.now) answer.value used.value) (book pass.old) (book pass.new)) }
     ensures conflict { IfErr result (λ e. (e.upto ≡ (book pass.old).bound) × IsPast (book pass.old).bound e.word × (Has (pairs (reverse writes.now)) e.address ⊎ In e.address reads.now)) }
     ensures err { IfErr result (λ e. (moved : ℕ) × (moved ≤ 1) × IsRest (lost_to (book pass.old) e ∷ []) moved (book pass.old) (book pass.new)) }
     ensures other { IfErr result (λ e. e.word ≢ 2 * (book pass.old).face.number + 1) }
@@ -97,7 +100,7 @@ pub(crate) fn update<T: Story>(
         give_back(pass, shared, &owners, &words, STRIPES);
         return Err(conflict);
     }
-    store_all(pass, shared, &newest, answer);
+    store_all(pass, shared, &newest, answer, used);
     release_all(pass, shared, &owners);
     Ok(Stamp { at, update: true })
 }

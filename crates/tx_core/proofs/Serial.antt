@@ -27,10 +27,10 @@ clock_more (d ∷ h) e clock = clock_more h e d.stamp.at
 
 -- an attempt that wrote nothing
 pub adds_reader : (rule : Entry → Type 0) (first words : List ℕ) (clock : ℕ) (kept : List Access) (h : List Entry) (n : ℕ) (r w : Log) → StandsFor rule first words clock kept h n r w
-    → (x : Answer) → Adds (λ c used. Unit {0}) rule (λ h n r w. StandsFor rule first words clock [] h n r w) h n x (record { at = clock; update = false }) r []
-adds_reader rule first words clock kept h n r w s x c used a may =
-    let e : Entry = made c x used used (record { at = clock; update = false }) r [] in
-    let p = may (record { at = clock; update = false }) in
+    → (x : Answer) (after : ℕ → ℕ) → Adds (λ c used. Unit {0}) rule (λ h n r w. StandsFor rule first words clock [] h n r w) h n x after (record { at = clock; update = false }) r []
+adds_reader rule first words clock kept h n r w s x after c used a may =
+    let e : Entry = made c x used (after used) (record { at = clock; update = false }) r [] in
+    let p = may.anywhere (record { at = clock; update = false }) in
     record {
       no_conflict = s.no_conflict;
       serial = serial_more rule h e 0 (word_in first) s.serial p ((λ q. cc), (λ q. absurd (q refl))) s.last_stamp (rw s.memory at s.reads);
@@ -67,10 +67,10 @@ words_applied w words h = λ i. λ a. word_applied w words a h i
 -- an attempt that wrote
 pub adds_update : (rule : Entry → Type 0) (first words words' : List ℕ) (clock : ℕ) (kept : List Access) (h : List Entry) (n : ℕ) (r w : Log) → StandsFor rule first words clock kept h n r w
     → words' ≡ applied (reverse kept) words → w ≢ []
-    → (x : Answer) → Adds (λ c used. Unit {0}) rule (λ h n r w. StandsFor rule first words' (clock + 1) [] h n r w) h n x (record { at = clock + 1; update = true }) r w
-adds_update rule first words words' clock kept h n r w s q wrote x c used a may =
-    let e : Entry = made c x used used (record { at = clock + 1; update = true }) r w in
-    let p = may (record { at = clock + 1; update = true }) in
+    → (x : Answer) (after : ℕ → ℕ) → Adds (λ c used. Unit {0}) rule (λ h n r w. StandsFor rule first words' (clock + 1) [] h n r w) h n x after (record { at = clock + 1; update = true }) r w
+adds_update rule first words words' clock kept h n r w s q wrote x after c used a may =
+    let e : Entry = made c x used (after used) (record { at = clock + 1; update = true }) r w in
+    let p = may.anywhere (record { at = clock + 1; update = true }) in
     let k : words' ≡ applied w words = rw s.writes at q in
     record {
       no_conflict = s.no_conflict;

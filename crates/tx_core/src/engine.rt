@@ -23,7 +23,7 @@ pub enum TxEnd {
 /// After an `Err` only `rollback` follows, except that a `commit` which answers one has rolled back itself.
 ///
 /// An engine may share its words with others, and then its entry is one for all from a step inside `commit` on. So what
-/// the call answers is told to `commit` and `finish_refused`, for contracts alone.
+/// the call answers, and how many words of its region it leaves used, is told to `commit` and `finish_refused`, for contracts alone.
 pub trait Engine {
     ghost use Rattle.std.specs.Prelude.{◌≡◌, ◌<◌, ◌≤◌, ◌+◌, ◌^◌, [], ◌∷◌, ◌++◌, ℕ, List, MatchResult, IfOk, IfErr, IsOk};
     ghost use Rattle.jmodel.specs.Attempt.{Log, access, answered, recorded, written};
@@ -108,23 +108,24 @@ pub trait Engine {
         ensures alone { is_alone self.old → is_alone self.new × IfErr result (λ end. end ≡ TxEnd.NoMemory) }
         ensures ticks { clock self.new ≡ clock self.old };
 
-    /// Ends the attempt as an entry of the history with this answer, where its reads stand. An `Err` has rolled it back.
-    fn commit(&mut self, answer: Snapshot<Answer>) -> Result<Stamp, TxEnd>
+    /// Ends the attempt as an entry of the history with this answer, which leaves so many words of its region used, where its reads stand. An `Err`
+    /// has rolled it back.
+    fn commit(&mut self, answer: Snapshot<Answer>, used: Snapshot<u64>) -> Result<Stamp, TxEnd>
         requires open { is_open self.old }
         requires clock { clock self.old < 2 ^ 40 }
-        requires allowed { is_shared → MayEnd (stands self.old) (awaits self.old) allows (λ w. w) answer.value }
+        requires allowed { is_shared → MayEnd (stands self.old) (awaits self.old) allows (λ w. w) answer.value (λ _. used.value) }
         ensures run { (h : List Entry) (n : ℕ) (r w : Log) → stands self.old h n r w
-            → MatchResult result (λ stamp. IsOfWrites stamp w × Adds (awaits self.old) allows (stands self.new) h n answer.value stamp r w) (λ end. stands self.new h (raised end n) [] []) }
+            → MatchResult result (λ stamp. IsOfWrites stamp w × Adds (awaits self.old) allows (stands self.new) h n answer.value (λ _. used.value) stamp r w) (λ end. stands self.new h (raised end n) [] []) }
         ensures awaits { (c : Call) (used : ℕ) → awaits self.old c used → IfErr result (λ _. awaits self.new c used) }
         ensures alone { is_alone self.old → is_alone self.new × IfErr result (λ end. end ≡ TxEnd.NoMemory) }
         ensures ticks { clock self.new ≤ clock self.old + 1 };
 
-    /// Ends the attempt as an entry with this answer that wrote nothing. No memory.
+    /// Ends the attempt as an entry with this answer that wrote nothing and leaves the used words of its region as they were. No memory.
     fn finish_refused(&mut self, answer: Snapshot<Answer>) -> Stamp
         requires open { is_open self.old }
-        requires allowed { is_shared → MayEnd (stands self.old) (awaits self.old) allows (λ _. []) answer.value }
+        requires allowed { is_shared → MayEnd (stands self.old) (awaits self.old) allows (λ _. []) answer.value (λ used. used) }
         ensures run { (h : List Entry) (n : ℕ) (r w : Log) → stands self.old h n r w
-            → IsOfWrites result [] × Adds (awaits self.old) allows (stands self.new) h n answer.value result r [] }
+            → IsOfWrites result [] × Adds (awaits self.old) allows (stands self.new) h n answer.value (λ used. used) result r [] }
         ensures alone { is_alone self.old → is_alone self.new }
         ensures ticks { clock self.new ≡ clock self.old };
 

@@ -82,7 +82,7 @@ impl<K: Origin> Engine for Solo<K> {
         Ok(())
     }
 
-    fn commit(&mut self, _answer: Snapshot<Answer>) -> Result<Stamp, TxEnd> {
+    fn commit(&mut self, _answer: Snapshot<Answer>, _used: Snapshot<u64>) -> Result<Stamp, TxEnd> {
         if self.writes.is_empty() {
             return Ok(Stamp {
                 at: self.clock,

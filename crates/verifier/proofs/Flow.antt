@@ -223,6 +223,7 @@ flow_is P k pc (op.Load i) h = load_is pc h i
 flow_is P k pc (op.Store i) h = store_is pc h i
 flow_is P k pc (op.Rearrange r) h = rearranged_is pc h r
 flow_is P k pc (op.Binary b) h = ints_are h.stack (λ s. typed.leaves pc h (Int ∷ s)) ∙ sym (taking_is pc h (Int ∷ Int ∷ []) (One leave.Int) Following)
+flow_is P k pc (op.Divide d) h = ints_are h.stack (λ s. typed.leaves pc h (Int ∷ s)) ∙ sym (taking_is pc h (Int ∷ Int ∷ []) (One leave.Int) Following)
 flow_is P k pc (op.Unary u) h = int_is h.stack (λ s. typed.leaves pc h (Int ∷ s)) ∙ sym (taking_is pc h (Int ∷ []) (One leave.Int) Following)
 flow_is P k pc (op.Increment i n) h = increment_is pc h i
 flow_is P k pc (op.Branch t to) h = int_is h.stack (λ s. Leads (places (ways.Either to) pc) (typed.with_stack h s)) ∙ sym (taking_is pc h (Int ∷ []) Nothing (ways.Either to))

@@ -145,6 +145,7 @@ module _ (h g : Types) (f : FitsIn h g) where
   effect_narrow P k (op.Store i) e x = storing_narrow i e x
   effect_narrow P k (op.Rearrange r) e x = rearrangement_narrow r e x
   effect_narrow P k (op.Binary b) e x = taking_narrow (Int ∷ Int ∷ []) (leaves.One leave.Int) ways.Following e x
+  effect_narrow P k (op.Divide d) e x = taking_narrow (Int ∷ Int ∷ []) (leaves.One leave.Int) ways.Following e x
   effect_narrow P k (op.Unary u) e x = taking_narrow (Int ∷ []) (leaves.One leave.Int) ways.Following e x
   effect_narrow P k (op.Increment i n) e x = cond_some (is_int (slice_get g.locals i)) (is_int (slice_get h.locals i)) _ e (int_at h.locals g.locals i f.locals) x
   effect_narrow P k (op.Branch t to) e x = taking_narrow (Int ∷ []) leaves.Nothing (ways.Either to) e x

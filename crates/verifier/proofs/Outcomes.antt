@@ -308,6 +308,7 @@ module _ (h : Types) (local : AllByRecursion IsLocalType h.locals) (e : Effect) 
 
   ints_local : (o : Op) → effect_on_ints o h.stack ≡ Some e → Local
   ints_local (op.Binary b) x = taking_local (Int ∷ Int ∷ []) (leaves.One leave.Int) ways.Following x
+  ints_local (op.Divide d) x = taking_local (Int ∷ Int ∷ []) (leaves.One leave.Int) ways.Following x
   ints_local (op.Unary u) x = taking_local (Int ∷ []) (leaves.One leave.Int) ways.Following x
   ints_local (op.Branch t to) x = taking_local (Int ∷ []) leaves.Nothing (ways.Either to) x
   ints_local (op.BranchInts t to) x = taking_local (Int ∷ Int ∷ []) leaves.Nothing (ways.Either to) x

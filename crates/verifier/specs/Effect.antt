@@ -151,6 +151,7 @@ called call.Rollback s = taking (type.Ref context_class ∷ []) s Nothing Follow
 -- that of an instruction that only computes with ints, jumps or throws
 abbrev pub effect_on_ints : Op → List VType → Option Effect
 effect_on_ints (op.Binary b) s = taking (type.Int ∷ type.Int ∷ []) s (One Int) Following
+effect_on_ints (op.Divide d) s = taking (type.Int ∷ type.Int ∷ []) s (One Int) Following
 effect_on_ints (op.Unary u) s = taking (type.Int ∷ []) s (One Int) Following
 effect_on_ints (op.Branch t to) s = taking (type.Int ∷ []) s Nothing (Either to)
 effect_on_ints (op.BranchInts t to) s = taking (type.Int ∷ type.Int ∷ []) s Nothing (Either to)

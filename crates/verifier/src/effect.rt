@@ -441,7 +441,7 @@ fn effect_on_ints<'a>(op: &'a Op, stack: &[VType]) -> Option<Effect<'a>>
 {
     let none = Leaves::Nothing;
     match op {
-        Op::Binary(_) => {
+        Op::Binary(_) | Op::Divide(_) => {
             let wants = [Want::Int, Want::Int];
             taking(stack, &wants, Leaves::One(Leave::Int), Ways::Following)
         }

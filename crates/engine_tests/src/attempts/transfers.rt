@@ -169,6 +169,11 @@ fn total(words: &[u64]) -> u64 {
         .fold(0, |sum: u64, word| sum.wrapping_add(*word))
 }
 
+/// Whether the words after moves are others with the same sum.
+fn are_moved(before: &[u64], after: &[u64]) -> bool {
+    before != after && total(before) == total(after)
+}
+
 #[test]
 fn sixteen_threads_move_amounts_between_accounts(rt: HostRuntime) -> Result<(), NoMemory> {
     let words = Vec::from_elem(rt.alloc(), 100u64, 65_536)?;
@@ -178,11 +183,10 @@ fn sixteen_threads_move_amounts_between_accounts(rt: HostRuntime) -> Result<(), 
     let (shared, mut pass) = Shared::open(rt.alloc(), words, Snapshot::of(&told))?;
     let lanes = lanes_of(rt.alloc(), &shared, &mut pass)?;
     let ended = all_run(&rt, rt.alloc(), &shared, lanes)?;
-    assert!(rt; join_all(&shared, &mut pass, ended));
+    let all = join_all(&shared, &mut pass, ended);
     let Ok(left) = shared.close(rt.alloc(), pass) else {
         return Err(NoMemory);
     };
-    assert!(rt; total(&left) == total(&told.words));
-    assert!(rt; left.as_slice() != told.words.as_slice());
+    assert!(rt; all && are_moved(&told.words, &left));
     Ok(())
 }

@@ -9,7 +9,7 @@ use Rattle.script.specs.Script.{Script}
 use Rattle.driver.specs.Runs.{AreScripted}
 use Rattle.deuce.specs.Headline.{AreCalls}
 use Rattle.deuce.specs.Lines.{line_in}
-use Rattle.deuce.proofs.Scripted.{scripted, few_attempts}
+use Rattle.deuce.proofs.Scripted.{scripted, few_attempts, region_fits, lanes_fit}
 use Rattle.deuce.specs.Ending.{EndsScript}
 use Rattle.deuce.proofs.Running.{are_calls, is_run, err_is, of_opening}
 use Rattle.deuce.proofs.run.run_script.Goals as goal
@@ -21,38 +21,57 @@ run_phases-requires-clause-scripted g c = λ κs lives.
     (scripted c.args.class.now c.args.original.now c.in_ok-wanted.wanted c.args.script.now c.in_ok-wanted.ensures.script)
 
 pub run_phases-requires-clause-size : goal.run_phases-requires-clause-size
-run_phases-requires-clause-size g c = λ κs lives. c.in_ok-words.ensures.size
+run_phases-requires-clause-size g c = λ κs lives. c.in_ok-memory.ensures.size
 
 pub run_phases-requires-clause-attempts : goal.run_phases-requires-clause-attempts
 run_phases-requires-clause-attempts g c = λ κs lives.
     let attempts : c.wanted.inside.attempts ≡ c.in_ok-wanted.wanted.attempts = ap (λ (s : Script). s.attempts) c.wanted.view_is in
     rw attempts (few_attempts c.args.class.now c.args.original.now c.in_ok-wanted.wanted c.args.script.now c.in_ok-wanted.ensures.script)
 
+pub run_phases-requires-clause-room_size : goal.run_phases-requires-clause-room_size
+run_phases-requires-clause-room_size g c = λ κs lives.
+    let size : c.wanted.inside.region ≡ c.in_ok-wanted.wanted.region = ap (λ (s : Script). s.region) c.wanted.view_is in
+    rw size (region_fits c.args.class.now c.args.original.now c.in_ok-wanted.wanted c.args.script.now c.in_ok-wanted.ensures.script).1
+
+pub opened-requires-clause-room : goal.opened-requires-clause-room
+opened-requires-clause-room g c =
+    let size : c.wanted.inside.region ≡ c.in_ok-wanted.wanted.region = ap (λ (s : Script). s.region) c.wanted.view_is in
+    rw size (region_fits c.args.class.now c.args.original.now c.in_ok-wanted.wanted c.args.script.now c.in_ok-wanted.ensures.script)
+
+pub opened-requires-clause-lanes : goal.opened-requires-clause-lanes
+opened-requires-clause-lanes g c =
+    let lanes : c.wanted.inside.lanes ≡ c.in_ok-wanted.wanted.lanes = ap (λ (s : Script). s.lanes) c.wanted.view_is in
+    rw lanes (lanes_fit c.args.class.now c.args.original.now c.in_ok-wanted.wanted c.args.script.now c.in_ok-wanted.ensures.script)
+
 pub opened-requires-clause-attempts : goal.opened-requires-clause-attempts
 opened-requires-clause-attempts g c =
     let attempts : c.wanted.inside.attempts ≡ c.in_ok-wanted.wanted.attempts = ap (λ (s : Script). s.attempts) c.wanted.view_is in
     rw attempts (few_attempts c.args.class.now c.args.original.now c.in_ok-wanted.wanted c.args.script.now c.in_ok-wanted.ensures.script)
 
-pub returns-in_err-words-clause-cause : goal.returns-in_err-words-clause-cause
-returns-in_err-words-clause-cause g c =
+pub returns-in_err-memory-clause-cause : goal.returns-in_err-memory-clause-cause
+returns-in_err-memory-clause-cause g c =
+    let size : c.wanted.inside.region ≡ c.in_ok-wanted.wanted.region = ap (λ (s : Script). s.region) c.wanted.view_is in
     let budget : c.wanted.inside.budget ≡ c.in_ok-wanted.wanted.budget = ap (λ (s : Script). s.budget) c.wanted.view_is in
-    err_is c.from_residual-in_err-words.result c.in_err-words.field-0.0 (EndsScript c.args.class.now c.args.original.now c.args.script.now) c.from_residual-in_err-words.ensures.1
-    (of_opening c.args.class.now c.args.original.now c.args.script.now c.in_ok-wanted.wanted c.wanted.inside.budget c.in_err-words.field-0.0 c.in_ok-wanted.ensures.script budget c.in_err-words.ensures.cause)
+    err_is c.from_residual-in_err-memory.result c.in_err-memory.field-0.0 (EndsScript c.args.class.now c.args.original.now c.args.script.now) c.from_residual-in_err-memory.ensures.1
+    (of_opening c.args.class.now c.args.original.now c.args.script.now c.in_ok-wanted.wanted c.wanted.inside.region c.wanted.inside.budget c.in_err-memory.field-0.0 c.in_ok-wanted.ensures.script size budget c.in_err-memory.ensures.cause)
 
 pub returns-clause-run : goal.returns-clause-run
 returns-clause-run g c = λ bytes spells.
     let P = c.args.original.now in
     let phases : c.as_slice.result.now ≡ c.in_ok-wanted.wanted.phases = c.as_slice.ensures.value ∙ ap (λ (s : Script). s.phases) c.wanted.view_is in
+    let size : c.wanted.inside.region ≡ c.in_ok-wanted.wanted.region = ap (λ (s : Script). s.region) c.wanted.view_is in
     let budget : c.wanted.inside.budget ≡ c.in_ok-wanted.wanted.budget = ap (λ (s : Script). s.budget) c.wanted.view_is in
     let seen = c.as_slice.result.now in
-    let opened = c.in_ok-words.ensures.opens in
+    let opened = c.in_ok-memory.ensures.opens in
     let state = opened.0 in
-    let Opens : ℕ → Type 0 = λ b. Opening P b (opening_state (c.args.class.now ∷ [])) (initialisers P) state in
+    let Sizes : ℕ → Type 0 = λ n. Opening P n c.wanted.inside.budget (opening_state (c.args.class.now ∷ [])) (initialisers P) state in
+    let Opens : ℕ → Type 0 = λ b. Opening P c.in_ok-wanted.wanted.region b (opening_state (c.args.class.now ∷ [])) (initialisers P) state in
     let text = c.in_ok-journal.field-0 in
     is_run bytes c.args.script.now c.args.class.now P c.in_ok-wanted.wanted seen text
-    spells c.requires.links c.requires.ready.typed.typed c.in_ok-wanted.ensures.script phases state (subst Opens budget opened.1)
-    (subst (λ (b : ℕ). AreCalls P b state seen text) budget
-    (are_calls P c.wanted.inside.budget seen c.in_ok-words.words.items c.in_ok-made.made state text c.in_ok-made.ensures
+    spells c.requires.links c.requires.ready.typed.typed c.in_ok-wanted.ensures.script phases state (subst Opens budget (subst Sizes size opened.1))
+    (subst (λ (b : ℕ). AreCalls P c.in_ok-wanted.wanted.region b state seen text) budget
+    (subst (λ (n : ℕ). AreCalls P n c.wanted.inside.budget state seen text) size
+    (are_calls P c.wanted.inside.region c.wanted.inside.budget seen c.in_ok-memory.memory c.in_ok-made.made state text c.in_ok-made.ensures
     opened.2
     (c.in_ok-journal.ensures ∙ ap (λ (rs : List Record). journal_text (map (line_in P) rs) (map (line_in P) c.as_slice-3.result.now)) c.as_slice-2.ensures.value
-    ∙ ap (λ (rs : List Record). journal_text (map (line_in P) c.in_ok-made.made.placed.items) (map (line_in P) rs)) c.as_slice-3.ensures.value)))
+    ∙ ap (λ (rs : List Record). journal_text (map (line_in P) c.in_ok-made.made.placed.items) (map (line_in P) rs)) c.as_slice-3.ensures.value))))

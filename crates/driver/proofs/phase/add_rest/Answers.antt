@@ -4,9 +4,9 @@ use Rattle.std.proofs.lemmas.Slice.Zip.{AllZip-long}
 use Rattle.jmodel.specs.Schedule.{Known}
 use Rattle.tx_table.specs.Passes.{book}
 use Rattle.session.specs.declared.record.Record.{Record}
-use Rattle.session.specs.Passes.{MayBegin, behind}
+use Rattle.session.specs.Passes.{behind}
 use Rattle.driver.specs.Sides.{AreWhole, made_counts}
-use Rattle.driver.specs.Passing.{first_of, call_count, IsResting}
+use Rattle.driver.specs.Passing.{MayGoOn, first_of, call_count, IsResting}
 use Rattle.driver.proofs.Added.{phase_added}
 use Rattle.driver.proofs.Midway.{may_rest, firsts_within}
 use Rattle.driver.proofs.Resting.{whole_next}
@@ -49,7 +49,7 @@ one_after_another-requires-clause-begins g c = λ lane low.
     let counts : c.deref-2.result.now ≡ made_counts first.parts.items = c.deref-2.ensures.value ∙ c.in_ok-firsts.ensures ∙ ap made_counts c.deref.ensures.value in
     let b = c.requires.side.0 in
     let m = c.requires.side.1 in
-    subst (λ (ns : List ℕ). MayBegin (behind (first_of c.args.phase lane) (get_or ns lane 0)) (book c.args.pass)) (sym counts) (m.joining.back lane low)
+    subst (λ (ns : List ℕ). MayGoOn (behind (first_of c.args.phase lane) (get_or ns lane 0)) (book c.args.pass)) (sym counts) (m.joining.back lane low)
 
 pub one_after_another-requires-clause-resting : goal.one_after_another-requires-clause-resting
 one_after_another-requires-clause-resting g c =

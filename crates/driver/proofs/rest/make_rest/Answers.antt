@@ -1,8 +1,9 @@
-use Rattle.std.proofs.Common.{subst, sym, arith}
+use Rattle.std.proofs.Common.{suc, refl, subst, sym, arith}
 use Rattle.std.specs.List.{AllByRecursion}
 use Rattle.std.proofs.lemmas.List.{take_rest, length-drop}
 use Rattle.session.specs.Rule.{IsCallOf}
 use Rattle.driver.proofs.Lists.{all_drop}
+use Rattle.driver.proofs.Rooms.{room_fits}
 use Rattle.driver.proofs.rest.make_rest.Goals as goal
 
 pub make_shared-requires-clause-calls : goal.make_shared-requires-clause-calls
@@ -13,6 +14,10 @@ make_shared-requires-clause-calls g c =
 
 pub make_shared-requires-clause-few : goal.make_shared-requires-clause-few
 make_shared-requires-clause-few g c = rw take_rest (omega (arith, length-drop c.args.at.first c.args.calls.now))
+
+pub make_shared-requires-clause-fits : goal.make_shared-requires-clause-fits
+make_shared-requires-clause-fits g c =
+    room_fits c.args.limits.room (suc c.args.at.lane) c.args.limits.room.size c.requires.region refl (omega arith) c.requires.room_size
 
 pub make_shared-requires-clause-pass : goal.make_shared-requires-clause-pass
 make_shared-requires-clause-pass g c = rw take_rest c.requires.pass

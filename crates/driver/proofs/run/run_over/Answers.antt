@@ -1,6 +1,6 @@
-use Rattle.std.proofs.Common.{◌≡◌, ◌+◌, ℕ, suc, List, length, map, take, sym, subst, arith}
+use Rattle.std.proofs.Common.{◌≡◌, ◌<◌, ◌+◌, ℕ, suc, List, length, map, take, replicate, slice_index, sym, ◌∙◌, subst, arith}
 use Rattle.std.specs.List.{AllByRecursion}
-use Rattle.std.proofs.lemmas.List.{length-take-le, take_all}
+use Rattle.std.proofs.lemmas.List.{length-take-le, take_all, get_or-replicate}
 use Rattle.jmodel.specs.Rule.{Ends}
 use Rattle.jmodel.specs.Schedule.{ScriptPhase, lists_in}
 use Rattle.tx_table.specs.Passes.{book}
@@ -11,10 +11,14 @@ use Rattle.driver.specs.Over.{AddsPhase}
 use Rattle.driver.specs.Passing.{call_count, IsWhole}
 use Rattle.driver.proofs.Lists.{all_here}
 use Rattle.driver.proofs.Places.{IsFew, few_in_script, few_in_phases}
-use Rattle.driver.proofs.Alone.{lanes_more}
+use Rattle.driver.proofs.More.{lanes_more}
 use Rattle.driver.proofs.Over.{HasRunOver, run_none, over_more, run_over}
 use Rattle.driver.proofs.Spending.{room_for, ticks_next}
 use Rattle.driver.proofs.run.run_over.Goals as goal
+
+-- no word of any lane's region is used at first
+none_anywhere : (lane : ℕ) → lane < 16 → slice_index (replicate 16 0) lane ≡ 0
+none_anywhere lane low = get_or-replicate 16 lane 0 0 low
 
 pub loop-number-init : goal.loop-number-init
 loop-number-init g c =
@@ -25,6 +29,7 @@ loop-number-init g c =
       fresh = omega (arith, unused.fresh);
       few = omega (arith, unused.fresh);
       ticks = omega (arith, unused.ticks);
+      used = λ lane low. none_anywhere lane low ∙ sym (c.in_ok-shared.ensures.unused lane low);
       over = run_none (book c.in_ok-shared.pass) c.new-journal.result unused.entries c.new-journal.ensures.placed c.new-journal.ensures.unplaced;
     }
 
@@ -70,6 +75,7 @@ loop-number-preserved g c =
       fresh = omega (arith, i.fresh, added.fresh);
       few = omega (arith, i.few, added.few);
       ticks = ticks_next n phases phase b below c.index-phases-number.is i.ticks (book left) added.ticks;
+      used = c.in_ok-pass.ensures.used;
       over = subst (λ (ps : List ScriptPhase). HasRunOver ps (book left) c.run_phase.new.journal) (lanes_more phases n phase below c.index-phases-number.is)
           (over_more (take n phases) phase count b (book left) c.loop-number.journal c.run_phase.new.journal i.over (subst Adds (sym long) adds));
     }
@@ -82,7 +88,10 @@ returns g c =
     let all : take n phases ≡ phases = take_all n phases (omega arith) in
     let b = book c.loop-number.pass in
     let rule = g.K.Keeping.rule in
+    let memory = c.args.memory in
     let after = c.in-Ok._words.items in
-    let ends = subst (λ (words : List ℕ). Ends (story_of rule words) b after) c.in_ok-shared.ensures.words c.in-Ok.ensures.ok in
-    run_over c.args.original.now c.args.limits.budget c.args.words.items after rule c.requires.ruled b phases c.loop-number.journal
+    let Words : List ℕ → Type 0 = λ words. Ends (story_of rule words c.in_ok-shared.shared.table.shared.key.story.value.used) b after in
+    let Used : ℕ → Type 0 = λ used. Ends (story_of rule memory.words.items used) b after in
+    let ends = subst Used c.in_ok-shared.ensures.used (subst Words c.in_ok-shared.ensures.words c.in-Ok.ensures.ok) in
+    run_over c.args.original.now c.args.limits.size c.args.limits.budget memory after rule c.requires.ruled b phases c.loop-number.journal
     (subst (λ (ps : List ScriptPhase). HasRunOver ps b c.loop-number.journal) all c.loop-number.invariant.over) ends

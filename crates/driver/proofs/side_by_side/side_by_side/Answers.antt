@@ -1,9 +1,8 @@
 use Rattle.std.proofs.Common.{length, refl, arith}
 use Rattle.tx_table.specs.Passes.{book}
-use Rattle.driver.specs.declared.side.Side.{Side}
-use Rattle.driver.specs.Passing.{call_count, IsJoining, IsMidway}
-use Rattle.driver.proofs.Lists.{on_ok}
-use Rattle.driver.proofs.Midway.{room_within, ending_of, midway_of}
+use Rattle.driver.specs.Passing.{call_count}
+use Rattle.driver.proofs.Midway.{room_within, ending_of, midway_of, joined_long}
+use Rattle.driver.proofs.Passing.{used_back}
 use Rattle.driver.proofs.side_by_side.side_by_side.Goals as goal
 
 pub start_lanes-requires-clause-pass : goal.start_lanes-requires-clause-pass
@@ -27,8 +26,20 @@ gather-requires g c =
       ending_of t b c.args.phase (length lanes) lanes c.in_ok-ends.ends.items c.start_lanes.new.pass c.requires.room refl c.in_ok-starts.ensures.pass ended,
     )
 
-pub returns : goal.returns
-returns g c =
+pub keep_used-requires : goal.keep_used-requires
+keep_used-requires g c =
+    let t = c.args.shared.now.table.shared.table_id in
+    let b = book c.args.pass.now in
+    let lanes = c.args.lanes.now in
+    let ended = c.in_ok-ends.ensures b.seen (c.in_ok-starts.ensures.starts c.args.phase c.requires.pass) in
+    let ending =
+    ending_of t b c.args.phase (length lanes) lanes c.in_ok-ends.ends.items c.start_lanes.new.pass c.requires.room refl c.in_ok-starts.ensures.pass ended in
+    let j = c.in_ok-side.ensures b c.args.phase lanes ending in
+    let long = joined_long t b c.args.phase lanes c.in_ok-side.side c.gather.new.pass j in
+    rw c.as_slice.ensures.value (omega (arith, long, c.requires.lanes))
+
+pub returns-clause-midway : goal.returns-clause-midway
+returns-clause-midway g c =
     let t = c.args.shared.now.table.shared.table_id in
     let p = c.args.pass.now in
     let b = book p in
@@ -36,7 +47,20 @@ returns g c =
     let ended = c.in_ok-ends.ensures b.seen (c.in_ok-starts.ensures.starts c.args.phase c.requires.pass) in
     let ending =
     ending_of t b c.args.phase (length lanes) lanes c.in_ok-ends.ends.items c.start_lanes.new.pass c.requires.room refl c.in_ok-starts.ensures.pass ended in
-    on_ok c.gather.result
-    (λ (side : Side). IsJoining t b c.args.phase (length lanes) (call_count lanes) lanes side.placed.items side.parts.items c.gather.new.pass)
-    (λ (side : Side). IsMidway t b c.args.phase lanes side c.gather.new.pass)
-    (λ side j. midway_of t c.args.phase lanes side p c.gather.new.pass c.requires.pass c.requires.room j) (c.gather.ensures b c.args.phase lanes ending)
+    midway_of t c.args.phase lanes c.in_ok-side.side p c.gather.new.pass c.requires.pass c.requires.room (c.in_ok-side.ensures b c.args.phase lanes ending)
+
+pub returns-clause-used : goal.returns-clause-used
+returns-clause-used g c =
+    let t = c.args.shared.now.table.shared.table_id in
+    let b = book c.args.pass.now in
+    let lanes = c.args.lanes.now in
+    let parts = c.in_ok-side.side.parts.items in
+    let ended = c.in_ok-ends.ensures b.seen (c.in_ok-starts.ensures.starts c.args.phase c.requires.pass) in
+    let ending =
+    ending_of t b c.args.phase (length lanes) lanes c.in_ok-ends.ends.items c.start_lanes.new.pass c.requires.room refl c.in_ok-starts.ensures.pass ended in
+    let j = c.in_ok-side.ensures b c.args.phase lanes ending in
+    let long = joined_long t b c.args.phase lanes c.in_ok-side.side c.gather.new.pass j in
+    let kept = rw c.as_slice.ensures.value at c.keep_used.ensures.lanes in
+    let others = rw c.as_slice.ensures.value at c.keep_used.ensures.others in
+    used_back t b c.args.phase (call_count lanes) lanes c.in_ok-side.side.placed.items parts c.gather.new.pass c.args.used.now c.keep_used.new.used j c.requires.used long
+    kept others

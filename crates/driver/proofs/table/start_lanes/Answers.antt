@@ -1,8 +1,8 @@
-use Rattle.std.proofs.Common.{ℕ, ◌<◌, ◌+◌, length, refl, sym, ◌∙◌, ap, subst, arith}
+use Rattle.std.proofs.Common.{◌≡◌, ℕ, ◌<◌, ◌+◌, length, get_or, refl, sym, ◌∙◌, ap, subst, arith}
 use Rattle.std.proofs.lemmas.List.{length_push}
 use Rattle.tx_table.specs.Passes.{book}
-use Rattle.driver.specs.Passing.{AreStarting}
-use Rattle.driver.proofs.Passing.{split_first, split_next, starts_push}
+use Rattle.driver.specs.Passing.{used_of, AreStarting}
+use Rattle.driver.proofs.Passing.{split_first, split_next, used_goes, starts_push}
 use Rattle.driver.proofs.table.start_lanes.Goals as goal
 
 pub loop-lane-init : goal.loop-lane-init
@@ -36,6 +36,9 @@ loop-lane-preserved g c =
       starts = λ phase every.
           let one = split_next t b phase lane c.loop-lane.pass c.split-pass.new.self c.split-pass.result i.pass low every.numbers c.requires.room.fresh
           (same.0.0 ∙ i.pass.seated.table) same.1 books.0 books.1 (every.begins lane low) in
+          let held = get_or c.args.used.now c.from.result 0 in
+          let was : held ≡ used_of b lane = ap (λ (n : ℕ). get_or c.args.used.now n 0) c.from.ensures ∙ c.requires.used lane low in
           subst (AreStarting t b.seen phase) (sym pushed) (starts_push t b.seen phase c.loop-lane.starts.items lane
-          (record { lane = lane; pass = c.split-pass.result }) i.len refl one.1 (i.starts phase every));
+          (record { lane = lane; used = held; pass = c.split-pass.result }) i.len refl (used_goes b lane c.split-pass.result held was one.2) one.1
+          (i.starts phase every));
     }

@@ -1,5 +1,5 @@
-use Rattle.std.proofs.Common.{◌≡◌, ℕ, suc, true, length, ap, ◌∙◌, arith}
-use mathlib.Core.Option.{some, none}
+use Rattle.std.proofs.Common.{◌≡◌, true, length, ap, ◌∙◌, arith}
+use mathlib.Core.Option.{none}
 use Rattle.jmodel.specs.Book.{Book, lookup}
 use Rattle.jmodel.specs.Plays.{goes_out}
 use Rattle.tx_table.specs.Passes.{book}

@@ -1,34 +1,32 @@
 use Rattle.std.proofs.Common.{Ok, Err}
 use Rattle.std.proofs.lemmas.Result.{err_from_is_err_and}
-use Rattle.machine.specs.Machine.{bounds_of, AddsNone}
+use Rattle.machine.specs.Machine.{bounds_of}
 use Rattle.jmodel.specs.Attempt.{run_start}
 use Rattle.machine.specs.Running.{Leaves}
-use Rattle.machine.proofs.Ends.{start_fails, end_right, end_left, end_from}
+use Rattle.machine.proofs.Ends.{start_fails, end_left, end_from}
 use Rattle.machine.proofs.machine.attempts.Goals as goal
 
 pub returns-in_err-running-clause-run : goal.returns-in_err-running-clause-run
-returns-in_err-running-clause-run g c = λ h n used s.
+returns-in_err-running-clause-run g c = λ h n s.
     let p = err_from_is_err_and c.from_residual.result c.from_residual.ensures.1 in
-    rw (p.1, p.2) (start_fails c.args.program.now (bounds_of c.args.limits) c.args.method c.args.args.now (g.E.Engine.awaits c.args.tx.now) g.E.Engine.allows (g.E.Engine.stands c.args.tx.now) h n used c.in_err-running.field-0.0 (c.in_err-running.ensures used) s)
+    rw (p.1, p.2) (start_fails c.args.program.now (bounds_of c.args.limits) c.args.method c.args.args.now (g.E.Engine.awaits c.args.tx.now) g.E.Engine.allows (g.E.Engine.stands c.args.tx.now) h n c.in_err-running.field-0.0 c.in_err-running.ensures s)
 
 pub run-requires-clause-stage : goal.run-requires-clause-stage
-run-requires-clause-stage g c = (c.in_ok-running.ensures 0).1
+run-requires-clause-stage g c = c.in_ok-running.ensures.1
 
 pub run-requires-clause-tried : goal.run-requires-clause-tried
-run-requires-clause-tried g c = (c.in_ok-running.ensures 0).2
+run-requires-clause-tried g c = c.in_ok-running.ensures.2
 
 pub returns-in-Ok-clause-run : goal.returns-in-Ok-clause-run
-returns-in-Ok-clause-run g c = λ h n used s.
-    end_right c.args.program.now (bounds_of c.args.limits) (run_start c.args.program.now c.args.method c.args.args.now used) (g.E.Engine.awaits c.args.tx.now) g.E.Engine.allows (g.E.Engine.stands c.run.new.tx) h n
-    (Leaves (g.E.Engine.stands c.run.new.tx h) n c.run.new.self.stage) (AddsNone (g.E.Engine.stands c.run.new.tx h) n) c.in-Ok.end
-    (end_from c.args.program.now (bounds_of c.args.limits) _ _ (g.E.Engine.awaits c.args.tx.now) g.E.Engine.allows (g.E.Engine.stands c.run.new.tx) h n
-    (Leaves (g.E.Engine.stands c.run.new.tx h) n c.run.new.self.stage) (Ok c.in-Ok.end) (c.in_ok-running.ensures used).0 (c.in-Ok.ensures.run h n used s))
+returns-in-Ok-clause-run g c = λ h n s.
+    end_from c.args.program.now (bounds_of c.args.limits) _ _ (g.E.Engine.awaits c.args.tx.now) g.E.Engine.allows (g.E.Engine.stands c.run.new.tx) h n
+    (Leaves (g.E.Engine.stands c.run.new.tx h) n c.run.new.self.stage) (Ok c.in-Ok.end) c.in_ok-running.ensures.0 (c.in-Ok.ensures.run h n s)
 
 pub returns-clause-run : goal.returns-clause-run
-returns-clause-run g c = λ h n used s.
-    end_left c.args.program.now (bounds_of c.args.limits) (run_start c.args.program.now c.args.method c.args.args.now used) (g.E.Engine.awaits c.args.tx.now) g.E.Engine.allows (g.E.Engine.stands c.run.new.tx) (g.E.Engine.stands c.leave.new.tx) h n c.run.new.self.stage c.in-Err.failure (c.leave.ensures.run h n)
+returns-clause-run g c = λ h n s.
+    end_left c.args.program.now (bounds_of c.args.limits) (run_start c.args.program.now (bounds_of c.args.limits) c.args.method c.args.args.now) (g.E.Engine.awaits c.args.tx.now) g.E.Engine.allows (g.E.Engine.stands c.run.new.tx) (g.E.Engine.stands c.leave.new.tx) h n c.run.new.self.stage c.in-Err.failure (c.leave.ensures.run h n)
     (end_from c.args.program.now (bounds_of c.args.limits) _ _ (g.E.Engine.awaits c.args.tx.now) g.E.Engine.allows (g.E.Engine.stands c.run.new.tx) h n
-    (Leaves (g.E.Engine.stands c.run.new.tx h) n c.run.new.self.stage) (Err c.in-Err.failure) (c.in_ok-running.ensures used).0 (c.in-Err.ensures.run h n used s))
+    (Leaves (g.E.Engine.stands c.run.new.tx h) n c.run.new.self.stage) (Err c.in-Err.failure) c.in_ok-running.ensures.0 (c.in-Err.ensures.run h n s))
 
 pub run-requires-clause-ready : goal.run-requires-clause-ready
 run-requires-clause-ready g c = λ shared.
@@ -37,8 +35,7 @@ run-requires-clause-ready g c = λ shared.
       history = m.history;
       conflicts = m.conflicts;
       call = m.call;
-      used = m.used;
       stands = m.stands;
       awaits = m.awaits;
-      allowed = λ x meter r w other comes. m.allowed x meter r w other (rw (c.in_ok-running.ensures m.used).0 comes);
+      allowed = λ x meter r w other comes. m.allowed x meter r w other (rw c.in_ok-running.ensures.0 comes);
     }

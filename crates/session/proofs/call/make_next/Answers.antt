@@ -9,7 +9,7 @@ call-requires-clause-ready g c = λ shared.
     let k = c.args.call.now in
     let method : k.method ≡ c.call.inside.method = ap (λ (x : Known). x.method) (sym c.call.view_is) in
     let args : k.args ≡ c.as_slice.result.now = ap (λ (x : Known). x.args) (sym c.call.view_is) ∙ sym c.as_slice.ensures.value in
-    may_start c.args.original.now c.args.rewritten.now c.requires.ready c.args.limits c.args.at k c.requires.call g.E.Engine.allows c.requires.rule
+    may_start c.args.original.now c.args.rewritten.now c.requires.ready c.args.limits c.args.at k c.requires.call c.requires.region g.E.Engine.allows c.requires.rule
     (g.E.Engine.stands c.args.engine.now) (g.E.Engine.awaits c.args.engine.now)
     c.requires.stands.0 c.requires.stands.1 c.requires.stands.2 c.requires.awaits c.call.inside.method c.as_slice.result.now method args
 
@@ -21,9 +21,9 @@ unreachable-requires g c =
     let at = c.args.at in
     let method : k.method ≡ c.call.inside.method = ap (λ (x : Known). x.method) (sym c.call.view_is) in
     let args : k.args ≡ c.as_slice.result.now = ap (λ (x : Known). x.args) (sym c.call.view_is) ∙ sym c.as_slice.ensures.value in
-    let may = may_run P Q c.requires.ready c.args.limits at k c.requires.call g.E.Engine.allows c.requires.rule in
-    let left = c.in-Err.ensures.run c.requires.stands.0 c.requires.stands.1 (call_of at k) 0 c.requires.stands.2 c.requires.awaits method args may in
-    never_stuck P Q c.requires.ready c.args.limits at k c.requires.call left.1
+    let may = may_run P Q c.requires.ready c.args.limits at k c.requires.call c.requires.region g.E.Engine.allows c.requires.rule in
+    let left = c.in-Err.ensures.run c.requires.stands.0 c.requires.stands.1 (call_of c.args.limits.room at k) c.requires.stands.2 c.requires.awaits method args may in
+    never_stuck P Q c.requires.ready c.args.limits at k c.requires.call c.requires.region left.1
 
 pub returns-clause-adds : goal.returns-clause-adds
 returns-clause-adds g c = λ h n stands.
@@ -33,6 +33,6 @@ returns-clause-adds g c = λ h n stands.
     let at = c.args.at in
     let method : k.method ≡ c.call.inside.method = ap (λ (x : Known). x.method) (sym c.call.view_is) in
     let args : k.args ≡ c.as_slice.result.now = ap (λ (x : Known). x.args) (sym c.call.view_is) ∙ sym c.as_slice.ensures.value in
-    let may = may_run P Q c.requires.ready c.args.limits at k c.requires.call g.E.Engine.allows c.requires.rule in
-    call_adds P Q c.requires.ready c.args.limits at k c.requires.call c.requires.attempts.0 (g.E.Engine.stands c.call-2.new.tx) h n c.in-Ok.answer c.in-Ok.stamp
-    (c.in-Ok.ensures.run h n (call_of at k) 0 stands c.requires.awaits method args may) c.in-Ok.ensures.answers
+    let may = may_run P Q c.requires.ready c.args.limits at k c.requires.call c.requires.region g.E.Engine.allows c.requires.rule in
+    call_adds P Q c.requires.ready c.args.limits at k c.requires.call c.requires.region c.requires.attempts.0 (g.E.Engine.stands c.call-2.new.tx) h n c.in-Ok.field-0
+    (c.in-Ok.ensures.run h n (call_of c.args.limits.room at k) stands c.requires.awaits method args may)

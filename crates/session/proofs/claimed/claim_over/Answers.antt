@@ -1,4 +1,4 @@
-use Rattle.std.proofs.Common.{◌≡◌, ◌≤◌, ◌<◌, ◌+◌, ◌*◌, ◌++◌, ℕ, List, [], Some, None, length, reverse, get_or, sym, ◌∙◌, ap, subst, arith}
+use Rattle.std.proofs.Common.{suc, inr, ◌≡◌, ◌≤◌, ◌<◌, ◌+◌, ◌*◌, ◌++◌, ℕ, List, [], Some, None, length, reverse, get_or, sym, ◌∙◌, ap, subst, arith}
 use Rattle.std.proofs.lemmas.List.{get_or_default, length_push, reverse-reverse}
 use Rattle.claims.specs.Claims.{HasClaimed}
 use Rattle.claims.specs.Passes.{claims_of}
@@ -6,11 +6,13 @@ use Rattle.jmodel.specs.Schedule.{Known}
 use Rattle.tx_table.specs.declared.shared.Pass.{Pass}
 use Rattle.tx_table.specs.Passes.{book}
 use Rattle.tl2.specs.Standing.{Stands}
+use Rattle.machine.specs.declared.machine.Limits.{Limits}
+use Rattle.session.specs.declared.record.Place.{Place}
 use Rattle.session.specs.Adds.{call_of, told_by}
 use Rattle.session.specs.Lane.{HasMade}
 use Rattle.session.specs.Claimed.{calls_at}
 use Rattle.session.proofs.Lanes.{lane_empty}
-use Rattle.session.proofs.Stood.{awaits_next, keeps_first, stood_first, stood_more, stands_still, has_lost, ending, unused}
+use Rattle.session.proofs.Stood.{awaits_next, keeps_first, stood_first, stood_more, stands_still, has_lost, ending, untouched}
 use Rattle.session.proofs.Claiming.{claiming_first, claiming_more, index_under, has_taken, has_ended, taken_at, emptied_whole, emptied_behind}
 use Rattle.session.proofs.Longer.{made_next, call_last, length_calls}
 use Rattle.session.proofs.claimed.claim_over.Goals as goal
@@ -19,8 +21,9 @@ use Rattle.session.proofs.claimed.claim_over.Goals.{else-loop-count-test, then-l
 pub returns-in_default-clause-made : goal.returns-in_default-clause-made
 returns-in_default-clause-made g c = (
   [],
-  unused c.args.shared.now.table.shared.table_id c.args.at (length c.args.calls.now) (length c.new-indexes.result.items) c.new-lane.result.made c.args.pass c.new-lane.ensures.made c.requires.pass,
-  lane_empty c.args.at (calls_at c.args.calls.now c.new-indexes.result.items) c.new-lane.result c.new-lane.ensures,
+  untouched c.args.shared.now.table.shared.table_id c.args.at c.args.limits.room.used (length c.args.calls.now) (length c.new-indexes.result.items) c.new-lane.result.made c.new-lane.result.used c.args.pass c.new-lane.ensures.made
+      c.new-lane.ensures.used_are c.requires.pass,
+  lane_empty c.args.at c.args.limits.room.used (calls_at c.args.calls.now c.new-indexes.result.items) c.new-lane.result c.new-lane.ensures,
 )
 
 pub loop-count-init : goal.loop-count-init
@@ -30,7 +33,7 @@ loop-count-init g c =
     let first = reverse (book p).entries in
     let keeps = keeps_first g.K.Beginning.began c.args.shared.now.table.shared.table_id p c.requires.only c.requires.pass.seated in
     record {
-      stood = stood_first (Stands g.K.Beginning.began e.shared.now.words e.at e.writes.items e.pass) first c.args.at
+      stood = stood_first (Stands g.K.Beginning.began e.shared.now.words e.at e.writes.items e.pass) first c.args.at c.args.limits.room.used
           (calls_at c.args.calls.now c.new-indexes.result.items) c.new-lane.result (length (book p).lost) c.new-lane.ensures
           (c.new-engine.ensures.stands first (sym (reverse-reverse (book p).entries)) keeps);
       count = c.new-lane.ensures.made;
@@ -52,17 +55,23 @@ make_next-one-requires-clause-awaits g c =
     let call = c.index-calls-index.result in
     let e = c.set_call.new.self in
     let named = e.call.value in
+    let room = c.with_used.result.room in
+    let region = ap (λ (l : Limits). l.room.region) c.with_used.ensures ∙ c.requires.region in
+    let same_region : room.region ≡ named.room.region = ap (λ (l : Limits). l.room.region) c.with_used.ensures ∙ cc (c.set_call.ensures.call, c.of-in-loop-count.ensures.room) in
     let b = book c.args.pass in
-    let told : call_of here call ≡ call_of named.at named.call.now = cc (c.set_call.ensures.call, c.of-in-loop-count.ensures.at, c.of-in-loop-count.ensures.call) in
-    awaits_next g.K.Beginning.began c.args.shared.now.table.shared.table_id b c.args.at here c.loop-count.lane.made c.loop-count.count e.shared.now.words e.at
-    e.writes.items e.pass so.history so.conflicts call (call_of named.at named.call.now) c.requires.began
-    (c.set_call.ensures.stands (reverse b.entries ++ so.history) so.conflicts [] [] so.stands) c.requires.pass.begins c.onward-here.ensures
-    c.loop-count.invariant.count told so.earlier
+    let told : call_of room here call ≡ call_of named.room named.at named.call.now = cc (same_region, c.set_call.ensures.call, c.of-in-loop-count.ensures.at, c.of-in-loop-count.ensures.call) in
+    let used = ap (λ (l : Limits). l.room.used) c.with_used.ensures in
+    rw used (awaits_next g.K.Beginning.began c.args.shared.now.table.shared.table_id b room c.args.at here c.args.limits.room.used c.loop-count.lane.made c.loop-count.count c.loop-count.lane.used e.shared.now.words e.at
+    e.writes.items e.pass so.history so.conflicts call (call_of named.room named.at named.call.now) c.requires.began
+    (c.set_call.ensures.stands (reverse b.entries ++ so.history) so.conflicts [] [] so.stands) c.requires.pass.begins so.made.takes region c.onward-here.ensures
+    c.loop-count.invariant.count told so.earlier)
 
 pub loop-count-preserved : goal.loop-count-preserved
 loop-count-preserved g c =
     let so = c.loop-count.invariant.stood in
     let e = c.make_next-one.new.engine in
+    let region = ap (λ (l : Limits). l.room.region) c.with_used.ensures ∙ c.requires.region in
+    let used = ap (λ (l : Limits). l.room.used) c.with_used.ensures in
     let first = reverse (book c.args.pass).entries in
     let calls = c.args.calls.now in
     let i = c.in-Some-claim.index in
@@ -80,16 +89,17 @@ loop-count-preserved g c =
     ∙ ap (λ (k : ℕ). get_or (calls_at calls new) k call) c.loop-count.invariant.claiming.long in
     let room : c.loop-count.count < length (calls_at calls new) = omega (arith, length_calls calls new, claiming.long) in
     record {
-      stood = stood_more (Stands g.K.Beginning.began e.shared.now.words e.at e.writes.items e.pass) c.args.at
-          c.onward-here.result (calls_at calls new) c.loop-count.count c.loop-count.lane c.add.new.self call c.make_next-one.result
-          c.onward-here.ensures c.loop-count.invariant.count room last c.make_next-one.ensures.tells c.in_ok-add.ensures
-          first so.history (length (book c.args.pass).lost) so.conflicts so.later (made_next c.args.at calls old new i so.history c.loop-count.lane pushed so.made)
+      stood = stood_more (Stands g.K.Beginning.began e.shared.now.words e.at e.writes.items e.pass) c.with_used.result.room c.args.at
+          c.onward-here.result c.args.limits.room.used (calls_at calls new) c.loop-count.count c.loop-count.lane c.add.new.self call c.make_next-one.result.0 c.make_next-one.result.1
+          region c.onward-here.ensures c.loop-count.invariant.count room last c.make_next-one.ensures.tells c.in_ok-add.ensures
+          first so.history (length (book c.args.pass).lost) so.conflicts so.later (made_next c.args.at c.args.limits.room.used calls old new i so.history c.loop-count.lane pushed so.made)
           so.earlier (sym c.is_spent.ensures ∙ c.if-is_spent.false)
-          (c.make_next-one.ensures.adds (first ++ so.history) so.conflicts (c.set_call.ensures.stands (first ++ so.history) so.conflicts [] [] so.stands));
+          (rw used at (c.make_next-one.ensures.adds (first ++ so.history) so.conflicts (c.set_call.ensures.stands (first ++ so.history) so.conflicts [] [] so.stands)));
       count = omega (arith, c.in_ok-add.ensures.made, c.loop-count.invariant.count);
-      ticks = let same = ap (λ (p : Pass). (book p).ticks) c.set_call.ensures.pass in omega (
+      ticks = let same = ap (λ (p : Pass). (book p).ticks) c.set_call.ensures.pass in let tried = ap (λ (l : Limits). l.attempts) c.with_used.ensures in omega (
         arith,
         same,
+        tried,
         c.make_next-one.ensures.clock,
         c.requires.attempts.1,
         c.loop-count.invariant.ticks,
@@ -106,7 +116,7 @@ returns-clause-made g c =
     let first = reverse b.entries in
     let calls = c.args.calls.now in
     let long = c.loop-count.invariant.claiming.long in
-    let Made : List ℕ → Type 0 = λ l. HasMade c.args.at (calls_at calls l) so.history c.loop-count.lane in
+    let Made : List ℕ → Type 0 = λ l. HasMade c.args.at c.args.limits.room.used (calls_at calls l) so.history c.loop-count.lane in
     elim c.loop-count-test.branch [
       | else-loop-count-test w ↦
           let e = c.loop-count.engine in
@@ -116,8 +126,8 @@ returns-clause-made g c =
           let n = length c.loop-count-test.indexes.items in
           let within : (book e.pass).ticks ≤ b.ticks + n * 1000000 = omega (arith, same_long, long, c.loop-count.invariant.ticks) in (
             so.history,
-            ending g.K.Beginning.began t b c.args.at n c.loop-count.lane.made e.shared.now.words e.at e.writes.items e.pass c.into_pass-pass.result so.history so.conflicts
-                c.requires.began same so.stands c.into_pass-pass.ensures.free c.requires.pass.begins so.earlier within,
+            ending g.K.Beginning.began t b c.args.at c.args.limits.room.used n c.loop-count.lane.made c.loop-count.lane.used e.shared.now.words e.at e.writes.items e.pass c.into_pass-pass.result so.history so.conflicts
+                c.requires.began same so.stands c.into_pass-pass.ensures.free c.requires.pass.begins so.made.takes so.earlier within,
             subst Made indexes so.made,
           )
       | then-loop-count-test+in_default-claim w ↦
@@ -128,8 +138,8 @@ returns-clause-made g c =
           let n = length c.loop-count-test.indexes.items in
           let within : (book e.pass).ticks ≤ b.ticks + n * 1000000 = omega (arith, same_long, long, c.loop-count.invariant.ticks) in (
             so.history,
-            ending g.K.Beginning.began t b c.args.at n c.loop-count.lane.made e.shared.now.words e.at e.writes.items e.pass c.into_pass-pass.result so.history so.conflicts
-                c.requires.began same so.stands c.into_pass-pass.ensures.free c.requires.pass.begins so.earlier within,
+            ending g.K.Beginning.began t b c.args.at c.args.limits.room.used n c.loop-count.lane.made c.loop-count.lane.used e.shared.now.words e.at e.writes.items e.pass c.into_pass-pass.result so.history so.conflicts
+                c.requires.began same so.stands c.into_pass-pass.ensures.free c.requires.pass.begins so.made.takes so.earlier within,
             subst Made indexes so.made,
           )
       | then-loop-count-test+in-Some-claim+in_ok-push+then-is_spent w ↦
@@ -141,15 +151,15 @@ returns-clause-made g c =
           let pushed = ap length w.in_ok-push.ensures.items ∙ length_push c.loop-count.indexes.items w.in-Some-claim.index in
           let n = length c.loop-count-test.indexes.items in
           let within : (book e.pass).ticks ≤ b.ticks + n * 1000000 =
-          omega (arith, same_long, pushed, long, before, w.make_next-one.ensures.clock, c.requires.attempts.1, c.loop-count.invariant.ticks) in
+          omega (arith, same_long, pushed, long, before, (ap (λ (l : Limits). l.attempts) w.with_used.ensures), w.make_next-one.ensures.clock, c.requires.attempts.1, c.loop-count.invariant.ticks) in
           let adds = w.make_next-one.ensures.adds (first ++ so.history) so.conflicts
           (w.set_call.ensures.stands (first ++ so.history) so.conflicts [] [] so.stands) in
-          let still = stands_still (Stands g.K.Beginning.began e.shared.now.words e.at e.writes.items e.pass) (first ++ so.history) so.conflicts
-          (told_by w.onward-here.result w.index-calls-index.result w.make_next-one.result) (sym w.is_spent.ensures ∙ w.if-is_spent.true) adds in (
+          let still = stands_still (Stands g.K.Beginning.began e.shared.now.words e.at e.writes.items e.pass) (first ++ so.history) so.conflicts w.with_used.result.room.used
+          (told_by w.with_used.result.room w.onward-here.result w.index-calls-index.result w.make_next-one.result.0) w.make_next-one.result.1 (sym w.is_spent.ensures ∙ w.if-is_spent.true) adds in (
             so.history,
-            ending g.K.Beginning.began t b c.args.at n c.loop-count.lane.made e.shared.now.words e.at e.writes.items e.pass c.into_pass-pass.result so.history still.0
-                c.requires.began same still.2 c.into_pass-pass.ensures.free c.requires.pass.begins so.earlier within,
-            subst Made indexes (made_next c.args.at calls c.loop-count.indexes.items w.push.new.self.items w.in-Some-claim.index so.history c.loop-count.lane
+            ending g.K.Beginning.began t b c.args.at c.args.limits.room.used n c.loop-count.lane.made c.loop-count.lane.used e.shared.now.words e.at e.writes.items e.pass c.into_pass-pass.result so.history still.0
+                c.requires.began same still.2 c.into_pass-pass.ensures.free c.requires.pass.begins so.made.takes so.earlier within,
+            subst Made indexes (made_next c.args.at c.args.limits.room.used calls c.loop-count.indexes.items w.push.new.self.items w.in-Some-claim.index so.history c.loop-count.lane
                 w.in_ok-push.ensures.items so.made),
           )
     ]
@@ -169,8 +179,8 @@ returns-clause-stopped g c = λ some_left.
           let same : c.into_pass-pass.result ≡ e.pass = cc (c.into_pass-pass.ensures.pass) in
           let adds = w.make_next-one.ensures.adds (first ++ so.history) so.conflicts
           (w.set_call.ensures.stands (first ++ so.history) so.conflicts [] [] so.stands) in
-          let still = stands_still (Stands g.K.Beginning.began e.shared.now.words e.at e.writes.items e.pass) (first ++ so.history) so.conflicts
-          (told_by w.onward-here.result w.index-calls-index.result w.make_next-one.result) (sym w.is_spent.ensures ∙ w.if-is_spent.true) adds in
+          let still = stands_still (Stands g.K.Beginning.began e.shared.now.words e.at e.writes.items e.pass) (first ++ so.history) so.conflicts w.with_used.result.room.used
+          (told_by w.with_used.result.room w.onward-here.result w.index-calls-index.result w.make_next-one.result.0) w.make_next-one.result.1 (sym w.is_spent.ensures ∙ w.if-is_spent.true) adds in
           has_lost g.K.Beginning.began e.shared.now.words e.at e.writes.items (book c.args.pass) e.pass c.into_pass-pass.result (first ++ so.history) still.0
           (omega (arith, so.later, still.1)) same still.2
     ]
@@ -233,3 +243,16 @@ returns-clause-claims g c =
           (has_taken n (count + 1) (claims_of w.claim.new.self) new
           (claiming_more n count i v (claims_of w.claim.new.self) old new w.loop-count-test.true claim w.in_ok-push.ensures.items claiming))
     ]
+
+pub make_next-one-requires-clause-region : goal.make_next-one-requires-clause-region
+make_next-one-requires-clause-region g c =
+    inr (ap (λ (l : Limits). l.room.region) c.with_used.ensures ∙ c.requires.region ∙ ap (λ (p : Place). suc p.lane) (sym c.onward-here.ensures))
+
+pub make_next-one-requires-clause-fits : goal.make_next-one-requires-clause-fits
+make_next-one-requires-clause-fits g c = rw c.with_used.ensures c.requires.fits
+
+pub make_next-one-requires-clause-rule : goal.make_next-one-requires-clause-rule
+make_next-one-requires-clause-rule g c = rw c.with_used.ensures c.requires.rule
+
+pub make_next-one-requires-clause-attempts : goal.make_next-one-requires-clause-attempts
+make_next-one-requires-clause-attempts g c = rw c.with_used.ensures c.requires.attempts

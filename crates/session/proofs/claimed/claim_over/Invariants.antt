@@ -10,7 +10,7 @@ use Rattle.session.proofs.claimed.claim_over.Given as goal
 abbrev pub invariant-loop-count : goal.invariant-loop-count
 invariant-loop-count g l = record {
   stood : Stood (Stands g.K.Beginning.began l.engine.shared.now.words l.engine.at l.engine.writes.items l.engine.pass) (reverse (book l.fn.pass).entries)
-      (length (book l.fn.pass).lost) l.at (calls_at l.calls l.indexes.items) l.lane;
+      (length (book l.fn.pass).lost) l.at l.limits.room.used (calls_at l.calls l.indexes.items) l.lane;
   count : l.lane.made ≡ l.count;
   ticks : (book l.engine.pass).ticks ≤ (book l.fn.pass).ticks + l.count * 1000000;
   bag : IsOf l.bag l.claims;

@@ -74,7 +74,7 @@ store_all-requires g c κs within =
               (k.stage, k.live, rw k.due newest),
               (
                 all_safe c.deref-3.result.now c.take_all.new.words c.args.reads.now (book c.tick_for-at.new.pass) v3 checked cover (c.requires.reads ∙ sym (ap keys k.reads)),
-                updates t w v v3 c.args.answer.value k story (c.requires.entry t),
+                updates t w v v3 c.args.answer.value c.args.used.value k story (c.requires.entry t),
               ),
             ),
           ),
@@ -111,7 +111,7 @@ returns-clause-ok g c =
     let checked = c.in_default.ensures.ok in
     let is : v3 ≡ record (ticked_up v1 t (pairs w)) { checked = checked.0 } = checked.1 ∙ ap (λ (b : Book). record b { checked = checked.0 }) c.tick_for-at.ensures.book in
     let k = ticked_then t (pairs w) checked.0 v v1 v3 c.tick_for-at.ensures.later ok.0 is in
-    (refl, k.seen.0, added t w v v3 c.args.answer.value k c.store_all.ensures.book.0 (book c.store_all.new.pass) (book c.release_all.new.pass) c.store_all.ensures.book.2 c.release_all.ensures.rest)
+    (refl, k.seen.0, added t w v v3 c.args.answer.value c.args.used.value k c.store_all.ensures.book.0 (book c.store_all.new.pass) (book c.release_all.new.pass) c.store_all.ensures.book.2 c.release_all.ensures.rest)
 
 pub returns-in-Err-clause-conflict : goal.returns-in-Err-clause-conflict
 returns-in-Err-clause-conflict g c =

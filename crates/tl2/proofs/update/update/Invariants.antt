@@ -1,6 +1,6 @@
 use Rattle.std.proofs.Common.{reverse}
-use Rattle.jmodel.specs.Book.{lookup, pairs}
-use Rattle.jmodel.specs.Plays.{update_entry, used_in}
+use Rattle.jmodel.specs.Book.{pairs}
+use Rattle.jmodel.specs.Plays.{update_entry}
 use Rattle.tx_table.specs.Passes.{book}
 use Rattle.tl2.proofs.update.update.Given as goal
 
@@ -8,4 +8,4 @@ abbrev pub ghost-tick_for : goal.ghost-tick_for
 ghost-tick_for g a = pairs (reverse a._writes.now)
 
 abbrev pub ghost-store_all : goal.ghost-store_all
-ghost-store_all g a = let v = book a.pass.now in update_entry v a._answer.value (used_in (lookup v.regions v.call.region))
+ghost-store_all g a = update_entry (book a.pass.now) a._answer.value a._used.value

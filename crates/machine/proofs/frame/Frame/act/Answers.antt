@@ -40,3 +40,6 @@ returns-in-GetContext-clause-does c = rw c.in-GetContext.is (c.get_context.ensur
 
 pub returns-in-Switch-clause-does : goal.returns-in-Switch-clause-does
 returns-in-Switch-clause-does c = rw c.in-Switch.is (c.switch.ensures.does c.args.program.now)
+
+pub returns-in-Divide-clause-does : goal.returns-in-Divide-clause-does
+returns-in-Divide-clause-does c = rw c.in-Divide.is (c.divide.ensures.does c.args.program.now)

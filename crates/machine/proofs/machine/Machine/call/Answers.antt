@@ -4,14 +4,15 @@ use Rattle.machine.proofs.Ends.{adds_of, end_of_call}
 use Rattle.machine.proofs.machine.Machine.call.Goals as goal
 
 pub returns-in-Ok-clause-run : goal.returns-in-Ok-clause-run
-returns-in-Ok-clause-run g c = λ h n k used s aw em ea may.
-    adds_of c.args.program.now (bounds_of c.args.limits) k used (g.E.Engine.awaits c.args.tx.now) g.E.Engine.allows (g.E.Engine.stands c.attempts.new.tx) h n c.in-Ok.end aw may
-    (end_of_call c.args.program.now (bounds_of c.args.limits) k c.args.method c.args.args.now used (g.E.Engine.awaits c.args.tx.now) g.E.Engine.allows (g.E.Engine.stands c.attempts.new.tx) h n (AddsNone (g.E.Engine.stands c.attempts.new.tx h) n) (Ok c.in-Ok.end) em ea (c.in-Ok.ensures.run h n used s))
+returns-in-Ok-clause-run g c = λ h n k s aw em ea may.
+    adds_of c.args.program.now (bounds_of c.args.limits) k (g.E.Engine.awaits c.args.tx.now) g.E.Engine.allows (g.E.Engine.stands c.attempts.new.tx) h n c.in-Ok.end aw may
+    (end_of_call c.args.program.now (bounds_of c.args.limits) k c.args.method c.args.args.now (g.E.Engine.awaits c.args.tx.now) g.E.Engine.allows (g.E.Engine.stands c.attempts.new.tx) h n (AddsNone (g.E.Engine.stands c.attempts.new.tx h) n) (Ok c.in-Ok.end) em ea (c.in-Ok.ensures.run h n s))
 
 pub returns-in-Err-NoMemory-clause-run : goal.returns-in-Err-NoMemory-clause-run
-returns-in-Err-NoMemory-clause-run g c = λ h n k used s aw em ea may. ((rw c.in-Err-NoMemory.field-0-is at c.in-Err-NoMemory.ensures.run) h n used s, refl)
+returns-in-Err-NoMemory-clause-run g c = λ h n k s aw em ea may.
+    rw c.unplaced.ensures ((rw c.in-Err-NoMemory.field-0-is at c.in-Err-NoMemory.ensures.run) h n s, record { unstamped = refl; unused = refl })
 
 pub returns-in-Err-Wrong-clause-run : goal.returns-in-Err-Wrong-clause-run
-returns-in-Err-Wrong-clause-run g c = λ h n k used s aw em ea may.
-    let t = (rw c.in-Err-Wrong.field-0-is at c.in-Err-Wrong.ensures.run) h n used s in
+returns-in-Err-Wrong-clause-run g c = λ h n k s aw em ea may.
+    let t = (rw c.in-Err-Wrong.field-0-is at c.in-Err-Wrong.ensures.run) h n s in
     (t.0, rw (em, ea) t.1)

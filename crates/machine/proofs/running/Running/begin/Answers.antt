@@ -5,7 +5,7 @@ use Rattle.jmodel.specs.Attempt.{count_of, begun, Gives}
 use Rattle.machine.proofs.running.Running.begin.Goals as goal
 
 pub returns-clause-run : goal.returns-clause-run
-returns-clause-run g c = λ h n used r w s P.
+returns-clause-run g c = λ h n r w s P.
     let e : nat_lt c.args.self.now.tried (min (count_of c.args.retries) c.args.limits.attempts) ≡ true = grind (arith, nat_tests, common_steps) in
     let stood = rw s.idle.0 at (rw s.idle.1 at s.stands) in
     let t = s.tries in

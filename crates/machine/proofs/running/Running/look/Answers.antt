@@ -4,13 +4,13 @@ use Rattle.machine.proofs.Turn.{turn_of}
 use Rattle.machine.proofs.running.Running.look.Goals as goal
 
 pub returns-in-Ok-clause-run : goal.returns-in-Ok-clause-run
-returns-in-Ok-clause-run g c = λ h n used r w s B.
+returns-in-Ok-clause-run g c = λ h n r w s B.
     (r, w, rw c.requires.stage (record { conflicts = s.conflicts; later = s.later; stands = c.in-Ok.ensures.run h s.conflicts r w s.stands; tries = s.tries; idle = tt }), (Gives 0, rw (c.requires.stage, c.advance.ensures) refl))
 
 pub returns-in-Err-clause-run : goal.returns-in-Err-clause-run
-returns-in-Err-clause-run g c = λ h n used r w s B.
+returns-in-Err-clause-run g c = λ h n r w s B.
     let t = s.tries in
     let l = s.later in
-    turn_of _ _ _ _ _ r w Refuses
+    turn_of B _ _ _ _ r w Refuses
     (rw (c.doom.ensures.stage, c.doom.ensures.tried) (record { conflicts = s.conflicts + 1; later = omega arith; stands = c.in-Err.ensures.run h s.conflicts r w s.stands; tries = omega arith; idle = tt }))
-    (c.doom.ensures.run used r w)
+    (c.doom.ensures.run B r w)

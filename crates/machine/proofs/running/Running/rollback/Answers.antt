@@ -3,6 +3,6 @@ use Rattle.jmodel.specs.Attempt.{Gives}
 use Rattle.machine.proofs.running.Running.rollback.Goals as goal
 
 pub returns-clause-run : goal.returns-clause-run
-returns-clause-run g c = λ h n used r w s P B.
+returns-clause-run g c = λ h n r w s P.
     let t = s.tries in
-    ([], [], record { conflicts = s.conflicts; later = s.later; stands = c.rollback.ensures.run h s.conflicts r w s.stands; tries = omega arith; idle = (refl, refl) }, (Gives 0, rw c.advance.ensures refl))
+    rw (c.advance.ensures, c.set_back.ensures) ([], [], record { conflicts = s.conflicts; later = s.later; stands = c.rollback.ensures.run h s.conflicts r w s.stands; tries = omega arith; idle = (refl, refl) }, (Gives 0, refl))

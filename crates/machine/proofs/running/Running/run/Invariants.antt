@@ -10,5 +10,5 @@ invariant-loop g l =
     IsWithin (g.E.Engine.clock l.initial.tx) l.limits.attempts (g.E.Engine.clock l.tx) l.self.stage l.self.tried
     × (l.self.stage ≡ Open → g.E.Engine.is_open l.tx)
     × ((c : Call) (used : ℕ) → g.E.Engine.awaits l.initial.tx c used → g.E.Engine.awaits l.tx c used)
-    × ((h : List Entry) (n used : ℕ) → g.E.Engine.stands l.initial.tx h n [] []
-    → OnWay l.program (bounds_of l.limits) (at l.initial.self used [] []) (g.E.Engine.stands l.tx h) n l.self used)
+    × ((h : List Entry) (n : ℕ) → g.E.Engine.stands l.initial.tx h n [] []
+    → OnWay l.program (bounds_of l.limits) (at l.initial.self [] []) (g.E.Engine.stands l.tx h) n l.self)

@@ -4,14 +4,14 @@ use Rattle.machine.proofs.Turn.{turn_of}
 use Rattle.machine.proofs.running.Running.write.Goals as goal
 
 pub returns-in-Ok-clause-run : goal.returns-in-Ok-clause-run
-returns-in-Ok-clause-run g c = λ h n used r w s B.
+returns-in-Ok-clause-run g c = λ h n r w s B.
     let st = rw c.address.ensures at (c.in-Ok.ensures.run h s.conflicts r w s.stands) in
     (r, access (address c.args.place) c.args.word ∷ w, rw c.requires.stage (record { conflicts = s.conflicts; later = s.later; stands = st; tries = s.tries; idle = tt }), (Gives 0, rw (c.requires.stage, c.advance.ensures) refl))
 
 pub returns-in-Err-Conflict-clause-run : goal.returns-in-Err-Conflict-clause-run
-returns-in-Err-Conflict-clause-run g c = λ h n used r w s B.
+returns-in-Err-Conflict-clause-run g c = λ h n r w s B.
     let t = s.tries in
     let l = s.later in
-    turn_of _ _ _ _ _ r w Refuses
+    turn_of B _ _ _ _ r w Refuses
     (rw (c.doom.ensures.stage, c.doom.ensures.tried) (record { conflicts = s.conflicts + 1; later = omega arith; stands = (rw c.in-Err-Conflict.field-0-is at c.in-Err-Conflict.ensures.run) h s.conflicts r w s.stands; tries = omega arith; idle = tt }))
-    (c.doom.ensures.run used r w)
+    (c.doom.ensures.run B r w)

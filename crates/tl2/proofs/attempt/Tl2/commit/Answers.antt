@@ -9,7 +9,8 @@ use Rattle.tx_core.specs.declared.engine.Conflict.{Conflict}
 use Rattle.tx_table.specs.Passes.{book}
 use Rattle.tl2.specs.Commits.{IsAdded, update_of}
 use Rattle.tl2.specs.Conflicts.{Meets}
-use Rattle.tl2.proofs.Entries.{inside, update_fits, adds_update, lost_stands}
+use Rattle.tl2.specs.Standing.{Awaits, Stands}
+use Rattle.tl2.proofs.Entries.{inside, awaits_used, adds_nothing, update_fits, adds_update, lost_stands}
 use Rattle.tl2.proofs.Updating.{all_reversed}
 use Rattle.tl2.proofs.attempt.Tl2.commit.Goals as goal
 
@@ -17,7 +18,40 @@ pub returns-then-is_empty-clause-run : goal.returns-then-is_empty-clause-run
 returns-then-is_empty-clause-run g c = λ h n r w s.
     let e : c.args.self.now.writes.items ≡ [] = grind (arith, common_steps) in
     let q : w ≡ [] = sym s.writes ∙ ap reverse e in
-    rw q (c.finish_refused.ensures.run h n r w s)
+    let f = c.finish_refused.ensures.run h n r w s in
+    rw q (
+      f.0,
+      adds_nothing (Awaits (g.C.Calling.call c.args.self.now.call.value) (book c.args.self.now.pass)) g.T.Ruled.rule (Stands g.C.Calling.began c.finish_refused.new.self.shared.now.words c.finish_refused.new.self.at c.finish_refused.new.self.writes.items c.finish_refused.new.self.pass)
+          h n c.args.answer.value c.args.used.value c.finish_refused.result r f.1,
+    )
+
+pub finish_refused-requires-clause-allowed : goal.finish_refused-requires-clause-allowed
+finish_refused-requires-clause-allowed g c =
+    let m = c.requires.allowed in
+    let e : c.args.self.now.writes.items ≡ [] = grind (arith, common_steps) in
+    let q : m.writes ≡ [] = sym m.stands.writes ∙ ap reverse e in
+    let same : c.args.used.value ≡ m.used = m.allowed.stays (inl q) in
+    record {
+      history = m.history;
+      conflicts = m.conflicts;
+      reads = m.reads;
+      writes = m.writes;
+      call = m.call;
+      used = m.used;
+      stands = m.stands;
+      awaits = m.awaits;
+      allowed = rw (q, same) at m.allowed;
+    }
+
+pub returns-then-is_empty-clause-region : goal.returns-then-is_empty-clause-region
+returns-then-is_empty-clause-region g c = λ k used a.
+    let m = c.requires.allowed in
+    let named = g.C.Calling.call c.args.self.now.call.value in
+    let v = book c.args.self.now.pass in
+    let e : c.args.self.now.writes.items ≡ [] = grind (arith, common_steps) in
+    let q : m.writes ≡ [] = sym m.stands.writes ∙ ap reverse e in
+    let same : used ≡ c.args.used.value = sym (awaits_used named v k used a) ∙ awaits_used named v m.call m.used m.awaits ∙ sym (m.allowed.stays (inl q)) in
+    rw same at (c.finish_refused.ensures.region k used a)
 
 pub of-requires : goal.of-requires
 of-requires g c =
@@ -36,8 +70,8 @@ update-done-requires-clause-entry g c = λ t.
     let m = c.requires.allowed in
     let o = c.requires.open in
     let value = c.args.self.now.shared.now.table.shared.key.story.value in
-    let runs = g.met.T.Ruled.keeps value _ (m.allowed (record { at = t; update = true })) in
-    rw (c.as_slice-2.ensures.value, m.stands.writes) (update_fits (g.T.Story.story value) (g.C.Calling.call c.args.self.now.call.value) v m.call m.used m.reads m.writes c.args.answer.value t o.1 m.awaits (m.stands.reads (inside _ _ _ o.2)) runs)
+    let runs = g.met.T.Ruled.keeps value _ (m.allowed.anywhere (record { at = t; update = true })) in
+    rw (c.as_slice-2.ensures.value, m.stands.writes) (update_fits (g.T.Story.story value) (g.C.Calling.call c.args.self.now.call.value) v m.call m.used c.args.used.value m.reads m.writes c.args.answer.value t o.1 m.awaits (m.stands.reads (inside _ _ _ o.2)) runs m.allowed.stays)
 
 pub returns-in-Ok-done-clause-run : goal.returns-in-Ok-done-clause-run
 returns-in-Ok-done-clause-run g c = λ h n r w s.
@@ -50,9 +84,9 @@ returns-in-Ok-done-clause-run g c = λ h n r w s.
     let y : length c.args.self.now.writes.items ≡ 0 = rw length-reverse at z in
     grind (arith, common_steps) in
     let e : reverse c.as_slice-2.result.now ≡ w = ap reverse c.as_slice-2.ensures.value ∙ s.writes in
-    let a = subst (λ (k : Log). IsAdded (update_of v stamp.at k c.args.answer.value) v (book c.update-done.new.pass)) e ok.2 in (
+    let a = subst (λ (k : Log). IsAdded (update_of v stamp.at k c.args.answer.value c.args.used.value) v (book c.update-done.new.pass)) e ok.2 in (
       ((λ t. wrote), (λ t. ok.0)),
-      rw c.clear.ensures.items (adds_update g.C.Calling.began c.args.self.now.shared.now.words (g.C.Calling.call c.args.self.now.call.value) g.T.Ruled.rule c.args.self.now.at c.args.self.now.writes.items c.args.self.now.pass c.update-done.new.pass h n r w c.args.answer.value stamp o.1 (inside _ _ _ o.2) ok.0 ok.1 c.in-Ok-done.ensures.same a s),
+      rw c.clear.ensures.items (adds_update g.C.Calling.began c.args.self.now.shared.now.words (g.C.Calling.call c.args.self.now.call.value) g.T.Ruled.rule c.args.self.now.at c.args.self.now.writes.items c.args.self.now.pass c.update-done.new.pass h n r w c.args.answer.value c.args.used.value stamp o.1 (inside _ _ _ o.2) ok.0 ok.1 c.in-Ok-done.ensures.same a s),
     )
 
 pub returns-in-Err-clause-seen : goal.returns-in-Err-clause-seen

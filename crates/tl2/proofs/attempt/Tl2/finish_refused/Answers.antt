@@ -9,7 +9,7 @@ finish_with-stamp-requires g c κs within =
     let m = c.requires.allowed in
     let o = c.requires.open in
     let story = g.T.Story.story c.args.self.now.shared.now.table.shared.key.story.value in
-    let runs = g.met.T.Ruled.keeps c.args.self.now.shared.now.table.shared.key.story.value _ (m.allowed (record { at = v.bound; update = false })) in
+    let runs = g.met.T.Ruled.keeps c.args.self.now.shared.now.table.shared.key.story.value _ (m.allowed.anywhere (record { at = v.bound; update = false })) in
     (within, (c.args.self.now.sits.0, ((o.0, c.args.self.now.sits.2), reader_fits story (g.C.Calling.call c.args.self.now.call.value) v m.call m.used m.reads c.args.answer.value o.1 m.awaits (m.stands.reads (inside _ _ _ o.2)) runs)))
 
 pub returns-clause-run : goal.returns-clause-run

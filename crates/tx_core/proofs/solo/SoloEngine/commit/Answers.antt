@@ -8,7 +8,7 @@ pub returns-then-is_empty-clause-run : goal.returns-then-is_empty-clause-run
 returns-then-is_empty-clause-run g c = λ h n r w s.
     let e : c.args.self.now.writes.items ≡ [] = grind (arith, common_steps) in
     let q : w ≡ [] = sym s.writes ∙ ap reverse e in
-    rw q (((λ t. cc), (λ t. absurd (t refl))), λ k used a may. rw e (adds_reader g.K.Origin.rule g.K.Origin.first c.args.self.now.words.items c.args.self.now.clock c.args.self.now.writes.items h n r w s c.args._answer.value k used a may))
+    rw q (((λ t. cc), (λ t. absurd (t refl))), λ k used a may. rw e (adds_reader g.K.Origin.rule g.K.Origin.first c.args.self.now.words.items c.args.self.now.clock c.args.self.now.writes.items h n r w s c.args._answer.value (λ _. c.args._used.value) k used a may))
 
 pub returns-clause-run : goal.returns-clause-run
 returns-clause-run g c = λ h n r w s.
@@ -18,5 +18,5 @@ returns-clause-run g c = λ h n r w s.
     grind (arith, common_steps) in (
       ((λ t. wrote), (λ t. refl)),
       λ k used a may. rw c.clear.ensures.items
-          (adds_update g.K.Origin.rule g.K.Origin.first c.args.self.now.words.items c.write_all.new.words.items c.args.self.now.clock c.args.self.now.writes.items h n r w s (rw c.as_slice.ensures.value at c.write_all.ensures) wrote c.args._answer.value k used a may),
+          (adds_update g.K.Origin.rule g.K.Origin.first c.args.self.now.words.items c.write_all.new.words.items c.args.self.now.clock c.args.self.now.writes.items h n r w s (rw c.as_slice.ensures.value at c.write_all.ensures) wrote c.args._answer.value (λ _. c.args._used.value) k used a may),
     )

@@ -1,0 +1,50 @@
+use Rattle.std.proofs.Common.{◌≡◌, ℕ, List, [], length, sym, ap, ◌∙◌, subst}
+use Rattle.std.specs.Global.{Global}
+use Rattle.std.specs.declared.vec.Vec.{Vec}
+use Rattle.jmodel.specs.declared.value.Value.{Value}
+use Rattle.jmodel.specs.History.{Entry}
+use Rattle.jmodel.specs.Attempt.{Log}
+use Rattle.jmodel.specs.Schedule.{Known}
+use Rattle.tx_core.specs.Serial.{StandsFor}
+use Rattle.machine.specs.declared.machine.Limits.{Limits as CallLimits}
+use Rattle.session.specs.declared.record.Place.{Place}
+use Rattle.session.specs.Adds.{told_by, AddsCall, AddsEntry}
+use Rattle.driver.specs.declared.memory.Memory.{Memory}
+use Rattle.driver.proofs.SettingUp.{answered, answers_alone}
+use Rattle.driver.proofs.setting_up.call_over.Goals as goal
+
+pub returns : goal.returns
+returns g c =
+    let P = c.args.original.now in
+    let size = c.args.limits.size in
+    let budget = c.args.limits.budget in
+    let rule = g.K.Origin.rule in
+    let first = g.K.Origin.first in
+    let memory = c.args.memory in
+    let engine = c.make_next-record.new.engine in
+    let made = c.make_next-record.result.0 in
+    let used = c.make_next-record.result.1 in
+    let room = c.in_region-limits.result.room in
+    let at : Place = record { phase = 0; lane = 0; first = 0 } in
+    let call : Known = record { method = c.args.method; args = c.new.result.items } in
+    let left : Memory = record { words = c.into_words-words.result; used = used } in
+    let Stands : List Entry → ℕ → Log → Log → Type 0 = λ h n r w. StandsFor rule first engine.words.items engine.clock engine.writes.items h n r w in
+    let adds : AddsCall Stands [] 0 room.used (told_by room at call made) used = c.make_next-record.ensures.adds [] 0 c.new-engine.ensures.stands in
+    let entry : AddsEntry Stands [] 0 room.used (told_by room at call made) used =
+    answered Stands room.used used (told_by room at call made) (λ h n stands. stands.no_conflict) c.in_default.not-NoMemory adds in
+    let room_is = c.in_region-limits.ensures in
+    let region : room.region ≡ 0 = ap (λ (l : CallLimits). l.room.region) room_is in
+    let before : room.used ≡ memory.used = ap (λ (l : CallLimits). l.room.used) room_is in
+    let called : call ≡ record { method = c.args.method; args = [] } = ap (λ (values : List Value). record { method = c.args.method; args = values }) c.new.ensures.items in
+    let words : left.words.items ≡ engine.words.items = ap (λ (v : Vec ℕ Global). v.items) c.into_words-words.ensures in
+    let none : Known = record { method = c.args.method; args = [] } in
+    let Entered : List ℕ → ℕ → Known → Type 0 =
+    λ ws n k. AddsEntry (λ h m r w. StandsFor rule first ws engine.clock engine.writes.items h m r w) [] 0 n (told_by room at k made) used in
+    let of_call : Entered engine.words.items room.used none = subst (Entered engine.words.items room.used) called entry in
+    let of_memory : Entered engine.words.items memory.used none = subst (λ (n : ℕ). Entered engine.words.items n none) before of_call in
+    let alone : Entered left.words.items memory.used none = subst (λ (ws : List ℕ). Entered ws memory.used none) (sym words) of_memory in
+    record {
+      answers = answers_alone P size budget rule c.requires.ruled first memory left engine.clock c.args.method engine.writes.items made.answer made.stamp room at
+          c.requires.first region alone;
+      size = ap length words ∙ entry.stands.size ∙ ap length (sym c.requires.first);
+    }

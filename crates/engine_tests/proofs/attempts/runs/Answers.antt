@@ -1,7 +1,0 @@
-use Rattle.std.proofs.Common.{[], reverse, sym}
-use Rattle.std.proofs.lemmas.List.{reverse-reverse}
-use Rattle.tx_table.specs.Passes.{book}
-use Rattle.engine_tests.proofs.attempts.runs.Goals as goal
-
-pub adds_many-done-requires-clause-stands : goal.adds_many-done-requires-clause-stands
-adds_many-done-requires-clause-stands c = let es = (book c.args.pass).entries in (reverse es, _, [], [], c.new-tx.ensures.stands (reverse es) (sym (reverse-reverse es)) (λ t b none. absurd none))
