@@ -2,9 +2,9 @@ ghost use Rattle.std.specs.Prelude.{◌≤◌, length, IfOk};
 ghost use Rattle.std.specs.List.{AllByRecursion};
 ghost use Rattle.jmodel.specs.Instruction.{IsInstr};
 
-use bytecode::{Instr, Operands, decode, encode};
+use bytecode::{Instr, decode, encode};
 use const_pool::Pool;
-use jmodel::{Bytes, Halt, Handler, Refusal};
+use jmodel::{Bytes, Halt, Refusal};
 use std::alloc::Global;
 use std::test::*;
 
@@ -43,202 +43,161 @@ const EACH: [u8; 352] = [
     0xc6, 0xfe, 0xb0, 0xc7, 0xfe, 0xad, 0xc8, 0xff, 0xff, 0xfe, 0xaa, 0xc9, 0xff, 0xff, 0xfe, 0xa5,
 ];
 
-// A kind of operands, and its numbers.
-fn seen(operands: &Operands) -> (u8, i64, i64) {
-    match operands {
-        Operands::Nothing => (0, 0, 0),
-        Operands::Number(n) => (1, i64::from(*n), 0),
-        Operands::Local(n) => (2, i64::from(*n), 0),
-        Operands::LocalAdd(n, add) => (3, i64::from(*n), i64::from(*add)),
-        Operands::Pool(i) => (4, i64::from(*i), 0),
-        Operands::Interface { index, count } => (5, i64::from(*index), i64::from(*count)),
-        Operands::Dimensions { index, count } => (6, i64::from(*index), i64::from(*count)),
-        Operands::Target(t) => (7, i64::from(*t), 0),
-        Operands::Table {
-            other,
-            low,
-            targets: _,
-        } => (8, i64::from(*other), i64::from(*low)),
-        Operands::Lookup { other, pairs: _ } => (9, i64::from(*other), 0),
-        Operands::Wide { op: _, local, add } => (10, i64::from(*local), i64::from(*add)),
-    }
-}
+// Some of them, by their numbers, and what is printed of them.
+const SOME: [(usize, &str); 14] = [
+    (16, "Instr { pc: 16, op: 16, operands: Number(-2) }"),
+    (17, "Instr { pc: 18, op: 17, operands: Number(-32767) }"),
+    (18, "Instr { pc: 21, op: 18, operands: Pool(3) }"),
+    (20, "Instr { pc: 26, op: 20, operands: Pool(4) }"),
+    (21, "Instr { pc: 29, op: 21, operands: Local(200) }"),
+    (
+        132,
+        "Instr { pc: 150, op: 132, operands: LocalAdd(200, -1) }",
+    ),
+    (153, "Instr { pc: 173, op: 153, operands: Target(0) }"),
+    (
+        170,
+        "Instr { pc: 223, op: 170, operands: Table { other: 0, low: -1, targets: Targets { items: [0, 223, 1] } } }",
+    ),
+    (
+        171,
+        "Instr { pc: 248, op: 171, operands: Lookup { other: 248, pairs: Pairs { items: [(-5, 0), (7, 2)] } } }",
+    ),
+    (
+        185,
+        "Instr { pc: 303, op: 185, operands: Interface { index: 15, count: 4 } }",
+    ),
+    (187, "Instr { pc: 311, op: 188, operands: Number(10) }"),
+    (
+        195,
+        "Instr { pc: 326, op: 196, operands: Wide { op: 132, local: 300, add: -300 } }",
+    ),
+    (
+        196,
+        "Instr { pc: 332, op: 197, operands: Dimensions { index: 2, count: 2 } }",
+    ),
+    (199, "Instr { pc: 342, op: 200, operands: Target(0) }"),
+];
 
-fn instructions(alloc: Global, code: &[u8], handlers: &[Handler]) -> Result<Vec<Instr>, Halt>
+// Code with a switch behind no, one, two and three other instructions, and what is written of it. Padding is free, and is written as 0.
+const SWITCHES: [(&[u8], &[u8]); 5] = [
+    (
+        b"\xaa\x00\x00\x00\x00\x00\x00\x14\x00\x00\x00\x05\x00\x00\x00\x05\x00\x00\x00\x00\xb1",
+        b"\xaa\x00\x00\x00\x00\x00\x00\x14\x00\x00\x00\x05\x00\x00\x00\x05\x00\x00\x00\x00\xb1",
+    ),
+    (
+        b"\x00\xaa\x00\x00\xff\xff\xff\xff\x00\x00\x00\x05\x00\x00\x00\x05\x00\x00\x00\x13\xb1",
+        b"\x00\xaa\x00\x00\xff\xff\xff\xff\x00\x00\x00\x05\x00\x00\x00\x05\x00\x00\x00\x13\xb1",
+    ),
+    (
+        b"\x00\x00\xab\x00\x00\x00\x00\x12\x00\x00\x00\x01\x80\x00\x00\x00\xff\xff\xff\xfe\xb1",
+        b"\x00\x00\xab\x00\x00\x00\x00\x12\x00\x00\x00\x01\x80\x00\x00\x00\xff\xff\xff\xfe\xb1",
+    ),
+    (
+        b"\x00\x00\x00\xab\x00\x00\x00\x0d\x00\x00\x00\x00\xb1\x00\x00\x00\xb1",
+        b"\x00\x00\x00\xab\x00\x00\x00\x0d\x00\x00\x00\x00\xb1\x00\x00\x00\xb1",
+    ),
+    (
+        b"\x00\xaa\x01\x02\xff\xff\xff\xff\x00\x00\x00\x05\x00\x00\x00\x05\x00\x00\x00\x13\xb1",
+        b"\x00\xaa\x00\x00\xff\xff\xff\xff\x00\x00\x00\x05\x00\x00\x00\x05\x00\x00\x00\x13\xb1",
+    ),
+];
+
+// Code, and the number and the pc of its first fault.
+const FAULTS: [(&[u8], u8, i64); 18] = [
+    (b"\x00\xba", 13, 1),
+    (b"\x00\xca", 13, 1),
+    (b"\xb1\x10", 13, 1),
+    (b"\xc4\x00\x00\x00", 13, 0),
+    (b"\xb9\x00\x0f\x03\x00", 13, 0),
+    (b"\xb9\x00\x0f\x04\x01", 13, 0),
+    (b"\xbc\x03", 13, 0),
+    (b"\xbc\x0c", 13, 0),
+    (b"\xc5\x00\x02\x00", 13, 0),
+    (b"\x12\x04", 13, 0),
+    (b"\x14\x00\x03", 13, 0),
+    (b"\xb8\x00\x0f", 13, 0),
+    (
+        b"\xaa\x00\x00\x00\x00\x00\x00\x00\x00\x00\x00\x06\x00\x00\x00\x05",
+        13,
+        0,
+    ),
+    (b"\xab\x00\x00\x00\x00\x00\x00\x00\xff\xff\xff\xff", 13, 0),
+    (
+        b"\xab\x00\x00\x00\x00\x00\x00\x00\x00\x00\x00\x02\x00\x00\x00\x01\x00\x00\x00\x00\x00\x00\x00\x01\x00\x00\x00\x00",
+        13,
+        0,
+    ),
+    (b"\xa7\x00\x01\x00\xba", 13, 4),
+    (b"\x00\xa7\x00\x01\xb1", 14, 1),
+    (b"\xa7\x80\x00\xa7\x00\x00", 14, 0),
+];
+
+fn instructions(alloc: Global, code: &[u8]) -> Result<Vec<Instr>, Halt>
     requires { length code.now ≤ 65535 }
     ensures { IfOk result (λ v. AllByRecursion IsInstr v.items) }
 {
     let (pool, _) = Pool::read(alloc, &POOL, 0)?;
     let code = Bytes::from_slice(alloc, code)?;
-    decode(alloc, &pool, &code, handlers)
+    decode(alloc, &pool, &code, &[])
 }
 
 // The code of the instructions of code.
 fn again(alloc: Global, code: &[u8]) -> Result<Bytes, Halt>
     requires { length code.now ≤ 65535 }
 {
-    let list = instructions(alloc, code, &[])?;
+    let list = instructions(alloc, code)?;
     Ok(encode(alloc, &list)?)
 }
 
-// A refusal's number and its pc.
-fn place(refusal: &Refusal) -> Option<(u8, i64)> {
-    match refusal {
-        Refusal::BadInstr(_, pc) => Some((13, *pc)),
-        Refusal::BadTarget(_, pc) => Some((14, *pc)),
-        _ => None,
-    }
-}
-
-fn fault_at(alloc: Global, code: &[u8], handlers: &[Handler]) -> Option<(u8, i64)>
-    requires { length code.now ≤ 65535 }
-{
-    match instructions(alloc, code, handlers) {
-        Err(Halt::Refused(refusal)) => place(&refusal),
-        _ => None,
-    }
-}
-
+// The first fault's number and its pc.
 fn fault(alloc: Global, code: &[u8]) -> Option<(u8, i64)>
     requires { length code.now ≤ 65535 }
 {
-    fault_at(alloc, code, &[])
+    match instructions(alloc, code) {
+        Err(Halt::Refused(refusal)) => match refusal {
+            Refusal::BadInstr(_, pc) => Some((13, pc)),
+            Refusal::BadTarget(_, pc) => Some((14, pc)),
+            _ => None,
+        },
+        _ => None,
+    }
 }
 
 #[test]
 fn each_instruction(rt: HostRuntime) -> Result<(), Fail> {
-    let list = instructions(rt.alloc(), &EACH, &[])?;
+    let list = instructions(rt.alloc(), &EACH)?;
     assert_eq!(rt; list.len(), 201);
-    let mut op: u8 = 0;
-    for i in &list {
-        assert_eq!(rt; i.op, op);
-        op = if op == 185 { 187 } else { op.wrapping_add(1) };
-    }
-    for (at, pc, operands) in [
-        (16usize, 16, (1u8, -2i64, 0i64)),
-        (17, 18, (1, -32767, 0)),
-        (18, 21, (4, 3, 0)),
-        (20, 26, (4, 4, 0)),
-        (21, 29, (2, 200, 0)),
-        (132, 150, (3, 200, -1)),
-        (153, 173, (7, 0, 0)),
-        (170, 223, (8, 0, -1)),
-        (171, 248, (9, 248, 0)),
-        (185, 303, (5, 15, 4)),
-        (187, 311, (1, 10, 0)),
-        (195, 326, (10, 300, -300)),
-        (196, 332, (6, 2, 2)),
-        (199, 342, (7, 0, 0)),
-    ] {
+    for (at, wanted) in SOME {
         let i = list.get(at).ok_or("an instruction")?;
-        assert_eq!(rt; (i.pc, seen(&i.operands)), (pc, operands));
+        assert_eq!(rt; format!(in rt.alloc(); "{i:?}")?.as_str(), wanted);
     }
-    let bytes = again(rt.alloc(), &EACH)?;
-    assert_eq!(rt; bytes.as_slice(), EACH.as_slice());
     Ok(())
 }
 
-// A switch behind no, one, two and three other instructions.
+#[test]
+fn each_instruction_is_written_as_it_was_read(rt: HostRuntime) -> Result<(), Fail> {
+    let bytes = again(rt.alloc(), &EACH)?;
+    assert!(rt; bytes.as_slice() == EACH.as_slice());
+    Ok(())
+}
+
 #[test]
 fn switches(rt: HostRuntime) -> Result<(), Fail> {
-    let tables: [&[u8]; 4] = [
-        b"\xaa\x00\x00\x00\x00\x00\x00\x14\x00\x00\x00\x05\x00\x00\x00\x05\x00\x00\x00\x00\xb1",
-        b"\x00\xaa\x00\x00\xff\xff\xff\xff\x00\x00\x00\x05\x00\x00\x00\x05\x00\x00\x00\x13\xb1",
-        b"\x00\x00\xab\x00\x00\x00\x00\x12\x00\x00\x00\x01\x80\x00\x00\x00\xff\xff\xff\xfe\xb1",
-        b"\x00\x00\x00\xab\x00\x00\x00\x0d\x00\x00\x00\x00\xb1\x00\x00\x00\xb1",
-    ];
-    for code in tables {
+    for (code, wanted) in SWITCHES {
         if code.len() <= 65535 {
             let bytes = again(rt.alloc(), code)?;
-            assert_eq!(rt; bytes.as_slice(), code);
+            assert_eq!(rt; bytes.as_slice(), wanted);
         }
     }
-    Ok(())
-}
-
-// Padding is free, and is written as 0.
-#[test]
-fn padding_is_free(rt: HostRuntime) -> Result<(), Fail> {
-    let code =
-        b"\x00\xaa\x01\x02\xff\xff\xff\xff\x00\x00\x00\x05\x00\x00\x00\x05\x00\x00\x00\x13\xb1";
-    let bytes = again(rt.alloc(), code.as_slice())?;
-    assert_eq!(rt; bytes.as_slice().get(2), Some(&0));
     Ok(())
 }
 
 #[test]
 fn first_faults(rt: HostRuntime) {
-    let cases: [(&[u8], u8, i64); 18] = [
-        (b"\x00\xba", 13, 1),
-        (b"\x00\xca", 13, 1),
-        (b"\xb1\x10", 13, 1),
-        (b"\xc4\x00\x00\x00", 13, 0),
-        (b"\xb9\x00\x0f\x03\x00", 13, 0),
-        (b"\xb9\x00\x0f\x04\x01", 13, 0),
-        (b"\xbc\x03", 13, 0),
-        (b"\xbc\x0c", 13, 0),
-        (b"\xc5\x00\x02\x00", 13, 0),
-        (b"\x12\x04", 13, 0),
-        (b"\x14\x00\x03", 13, 0),
-        (b"\xb8\x00\x0f", 13, 0),
-        (
-            b"\xaa\x00\x00\x00\x00\x00\x00\x00\x00\x00\x00\x06\x00\x00\x00\x05",
-            13,
-            0,
-        ),
-        (b"\xab\x00\x00\x00\x00\x00\x00\x00\xff\xff\xff\xff", 13, 0),
-        (
-            b"\xab\x00\x00\x00\x00\x00\x00\x00\x00\x00\x00\x02\x00\x00\x00\x01\x00\x00\x00\x00\x00\x00\x00\x01\x00\x00\x00\x00",
-            13,
-            0,
-        ),
-        (b"\xa7\x00\x01\x00\xba", 13, 4),
-        (b"\x00\xa7\x00\x01\xb1", 14, 1),
-        (b"\xa7\x80\x00\xa7\x00\x00", 14, 0),
-    ];
-    for (code, number, pc) in cases {
+    for (code, number, pc) in FAULTS {
         if code.len() <= 65535 {
             assert_eq!(rt; fault(rt.alloc(), code), Some((number, pc)));
         }
     }
-}
-
-// An entry's end may be the code's; the least bad place counts, and a jump's fault comes first.
-#[test]
-fn faults_of_entries(rt: HostRuntime) {
-    let entry = |start: u16, end: u16, handler: u16| Handler {
-        start,
-        end,
-        handler,
-        catch_type: 0,
-    };
-    let code = b"\x10\x01\x10\x02\xb1".as_slice();
-    assert_eq!(rt; fault_at(rt.alloc(), code, &[entry(0, 5, 4)]), None);
-    assert_eq!(rt;
-        fault_at(rt.alloc(), code, &[entry(0, 5, 3), entry(1, 4, 2)]),
-        Some((14, 1))
-    );
-    assert_eq!(rt;
-        fault_at(rt.alloc(), code, &[entry(0, 3, 5)]),
-        Some((14, 3))
-    );
-    let jump = b"\x00\x00\xa7\x00\x01".as_slice();
-    assert_eq!(rt;
-        fault_at(rt.alloc(), jump, &[entry(0, 1, 4)]),
-        Some((14, 2))
-    );
-}
-
-// The longest code there is, of jumps alone.
-#[test]
-fn longest_code(rt: HostRuntime) -> Result<(), Fail> {
-    let mut code = Bytes::new(rt.alloc());
-    for _ in 0..21845u32 {
-        code.extend_from_slice(&[0xa7, 0, 0])?;
-    }
-    if code.len() <= 65535 {
-        let bytes = again(rt.alloc(), code.as_slice())?;
-        assert!(rt; bytes.as_slice() == code.as_slice());
-    }
-    Ok(())
 }

@@ -1,9 +1,7 @@
-//! Tests of parts of class files: `const_pool`, `annotations`, `bytecode` and the names of `jmodel`. They stand apart, so that those crates are proved
+//! Tests of parts of class files: `const_pool`, `annotations`, `bytecode` and the bytes of `jmodel`. They stand apart, so that those crates are proved
 //! once and not a second time with their tests.
 #![tactic(auto)]
 
-#[cfg(test)]
-mod adding;
 #[cfg(test)]
 mod code;
 #[cfg(test)]
@@ -12,7 +10,5 @@ mod laying;
 mod marks;
 #[cfg(test)]
 mod names;
-#[cfg(test)]
-mod pool_index;
 #[cfg(test)]
 mod pools;
