@@ -1,8 +1,8 @@
 -- What can be run is run, and what can be rewritten is rewritten.
-use Rattle.std.proofs.Common.{◌≡◌, ◌≤◌, ◌⊎◌, ℕ, zero, suc, false, List, [], ◌∷◌, length, take, slice_get, Option, Some, None, Result, Ok, Err, inl, inr, refl, sym, ap, ◌∙◌, subst, arith}
+use Rattle.std.proofs.Common.{◌≡◌, ◌≤◌, ◌⊎◌, ℕ, zero, suc, true, List, [], ◌∷◌, ◌++◌, length, take, slice_get, Option, Some, None, Result, Ok, Err, inl, inr, refl, sym, ap, ◌∙◌, subst, arith}
 use Rattle.std.specs.Prelude.{String, string_bytes, option_map}
 use Rattle.std.specs.declared.alloc.Global.{Global}
-use Rattle.std.specs.List.{AllByRecursion}
+use Rattle.std.specs.List.{AllByRecursion, AllZip}
 use Rattle.std.proofs.lemmas.List.{take_all}
 use Rattle.deuce_io.specs.Files.{Files, inside, StandsIn}
 use Rattle.jmodel.specs.declared.refusal.Refusal.{Refusal}
@@ -25,8 +25,11 @@ use Rattle.deuce.specs.Headline.{IsRunnable}
 use Rattle.deuce.specs.Rewritten.{CanRewrite}
 use Rattle.deuce.specs.declared.outcome.Outcome.{Outcome}
 use Rattle.deuce.specs.declared.outcome.Outcome.TheVariants.{Journal, Rewritten, Usage, BadClass, BadProgram, Untyped, BadScript, Unopened, Outside, NotPut, NotBuilt}
-use Rattle.deuce.specs.Ending.{HasNoOneClass, IsOneClass, HasClass, IsBadClass, IsBadProgram, IsUntypable, IsBadScript, HasBadScript, IsUnopened, HasUnopened, IsOutsideForm, IsNotRewritten, CanRunIn, CanRewriteIn}
-use Rattle.deuce.specs.Outcomes.{Seen, Says, IsOfWords, IsNotBuilt, IsBadClassOfWords, IsBadScriptOfWords, IsUnopenedOfWords, CanRunWords, CanRewriteWords, status_of}
+use Rattle.deuce.specs.Folder.{AreClassNames, HoldsClasses, HasManyClasses, IsGoodFile, HasClasses, IsLone, IsBadClass}
+use Rattle.deuce.specs.Ending.{IsBadProgram, HasBadProgram, IsUntypable, IsBadScript, HasBadScript, IsUnopened, HasUnopened, IsOutsideForm, IsNotRewritten, AreUnbuilt, HasUnbuilt, CanRunIn, CanRewriteIn}
+use Rattle.deuce.specs.Outcomes.{Seen, Says, IsBadProgramOfWords, IsUntypableOfWords, IsNotBuilt, IsBadClassOfWords, IsBadScriptOfWords, IsUnopenedOfWords, CanRunWords, CanRewriteWords, status_of}
+use Rattle.deuce.proofs.Folders.{lone_name}
+use Rattle.deuce.proofs.Lone.{program_alone}
 use Rattle.deuce.proofs.Asked.{one_run, one_rewriting, apart, run_folder, rewriting_folder}
 
 -- bytes spell one class
@@ -44,7 +47,7 @@ front_is told most whole front is cut few =
 -- a class that stands alone in a folder, and can be run
 record Good (told : Files) (dir : List ℕ) : Type 0 where
   name : List ℕ
-  class_file : IsOneClass (StandsIn told dir) name
+  class_file : AreClassNames (StandsIn told dir) (name ∷ [])
   class_bytes : List ℕ
   class : told (inside dir name) ≡ Some class_bytes
   within : length class_bytes ≤ 1048576
@@ -79,11 +82,21 @@ good_rewriting told dir can = record {
   runnable = can.can.runnable;
 }
 
+-- the names of the class files of the folder
+names_are : (told : Files) (dir : List ℕ) (names : List (List ℕ)) → (can : Good told dir) → HoldsClasses (Some told) dir names → names ≡ can.name ∷ []
+names_are told dir names can all = lone_name (StandsIn told dir) names can.name can.class_file (all told refl)
+
+-- a name among names that are one is that
+one_among : (xs ys : List (List ℕ)) (n m : List ℕ) → xs ++ n ∷ ys ≡ m ∷ [] → n ≡ m
+one_among [] ys n m e = cc
+one_among (x ∷ []) ys n m e = cc
+one_among (x ∷ y ∷ xs) ys n m e = cc
+
 -- its file has no fault
 no_fault : (told : Files) (dir path : List ℕ) (r : Refusal) → Good told dir → IsBadClass (Some told) dir path r → ⊥
 no_fault told dir path r can bad =
-    let name : can.name ≡ bad.name = (bad.class_file told refl).alone (can.name, false) can.class_file.there can.class_file.class_file in
-    let at : path ≡ inside dir can.name = rw name bad.class_path in
+    let name : bad.name ≡ can.name = one_among bad.before bad.behind bad.name can.name (names_are told dir (bad.before ++ bad.name ∷ bad.behind) can bad.class_files) in
+    let at : path ≡ inside dir can.name = bad.class_path ∙ ap (inside dir) name in
     let bytes : bad.bytes ≡ can.class_bytes = front_is (told path) 1048577 can.class_bytes bad.bytes (rw at can.class) (bad.front told refl) (let few = can.within in omega arith) in
     let few = can.within in
     elim (bad.fault) as (λ _. ⊥) [
@@ -91,29 +104,40 @@ no_fault told dir path r can bad =
       | inr none ↦ none.0 can.file (subst (λ (b : List ℕ). Spells b can.file) (sym bytes) can.spells)
     ]
 
--- what holds of the class of the folder holds of it
-held : (told : Files) (dir : List ℕ) (Holding : ClassFile → Type 0) → (can : Good told dir) → HasClass (Some told) dir Holding → Holding can.file
-held told dir Holding can has =
-    let name : can.name ≡ has.name = (has.class_file told refl).alone (can.name, false) can.class_file.there can.class_file.class_file in
-    let bytes : has.class_bytes ≡ can.class_bytes = let a = can.class in let b = has.class told refl in cc in
-    let file : has.file ≡ can.file = one_class can.class_bytes has.file can.file (subst (λ (b : List ℕ). Spells b has.file) bytes has.spells) can.spells in
-    subst Holding file has.holding
+-- it isn't one of too many
+not_many : (told : Files) (dir : List ℕ) (r : Refusal) → Good told dir → HasManyClasses (Some told) dir r → ⊥
+not_many told dir r can h =
+    let names = names_are told dir h.names can h.class_files in
+    let many = h.many in
+    omega (arith, many, ap length names)
+
+-- what holds of the classes of the folder holds of it alone
+held : (told : Files) (dir : List ℕ) (Holding : List ClassFile → Type 0) → (can : Good told dir) → HasClasses (Some told) dir Holding → Holding (can.file ∷ [])
+held told dir Holding can has = go has.names has.classes (names_are told dir has.names can has.class_files) has.good has.holding
+  where
+    same_file : (name : List ℕ) (c : ClassFile) → name ≡ can.name → IsGoodFile (Some told) dir name c → c ≡ can.file
+    same_file name c is good =
+        let bytes : good.bytes ≡ can.class_bytes = let a = can.class in let b = good.holds told refl in cc in
+        one_class can.class_bytes c can.file (subst (λ (b : List ℕ). Spells b c) bytes good.is_file.1) can.spells
+
+    go : (names : List (List ℕ)) (cs : List ClassFile) → names ≡ can.name ∷ [] → AllZip (IsGoodFile (Some told) dir) names cs → Holding cs → Holding (can.file ∷ [])
+    go [] cs is good h = cc
+    go (n ∷ []) [] is good h = absurd good
+    go (n ∷ []) (c ∷ []) is good h = let file = same_file n c (let e : n ≡ can.name = cc in e) good.0 in subst (λ (d : ClassFile). Holding (d ∷ [])) file h
+    go (n ∷ []) (c ∷ d ∷ cs) is good h = absurd good.1
+    go (n ∷ m ∷ names) cs is good h = cc
 
 -- a class means one program
 one_program : (c : ClassFile) (P Q : Program) → linked c ≡ Some P → linked c ≡ Some Q → P ≡ Q
 one_program c P Q p q = let both : Some P ≡ Some Q = sym p ∙ q in cc (both)
-
-no_link : (r : Result (Option Program) Refusal) (P : Program) (e : Refusal) → program_in r ≡ Some P → r ≡ Err e → ⊥
-no_link (Ok o) P e h is = cc
-no_link (Err f) P e h is = cc
 
 not_formed : (r : Result (Option Program) Refusal) (P : Program) → program_in r ≡ Some P → r ≡ Ok None → ⊥
 not_formed (Ok o) P h is = let none : o ≡ None = cc in let some : o ≡ Some P = h in cc
 not_formed (Err f) P h is = cc
 
 -- a class that can be run has no fault, passes no limit, and has typings
-no_bad_program : (c : ClassFile) (P : Program) (r : Refusal) → IsRunnable c P → IsBadProgram r c → ⊥
-no_bad_program c P r can (inl fault) = no_link (linking c) P r can.links fault
+no_bad_program : (c : ClassFile) (P : Program) (r : Refusal) → IsRunnable c P → IsBadProgram r (c ∷ []) → ⊥
+no_bad_program c P r can (inl fault) = let means = program_alone c P can.links in cc
 no_bad_program c P r can (inr (Q, is, typed, limit)) =
     let same = one_program c P Q can.links is in
     let made : rewritten_class Q c ≡ Ok can.instrumented = subst (λ (p : Program). rewritten_class p c ≡ Ok can.instrumented) same can.rewrites in
@@ -137,11 +161,20 @@ module _ (words : List (String Global)) (told : Files) (dir : List ℕ) (can : G
   no_bad_class : (files : Option Files) (path : List ℕ) (r : Refusal) → files ≡ Some told → IsBadClassOfWords words files path r → ⊥
   no_bad_class files path r is h = no_fault told dir path r can (rw (is, named h.0 h.1) at h.2)
 
-  no_program_fault : (files : Option Files) (r : Refusal) → files ≡ Some told → IsOfWords words files IsBadProgram r → ⊥
-  no_program_fault files r is h = no_bad_program can.file can.program r can.runnable (held told dir (IsBadProgram r) can (rw (is, named h.0 h.1) at h.2))
+  no_program_fault : (files : Option Files) (r : Refusal) → files ≡ Some told → IsBadProgramOfWords words files r → ⊥
+  no_program_fault files r is h = refused (rw (is, named h.0 h.1) at h.2)
+    where
+      refused : HasBadProgram (Some told) dir r → ⊥
+      refused (inl many) = not_many told dir r can many
+      refused (inr has) = no_bad_program can.file can.program r can.runnable (held told dir (IsBadProgram r) can has)
 
-  none_untyped : (files : Option Files) (r : Refusal) → files ≡ Some told → IsOfWords words files IsUntypable r → ⊥
-  none_untyped files r is h = all_typed can.file can.program r can.runnable (held told dir (IsUntypable r) can (rw (is, named h.0 h.1) at h.2))
+  none_untyped : (files : Option Files) (r : Refusal) → files ≡ Some told → IsUntypableOfWords words files r → ⊥
+  none_untyped files r is h = all_typed can.file can.program r can.runnable (held told dir (IsLone (IsUntypable r)) can (rw (is, named h.0 h.1) at h.2))
+
+-- what isn't built isn't it
+not_unbuilt : (told : Files) (dir : List ℕ) (Unbuilt : ClassFile → Type 0) → (can : Good told dir) → (Unbuilt can.file → ⊥) → HasUnbuilt (Some told) dir Unbuilt → ⊥
+not_unbuilt told dir Unbuilt can built (inl folder) = let there = folder told refl in let none = can.class_file.no_folder (there.0, true) there.1 in cc
+not_unbuilt told dir Unbuilt can built (inr has) = built (held told dir (AreUnbuilt Unbuilt) can has).1
 
 -- ---- runs
 
@@ -151,7 +184,7 @@ unfolding good_run
 good_script told dir script r can bad =
     let is = can.can.is_script in
     let front : bad.script_bytes ≡ can.script_bytes = front_is (told script) 16777217 can.script_bytes bad.script_bytes can.script_holds (bad.script_front told refl) (let few = is.fits in omega arith) in
-    let of_class : IsBadScript can.script_bytes r can.file = subst (λ (b : List ℕ). IsBadScript b r can.file) front (held told dir (IsBadScript bad.script_bytes r) (good_run told dir script can) bad.of_class) in
+    let of_class : IsBadScript can.script_bytes r can.file = subst (λ (b : List ℕ). IsBadScript b r can.file) front (held told dir (IsLone (IsBadScript bad.script_bytes r)) (good_run told dir script can) bad.of_class) in
     let same = one_program can.file can.can.program of_class.0 can.can.runnable.links of_class.1.links in
     of_class.2.none can.can.script (subst (λ (p : Program). IsScript can.file p can.script_bytes can.can.script) same is)
 
@@ -176,7 +209,7 @@ opens told dir script class x can bad =
     let a = can.script_holds in
     let b = bad.script_holds told refl in
     let bytes : bad.script_bytes ≡ can.script_bytes = cc in
-    let shut : IsUnopened can.script_bytes class x can.file = subst (λ (l : List ℕ). IsUnopened l class x can.file) bytes (held told dir (IsUnopened bad.script_bytes class x) (good_run told dir script can) bad.of_class) in
+    let shut : IsUnopened can.script_bytes class x can.file = subst (λ (l : List ℕ). IsUnopened l class x can.file) bytes (held told dir (IsLone (IsUnopened bad.script_bytes class x)) (good_run told dir script can) bad.of_class) in
     let same = one_program can.file can.can.program shut.program can.can.runnable.links shut.runnable.links in
     let is : IsScript can.file shut.program can.script_bytes can.can.script = subst (λ (p : Program). IsScript can.file p can.script_bytes can.can.script) same can.can.is_script in
     let script : can.can.script ≡ shut.script = one_script can.file shut.program can.script_bytes can.can.script shut.script is shut.is_script in
@@ -189,10 +222,9 @@ opens_of_words words files class x h can =
     let same = one_run words h.0 h.1 can.0 can.1 h.2 can.3 in
     opens can.2 can.0 can.1 class x can.5 (rw (can.4, same.0, same.1) at h.3)
 
-unbuilt_run : (told : Files) (dir script : List ℕ) → CanRunIn told dir script → HasNoOneClass (Some told) dir ⊎ HasClass (Some told) dir IsOutsideForm → ⊥
+unbuilt_run : (told : Files) (dir script : List ℕ) → CanRunIn told dir script → HasUnbuilt (Some told) dir IsOutsideForm → ⊥
 unfolding good_run
-unbuilt_run told dir script can (inl none) = none told refl can.name can.class_file
-unbuilt_run told dir script can (inr h) = not_formed (linking can.file) can.can.program can.can.runnable.links (held told dir IsOutsideForm (good_run told dir script can) h)
+unbuilt_run told dir script can h = not_unbuilt told dir IsOutsideForm (good_run told dir script can) (not_formed (linking can.file) can.can.program can.can.runnable.links) h
 
 built_run : (words : List (String Global)) (files : Option Files) → IsNotBuilt words files → CanRunWords words files → ⊥
 built_run words files (inl h) can =
@@ -229,10 +261,9 @@ is_rewritten c can (inr h) =
     let one : can.runnable.instrumented ≡ h.instrumented = let other = h.rewrites in cc in
     h.many (subst HasFewMembers one can.few)
 
-unbuilt_rewriting : (told : Files) (dir : List ℕ) → CanRewriteIn told dir → HasNoOneClass (Some told) dir ⊎ HasClass (Some told) dir IsNotRewritten → ⊥
+unbuilt_rewriting : (told : Files) (dir : List ℕ) → CanRewriteIn told dir → HasUnbuilt (Some told) dir IsNotRewritten → ⊥
 unfolding good_rewriting
-unbuilt_rewriting told dir can (inl none) = none told refl can.name can.class_file
-unbuilt_rewriting told dir can (inr h) = is_rewritten can.file can.can (held told dir IsNotRewritten (good_rewriting told dir can) h)
+unbuilt_rewriting told dir can h = not_unbuilt told dir IsNotRewritten (good_rewriting told dir can) (is_rewritten can.file can.can) h
 
 built_rewriting : (words : List (String Global)) (files : Option Files) → IsNotBuilt words files → CanRewriteWords words files → ⊥
 built_rewriting words files (inl h) can = absurd (apart words h.0 h.1 can.0 can.1 h.2 can.3)

@@ -1,168 +1,189 @@
--- The one class file among the items of a folder.
-use Rattle.std.proofs.Common.{Bor, ◌≡◌, ◌<◌, ◌+◌, ◌∙◌, inl, inr, ℕ, Bool, true, false, List, length, get_or, ap, sym, refl, subst, Contains, Option, Some, None, arith}
-use Rattle.std.specs.Prelude.{MatchOption, IfSome, is_some}
-use Rattle.std.proofs.lemmas.List.{get_or_default}
-use Rattle.std.proofs.lemmas.Bool.{cases_lt}
-use Rattle.deuce_io.specs.declared.folder.Item.{Item}
-use Rattle.deuce_io.specs.Files.{Files, NoRepeats, IsListing, StandsIn, seen_items}
-use Rattle.deuce.specs.Ending.{IsClassFileName, IsOneClass}
+-- The names of the class files among the items of a folder, and their order.
+use Rattle.std.proofs.Common.{Bor, ◌≡◌, ◌<◌, ◌+◌, ◌∙◌, ◌↔◌, inl, inr, ℕ, zero, suc, ◌-◌, Bool, true, false, List, [], ◌∷◌, ◌++◌, length, get_or, map, ap, sym, refl, subst, Contains, arith, length-append}
+use Rattle.std.specs.Prelude.{bytes_eq}
+use Rattle.std.specs.List.{All, AllPairs}
+use Rattle.std.specs.List.Sorted.{IsPermutation, IsSorted}
+use Rattle.std.specs.declared.cmp.Ordering.{Ordering}
+use Rattle.std.specs.declared.cmp.Ordering.TheVariants.{Less, Equal, Greater}
+use Rattle.std.specs.Ordering.{nat_cmp, is_lt, is_eq, ordering_reverse}
+use Rattle.std.specs.Cmp.Lexicographic.{slice_cmp, texts_ties}
+use Rattle.std.proofs.lemmas.Cmp.{nat_list_cmp_total, nat_list_eq_equiv, tied_itself}
+use Rattle.std.proofs.lemmas.List.{length-map, get_or-map, get_or_append_left, get_or-append_right}
+use Rattle.std.proofs.lemmas.List.Elements.{Contains-get_or}
+use Rattle.std.proofs.lemmas.List.Sorted.{IsPermutation-map, IsPermutation-sym, Contains-permutation, ranks_by, sorted_far}
+use Rattle.std.proofs.lemmas.Map.Keys.{IsDistinct-IsPermutation, IsDistinct-from_apart, apart_from_distinct}
+use Rattle.std.proofs.lemmas.Slice.Eq.{bytes_eq-Decides}
+use Rattle.deuce_io.specs.Files.{Files, NoRepeats, IsListing, StandsIn}
+use Rattle.deuce_io.proofs.Items.{contains_pushed, once_pushed}
+use Rattle.jmodel.specs.Classes.{is_before}
+use Rattle.deuce.specs.Folder.{IsClassFileName, AreClassNames}
 
--- what is known when the first i items were looked at
-abbrev pub IsFound : List (List ℕ × Bool) → ℕ → Option (Bor (List ℕ)) → Type 0
-IsFound xs i None = (k : ℕ) (d : List ℕ × Bool) → k < i → IsClassFileName (get_or xs k d).0 → ⊥
-IsFound xs i (Some n) = (j : ℕ) × (j < i) × ((d : List ℕ × Bool) → (get_or xs j d).0 ≡ n.now) × IsClassFileName n.now
-    × ((k : ℕ) (d : List ℕ × Bool) → k < i → IsClassFileName (get_or xs k d).0 → k ≡ j)
+-- ---- among the items
 
--- none of the first i items is a folder
-abbrev pub HasNoFolder : List (List ℕ × Bool) → ℕ → Type 0
-HasNoFolder xs i = (k : ℕ) (d : List ℕ × Bool) → k < i → (get_or xs k d).1 ≡ false
+-- the names of the class files among items, none of which is a folder
+pub record AreNamed (xs : List (List ℕ × Bool)) (names : List (List ℕ)) : Type 0 where
+  pub no_folder : (item : List ℕ × Bool) → Contains xs item → item.1 ≡ false
+  pub each : (name : List ℕ) → Contains names name ↔ (Contains xs (name, false) × IsClassFileName name)
+  pub once : NoRepeats xs → NoRepeats names
 
--- the next item is no folder
-pub no_folder_next : (xs : List (List ℕ × Bool)) (i : ℕ) (x : List ℕ × Bool) → ((d : List ℕ × Bool) → get_or xs i d ≡ x) → x.1 ≡ false → HasNoFolder xs i → HasNoFolder xs (i + 1)
-no_folder_next xs i x is file h = λ k d less. elim (cases_lt k i) as (λ _. (get_or xs k d).1 ≡ false) [
-  | inl early ↦ h k d early
-  | inr late ↦ let same : k ≡ i = omega arith in ap (λ (m : ℕ). (get_or xs m d).1) same ∙ ap (λ (y : List ℕ × Bool). y.1) (is d) ∙ file
-]
-
--- the next item is a folder
-pub met_folder : (xs : List (List ℕ × Bool)) (i : ℕ) (x : List ℕ × Bool) → i < length xs → ((d : List ℕ × Bool) → get_or xs i d ≡ x) → x.1 ≡ true → (name : List ℕ) → IsOneClass (Contains xs) name → ⊥
-met_folder xs i x lt is folder name one =
-    let here : Contains xs x = (i, lt, is x) in
-    let file = one.no_folder x here in
-    cc
-
--- the next item is no class file
-pub passed_over : (xs : List (List ℕ × Bool)) (i : ℕ) (x : List ℕ × Bool) (found : Option (Bor (List ℕ))) → i < length xs → ((d : List ℕ × Bool) → get_or xs i d ≡ x)
-    → (IsClassFileName x.0 → ⊥) → IsFound xs i found → IsFound xs (i + 1) found
-passed_over xs i x None lt is other h = λ k d less class. elim (cases_lt k i) as (λ _. ⊥) [
-  | inl early ↦ h k d early class
-  | inr late ↦ let same : k ≡ i = omega arith in other (subst IsClassFileName (ap (λ (m : ℕ). (get_or xs m d).0) same ∙ ap (λ (y : List ℕ × Bool). y.0) (is d)) class)
-]
-passed_over xs i x (Some n) lt is other h = let below = h.1 in (
-  h.0,
-  omega (arith, below),
-  h.2,
-  h.3,
-  λ k d less class. elim (cases_lt k i) as (λ _. k ≡ h.0) [
-    | inl early ↦ h.4 k d early class
-    | inr late ↦ let same : k ≡ i = omega arith in absurd (other (subst IsClassFileName (ap (λ (m : ℕ). (get_or xs m d).0) same ∙ ap (λ (y : List ℕ × Bool). y.0) (is d)) class))
-  ],
-)
-
--- the next item is the first class file
-pub met_first : (xs : List (List ℕ × Bool)) (i : ℕ) (n : Bor (List ℕ)) → i < length xs → ((d : List ℕ × Bool) → (get_or xs i d).0 ≡ n.now)
-    → IsClassFileName n.now → IsFound xs i None → IsFound xs (i + 1) (Some n)
-met_first xs i n lt is class none = (
-  i,
-  omega arith,
-  is,
-  class,
-  λ k d less named. elim (cases_lt k i) as (λ _. k ≡ i) [
-    | inl early ↦ absurd (none k d early named)
-    | inr late ↦ omega arith
-  ],
-)
-
-pair_is : (x : List ℕ × Bool) (n : List ℕ) (b : Bool) → x.0 ≡ n → x.1 ≡ b → x ≡ (n, b)
+pair_is : (x : List ℕ × Bool) (n : List ℕ) (b : Bool) → n ≡ x.0 → x.1 ≡ b → (n, b) ≡ x
 pair_is (m, c) n b p q = cc
 
--- an item's place in the list that one name stands alone in
-at_name : (xs : List (List ℕ × Bool)) (name : List ℕ) (k : ℕ) → k < length xs → IsOneClass (Contains xs) name → ((d : List ℕ × Bool) → IsClassFileName (get_or xs k d).0)
-    → (d : List ℕ × Bool) → get_or xs k d ≡ (name, false)
-at_name xs name k lt one class d =
-    let x = get_or xs k d in
-    let here : Contains xs x = (k, lt, get_or_default xs k x d lt) in
-    pair_is x name false (one.alone x here (class d)) (one.no_folder x here)
+module _ (xs ys : List (List ℕ × Bool)) (x : List ℕ × Bool) (is : ys ≡ xs ++ x ∷ []) where
+  longer : length ys ≡ length xs + 1
+  longer = ap length is ∙ length-append xs (x ∷ [])
 
--- a second class file
-pub two : (xs : List (List ℕ × Bool)) (i : ℕ) (n m : Bor (List ℕ)) → i < length xs → ((d : List ℕ × Bool) → (get_or xs i d).0 ≡ m.now) → IsClassFileName m.now
-    → IsFound xs i (Some n) → NoRepeats xs → (name : List ℕ) → IsOneClass (Contains xs) name → ⊥
-two xs i n m lt is class h once name one =
-    let d : List ℕ × Bool = (name, false) in
-    let below = h.1 in
-    let first = at_name xs name h.0 (omega (arith, below, lt)) one (λ e. subst IsClassFileName (sym (h.2 e)) h.3) d in
-    let second = at_name xs name i lt one (λ e. subst IsClassFileName (sym (is e)) class) d in
-    once h.0 i d below lt (first ∙ sym second)
+  in_front : (k : ℕ) (d : List ℕ × Bool) → k < length xs → get_or ys k d ≡ get_or xs k d
+  in_front k d lt = ap (λ (l : List (List ℕ × Bool)). get_or l k d) is ∙ get_or_append_left xs (x ∷ []) d k lt
 
--- no class file
-pub none_found : (xs : List (List ℕ × Bool)) → IsFound xs (length xs) None → (name : List ℕ) → IsOneClass (Contains xs) name → ⊥
-none_found xs h name one =
-    let there = one.there in
-    h there.0 (name, false) there.1 (subst IsClassFileName (sym (ap (λ (y : List ℕ × Bool). y.0) there.2)) one.class_file)
+  -- where no item stands twice, none does in front of the last
+  once_in_front : NoRepeats ys → NoRepeats xs
+  once_in_front once i j d lt end same =
+      let size = longer in
+      once i j d lt (omega (arith, size, end)) (in_front i d (omega (arith, lt, end)) ∙ same ∙ sym (in_front j d end))
 
--- one class file
-pub one_found : (xs : List (List ℕ × Bool)) (n : Bor (List ℕ)) → HasNoFolder xs (length xs) → IsFound xs (length xs) (Some n) → IsOneClass (Contains xs) n.now
-one_found xs n none h =
-    let files : (x : List ℕ × Bool) → Contains xs x → x.1 ≡ false = λ x at. sym (ap (λ (z : List ℕ × Bool). z.1) at.2) ∙ none at.0 x at.1 in
-    let d : List ℕ × Bool = (n.now, false) in
-    let x = get_or xs h.0 d in
-    let here : Contains xs x = (h.0, h.1, get_or_default xs h.0 x d h.1) in
-    let whole : x ≡ (n.now, false) = pair_is x n.now false (h.2 d) (files x here) in
+  last_is : get_or ys (length xs) x ≡ x
+  last_is =
+      ap (λ (l : List (List ℕ × Bool)). get_or l (length xs) x) is ∙ get_or-append_right xs (x ∷ []) (length xs) (length xs) x refl (omega arith) ∙ one (length xs - length xs)
+    where
+      one : (k : ℕ) → get_or (x ∷ []) k x ≡ x
+      one zero = refl
+      one (suc k) = refl
+
+  -- nor does the last stand there
+  last_is_new : NoRepeats ys → Contains xs x → ⊥
+  last_is_new once h =
+      let size = longer in
+      once h.0 (length xs) x h.1 (omega (arith, size)) (in_front h.0 x h.1 ∙ h.2 ∙ sym last_is)
+
+  -- one more item that is no class file
+  pub passed_over : (names : List (List ℕ)) → x.1 ≡ false → (IsClassFileName x.0 → ⊥) → AreNamed xs names → AreNamed ys names
+  passed_over names file other h = record {
+    no_folder = λ item there. elim ((contains_pushed xs ys x is item).0 there) as (λ _. item.1 ≡ false) [
+      | inl a ↦ h.no_folder item a
+      | inr e ↦ ap (λ (y : List ℕ × Bool). y.1) e ∙ file
+    ];
+    each = λ name. (
+      λ there. let a = (h.each name).0 there in ((contains_pushed xs ys x is (name, false)).1 (inl a.0), a.1),
+      λ there. elim ((contains_pushed xs ys x is (name, false)).0 there.0) as (λ _. Contains names name) [
+        | inl a ↦ (h.each name).1 (a, there.1)
+        | inr e ↦ absurd (other (subst IsClassFileName (ap (λ (y : List ℕ × Bool). y.0) e) there.1))
+      ],
+    );
+    once = λ once. h.once (once_in_front once);
+  }
+
+  -- one more class file
+  pub taken_in : (old new : List (List ℕ)) → new ≡ old ++ x.0 ∷ [] → x.1 ≡ false → IsClassFileName x.0 → AreNamed xs old → AreNamed ys new
+  taken_in old new more file class h = record {
+    no_folder = λ item there. elim ((contains_pushed xs ys x is item).0 there) as (λ _. item.1 ≡ false) [
+      | inl a ↦ h.no_folder item a
+      | inr e ↦ ap (λ (y : List ℕ × Bool). y.1) e ∙ file
+    ];
+    each = λ name. (
+      λ there. elim ((contains_pushed old new x.0 more name).0 there) as (λ _. Contains ys (name, false) × IsClassFileName name) [
+        | inl a ↦ let b = (h.each name).0 a in ((contains_pushed xs ys x is (name, false)).1 (inl b.0), b.1)
+        | inr e ↦ ((contains_pushed xs ys x is (name, false)).1 (inr (pair_is x name false e file)), subst IsClassFileName (sym e) class)
+      ],
+      λ there. elim ((contains_pushed xs ys x is (name, false)).0 there.0) as (λ _. Contains new name) [
+        | inl a ↦ (contains_pushed old new x.0 more name).1 (inl ((h.each name).1 (a, there.1)))
+        | inr e ↦ (contains_pushed old new x.0 more name).1 (inr (ap (λ (y : List ℕ × Bool). y.0) e))
+      ],
+    );
+    once = λ once.
+        let whole : (x.0, false) ≡ x = pair_is x x.0 false refl file in
+        once_pushed old new x.0 more (λ there. last_is_new once (subst (Contains xs) whole ((h.each x.0).0 there).0)) (h.once (once_in_front once));
+  }
+
+-- each of them is a class file's
+pub all_named : (xs : List (List ℕ × Bool)) (names : List (Bor (List ℕ))) → AreNamed xs (map (λ n. n.now) names) → All (λ (n : Bor (List ℕ)). IsClassFileName n.now) names
+all_named xs names h = λ k d lt.
+    let now : Bor (List ℕ) → List ℕ = λ n. n.now in
+    let there = Contains-get_or (map now names) k d.now (omega (arith, length-map names now, lt)) in
+    subst IsClassFileName (get_or-map now names k d d.now lt) ((h.each (get_or (map now names) k d.now)).0 there).1
+
+-- ---- in their order
+
+-- a name that isn't the other, and doesn't come behind it, comes before it
+comes_before : (a b : List ℕ) → is_lt (slice_cmp nat_cmp b a) ≡ false → bytes_eq a b ≡ false → is_before a b ≡ true
+comes_before a b late other =
+    let flipped : slice_cmp nat_cmp b a ≡ ordering_reverse (slice_cmp nat_cmp a b) = nat_list_cmp_total.antisymm b a in
+    go (slice_cmp nat_cmp a b) (ap is_lt (sym flipped) ∙ late) (sym (texts_ties a b) ∙ other)
+  where
+    go : (o : Ordering) → is_lt (ordering_reverse o) ≡ false → is_eq o ≡ false → is_lt o ≡ true
+    go Less back tie = refl
+    go Equal back tie = cc
+    go Greater back tie = cc
+
+-- what holds of the pairs of a list's images
+pairs_map : {X Y : Type 0} (f : X → Y) (R : Y → Y → Type 0) (xs : List X) → AllPairs (λ a b. R (f a) (f b)) xs → AllPairs R (map f xs)
+pairs_map f R [] h = λ i j d lt end. absurd (omega (arith, end))
+pairs_map f R (x ∷ xs) h = λ i j d lt end.
+    let size = length-map (x ∷ xs) f in
+    let end' : j < length (x ∷ xs) = omega (arith, size, end) in
+    rw (get_or-map f (x ∷ xs) i x d (omega (arith, lt, end')), get_or-map f (x ∷ xs) j x d end') (h i j x lt end')
+
+-- names that were sorted
+pub in_order : (xs : List (List ℕ × Bool)) (old new : List (Bor (List ℕ))) → AreNamed xs (map (λ n. n.now) old) → IsPermutation old new
+    → IsSorted (λ (a b : Bor (List ℕ)). slice_cmp nat_cmp a.now b.now) new → NoRepeats xs → AreClassNames (Contains xs) (map (λ n. n.now) new)
+in_order xs old new h moved sorted once =
+    let now : Bor (List ℕ) → List ℕ = λ n. n.now in
+    let names = map now old in
+    let there = IsPermutation-map now old new moved in
+    let back = IsPermutation-sym names (map now new) there in
+    let apart = IsDistinct-from_apart bytes_eq names (λ i j d lt end. differ (get_or names i d) (get_or names j d) (h.once once i j d lt end)) in
+    let still = IsDistinct-IsPermutation bytes_eq flips names (map now new) there apart in
+    let far : AllPairs (λ (a b : Bor (List ℕ)). is_lt (slice_cmp nat_cmp b.now a.now) ≡ false) new =
+    λ i j d lt end. sorted_far (λ (a b : Bor (List ℕ)). is_lt (slice_cmp nat_cmp a.now b.now)) (ranks_by nat_list_cmp_total now) new sorted i j d (omega arith) end in
+    let late = pairs_map now (λ a b. is_lt (slice_cmp nat_cmp b a) ≡ false) new far in
     record {
-      class_file = h.3;
-      there = subst (Contains xs) whole here;
-      no_folder = files;
-      alone = λ y at named.
-          let k : at.0 ≡ h.0 = h.4 at.0 y at.1 (subst IsClassFileName (sym (ap (λ (z : List ℕ × Bool). z.0) at.2)) named) in
-          sym (ap (λ (z : List ℕ × Bool). z.0) at.2) ∙ ap (λ (m : ℕ). (get_or xs m y).0) k ∙ h.2 y;
+      no_folder = h.no_folder;
+      each = λ name. (λ a. (h.each name).0 (Contains-permutation (map now new) names name back a), λ b. Contains-permutation names (map now new) name there ((h.each name).1 b));
+      ascend = λ i j d lt end. comes_before (get_or (map now new) i d) (get_or (map now new) j d) (late i j d lt end) (apart_from_distinct bytes_eq (map now new) i j d still lt end);
     }
+  where
+    differ : (a b : List ℕ) → (a ≡ b → ⊥) → bytes_eq a b ≡ false
+    differ a b other = go (bytes_eq a b) refl
+      where
+        go : (t : Bool) → bytes_eq a b ≡ t → bytes_eq a b ≡ false
+        go true h = absurd (other ((bytes_eq-Decides a b).0 h))
+        go false h = h
 
--- a class file after another
-pub second : (xs : List (List ℕ × Bool)) (i : ℕ) (found : Option (Bor (List ℕ))) (m : Bor (List ℕ)) → i < length xs → ((d : List ℕ × Bool) → (get_or xs i d).0 ≡ m.now) → IsClassFileName m.now
-    → true ≡ is_some found → IsFound xs i found → NoRepeats xs → (name : List ℕ) → IsOneClass (Contains xs) name → ⊥
-second xs i None m lt is class some h once name one = cc
-second xs i (Some n) m lt is class some h once name one = two xs i n m lt is class h once name one
+    flips : (a b : List ℕ) → bytes_eq a b ≡ bytes_eq b a
+    flips a b = nat_list_eq_equiv.symm a b
 
--- a class file after none
-pub first : (xs : List (List ℕ × Bool)) (i : ℕ) (found now : Option (Bor (List ℕ))) (m : Bor (List ℕ)) → i < length xs → ((d : List ℕ × Bool) → (get_or xs i d).0 ≡ m.now) → IsClassFileName m.now
-    → is_some found ≡ false → now ≡ Some m → IsFound xs i found → IsFound xs (i + 1) now
-first xs i None now m lt is class none same h = subst (IsFound xs (i + 1)) (sym same) (met_first xs i m lt is class h)
-first xs i (Some n) now m lt is class none same h = cc
+-- ---- in a folder
 
--- when all items were looked at
-pub all_seen : (xs : List (List ℕ × Bool)) (i : ℕ) (found : Option (Bor (List ℕ))) → i ≡ length xs → HasNoFolder xs i → IsFound xs i found
-    → MatchOption found ((name : List ℕ) → IsOneClass (Contains xs) name → ⊥) (λ name. IsOneClass (Contains xs) name.now)
-all_seen xs i None end files h = none_found xs (subst (λ (m : ℕ). IsFound xs m None) end h)
-all_seen xs i (Some n) end files h = one_found xs n (subst (HasNoFolder xs) end files) (subst (λ (m : ℕ). IsFound xs m (Some n)) end h)
-
--- what was found has the name of a class file
-pub found_named : (xs : List (List ℕ × Bool)) (i : ℕ) (found : Option (Bor (List ℕ))) → IsFound xs i found → IfSome found (λ name. IsClassFileName name.now)
-found_named xs i None h = tt
-found_named xs i (Some n) h = h.3
-
--- what stands alone in a listing stands alone in the folder
-pub in_folder : (files : Files) (dir : List ℕ) (xs : List (List ℕ × Bool)) (name : List ℕ) → IsListing files dir xs → IsOneClass (Contains xs) name → IsOneClass (StandsIn files dir) name
-in_folder files dir xs name l one = record {
-  class_file = one.class_file;
-  there = (l.each (name, false)).0 one.there;
-  no_folder = λ x h. one.no_folder x ((l.each x).1 h);
-  alone = λ x h. one.alone x ((l.each x).1 h);
+-- the names among the items that a list of the folder shows
+pub listed : (files : Files) (dir : List ℕ) (xs : List (List ℕ × Bool)) (names : List (List ℕ)) → IsListing files dir xs → AreClassNames (Contains xs) names → AreClassNames (StandsIn files dir) names
+listed files dir xs names l h = record {
+  no_folder = λ x there. h.no_folder x ((l.each x).1 there);
+  each = λ name. (
+    λ a. let b = (h.each name).0 a in ((l.each (name, false)).0 b.0, b.1),
+    λ b. (h.each name).1 ((l.each (name, false)).1 b.0, b.1),
+  );
+  ascend = h.ascend;
 }
 
--- and the other way round
-pub in_listing : (files : Files) (dir : List ℕ) (xs : List (List ℕ × Bool)) (name : List ℕ) → IsListing files dir xs → IsOneClass (StandsIn files dir) name → IsOneClass (Contains xs) name
-in_listing files dir xs name l one = record {
-  class_file = one.class_file;
-  there = (l.each (name, false)).1 one.there;
-  no_folder = λ x h. one.no_folder x ((l.each x).0 h);
-  alone = λ x h. one.alone x ((l.each x).0 h);
-}
+-- where a class file stands alone, there is no other name
+pub lone_name : (Here : List ℕ × Bool → Type 0) (names : List (List ℕ)) (name : List ℕ) → AreClassNames Here (name ∷ []) → AreClassNames Here names → names ≡ name ∷ []
+lone_name Here names name one all = go names all
+  where
+    same : (a : List ℕ) (ns : List (List ℕ)) → AreClassNames Here ns → Contains ns a → a ≡ name
+    same a ns h there = only a ((one.each a).1 ((h.each a).0 there))
+      where
+        only : (a : List ℕ) → Contains (name ∷ []) a → a ≡ name
+        only a (zero, lt, is) = sym is
+        only a (suc k, lt, is) = absurd (omega (arith, lt))
 
--- the class file that a list of the folder shows
-pub listed : (files : Files) (dir : List ℕ) (items seen : List Item) (name : List ℕ) → seen ≡ items → IsListing files dir (seen_items items)
-    → (NoRepeats (seen_items seen) → IsOneClass (Contains (seen_items seen)) name) → IsOneClass (StandsIn files dir) name
-listed files dir items seen name same l one =
-    let shown : IsListing files dir (seen_items seen) = subst (λ (xs : List Item). IsListing files dir (seen_items xs)) (sym same) l in
-    in_folder files dir (seen_items seen) name shown (one shown.once)
+    itself : (a : List ℕ) → is_before a a ≡ true → ⊥
+    itself a h = let tied = tied_itself nat_list_cmp_total a in let never : is_before a a ≡ false = ap is_lt tied in cc
 
-none_known : (found : Option (Bor (List ℕ))) (Free : Type 0) (Has : Bor (List ℕ) → Type 0) → ((n : Bor (List ℕ)) → found ≡ Some n → ⊥) → MatchOption found Free Has → Free
-none_known None Free Has no_one h = h
-none_known (Some n) Free Has no_one h = absurd (no_one n refl)
-
--- no class file, where the list shows none
-pub unlisted : (files : Files) (dir : List ℕ) (items seen : List Item) (found : Option (Bor (List ℕ))) → seen ≡ items → IsListing files dir (seen_items items) → ((n : Bor (List ℕ)) → found ≡ Some n → ⊥)
-    → (NoRepeats (seen_items seen) → MatchOption found ((name : List ℕ) → IsOneClass (Contains (seen_items seen)) name → ⊥) (λ name. IsOneClass (Contains (seen_items seen)) name.now))
-    → (name : List ℕ) → IsOneClass (StandsIn files dir) name → ⊥
-unlisted files dir items seen found same l no_one none name one =
-    let shown : IsListing files dir (seen_items seen) = subst (λ (xs : List Item). IsListing files dir (seen_items xs)) (sym same) l in
-    none_known found _ (λ n. IsOneClass (Contains (seen_items seen)) n.now) no_one (none shown.once) name (in_listing files dir (seen_items seen) name shown one)
+    go : (ns : List (List ℕ)) → AreClassNames Here ns → ns ≡ name ∷ []
+    go [] h = let there = (h.each name).1 ((one.each name).0 (0, omega arith, refl)) in absurd (omega (arith, there.1))
+    go (a ∷ []) h = ap (λ (n : List ℕ). n ∷ []) (same a (a ∷ []) h (0, omega arith, refl))
+    go (a ∷ b ∷ ns) h =
+        let first = same a (a ∷ b ∷ ns) h (0, omega arith, refl) in
+        let second = same b (a ∷ b ∷ ns) h (1, omega arith, refl) in
+        let rises : is_before a b ≡ true = h.ascend 0 1 a (omega arith) (omega arith) in
+        absurd (itself name (rw (first, second) at rises))

@@ -4,10 +4,12 @@ pub mod Scripted
 pub mod Reading
 pub mod Running
 pub mod Folders
-pub mod Failing
+pub mod Listing
 pub mod Asked
 pub mod Outcomes
 pub mod Printed
 pub mod Complete
 pub mod Filed
 pub mod Placed
+pub mod Lone
+pub mod Refused

@@ -1,7 +1,9 @@
 -- Lists of a known length.
-use Rattle.std.proofs.Common.{◌+◌, add-one, take, slice_get, Some, None, ◌≡◌, ℕ, zero, suc, List, [], ◌∷◌, length, slice_index_or, refl, arith, Result, Ok, Err}
-use Rattle.std.specs.Prelude.{IfOk}
-use Rattle.std.specs.List.{AllByRecursion}
+use Rattle.std.proofs.Common.{◌+◌, ◌<◌, ◌∙◌, ap, get_or, add-one, take, slice_get, Some, None, ◌≡◌, ℕ, zero, suc, List, [], ◌∷◌, ◌++◌, length, slice_index_or, refl, sym, subst, arith, Result, Ok, Err}
+use Rattle.std.specs.Prelude.{IfOk, IfErr}
+use Rattle.std.specs.Result.{IsErrAnd}
+use Rattle.std.specs.List.{AllByRecursion, AllZip}
+use Rattle.std.proofs.lemmas.List.{take_more}
 
 -- a list of three by its elements
 pub three : {X : Type 0} (xs : List X) (a b c : X) → length xs ≡ 3 → a ≡ slice_index_or xs 0 a → b ≡ slice_index_or xs 1 b → c ≡ slice_index_or xs 2 c
@@ -17,6 +19,11 @@ pub on_ok : {A E : Type 0} (r : Result A E) (P Q : A → Type 0) → ((x : A) �
 on_ok (Ok x) P Q f h = f x h
 on_ok (Err e) P Q f h = tt
 
+-- the end that a `?` hands on
+pub err_is : {A E : Type 0} (r : Result A E) (e : E) (Q : E → Type 0) → IsErrAnd r (λ y. y ≡ e) → Q e → IfErr r Q
+err_is (Ok x) e Q h q = tt
+err_is (Err y) e Q h q = subst Q (sym h) q
+
 -- what holds of each up to a place, and there, holds of each up to the next
 pub all_more : {A : Type 0} (P : A → Type 0) (xs : List A) (n : ℕ) → AllByRecursion P (take n xs) → ((x : A) → slice_get xs n ≡ Some x → P x) → AllByRecursion P (take (n + 1) xs)
 all_more P xs n so_far next = rw add-one (go P xs n so_far next)
@@ -25,6 +32,24 @@ all_more P xs n so_far next = rw add-one (go P xs n so_far next)
     go P [] n so_far next = tt
     go P (x ∷ xs) zero so_far next = (next x refl, tt)
     go P (x ∷ xs) (suc n) so_far next = (so_far.0, go P xs n so_far.1 next)
+
+-- what holds of each, and of one more
+pub all_pushed : {A : Type 0} (P : A → Type 0) (xs : List A) (x : A) → AllByRecursion P xs → P x → AllByRecursion P (xs ++ x ∷ [])
+all_pushed P [] x all one = (one, tt)
+all_pushed P (y ∷ xs) x all one = (all.0, all_pushed P xs x all.1 one)
+
+-- two lists that are alike, each with one more
+zip_pushed : {A B : Type 0} (R : A → B → Type 0) (xs : List A) (ys : List B) (x : A) (y : B) → AllZip R xs ys → R x y → AllZip R (xs ++ x ∷ []) (ys ++ y ∷ [])
+zip_pushed R [] [] x y all one = (one, tt)
+zip_pushed R [] (z ∷ ys) x y all one = absurd all
+zip_pushed R (w ∷ xs) [] x y all one = absurd all
+zip_pushed R (w ∷ xs) (z ∷ ys) x y all one = (all.0, zip_pushed R xs ys x y all.1 one)
+
+-- what is alike up to a place, and there, is alike up to the next
+pub zip_more : {A B : Type 0} (R : A → B → Type 0) (xs : List A) (ys : List B) (i : ℕ) (x : A) (y : B) → i < length xs → x ≡ get_or xs i x → AllZip R (take i xs) ys → R x y → AllZip R (take (i + 1) xs) (ys ++ y ∷ [])
+zip_more {A} {B} R xs ys i x y lt is all one =
+    let more : take (i + 1) xs ≡ take i xs ++ x ∷ [] = take_more xs i x lt ∙ ap (λ (z : A). take i xs ++ z ∷ []) (sym is) in
+    subst (λ (l : List A). AllZip R l (ys ++ y ∷ [])) (sym more) (zip_pushed R (take i xs) ys x y all one)
 
 pub some_not_none : {A : Type 0} (x : A) → Some x ≡ None → ⊥
 some_not_none x h = cc

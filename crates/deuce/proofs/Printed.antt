@@ -9,8 +9,8 @@ use Rattle.deuce.specs.Command.{seen_words, run_words, rewrite_words}
 use Rattle.deuce.specs.Rewritten.{counts_text}
 use Rattle.deuce.specs.declared.outcome.Outcome.{Outcome}
 use Rattle.deuce.specs.declared.outcome.Outcome.TheVariants.{Journal, Rewritten, Usage, BadClass, BadProgram, Untyped, BadScript, Unopened, Outside, NotPut, NotBuilt}
-use Rattle.deuce.specs.Ending.{IsJournalOf, IsRewritingOf, IsBadProgram, IsUntypable}
-use Rattle.deuce.specs.Outcomes.{Seen, Says, IsTextOf, Appends, status_of, IsBadClassOfWords, IsOfWords, IsBadScriptOfWords, IsUnopenedOfWords}
+use Rattle.deuce.specs.Ending.{IsJournalOf, IsRewritingOf}
+use Rattle.deuce.specs.Outcomes.{Seen, Says, IsTextOf, Appends, status_of, IsBadClassOfWords, IsBadProgramOfWords, IsUntypableOfWords, IsBadScriptOfWords, IsUnopenedOfWords}
 use Rattle.deuce.proofs.Asked.{one_run, one_rewriting, apart}
 
 module _ (words : List (String Global)) (old new : Seen) (printed : List ℕ) (before now : Option (List ℕ)) (status : ℕ) where
@@ -48,7 +48,7 @@ module _ (words : List (String Global)) (old new : Seen) (printed : List ℕ) (b
   rewriting_printed (NotPut path) h s is all z = absurd (omega (arith, s, z))
   rewriting_printed NotBuilt h s is all z = absurd (omega (arith, s, z))
 
-  -- a fault of the class file
+  -- a fault of a class file
   pub fault_printed : (o : Outcome) → Says words old new o → status ≡ status_of o → IsTextOf o printed → Appends before now printed → status ≡ 3
       → (path : List ℕ) × (r : Refusal) × IsBadClassOfWords words old.files path r × Appends before now (error_text (codes "3") (path and refusal_text r))
   fault_printed (Journal text) h s is all z = absurd (omega (arith, s, z))
@@ -63,9 +63,9 @@ module _ (words : List (String Global)) (old new : Seen) (printed : List ℕ) (b
   fault_printed (NotPut path) h s is all z = absurd (omega (arith, s, z))
   fault_printed NotBuilt h s is all z = absurd (omega (arith, s, z))
 
-  -- a fault of the class's program, or a limit
+  -- a fault of the classes, or a limit
   pub program_printed : (o : Outcome) → Says words old new o → status ≡ status_of o → IsTextOf o printed → Appends before now printed → status ≡ 4
-      → (r : Refusal) × IsOfWords words old.files IsBadProgram r × Appends before now (error_text (codes "4") (refusal_text r))
+      → (r : Refusal) × IsBadProgramOfWords words old.files r × Appends before now (error_text (codes "4") (refusal_text r))
   program_printed (Journal text) h s is all z = absurd (omega (arith, s, z))
   program_printed (Rewritten t m) h s is all z = absurd (omega (arith, s, z))
   program_printed Usage h s is all z = absurd (omega (arith, s, z))
@@ -80,7 +80,7 @@ module _ (words : List (String Global)) (old new : Seen) (printed : List ℕ) (b
 
   -- a method without a typing
   pub untyped_printed : (o : Outcome) → Says words old new o → status ≡ status_of o → IsTextOf o printed → Appends before now printed → status ≡ 5
-      → (r : Refusal) × IsOfWords words old.files IsUntypable r × Appends before now (error_text (codes "5") (refusal_text r))
+      → (r : Refusal) × IsUntypableOfWords words old.files r × Appends before now (error_text (codes "5") (refusal_text r))
   untyped_printed (Journal text) h s is all z = absurd (omega (arith, s, z))
   untyped_printed (Rewritten t m) h s is all z = absurd (omega (arith, s, z))
   untyped_printed Usage h s is all z = absurd (omega (arith, s, z))

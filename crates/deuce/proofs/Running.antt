@@ -1,7 +1,6 @@
 -- What the parts of a run make together.
 use Rattle.std.proofs.Common.{◌≡◌, ℕ, List, [], ◌∷◌, map, Some, Result, Ok, Err, inl, inr, refl, sym, ap, ◌∙◌, subst}
 use Rattle.std.specs.Prelude.{IfErr}
-use Rattle.std.specs.Result.{IsErrAnd}
 use Rattle.std.specs.List.{AllByRecursion}
 use Rattle.jmodel.specs.declared.refusal.Refusal.{Refusal}
 use Rattle.jmodel.specs.ClassFile.{ClassFile}
@@ -34,6 +33,7 @@ use Rattle.deuce.specs.declared.run.RunEnd.{RunEnd}
 use Rattle.deuce.specs.declared.run.RunEnd.TheVariants as run_ends
 use Rattle.deuce.specs.Headline.{line_of, AreCalls, IsRun, IsRunnable}
 use Rattle.deuce.specs.Lines.{line_in}
+use Rattle.deuce.proofs.Lone.{fault_alone}
 use Rattle.deuce.specs.Ending.{IsOutsideForm, IsBadScript, IsUnopened, NoScript, NoOpening, EndsOnClass, EndsBuild, EndsTyping, EndsRewriting, EndsOpening, IsUnopenedAs, EndsScript}
 
 -- the rewriting of a typed program that a class means is ready to run
@@ -78,18 +78,12 @@ is_run bytes script c P s seen text spells is typed is_script same τ opens are 
 
 -- ---- ends
 
--- the end that a `?` hands on
-pub err_is : {A : Type 0} (r : Result A RunEnd) (e : RunEnd) (Q : RunEnd → Type 0) → IsErrAnd r (λ y. y ≡ e) → Q e → IfErr r Q
-err_is (Ok x) e Q h q = tt
-err_is (Err y) e Q h q = subst Q (sym h) q
-
 pub on_err : {A : Type 0} (r : Result A RunEnd) (P Q : RunEnd → Type 0) → ((e : RunEnd) → P e → Q e) → IfErr r P → IfErr r Q
 on_err (Ok x) P Q f h = tt
 on_err (Err e) P Q f h = f e h
 
 pub of_build : (c : ClassFile) (e : RunEnd) → EndsBuild c e → EndsOnClass c NoScript NoOpening IsOutsideForm e
-of_build c (run_ends.BadClass r) h = absurd h
-of_build c (run_ends.BadProgram r) h = inl h
+of_build c (run_ends.Refused r) h = inl (fault_alone c r h)
 of_build c (run_ends.BadScript r) h = absurd h
 of_build c (run_ends.Untyped r) h = absurd h
 of_build c (run_ends.Unopened n x) h = absurd h
@@ -97,8 +91,7 @@ of_build c run_ends.NotBuilt h = h
 of_build c run_ends.NoMemory h = tt
 
 pub of_typing : (c : ClassFile) (e : RunEnd) → EndsTyping c e → EndsOnClass c NoScript NoOpening IsOutsideForm e
-of_typing c (run_ends.BadClass r) h = absurd h
-of_typing c (run_ends.BadProgram r) h = absurd h
+of_typing c (run_ends.Refused r) h = absurd h
 of_typing c (run_ends.BadScript r) h = absurd h
 of_typing c (run_ends.Untyped r) h = h
 of_typing c (run_ends.Unopened n x) h = absurd h
@@ -106,8 +99,7 @@ of_typing c run_ends.NotBuilt h = absurd h
 of_typing c run_ends.NoMemory h = tt
 
 pub of_rewriting : (P : Program) (c : ClassFile) (e : RunEnd) → linked c ≡ Some P → AllByRecursion (IsTypable P) P.methods → EndsRewriting P c e → EndsOnClass c NoScript NoOpening IsOutsideForm e
-of_rewriting P c (run_ends.BadClass r) is typed h = absurd h
-of_rewriting P c (run_ends.BadProgram r) is typed h = inr (P, is, typed, h)
+of_rewriting P c (run_ends.Refused r) is typed h = inr (P, is, typed, h)
 of_rewriting P c (run_ends.Untyped r) is typed h = absurd h
 of_rewriting P c (run_ends.BadScript r) is typed h = absurd h
 of_rewriting P c (run_ends.Unopened n x) is typed h = absurd h
@@ -115,8 +107,7 @@ of_rewriting P c run_ends.NotBuilt is typed h = absurd h
 of_rewriting P c run_ends.NoMemory is typed h = tt
 
 pub of_script : (P : Program) (c : ClassFile) (bytes : List ℕ) (e : RunEnd) → IsRunnable c P → EndsScript c P bytes e → EndsOnClass c (IsBadScript bytes) (IsUnopened bytes) IsOutsideForm e
-of_script P c bytes (run_ends.BadClass r) is h = absurd h
-of_script P c bytes (run_ends.BadProgram r) is h = absurd h
+of_script P c bytes (run_ends.Refused r) is h = absurd h
 of_script P c bytes (run_ends.Untyped r) is h = absurd h
 of_script P c bytes (run_ends.BadScript r) is h = (P, is, h)
 of_script P c bytes (run_ends.Unopened n x) is h =
@@ -126,8 +117,7 @@ of_script P c bytes run_ends.NoMemory is h = tt
 
 -- what isn't of the form isn't built for a command
 pub of_preparing : (c : ClassFile) (Bad : Refusal → ClassFile → Type 0) (Shut : List ℕ → Answer → ClassFile → Type 0) (Unbuilt : ClassFile → Type 0) (e : RunEnd) → (IsOutsideForm c → Unbuilt c) → EndsOnClass c NoScript NoOpening IsOutsideForm e → EndsOnClass c Bad Shut Unbuilt e
-of_preparing c Bad Shut Unbuilt (run_ends.BadClass r) f h = absurd h
-of_preparing c Bad Shut Unbuilt (run_ends.BadProgram r) f h = h
+of_preparing c Bad Shut Unbuilt (run_ends.Refused r) f h = h
 of_preparing c Bad Shut Unbuilt (run_ends.Untyped r) f h = h
 of_preparing c Bad Shut Unbuilt (run_ends.BadScript r) f h = absurd h
 of_preparing c Bad Shut Unbuilt (run_ends.Unopened n x) f h = absurd h
@@ -137,8 +127,7 @@ of_preparing c Bad Shut Unbuilt run_ends.NoMemory f h = tt
 -- the end of a run whose static initialisers fail
 pub of_failing : (c : ClassFile) (P : Program) (size budget : ℕ) (memory : Memory) (s : SetUpEnd) (e : RunEnd) → EndsSetUp P size budget memory s → Holds P size memory (opening_state (c ∷ [])) → IsUnopenedAs c s e
     → EndsOpening c P size budget e
-of_failing c P size budget memory (set_ends.Failed n x) (run_ends.BadClass r) cause stands is = absurd is
-of_failing c P size budget memory (set_ends.Failed n x) (run_ends.BadProgram r) cause stands is = absurd is
+of_failing c P size budget memory (set_ends.Failed n x) (run_ends.Refused r) cause stands is = absurd is
 of_failing c P size budget memory (set_ends.Failed n x) (run_ends.Untyped r) cause stands is = absurd is
 of_failing c P size budget memory (set_ends.Failed n x) (run_ends.BadScript r) cause stands is = absurd is
 of_failing c P size budget memory (set_ends.Failed n x) (run_ends.Unopened name y) cause stands is =
@@ -146,8 +135,7 @@ of_failing c P size budget memory (set_ends.Failed n x) (run_ends.Unopened name 
     (is.0, n, subst Failing (sym is.1) (cause (opening_state (c ∷ [])) stands))
 of_failing c P size budget memory (set_ends.Failed n x) run_ends.NotBuilt cause stands is = absurd is
 of_failing c P size budget memory (set_ends.Failed n x) run_ends.NoMemory cause stands is = tt
-of_failing c P size budget memory set_ends.NoMemory (run_ends.BadClass r) cause stands is = absurd is
-of_failing c P size budget memory set_ends.NoMemory (run_ends.BadProgram r) cause stands is = absurd is
+of_failing c P size budget memory set_ends.NoMemory (run_ends.Refused r) cause stands is = absurd is
 of_failing c P size budget memory set_ends.NoMemory (run_ends.Untyped r) cause stands is = absurd is
 of_failing c P size budget memory set_ends.NoMemory (run_ends.BadScript r) cause stands is = absurd is
 of_failing c P size budget memory set_ends.NoMemory (run_ends.Unopened name y) cause stands is = absurd is
@@ -156,8 +144,7 @@ of_failing c P size budget memory set_ends.NoMemory run_ends.NoMemory cause stan
 
 -- why a script isn't run whose static initialisers fail
 pub of_opening : (c : ClassFile) (P : Program) (bytes : List ℕ) (s : Script) (size budget : ℕ) (e : RunEnd) → IsScript c P bytes s → size ≡ s.region → budget ≡ s.budget → EndsOpening c P size budget e → EndsScript c P bytes e
-of_opening c P bytes s size budget (run_ends.BadClass r) is room same h = absurd h
-of_opening c P bytes s size budget (run_ends.BadProgram r) is room same h = absurd h
+of_opening c P bytes s size budget (run_ends.Refused r) is room same h = absurd h
 of_opening c P bytes s size budget (run_ends.Untyped r) is room same h = absurd h
 of_opening c P bytes s size budget (run_ends.BadScript r) is room same h = absurd h
 of_opening c P bytes s size budget (run_ends.Unopened name x) is room same h =

@@ -1,7 +1,6 @@
 -- What the program writes, and why it ends as it does.
-use Rattle.std.specs.Prelude.{◌≡◌, ◌⊎◌, ℕ, ◌<◌, ◌≤◌, pos, List, [], ◌∷◌, ◌++◌, length, Bool, false, Option, Some, None, Ok, Err, slice_get, codes, string_bytes}
-use Rattle.std.specs.Prelude.{option_map, take}
-use Rattle.std.specs.Option.{ForSome}
+use Rattle.std.specs.Prelude.{◌≡◌, ◌⊎◌, ℕ, ◌≤◌, pos, List, [], ◌∷◌, ◌++◌, length, map, Bool, true, Option, Some, None, Ok, Err, Contains, slice_get, codes, string_bytes, option_map, take}
+use Rattle.std.specs.List.{AllByRecursion, AllZip}
 use Rattle.deuce_io.specs.Fault.{Call, list_of, read_of, put_of, Rose}
 use Rattle.deuce_io.specs.Files.{Files, inside, with_content, StandsIn}
 use Rattle.deuce_io.specs.declared.end.IoEnd.{IoEnd}
@@ -10,8 +9,6 @@ use Rattle.jmodel.specs.declared.refusal.Refusal.{Refusal}
 use Rattle.jmodel.specs.declared.refusal.Refusal.TheVariants.{OverLimit, PoolFull, Untypable}
 use Rattle.jmodel.specs.ClassFile.{ClassFile}
 use Rattle.jmodel.specs.ClassRules.{Spells}
-use Rattle.jmodel.specs.ClassFileReading.{class_file_of}
-use Rattle.std.specs.List.{AllByRecursion}
 use Rattle.jmodel.specs.Name.{printed}
 use Rattle.jmodel.specs.declared.value.Answer.{Answer}
 use Rattle.jmodel.specs.Program.{Method, Program}
@@ -24,9 +21,12 @@ use Rattle.driver.specs.declared.setting_up.SetUpEnd.{SetUpEnd}
 use Rattle.driver.specs.declared.setting_up.SetUpEnd.TheVariants as set_ends
 use Rattle.jmodel.specs.Decoding.{own_name}
 use Rattle.jmodel.specs.Linking.{linking, linked, pc_of}
+use Rattle.jmodel.specs.ClassesLinking.{linking_files}
 use Rattle.jmodel.specs.Typing.{IsTypable, IsUntypableAt}
 use Rattle.rewriter.specs.Rewritten.{rewritten_class}
 use Rattle.script.specs.Script.{Script, IsScript, IsFault}
+use Rattle.hierarchy.specs.Faults.{fault_in}
+use Rattle.deuce.specs.Folder.{IsClassFileName, AreClassNames, HoldsClasses, HoldsOneClass, HasFolder, HasManyClasses, IsFrontOf, Holds, IsFileFault, IsFileOf, HasClasses, IsLone, IfLone, HasClass}
 use Rattle.deuce.specs.Headline.{IsRun, CanRun, IsRunnable}
 use Rattle.deuce.specs.Rewritten.{IsRewriting, CanRewrite, HasManyMembers}
 use Rattle.deuce.specs.declared.inputs.ClassInput.{ClassInput}
@@ -35,25 +35,6 @@ use Rattle.deuce.specs.declared.inputs.InputEnd.{InputEnd}
 use Rattle.deuce.specs.declared.inputs.InputEnd.TheVariants as ends
 use Rattle.deuce.specs.declared.run.RunEnd.{RunEnd}
 use Rattle.deuce.specs.declared.run.RunEnd.TheVariants as run_ends
-
--- the name of a class file: it ends in `.class`
-abbrev pub IsClassFileName : List ℕ → Type 0
-IsClassFileName name = (front : List ℕ) × (name ≡ front ++ codes ".class")
-
--- One item has the name of a class file, and nothing else here has one or is a folder.
-pub record IsOneClass (Here : List ℕ × Bool → Type 0) (name : List ℕ) : Type 0 where
-  pub class_file : IsClassFileName name
-  pub there : Here (name, false)
-  pub no_folder : (item : List ℕ × Bool) → Here item → item.1 ≡ false
-  pub alone : (item : List ℕ × Bool) → Here item → IsClassFileName item.0 → item.0 ≡ name
-
--- in a folder, where it tells its files, a class file of this name stands alone
-abbrev pub HoldsOneClass : Option Files → List ℕ → List ℕ → Type 0
-HoldsOneClass files dir name = ForSome files (λ told. IsOneClass (StandsIn told dir) name)
-
--- a folder tells its files, and no class file stands alone in it
-abbrev pub HasNoOneClass : Option Files → List ℕ → Type 0
-HasNoOneClass files dir = ForSome files (λ told. (name : List ℕ) → IsOneClass (StandsIn told dir) name → ⊥)
 
 -- what is asked of a folder of class files: the list of DIR, and the read of a class file in it
 abbrev pub IsCallOfFolder : List ℕ → Call → Type 0
@@ -71,23 +52,24 @@ pub record Failed (Asks : Call → Type 0) (path : List ℕ) (before now : ℕ) 
   pub asked : Asks call
   pub at_path : call.path ≡ path
 
--- the first bytes of the file at a path, at most so many, where the folder tells its files
-abbrev pub IsFrontOf : Option Files → List ℕ → ℕ → List ℕ → Type 0
-IsFrontOf files path most bytes = ForSome files (λ told. option_map (take most) (told path) ≡ Some bytes)
-
--- the file at a path has these bytes, where the folder tells its files
-abbrev pub Holds : Option Files → List ℕ → List ℕ → Type 0
-Holds files path bytes = ForSome files (λ told. told path ≡ Some bytes)
-
--- what was read of the class file of a folder: its bytes, with at most one over the limit
+-- what was read of a class file of a folder: its path, and its bytes, with at most one over the limit
 pub record IsClassInput (files : Option Files) (dir : List ℕ) (input : ClassInput) : Type 0 where
-  pub class_file : HoldsOneClass files dir (string_bytes input.name)
   pub class_path : string_bytes input.path ≡ inside dir (string_bytes input.name)
   pub class : IsFrontOf files (inside dir (string_bytes input.name)) 1048577 input.bytes
 
+-- the names of the class files that were read
+abbrev pub names_of : List ClassInput → List (List ℕ)
+names_of inputs = map (λ (i : ClassInput). string_bytes i.name) inputs
+
+-- what was read of the class files of a folder, of which there are no more than 256
+pub record AreClassInputs (files : Option Files) (dir : List ℕ) (inputs : List ClassInput) : Type 0 where
+  pub class_files : HoldsClasses files dir (names_of inputs)
+  pub few : length (names_of inputs) ≤ 256
+  pub each : AllByRecursion (IsClassInput files dir) inputs
+
 -- what a run has read: that, and the script's bytes, with at most one over the limit
 pub record AreInputs (files : Option Files) (dir script : List ℕ) (inputs : Inputs) : Type 0 where
-  pub of_class : IsClassInput files dir inputs.class
+  pub of_classes : AreClassInputs files dir inputs.classes.items
   pub script_bytes : IsFrontOf files script 16777217 inputs.script
 
 -- The text is that of a run of the script at a path on the class file of a folder.
@@ -125,31 +107,6 @@ pub record FailedPut (files : Option Files) (dir out path : List ℕ) (before no
   pub rose : Rose before now
   pub is_last : last ≡ Some (put_of path)
 
--- Why bytes are no class file: there are more than 1048576 of them, or no class is spelled by them, and this is the first
--- fault that reading them meets.
-abbrev pub IsFileFault : List ℕ → Refusal → Type 0
-IsFileFault bytes r = ((1048576 < length bytes) × (r ≡ OverLimit (codes "file") (pos (length bytes))))
-    ⊎ (((c : ClassFile) → Spells bytes c → ⊥) × (class_file_of bytes ≡ Err r))
-
--- The class file of a folder, of which at most one byte over the limit is looked at, has this path and this fault.
-pub record IsBadClass (files : Option Files) (dir path : List ℕ) (r : Refusal) : Type 0 where
-  pub name : List ℕ
-  pub class_file : HoldsOneClass files dir name
-  pub class_path : path ≡ inside dir name
-  pub bytes : List ℕ
-  pub front : IsFrontOf files path 1048577 bytes
-  pub fault : IsFileFault bytes r
-
--- A folder has one good class file, of which this holds.
-pub record HasClass (files : Option Files) (dir : List ℕ) (Holding : ClassFile → Type 0) : Type 0 where
-  pub name : List ℕ
-  pub class_file : HoldsOneClass files dir name
-  pub class_bytes : List ℕ
-  pub class : Holds files (inside dir name) class_bytes
-  pub file : ClassFile
-  pub spells : Spells class_bytes file
-  pub holding : Holding file
-
 -- a full pool is named by its class
 abbrev pub in_class : List ℕ → Refusal → Refusal
 in_class name (PoolFull n) = PoolFull name
@@ -159,11 +116,17 @@ in_class name r = r
 abbrev pub PassesLimit : Program → ClassFile → Refusal → Type 0
 PassesLimit P file r = (fault : Refusal) × (rewritten_class P file ≡ Err fault) × (r ≡ in_class (own_name file) fault)
 
--- Why a class whose file is good is refused: the annotations of its methods, or their code, have this fault, the first; or it means a program of which each method has
--- a typing, and this is the first limit that its rewriting passes.
-abbrev pub IsBadProgram : Refusal → ClassFile → Type 0
-IsBadProgram r file = (linking file ≡ Err r)
-    ⊎ ((P : Program) × (linked file ≡ Some P) × AllByRecursion (IsTypable P) P.methods × PassesLimit P file r)
+-- A class means a program of which each method has a typing, and this is the first limit that its rewriting passes.
+abbrev pub IsOverLimit : Refusal → ClassFile → Type 0
+IsOverLimit r file = (P : Program) × (linked file ≡ Some P) × AllByRecursion (IsTypable P) P.methods × PassesLimit P file r
+
+-- Why classes whose files are good are refused: their linking ends with this fault; or there is one alone, whose rewriting passes this limit.
+abbrev pub IsBadProgram : Refusal → List ClassFile → Type 0
+IsBadProgram r cs = (linking_files cs ≡ Err r) ⊎ IsLone (IsOverLimit r) cs
+
+-- Why class files are refused: there are too many, or they are good, and their classes are refused.
+abbrev pub HasBadProgram : Option Files → List ℕ → Refusal → Type 0
+HasBadProgram files dir r = HasManyClasses files dir r ⊎ HasClasses files dir (IsBadProgram r)
 
 -- The methods before number m of the program that a class means have typings, and that has none, for the instruction at this
 -- place, as the refusal says.
@@ -208,6 +171,14 @@ IsOutsideForm file = linking file ≡ Ok None
 abbrev pub IsNotRewritten : ClassFile → Type 0
 IsNotRewritten file = IsOutsideForm file ⊎ HasManyMembers file
 
+-- The linking of classes has no fault, but there are none or several, or the one is none that is built.
+abbrev pub AreUnbuilt : (ClassFile → Type 0) → List ClassFile → Type 0
+AreUnbuilt Unbuilt cs = (fault_in (linking_files cs) ≡ None) × IfLone Unbuilt cs
+
+-- Why a folder of class files isn't built: something in it is a folder; or the class files are good, and their classes aren't built.
+abbrev pub HasUnbuilt : Option Files → List ℕ → (ClassFile → Type 0) → Type 0
+HasUnbuilt files dir Unbuilt = HasFolder files dir ⊎ HasClasses files dir (AreUnbuilt Unbuilt)
+
 -- A folder has one good class file, for which the script, of which at most one byte over the limit is looked at, has this fault.
 pub record HasBadScript (files : Option Files) (dir script : List ℕ) (r : Refusal) : Type 0 where
   pub script_bytes : List ℕ
@@ -223,7 +194,7 @@ pub record HasUnopened (files : Option Files) (dir script name : List ℕ) (x : 
 -- The files of a folder, as it tells them, let the script at a path be run on the folder's one class file.
 pub record CanRunIn (told : Files) (dir script : List ℕ) : Type 0 where
   pub name : List ℕ
-  pub class_file : IsOneClass (StandsIn told dir) name
+  pub class_file : AreClassNames (StandsIn told dir) (name ∷ [])
   pub class_bytes : List ℕ
   pub class : told (inside dir name) ≡ Some class_bytes
   pub within : length class_bytes ≤ 1048576
@@ -236,7 +207,7 @@ pub record CanRunIn (told : Files) (dir script : List ℕ) : Type 0 where
 -- The files of a folder, as it tells them, let its one class file be rewritten.
 pub record CanRewriteIn (told : Files) (dir : List ℕ) : Type 0 where
   pub name : List ℕ
-  pub class_file : IsOneClass (StandsIn told dir) name
+  pub class_file : AreClassNames (StandsIn told dir) (name ∷ [])
   pub class_bytes : List ℕ
   pub class : told (inside dir name) ≡ Some class_bytes
   pub within : length class_bytes ≤ 1048576
@@ -247,12 +218,63 @@ pub record CanRewriteIn (told : Files) (dir : List ℕ) : Type 0 where
 -- a command that ended before its inputs were there: where it failed outside, the folder says so
 abbrev pub EndsInputs : (Call → Type 0) → Option Files → List ℕ → ℕ → ℕ → Option Call → InputEnd → Type 0
 EndsInputs Asks files dir before now last (ends.Outside path) = Failed Asks (string_bytes path) before now last
-EndsInputs Asks files dir before now last ends.NotBuilt = HasNoOneClass files dir
+EndsInputs Asks files dir before now last (ends.BadClass path r) = ⊥
+EndsInputs Asks files dir before now last (ends.Refused r) = HasManyClasses files dir r
+EndsInputs Asks files dir before now last ends.NotBuilt = HasFolder files dir
 EndsInputs Asks files dir before now last ends.NoMemory = Unit {0}
 
--- a class that bytes spell, which aren't too many, of which this holds
-abbrev pub IsOfClass : List ℕ → (ClassFile → Type 0) → Type 0
-IsOfClass class Holding = (length class ≤ 1048576) × (file : ClassFile) × Spells class file × Holding file
+-- why a folder with these items has no names of class files
+abbrev pub EndsNames : List (List ℕ × Bool) → InputEnd → Type 0
+EndsNames items ends.NotBuilt = (name : List ℕ) × Contains items (name, true)
+EndsNames items ends.NoMemory = Unit {0}
+EndsNames items end = ⊥
+
+-- why class files of a folder weren't read
+abbrev pub EndsReads : (Call → Type 0) → ℕ → ℕ → Option Call → InputEnd → Type 0
+EndsReads Asks before now last (ends.Outside path) = Failed Asks (string_bytes path) before now last
+EndsReads Asks before now last ends.NoMemory = Unit {0}
+EndsReads Asks before now last end = ⊥
+
+-- the end of a command over so many class files
+abbrev pub IsOverLimitAs : ℕ → InputEnd → Type 0
+IsOverLimitAs count (ends.Refused r) = r ≡ OverLimit (codes "classes") (pos count)
+IsOverLimitAs count ends.NoMemory = Unit {0}
+IsOverLimitAs count end = ⊥
+
+-- the class files that were read are good, and spell these classes
+abbrev pub AreClassesOf : List ClassInput → List ClassFile → Type 0
+AreClassesOf inputs cs = AllZip (λ (i : ClassInput). IsFileOf i.bytes) inputs cs
+
+-- Of the class files that were read this one is the first that isn't good: it has this path and this fault.
+pub record IsFirstFault (inputs : List ClassInput) (path : List ℕ) (r : Refusal) : Type 0 where
+  pub before : List ClassInput
+  pub input : ClassInput
+  pub behind : List ClassInput
+  pub are : inputs ≡ before ++ input ∷ behind
+  pub classes : List ClassFile
+  pub good : AreClassesOf before classes
+  pub at_path : path ≡ string_bytes input.path
+  pub fault : IsFileFault input.bytes r
+
+-- the end of a command over a class file that was read and has this fault
+abbrev pub IsBadClassAs : ClassInput → Refusal → InputEnd → Type 0
+IsBadClassAs input r (ends.BadClass path s) = (string_bytes path ≡ string_bytes input.path) × (s ≡ r)
+IsBadClassAs input r ends.NoMemory = Unit {0}
+IsBadClassAs input r end = ⊥
+
+-- why class files that were read have no classes
+abbrev pub EndsClasses : List ClassInput → InputEnd → Type 0
+EndsClasses inputs (ends.BadClass path r) = IsFirstFault inputs (string_bytes path) r
+EndsClasses inputs ends.NoMemory = Unit {0}
+EndsClasses inputs end = ⊥
+
+-- why there is no class alone in those that were read, whose linking has no fault
+abbrev pub EndsLone : List ClassInput → InputEnd → Type 0
+EndsLone inputs (ends.Outside path) = ⊥
+EndsLone inputs (ends.BadClass path r) = IsFirstFault inputs (string_bytes path) r
+EndsLone inputs (ends.Refused r) = (cs : List ClassFile) × AreClassesOf inputs cs × (linking_files cs ≡ Err r)
+EndsLone inputs ends.NotBuilt = (cs : List ClassFile) × AreClassesOf inputs cs × AreUnbuilt (λ c. ⊥) cs
+EndsLone inputs ends.NoMemory = Unit {0}
 
 -- a command without a script has none that is refused
 abbrev pub NoScript : Refusal → ClassFile → Type 0
@@ -262,27 +284,15 @@ NoScript r file = ⊥
 abbrev pub NoOpening : List ℕ → Answer → ClassFile → Type 0
 NoOpening name x file = ⊥
 
--- why a command over the bytes of a class file isn't done; what a script is refused for, why a run doesn't begin, and what isn't built, is
--- said of the class
-abbrev pub EndsCommand : List ℕ → (Refusal → ClassFile → Type 0) → (List ℕ → Answer → ClassFile → Type 0) → (ClassFile → Type 0) → RunEnd → Type 0
-EndsCommand class Bad Shut Unbuilt (run_ends.BadClass r) = IsFileFault class r
-EndsCommand class Bad Shut Unbuilt (run_ends.BadProgram r) = IsOfClass class (IsBadProgram r)
-EndsCommand class Bad Shut Unbuilt (run_ends.Untyped r) = IsOfClass class (IsUntypable r)
-EndsCommand class Bad Shut Unbuilt (run_ends.BadScript r) = IsOfClass class (Bad r)
-EndsCommand class Bad Shut Unbuilt (run_ends.Unopened name x) = IsOfClass class (Shut name x)
-EndsCommand class Bad Shut Unbuilt run_ends.NotBuilt = IsOfClass class Unbuilt
-EndsCommand class Bad Shut Unbuilt run_ends.NoMemory = Unit {0}
-
 -- why there is no class of these bytes
 abbrev pub EndsReading : List ℕ → RunEnd → Type 0
-EndsReading class (run_ends.BadClass r) = IsFileFault class r
+EndsReading class (run_ends.Refused r) = IsFileFault class r
 EndsReading class run_ends.NoMemory = Unit {0}
 EndsReading class end = ⊥
 
--- why a command over a class isn't done
+-- why a command over a class isn't done; what a script is refused for, why a run doesn't begin, and what isn't built, is said of the class
 abbrev pub EndsOnClass : ClassFile → (Refusal → ClassFile → Type 0) → (List ℕ → Answer → ClassFile → Type 0) → (ClassFile → Type 0) → RunEnd → Type 0
-EndsOnClass file Bad Shut Unbuilt (run_ends.BadClass r) = ⊥
-EndsOnClass file Bad Shut Unbuilt (run_ends.BadProgram r) = IsBadProgram r file
+EndsOnClass file Bad Shut Unbuilt (run_ends.Refused r) = IsBadProgram r (file ∷ [])
 EndsOnClass file Bad Shut Unbuilt (run_ends.Untyped r) = IsUntypable r file
 EndsOnClass file Bad Shut Unbuilt (run_ends.BadScript r) = Bad r file
 EndsOnClass file Bad Shut Unbuilt (run_ends.Unopened name x) = Shut name x file
@@ -291,7 +301,7 @@ EndsOnClass file Bad Shut Unbuilt run_ends.NoMemory = Unit {0}
 
 -- why a class has no program
 abbrev pub EndsBuild : ClassFile → RunEnd → Type 0
-EndsBuild file (run_ends.BadProgram r) = linking file ≡ Err r
+EndsBuild file (run_ends.Refused r) = linking file ≡ Err r
 EndsBuild file run_ends.NotBuilt = IsOutsideForm file
 EndsBuild file run_ends.NoMemory = Unit {0}
 EndsBuild file end = ⊥
@@ -304,13 +314,13 @@ EndsTyping file end = ⊥
 
 -- why a class has no rewriting
 abbrev pub EndsRewriting : Program → ClassFile → RunEnd → Type 0
-EndsRewriting P file (run_ends.BadProgram r) = PassesLimit P file r
+EndsRewriting P file (run_ends.Refused r) = PassesLimit P file r
 EndsRewriting P file run_ends.NoMemory = Unit {0}
 EndsRewriting P file end = ⊥
 
 -- the end of a run on a class whose rewriting has this fault
 abbrev pub IsLimit : ClassFile → Refusal → RunEnd → Type 0
-IsLimit file fault (run_ends.BadProgram r) = r ≡ in_class (own_name file) fault
+IsLimit file fault (run_ends.Refused r) = r ≡ in_class (own_name file) fault
 IsLimit file fault run_ends.NoMemory = Unit {0}
 IsLimit file fault end = ⊥
 
@@ -342,5 +352,5 @@ EndsScript file P bytes end = ⊥
 abbrev pub IsOutsideAt : IoEnd → List ℕ → InputEnd → Type 0
 IsOutsideAt io.Failed path (ends.Outside p) = string_bytes p ≡ path
 IsOutsideAt io.NoMemory path (ends.Outside p) = ⊥
-IsOutsideAt e path ends.NotBuilt = ⊥
 IsOutsideAt e path ends.NoMemory = Unit {0}
+IsOutsideAt e path end = ⊥

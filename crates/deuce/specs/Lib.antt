@@ -1,5 +1,6 @@
 pub mod Command
 pub mod Ending
+pub mod Folder
 pub mod Headline
 pub mod Outcomes
 pub mod Rewritten

@@ -5,12 +5,12 @@ use Rattle.std.specs.declared.alloc.Global.{Global}
 use Rattle.deuce_io.specs.Fault.{Call}
 use Rattle.deuce_io.specs.Files.{Files}
 use Rattle.jmodel.specs.declared.refusal.Refusal.{Refusal}
-use Rattle.jmodel.specs.ClassFile.{ClassFile}
 use Rattle.jmodel.specs.declared.value.Answer.{Answer}
 use Rattle.jmodel.specs.Output.{◌and◌, answer_text, refusal_text, error_text}
 use Rattle.deuce.specs.Command.{seen_words, run_words, rewrite_words, IsNoCommand, NamesFolder}
 use Rattle.deuce.specs.Rewritten.{counts_text}
-use Rattle.deuce.specs.Ending.{IsCallOfFolder, IsCallOfRun, Failed, FailedPut, IsJournalOf, IsRewritingOf, PutsOne, IsBadClass, HasClass, HasNoOneClass, IsBadProgram, IsUntypable, HasBadScript, HasUnopened, IsOutsideForm, IsNotRewritten, CanRunIn, CanRewriteIn}
+use Rattle.deuce.specs.Folder.{IsBadClass, HasClass}
+use Rattle.deuce.specs.Ending.{IsCallOfFolder, IsCallOfRun, Failed, FailedPut, IsJournalOf, IsRewritingOf, PutsOne, HasBadProgram, IsUntypable, HasBadScript, HasUnopened, IsOutsideForm, IsNotRewritten, HasUnbuilt, CanRunIn, CanRewriteIn}
 use Rattle.deuce.specs.declared.inputs.InputEnd.{InputEnd}
 use Rattle.deuce.specs.declared.inputs.InputEnd.TheVariants as ends
 use Rattle.deuce.specs.declared.run.RunEnd.{RunEnd}
@@ -46,29 +46,34 @@ status_of (Outside path) = 8
 status_of (NotPut path) = 11
 status_of NotBuilt = 12
 
--- the outcome of a command over the class file at a path that ended so
-abbrev pub IsRefusedAs : String Global → RunEnd → Outcome → Type 0
-IsRefusedAs path (run_ends.BadClass r) o = o ≡ BadClass path r
-IsRefusedAs path (run_ends.BadProgram r) o = o ≡ BadProgram r
-IsRefusedAs path (run_ends.Untyped r) o = o ≡ Untyped r
-IsRefusedAs path (run_ends.BadScript r) o = o ≡ BadScript r
-IsRefusedAs path (run_ends.Unopened class x) o = o ≡ Unopened class x
-IsRefusedAs path run_ends.NotBuilt o = o ≡ NotBuilt
-IsRefusedAs path run_ends.NoMemory o = ⊥
+-- the outcome of a command over a class that ended so
+abbrev pub IsRefusedAs : RunEnd → Outcome → Type 0
+IsRefusedAs (run_ends.Refused r) o = o ≡ BadProgram r
+IsRefusedAs (run_ends.Untyped r) o = o ≡ Untyped r
+IsRefusedAs (run_ends.BadScript r) o = o ≡ BadScript r
+IsRefusedAs (run_ends.Unopened class x) o = o ≡ Unopened class x
+IsRefusedAs run_ends.NotBuilt o = o ≡ NotBuilt
+IsRefusedAs run_ends.NoMemory o = ⊥
 
--- the outcome of a command whose inputs weren't there
+-- the outcome of a command without inputs, or without a class alone
 abbrev pub IsUnreadAs : InputEnd → Outcome → Type 0
 IsUnreadAs (ends.Outside path) o = o ≡ Outside path
+IsUnreadAs (ends.BadClass path r) o = o ≡ BadClass path r
+IsUnreadAs (ends.Refused r) o = o ≡ BadProgram r
 IsUnreadAs ends.NotBuilt o = o ≡ NotBuilt
 IsUnreadAs ends.NoMemory o = ⊥
 
--- in the folder that the words name, the class file at this path has this fault
+-- in the folder that the words name, the class file at this path is the first that isn't good, with this fault
 abbrev pub IsBadClassOfWords : List (String Global) → Option Files → List ℕ → Refusal → Type 0
 IsBadClassOfWords words files path r = (dir : List ℕ) × NamesFolder words dir × IsBadClass files dir path r
 
--- in the folder that the words name stands one good class file, of which this is said
-abbrev pub IsOfWords : List (String Global) → Option Files → (Refusal → ClassFile → Type 0) → Refusal → Type 0
-IsOfWords words files Says r = (dir : List ℕ) × NamesFolder words dir × HasClass files dir (Says r)
+-- the class files of the folder that the words name are too many, or good, and their classes are refused so
+abbrev pub IsBadProgramOfWords : List (String Global) → Option Files → Refusal → Type 0
+IsBadProgramOfWords words files r = (dir : List ℕ) × NamesFolder words dir × HasBadProgram files dir r
+
+-- in the folder that the words name stands one good class file, a method of which has no typing, as the refusal says
+abbrev pub IsUntypableOfWords : List (String Global) → Option Files → Refusal → Type 0
+IsUntypableOfWords words files r = (dir : List ℕ) × NamesFolder words dir × HasClass files dir (IsUntypable r)
 
 -- The words ask for a run, and its script has this fault.
 abbrev pub IsBadScriptOfWords : List (String Global) → Option Files → Refusal → Type 0
@@ -78,13 +83,13 @@ IsBadScriptOfWords words files r = (dir : List ℕ) × (script : List ℕ) × (s
 abbrev pub IsUnopenedOfWords : List (String Global) → Option Files → List ℕ → Answer → Type 0
 IsUnopenedOfWords words files class x = (dir : List ℕ) × (script : List ℕ) × (seen_words words ≡ run_words dir script) × HasUnopened files dir script class x
 
--- The words ask for a run, and its folder hasn't one class file alone, or it has, and that isn't of the form.
+-- The words ask for a run, and its folder isn't built: something in it is a folder, or its class files are good, and not one alone of the form.
 abbrev pub IsUnbuiltRun : List (String Global) → Option Files → Type 0
-IsUnbuiltRun words files = (dir : List ℕ) × (script : List ℕ) × (seen_words words ≡ run_words dir script) × (HasNoOneClass files dir ⊎ HasClass files dir IsOutsideForm)
+IsUnbuiltRun words files = (dir : List ℕ) × (script : List ℕ) × (seen_words words ≡ run_words dir script) × HasUnbuilt files dir IsOutsideForm
 
--- The words ask for a rewriting, and the folder hasn't one class file alone, or it has, and that can't be rewritten.
+-- The words ask for a rewriting, and its folder isn't built: the same, or the one can't be rewritten.
 abbrev pub IsUnbuiltRewriting : List (String Global) → Option Files → Type 0
-IsUnbuiltRewriting words files = (dir : List ℕ) × (out : List ℕ) × (seen_words words ≡ rewrite_words dir out) × (HasNoOneClass files dir ⊎ HasClass files dir IsNotRewritten)
+IsUnbuiltRewriting words files = (dir : List ℕ) × (out : List ℕ) × (seen_words words ≡ rewrite_words dir out) × HasUnbuilt files dir IsNotRewritten
 
 abbrev pub IsNotBuilt : List (String Global) → Option Files → Type 0
 IsNotBuilt words files = IsUnbuiltRun words files ⊎ IsUnbuiltRewriting words files
@@ -147,8 +152,8 @@ Says words old new (Journal text) = IsJournalOfWords words old.files text
 Says words old new (Rewritten taken marked) = IsRewritingOfWords words old.files new.files taken marked
 Says words old new Usage = IsNoCommand words
 Says words old new (BadClass path refusal) = IsBadClassOfWords words old.files (string_bytes path) refusal
-Says words old new (BadProgram refusal) = IsOfWords words old.files IsBadProgram refusal
-Says words old new (Untyped refusal) = IsOfWords words old.files IsUntypable refusal
+Says words old new (BadProgram refusal) = IsBadProgramOfWords words old.files refusal
+Says words old new (Untyped refusal) = IsUntypableOfWords words old.files refusal
 Says words old new (BadScript refusal) = IsBadScriptOfWords words old.files refusal
 Says words old new (Unopened class answer) = IsUnopenedOfWords words old.files class answer
 Says words old new (Outside path) = FailedOutside words (string_bytes path) old.faults new.faults new.failed

@@ -4,16 +4,17 @@ ghost use Rattle.std.specs.declared.alloc.Global.{Global};
 ghost use Rattle.deuce.specs.Command.{seen_words, run_words, rewrite_words};
 ghost use Rattle.deuce.specs.Outcomes.{IsUnreadAs, IsRefusedAs, IsOutcome, ArePut, seen};
 
-use crate::inputs::{InputEnd, read_class_file, read_inputs};
+use crate::classes::lone_class;
+use crate::inputs::{InputEnd, read_classes, read_inputs};
 use crate::outcome::Outcome;
-use crate::rewriting::rewrite_file;
-use crate::run::{RunEnd, run};
+use crate::rewriting::write_rewriting;
+use crate::run::{RunEnd, run_class};
 use deuce_io::{Folder, IoEnd};
 use jmodel::NoMemory;
 use std::alloc::Global;
 use std::thread::Threads;
 
-/// Runs a script on the one class file of a folder.
+/// Runs a script on the class files of a folder.
 pub fn run_command<R: Threads + Sync, F: Folder>(
     rt: &R,
     alloc: Global,
@@ -29,18 +30,17 @@ pub fn run_command<R: Threads + Sync, F: Folder>(
         Ok(inputs) => inputs,
         Err(end) => return unread(end),
     };
-    match run(
-        rt,
-        alloc,
-        inputs.class.bytes.as_slice(),
-        inputs.script.as_slice(),
-    ) {
+    let class = match lone_class(alloc, inputs.classes.as_slice()) {
+        Ok(class) => class,
+        Err(end) => return unread(end),
+    };
+    match run_class(rt, alloc, &class, inputs.script.as_slice()) {
         Ok(text) => Ok(Outcome::Journal(text)),
-        Err(end) => refused(inputs.class.path, end),
+        Err(end) => refused(end),
     }
 }
 
-/// Rewrites the one class file of a folder, and puts the new one under its name into another.
+/// Rewrites the class files of a folder, and puts the new ones under their names into another.
 pub fn rewrite_command<F: Folder>(
     alloc: Global,
     folder: &mut F,
@@ -51,15 +51,19 @@ pub fn rewrite_command<F: Folder>(
         → IsOutcome words (seen (F.files folder.old) (F.faults folder.old) (F.put_faults folder.old) (F.failed folder.old)) (seen (F.files folder.new) (F.faults folder.new) (F.put_faults folder.new) (F.failed folder.new)) o) }
     ensures put { (words : List (String Global)) → seen_words words ≡ rewrite_words dir.now out.now → ArePut words (F.files folder.old) (F.files folder.new) }
 {
-    let input = match read_class_file(alloc, folder, dir) {
-        Ok(input) => input,
+    let inputs = match read_classes(alloc, folder, dir) {
+        Ok(inputs) => inputs,
         Err(end) => return unread(end),
     };
-    let new = match rewrite_file(alloc, input.bytes.as_slice()) {
-        Ok(new) => new,
-        Err(end) => return refused(input.path, end),
+    let class = match lone_class(alloc, inputs.as_slice()) {
+        Ok(class) => class,
+        Err(end) => return unread(end),
     };
-    let Ok(path) = format!(in alloc; "{out}/{name}", name = input.name) else {
+    let new = match write_rewriting(alloc, &class) {
+        Ok(new) => new,
+        Err(end) => return refused(end),
+    };
+    let Ok(path) = format!(in alloc; "{out}/{name}", name = inputs[0].name) else {
         return Err(NoMemory);
     };
     match folder.put(path.as_str(), new.bytes.as_slice()) {
@@ -72,24 +76,25 @@ pub fn rewrite_command<F: Folder>(
     }
 }
 
-/// The outcome of a command whose inputs weren't there.
+/// The outcome of a command without inputs, or without a class alone.
 fn unread(end: InputEnd) -> Result<Outcome, NoMemory>
     ensures { IfOk result (IsUnreadAs end) }
 {
     match end {
         InputEnd::Outside(path) => Ok(Outcome::Outside(path)),
+        InputEnd::BadClass { path, refusal } => Ok(Outcome::BadClass { path, refusal }),
+        InputEnd::Refused(refusal) => Ok(Outcome::BadProgram(refusal)),
         InputEnd::NotBuilt => Ok(Outcome::NotBuilt),
         InputEnd::NoMemory => Err(NoMemory),
     }
 }
 
-/// The outcome of a command over the class file at a path that ended so.
-fn refused(path: String, end: RunEnd) -> Result<Outcome, NoMemory>
-    ensures { IfOk result (IsRefusedAs path end) }
+/// The outcome of a command over a class that ended so.
+fn refused(end: RunEnd) -> Result<Outcome, NoMemory>
+    ensures { IfOk result (IsRefusedAs end) }
 {
     match end {
-        RunEnd::BadClass(refusal) => Ok(Outcome::BadClass { path, refusal }),
-        RunEnd::BadProgram(refusal) => Ok(Outcome::BadProgram(refusal)),
+        RunEnd::Refused(refusal) => Ok(Outcome::BadProgram(refusal)),
         RunEnd::Untyped(refusal) => Ok(Outcome::Untyped(refusal)),
         RunEnd::BadScript(refusal) => Ok(Outcome::BadScript(refusal)),
         RunEnd::Unopened { class, answer } => Ok(Outcome::Unopened { class, answer }),

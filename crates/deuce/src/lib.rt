@@ -2,6 +2,7 @@
 //! [`top::deuce`] is the top call, over any folder and sink.
 #![tactic(auto)]
 
+mod classes;
 mod commands;
 mod inputs;
 mod outcome;

@@ -18,9 +18,9 @@ pub enum Outcome {
     Rewritten { taken: usize, marked: usize },
     /// The words were of no form.
     Usage,
-    /// The file at this path is no class file, with the first fault.
+    /// The file at this path, the first such, is no class file, with the first fault.
     BadClass { path: String, refusal: Refusal },
-    /// The class has this fault, or its rewriting passes this limit.
+    /// There are too many class files, or their classes have this fault, or the rewriting of the one class passes this limit.
     BadProgram(Refusal),
     /// A method of the class has no typing.
     Untyped(Refusal),
@@ -32,7 +32,7 @@ pub enum Outcome {
     Outside(String),
     /// The put at this path failed.
     NotPut(String),
-    /// The folder or the class isn't of the form that is built so far, or the rewritten class would have too many members.
+    /// The folder or its classes aren't of the form that is built so far, or the rewritten class would have too many members.
     NotBuilt,
 }
 

@@ -1,12 +1,12 @@
-//! A rewriting, from the bytes of a class file to those of the new one.
-ghost use Rattle.std.specs.Prelude.{◌≡◌, ◌≤◌, ◌↔◌, ℕ, List, length, filter, IfOk, IfErr, OnOk, IsTrue};
+//! A rewriting, from a class to the bytes of the new class file.
+ghost use Rattle.std.specs.Prelude.{◌≡◌, ◌↔◌, ℕ, List, length, filter, IfOk, IfErr, IsTrue};
 ghost use Rattle.jmodel.specs.ClassRules.{IsClassFile, Spells};
 ghost use Rattle.rewriter.specs.Meaning.{AreFiled, HasFewMembers};
 ghost use Rattle.jmodel.specs.Schedule.{is_marked};
-ghost use Rattle.deuce.specs.Ending.{EndsCommand, EndsOnClass, NoScript, NoOpening, IsNotRewritten};
+ghost use Rattle.deuce.specs.Ending.{EndsOnClass, NoScript, NoOpening, IsNotRewritten};
 ghost use Rattle.deuce.specs.Rewritten.{IsRewriting};
 
-use crate::run::{RunEnd, class_of, prepare};
+use crate::run::{RunEnd, prepare};
 use class_writer::write_class;
 use const_pool::ClassFile;
 use hierarchy::Method;
@@ -34,18 +34,8 @@ impl From<NoMemory> for RunEnd {
     }
 }
 
-/// Rewrites a class file.
-pub fn rewrite_file(alloc: Global, class: &[u8]) -> Result<NewFile, RunEnd>
-    ensures rewriting { IfOk result (λ f. IsRewriting class.now f.bytes f.taken f.marked) }
-    ensures within { OnOk result (length class.now ≤ 1048576) }
-    ensures cause { IfErr result (EndsCommand class.now NoScript NoOpening IsNotRewritten) }
-{
-    let file = class_of(alloc, class)?;
-    write_rewriting(alloc, &file)
-}
-
 /// Rewrites a class, and writes the new one.
-fn write_rewriting(alloc: Global, class: &ClassFile) -> Result<NewFile, RunEnd>
+pub fn write_rewriting(alloc: Global, class: &ClassFile) -> Result<NewFile, RunEnd>
     requires form { IsClassFile class.now }
     requires filed { AreFiled class.now }
     ensures rewriting { IfOk result (λ f. (bytes : List ℕ) → Spells bytes class.now → IsRewriting bytes f.bytes f.taken f.marked) }

@@ -1,4 +1,4 @@
-//! A run, from the bytes of a class file and a script to the text of its journal.
+//! A run, from a class and a script to the text of its journal.
 ghost use Rattle.std.specs.Prelude.{◌≡◌, ◌≤◌, ◌<◌, ◌+◌, ◌^◌, ℕ, List, [], ◌∷◌, length, Some, Ok, IfOk, IfErr, OnOk};
 ghost use Rattle.jmodel.specs.ClassRules.{IsClassFile, Spells};
 ghost use Rattle.jmodel.specs.Linking.{linked};
@@ -8,7 +8,7 @@ ghost use Rattle.std.specs.List.{AllByRecursion};
 ghost use Rattle.rewriter.specs.Meaning.{AreFiled, HasFewMembers};
 ghost use Rattle.rewriter.specs.Rewritten.{rewritten_class};
 ghost use Rattle.deuce.specs.Headline.{IsRun};
-ghost use Rattle.deuce.specs.Ending.{EndsReading, EndsCommand, EndsOnClass, EndsBuild, EndsRewriting, EndsScript, EndsOpening, IsOpened, IsUnopenedAs, IsLimit, IsBadScript, IsUnopened, NoScript, NoOpening, IsOutsideForm};
+ghost use Rattle.deuce.specs.Ending.{EndsReading, EndsOnClass, EndsBuild, EndsRewriting, EndsScript, EndsOpening, IsOpened, IsUnopenedAs, IsLimit, IsBadScript, IsUnopened, NoScript, NoOpening, IsOutsideForm};
 ghost use Rattle.script.specs.Script.{IsScript};
 ghost use Rattle.jmodel.specs.Layout.{opening_words as first_words, opening_state};
 ghost use Rattle.jmodel.specs.Program.{Program as Meant};
@@ -32,10 +32,8 @@ use std::thread::Threads;
 /// Why a command over a class file isn't done.
 #[derive(Drop)]
 pub enum RunEnd {
-    /// The bytes are no class file, with the first fault.
-    BadClass(Refusal),
-    /// The code of the class has this fault, or its rewriting passes this limit.
-    BadProgram(Refusal),
+    /// The bytes are no class file, with this fault, the first; or the class has it, or its rewriting passes this limit.
+    Refused(Refusal),
     /// A method has no typing.
     Untyped(Refusal),
     /// The script is none for the class, with the first rule that it breaks.
@@ -58,21 +56,6 @@ impl From<AllocError> for RunEnd {
     }
 }
 
-/// Runs a script on a class file, and gives the text of its journal.
-pub fn run<R: Threads + Sync>(
-    rt: &R,
-    alloc: Global,
-    class: &[u8],
-    script: &[u8],
-) -> Result<Bytes, RunEnd>
-    ensures run { IfOk result (IsRun class.now script.now) }
-    ensures class { OnOk result (length class.now ≤ 1048576) }
-    ensures cause { IfErr result (EndsCommand class.now (IsBadScript script.now) (IsUnopened script.now) IsOutsideForm) }
-{
-    let file = class_of(alloc, class)?;
-    run_class(rt, alloc, &file, script)
-}
-
 /// The class of a class file.
 pub fn class_of(alloc: Global, bytes: &[u8]) -> Result<ClassFile, RunEnd>
     ensures within { OnOk result (length bytes.now ≤ 1048576) }
@@ -82,17 +65,17 @@ pub fn class_of(alloc: Global, bytes: &[u8]) -> Result<ClassFile, RunEnd>
 {
     if bytes.len() > CLASS_LIMIT {
         let limit = Bytes::from_slice(alloc, b"file")?;
-        return Err(RunEnd::BadClass(Refusal::OverLimit(limit, bytes.len() as i64)));
+        return Err(RunEnd::Refused(Refusal::OverLimit(limit, bytes.len() as i64)));
     }
     match read_class(alloc, bytes) {
         Ok(file) => Ok(file),
-        Err(Halt::Refused(refusal)) => Err(RunEnd::BadClass(refusal)),
+        Err(Halt::Refused(refusal)) => Err(RunEnd::Refused(refusal)),
         Err(Halt::NoMemory) => Err(RunEnd::NoMemory),
     }
 }
 
-/// Runs a script on a class.
-fn run_class<R: Threads + Sync>(
+/// Runs a script on a class, and gives the text of its journal.
+pub fn run_class<R: Threads + Sync>(
     rt: &R,
     alloc: Global,
     class: &ClassFile,
@@ -148,7 +131,7 @@ pub fn build(alloc: Global, class: &ClassFile) -> Result<Program, RunEnd>
 {
     match Program::build(alloc, class) {
         Ok(program) => Ok(program),
-        Err(BuildEnd::Refused(refusal)) => Err(RunEnd::BadProgram(refusal)),
+        Err(BuildEnd::Refused(refusal)) => Err(RunEnd::Refused(refusal)),
         Err(BuildEnd::NotBuilt) => Err(RunEnd::NotBuilt),
         Err(BuildEnd::NoMemory) => Err(RunEnd::NoMemory),
     }
@@ -178,10 +161,10 @@ fn limit(alloc: Global, class: &ClassFile, refusal: Refusal) -> RunEnd
 {
     match refusal {
         Refusal::PoolFull(_) => match Bytes::from_slice(alloc, own_name(class)) {
-            Ok(name) => RunEnd::BadProgram(Refusal::PoolFull(name)),
+            Ok(name) => RunEnd::Refused(Refusal::PoolFull(name)),
             Err(_) => RunEnd::NoMemory,
         },
-        other => RunEnd::BadProgram(other),
+        other => RunEnd::Refused(other),
     }
 }
 

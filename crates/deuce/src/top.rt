@@ -5,8 +5,8 @@ ghost use Rattle.jmodel.specs.declared.refusal.Refusal.{Refusal};
 ghost use Rattle.jmodel.specs.declared.value.Answer.{Answer};
 ghost use Rattle.jmodel.specs.Output.{◌and◌, answer_text, refusal_text, error_text};
 ghost use Rattle.deuce.specs.Command.{seen_words, run_words, rewrite_words, IsNoRewriting, IsNoCommand};
-ghost use Rattle.deuce.specs.Ending.{IsJournalOf, IsRewritingOf, IsBadProgram, IsUntypable};
-ghost use Rattle.deuce.specs.Outcomes.{IsOutcome, IsBadClassOfWords, IsOfWords, IsBadScriptOfWords, IsUnopenedOfWords, IsNotBuilt, CanRunWords, CanRewriteWords, FailedOutside, FailedPutOfWords, ArePut, IsRefusal, Appends, IsCut, seen};
+ghost use Rattle.deuce.specs.Ending.{IsJournalOf, IsRewritingOf};
+ghost use Rattle.deuce.specs.Outcomes.{IsOutcome, IsBadClassOfWords, IsBadProgramOfWords, IsUntypableOfWords, IsBadScriptOfWords, IsUnopenedOfWords, IsNotBuilt, CanRunWords, CanRewriteWords, FailedOutside, FailedPutOfWords, ArePut, IsRefusal, Appends, IsCut, seen};
 ghost use Rattle.deuce.specs.Rewritten.{counts_text};
 
 use crate::commands::{rewrite_command, run_command};
@@ -24,8 +24,8 @@ use std::thread::Threads;
 /// |---|---|
 /// | 0 | the journal of the run was written whole; or the rewritten class file was put, and its counts were written whole |
 /// | 2 | the words are none of the forms |
-/// | 3 | the file is no class file; its path and its first fault are printed |
-/// | 4 | the code of the class has a fault, or its rewriting passes a limit; that is printed |
+/// | 3 | a file is no class file; the path of the first and its first fault are printed |
+/// | 4 | there are more than 256 class files, their classes have a fault, or the rewriting of the one class passes a limit; that is printed |
 /// | 5 | a method of the class has no typing; the first is printed |
 /// | 6 | the script is none for the class; the first rule that it breaks is printed |
 /// | 7 | the static initialiser of the class doesn't return; the class and the answer are printed |
@@ -33,7 +33,7 @@ use std::thread::Threads;
 /// | 9 | the sink failed; a front of the output was written |
 /// | 10 | memory ran out; nothing was written, or a front of the output |
 /// | 11 | the put of the rewritten class file failed |
-/// | 12 | the folder hasn't one class file alone, or the class isn't of the form that is built so far, or the rewritten class would have too many members |
+/// | 12 | something in the folder is a folder; or there isn't one class file alone, or its class isn't of the form that is built so far, or the rewritten class would have too many members |
 pub fn deuce<R: Threads + Sync, F: Folder, O: Sink>(
     rt: &R,
     alloc: Global,
@@ -55,17 +55,17 @@ pub fn deuce<R: Threads + Sync, F: Folder, O: Sink>(
         → (taken : ℕ) × (marked : ℕ) × IsRewritingOf (F.files folder.old) (F.files folder.new) dir to taken marked
         × Appends (O.written out.old) (O.written out.new) (counts_text taken marked) }
 
-    // The one class file has this fault.
+    // This class file is the first, in the order of the names, that isn't good, and has this fault.
     ensures bad_class { result ≡ 3 → (path : List ℕ) × (refusal : Refusal)
         × IsBadClassOfWords words.now (F.files folder.old) path refusal
         × Appends (O.written out.old) (O.written out.new) (error_text (codes "3") (path and refusal_text refusal)) }
 
-    // The one class file is good, and its code has this fault, or its rewriting passes this limit.
-    ensures bad_program { result ≡ 4 → (refusal : Refusal) × IsOfWords words.now (F.files folder.old) IsBadProgram refusal
+    // There are more class files than 256, as this says; or they are good, and their classes have this fault, or the rewriting of the one class passes this limit.
+    ensures bad_program { result ≡ 4 → (refusal : Refusal) × IsBadProgramOfWords words.now (F.files folder.old) refusal
         × Appends (O.written out.old) (O.written out.new) (error_text (codes "4") (refusal_text refusal)) }
 
-    // It is of the form, and this method of it is the first that has no typing.
-    ensures untypable { result ≡ 5 → (refusal : Refusal) × IsOfWords words.now (F.files folder.old) IsUntypable refusal
+    // There is one class file, of the form, and this method of it is the first that has no typing.
+    ensures untypable { result ≡ 5 → (refusal : Refusal) × IsUntypableOfWords words.now (F.files folder.old) refusal
         × Appends (O.written out.old) (O.written out.new) (error_text (codes "5") (refusal_text refusal)) }
 
     // It can be run, and the script, of which at most one byte over its limit is looked at, is none for it: this is the first rule that it breaks.
@@ -76,7 +76,8 @@ pub fn deuce<R: Threads + Sync, F: Folder, O: Sink>(
     ensures unopened { result ≡ 7 → (class : List ℕ) × (answer : Answer) × IsUnopenedOfWords words.now (F.files folder.old) class answer
         × Appends (O.written out.old) (O.written out.new) (error_text (codes "7") (class and answer_text answer)) }
 
-    // The folder hasn't one class file alone, or that isn't of the form, or the rewritten class would have too many members.
+    // Something in the folder is a folder; or the class files are good and their classes without a fault, but there isn't one alone, or that isn't of the
+    // form, or the rewritten class would have too many members.
     ensures not_built { result ≡ 12 → IsNotBuilt words.now (F.files folder.old) }
     ensures not_built_line { result ≡ 12 → Appends (O.written out.old) (O.written out.new) (error_text (codes "12") (codes "NotBuilt")) }
 

@@ -1,3 +1,4 @@
+pub mod Bools
 pub mod Parts
 pub mod Each
 pub mod Relinked
@@ -7,3 +8,8 @@ pub mod Source
 pub mod Zipped
 pub mod Keys
 pub mod SearchLaws
+pub mod InOrder
+pub mod FirstFault
+pub mod Tests
+pub mod Upward
+pub mod FewMethods

@@ -1,7 +1,8 @@
 -- Parts of texts, and tests of what is seen of items.
-use Rattle.std.proofs.Common.{◌≡◌, ℕ, suc, ◌+◌, ◌<◌, List, length, drop, get_or, ◌∷◌, false, refl, ap, ◌∙◌, sym, nat_eq, add-one, drop-cons}
+use Rattle.std.proofs.Common.{◌≡◌, ℕ, suc, ◌+◌, ◌<◌, List, length, drop, get_or, ◌∷◌, true, false, refl, ap, ◌∙◌, sym, nat_eq, add-one, drop-cons}
 use Rattle.std.specs.List.{starts_with, list_any}
-use Rattle.std.specs.Prelude.{◌||◌, map, [], Bool, Option, Some, None, Err}
+use Rattle.std.proofs.lemmas.Slice.Eq.{bytes_eq-Decides}
+use Rattle.std.specs.Prelude.{◌||◌, bytes_eq, map, [], Bool, Option, Some, None, Err}
 use Rattle.jmodel.specs.declared.refusal.Refusal.{Refusal}
 use Rattle.jmodel.specs.Descriptor.{Signature}
 use Rattle.jmodel.specs.DescriptorReading.{signature_or}
@@ -14,6 +15,9 @@ has_part_after part text i h none =
     let no_here : starts_with nat_eq (get_or text i 0 ∷ drop (suc i) text) part ≡ false = sym (ap (λ t. starts_with nat_eq t part) cons) ∙ none in
     let here : has_part part (get_or text i 0 ∷ drop (suc i) text) ≡ has_part part (drop (suc i) text) = ap (λ b. b || has_part part (drop (suc i) text)) no_here in
     ap (λ n. has_part part (drop n text)) (add-one i) ∙ sym here ∙ sym (ap (has_part part) cons)
+
+pub same_bytes : (a b : List ℕ) → bytes_eq a b ≡ true → a ≡ b
+same_bytes a b h = (bytes_eq-Decides a b).0 h
 
 -- some item passes as it is seen
 pub any_map : {A B : Type 0} (p : B → Bool) (f : A → B) (xs : List A) → list_any p (map f xs) ≡ list_any (λ x. p (f x)) xs

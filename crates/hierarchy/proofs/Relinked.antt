@@ -1,5 +1,5 @@
 -- The methods of a class's program, seen behind references.
-use Rattle.std.proofs.Common.{◌≡◌, ℕ, ◌-◌, List, [], ◌∷◌, length, map, take, drop, Option, None, Bool, true, false, Bor, sym, ap, ◌∙◌}
+use Rattle.std.proofs.Common.{◌≡◌, ℕ, ◌-◌, List, [], ◌∷◌, length, map, take, drop, Option, None, Bool, true, Bor, sym, ap, ◌∙◌}
 use Rattle.std.specs.Prelude.{nat_le, zip, if◌then◌else◌}
 use Rattle.std.proofs.lemmas.List.{length-map, take-map, drop-map}
 use Rattle.jmodel.specs.declared.name.MethodName.{MethodName}

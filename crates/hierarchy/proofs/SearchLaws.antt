@@ -1,32 +1,34 @@
 -- The search for the taken methods: what each call finds, what is kept from one method to the next, and what holds at the end.
-use Rattle.std.proofs.Common.{◌≡◌, ℕ, ◌+◌, ◌≤◌, List, [], ◌∷◌, ◌++◌, length, map, Bool, true, false, not, ◌&&◌, ◌||◌, cond, Option, Some, None, Result, Ok, Err, OnOk, refl, sym, ap, ◌∙◌, arith}
-use Rattle.std.specs.Prelude.{filter, bytes_eq, codes, option_and_then, if◌then◌else◌}
-use Rattle.std.specs.List.{AllByRecursion, list_any}
+use Rattle.std.proofs.Common.{◌≡◌, ℕ, ◌+◌, ◌≤◌, List, [], ◌∷◌, ◌++◌, length, map, Bool, true, false, not, ◌&&◌, ◌||◌, cond, Result, Ok, Err, OnOk, refl, sym, ap, ◌∙◌, arith}
+use Rattle.std.specs.Prelude.{filter, bytes_eq, codes, if◌then◌else◌}
+use Rattle.std.specs.List.{list_any}
 use Rattle.std.specs.Cmp.Lexicographic.{nat_list_eq_equiv}
 use Rattle.std.proofs.lemmas.List.{append-nil, length-append}
+use Rattle.std.proofs.lemmas.List.Elements.{filter-append}
 use Rattle.std.proofs.lemmas.List.Folds.{list_any-append}
-use Rattle.std.proofs.lemmas.Slice.Eq.{bytes_eq-Decides}
-use Rattle.jmodel.specs.declared.instruction.Instr.{Instr}
 use Rattle.jmodel.specs.declared.name.MethodName.{MethodName}
 use Rattle.jmodel.specs.declared.refusal.NoMemory.{NoMemory}
 use Rattle.jmodel.specs.ClassFile.{Member, ClassFile}
 use Rattle.jmodel.specs.Pool.{MemberName}
-use Rattle.jmodel.specs.Decoding.{own_name, name_of}
-use Rattle.jmodel.specs.Coded.{is_root, decoded}
+use Rattle.jmodel.specs.Coded.{decoded}
 use Rattle.jmodel.specs.Linking.{is_name}
-use Rattle.jmodel.specs.Taken.{invoked, code_calls, calls, is_taken_by, is_named_by, is_next, is_taken, IsClosed}
-use Rattle.jmodel.proofs.Taken.{Within, or_right, filter_covers, Same, filter_same, all_map, all_of, closed, taken_law}
-use Rattle.hierarchy.specs.Names.{is_key, has, group_of}
-use Rattle.hierarchy.specs.Search.{is_foreign, call_of, has_key, IsGrouped, State, starting, is_called, is_found, is_fresh, uncalled, Visits, Finds}
+use Rattle.jmodel.specs.Taken.{code_calls, is_taken_by}
+use Rattle.jmodel.specs.Taken as alone
+use Rattle.jmodel.specs.Classes.{Declared, declared_in, methods_in, full_name}
+use Rattle.jmodel.specs.ClassesTaken.{calls, is_taken, IsClosed}
+use Rattle.jmodel.proofs.Taken.{Within, or_right, filter_covers, Same, filter_same, all_map, all_of}
+use Rattle.jmodel.proofs.ClassesTaken.{closed, taken_law}
+use Rattle.jmodel.proofs.ClassesLone.{taken_here}
+use Rattle.hierarchy.proofs.Bools.{or_left, or_second}
+use Rattle.hierarchy.proofs.Parts.{same_bytes}
+use Rattle.hierarchy.specs.Names.{has, group_of}
+use Rattle.hierarchy.specs.Search.{class_for, call_key, method_key, is_root_of, IsGrouped, State, starting, is_called, is_found, is_fresh, uncalled, Visits, VisitsOf, Finds}
 
 -- ---- tests
 
 either : (a b : Bool) → (a || b) ≡ true → {P : Type 0} → (a ≡ true → P) → (b ≡ true → P) → P
 either true b h f g = f refl
 either false b h f g = g h
-
-or_left : (a b : Bool) → a ≡ true → (a || b) ≡ true
-or_left a b h = rw h refl
 
 or_false : (a : Bool) → (a || false) ≡ a
 or_false true = refl
@@ -39,12 +41,6 @@ or_assoc false b c = refl
 or_both : (a b c : Bool) → (a || (b || c)) ≡ ((a || b) || (a || c))
 or_both true b c = refl
 or_both false b c = refl
-
-or_second : (a b c : Bool) → (a || (b || c)) ≡ (b || (a || c))
-or_second true true c = refl
-or_second true false c = refl
-or_second false true c = refl
-or_second false false c = refl
 
 both_true : (a b : Bool) → (a && b) ≡ true → (a ≡ true) × (b ≡ true)
 both_true true b h = (refl, h)
@@ -118,13 +114,62 @@ two_parts p q r (x ∷ xs) f g h = go (p x) (q x) (r x) (f x) (g x) (h x) (two_p
     go false false true i j k l = omega (arith, l)
     go false false false i j k l = l
 
-module _ (c : ClassFile) where
+-- ---- names
+
+pub name_symm : (a b : MethodName) → is_name a b ≡ is_name b a
+name_symm a b = rw (nat_list_eq_equiv.symm a.name b.name, nat_list_eq_equiv.symm a.descriptor b.descriptor, nat_list_eq_equiv.symm a.class b.class) refl
+
+pub same_name : (a b : MethodName) → is_name a b ≡ true → a ≡ b
+same_name a b h =
+    let front = both_true (bytes_eq a.name b.name && bytes_eq a.descriptor b.descriptor) (bytes_eq a.class b.class) h in
+    let parts = both_true (bytes_eq a.name b.name) (bytes_eq a.descriptor b.descriptor) front.0 in
+    ap (λ (x : List ℕ). record { class = x; name = a.name; descriptor = a.descriptor }) (same_bytes a.class b.class front.1)
+    ∙ ap (λ (x : List ℕ). record { class = b.class; name = x; descriptor = a.descriptor }) (same_bytes a.name b.name parts.0)
+    ∙ ap (λ (x : List ℕ). record { class = b.class; name = b.name; descriptor = x }) (same_bytes a.descriptor b.descriptor parts.1)
+
+was_called : (called : List MethodName) (w : MethodName) (m : Declared) → is_name (method_key m) w ≡ true → is_called called m ≡ has called w
+was_called called w m e = ap (has called) (same_name (method_key m) w e)
+
+-- a call takes the methods of its key
+pub taken_by : (n : MemberName) (m : Declared) → is_name (method_key m) (call_key n) ≡ is_taken_by n (full_name m)
+taken_by n m = name_symm (method_key m) (call_key n) ∙ go (bytes_eq n.name (full_name m).name) refl
+  where
+    by_kind : (i : Bool) → bytes_eq (if i then n.class else []) (if i then (full_name m).class else []) ≡ (not i || bytes_eq n.class (full_name m).class)
+    by_kind true = refl
+    by_kind false = refl
+
+    go : (a : Bool) → bytes_eq n.name (full_name m).name ≡ a → (a && bytes_eq n.descriptor (full_name m).descriptor && bytes_eq (class_for n.name n.class) (class_for (full_name m).name (full_name m).class))
+        ≡ (a && bytes_eq n.descriptor (full_name m).descriptor && (not (bytes_eq n.name (codes "<init>")) || bytes_eq n.class (full_name m).class))
+    go false e = refl
+    go true e =
+        let same : (full_name m).name ≡ n.name = sym (same_bytes n.name (full_name m).name e) in
+        ap (λ (b : Bool). true && bytes_eq n.descriptor (full_name m).descriptor && b)
+        (ap (λ (x : List ℕ). bytes_eq (class_for n.name n.class) (class_for x (full_name m).class)) same ∙ by_kind (bytes_eq n.name (codes "<init>")))
+
+-- ---- groups
+
+-- a method that is marked or a static initialiser stands in no group
+pub grouped_root : (ms : List Declared) (m : Declared) (groups : List (MethodName × List Declared)) → is_root_of m ≡ true → IsGrouped ms groups → IsGrouped (ms ++ m ∷ []) groups
+grouped_root ms m groups root grouped key =
+    grouped key ∙ sym (filter-append (λ m. not (is_root_of m) && is_name key (method_key m)) ms (m ∷ [])
+    ∙ ap (λ (b : Bool). filter (λ m. not (is_root_of m) && is_name key (method_key m)) ms ++ cond (not b && is_name key (method_key m)) (m ∷ []) []) root
+    ∙ append-nil (filter (λ m. not (is_root_of m) && is_name key (method_key m)) ms))
+
+-- any other, in that of its key
+pub grouped_more : (ms : List Declared) (m : Declared) (old new : List (MethodName × List Declared)) → is_root_of m ≡ false
+    → ((q : MethodName) → group_of new q ≡ group_of old q ++ (if is_name q (method_key m) then m ∷ [] else [])) → IsGrouped ms old → IsGrouped (ms ++ m ∷ []) new
+grouped_more ms m old new other put grouped key =
+    put key ∙ ap (λ (l : List Declared). l ++ (if is_name key (method_key m) then m ∷ [] else [])) (grouped key)
+    ∙ sym (filter-append (λ m. not (is_root_of m) && is_name key (method_key m)) ms (m ∷ [])
+    ∙ ap (λ (b : Bool). filter (λ m. not (is_root_of m) && is_name key (method_key m)) ms ++ cond (not b && is_name key (method_key m)) (m ∷ []) []) other)
+
+module _ (ms : List Declared) where
   -- ---- visits
 
-  pub nothing_called : (s : State) → Visits c (λ k. false) s s
+  pub nothing_called : (s : State) → Visits ms (λ k. false) s s
   nothing_called s = record {
-    called = λ m. sym (or_false (is_called c s.called m));
-    queue = λ test. sym (ap (λ (ms : List Member). list_any test s.queue || list_any test ms) (filter_as (is_fresh c s.called s.called) (λ m. false) c.methods (λ m. none_fresh (is_root c.pool m) (is_called c s.called m)) ∙ none_pass c.methods) ∙ or_false (list_any test s.queue));
+    called = λ m. sym (or_false (is_called s.called m));
+    queue = λ test. sym (ap (λ (ms : List Declared). list_any test s.queue || list_any test ms) (filter_as (is_fresh s.called s.called) (λ m. false) ms (λ m. none_fresh (is_root_of m) (is_called s.called m)) ∙ none_pass ms) ∙ or_false (list_any test s.queue));
     less = omega arith;
   }
     where
@@ -133,50 +178,31 @@ module _ (c : ClassFile) where
       none_fresh false true = refl
       none_fresh false false = refl
 
-  pub then_called : {f g : MethodName → Bool} {s t u : State} → Visits c f s t → Visits c g t u → Visits c (λ k. f k || g k) s u
+  pub then_called : {f g : MethodName → Bool} {s t u : State} → Visits ms f s t → Visits ms g t u → Visits ms (λ k. f k || g k) s u
   then_called {f} {g} {s} {t} {u} v w = record {
-    called = λ m. w.called m ∙ ap (λ (b : Bool). b || g (name_of c m)) (v.called m) ∙ sym (or_assoc (is_called c s.called m) (f (name_of c m)) (g (name_of c m)));
+    called = λ m. w.called m ∙ ap (λ (b : Bool). b || g (full_name m)) (v.called m) ∙ sym (or_assoc (is_called s.called m) (f (full_name m)) (g (full_name m)));
     queue = λ test.
-        let parts : list_any test (filter (is_fresh c s.called u.called) c.methods) ≡ (list_any test (filter (is_fresh c s.called t.called) c.methods) || list_any test (filter (is_fresh c t.called u.called) c.methods)) =
-        ap (list_any test) (filter_as (is_fresh c s.called u.called) (λ m. is_fresh c s.called t.called m || is_fresh c t.called u.called m) c.methods (λ m.
-        fresh_split (is_root c.pool m) (is_called c s.called m) (is_called c t.called m) (is_called c u.called m) (f (name_of c m)) (g (name_of c m)) (v.called m) (w.called m)))
-        ∙ any_or (is_fresh c s.called t.called) (is_fresh c t.called u.called) test c.methods in
-        w.queue test ∙ ap (λ (b : Bool). b || list_any test (filter (is_fresh c t.called u.called) c.methods)) (v.queue test)
-        ∙ sym (or_assoc (list_any test s.queue) (list_any test (filter (is_fresh c s.called t.called) c.methods)) (list_any test (filter (is_fresh c t.called u.called) c.methods)))
+        let parts : list_any test (filter (is_fresh s.called u.called) ms) ≡ (list_any test (filter (is_fresh s.called t.called) ms) || list_any test (filter (is_fresh t.called u.called) ms)) =
+        ap (list_any test) (filter_as (is_fresh s.called u.called) (λ m. is_fresh s.called t.called m || is_fresh t.called u.called m) ms (λ m.
+        fresh_split (is_root_of m) (is_called s.called m) (is_called t.called m) (is_called u.called m) (f (full_name m)) (g (full_name m)) (v.called m) (w.called m)))
+        ∙ any_or (is_fresh s.called t.called) (is_fresh t.called u.called) test ms in
+        w.queue test ∙ ap (λ (b : Bool). b || list_any test (filter (is_fresh t.called u.called) ms)) (v.queue test)
+        ∙ sym (or_assoc (list_any test s.queue) (list_any test (filter (is_fresh s.called t.called) ms)) (list_any test (filter (is_fresh t.called u.called) ms)))
         ∙ ap (λ (b : Bool). list_any test s.queue || b) (sym parts);
     less = omega (arith, v.less, w.less);
   }
 
-  pub called_as : {f g : MethodName → Bool} {s t : State} → ((m : Member) → f (name_of c m) ≡ g (name_of c m)) → Visits c f s t → Visits c g s t
-  called_as {f} {g} {s} {t} h v = record { called = λ m. v.called m ∙ ap (λ (b : Bool). is_called c s.called m || b) (h m); queue = v.queue; less = v.less }
-
-  pub called_if_ok : (r : Result (Unit {0}) NoMemory) (f g : MethodName → Bool) (s t : State) → ((m : Member) → f (name_of c m) ≡ g (name_of c m)) → OnOk r (Visits c f s t) → OnOk r (Visits c g s t)
-  called_if_ok (Ok u) f g s t h v = called_as h v
-  called_if_ok (Err e) f g s t h v = tt
-
-  same_bytes : (a b : List ℕ) → bytes_eq a b ≡ true → a ≡ b
-  same_bytes a b h = (bytes_eq-Decides a b).0 h
-
-  -- a name that is called is that of a method
-  abbrev is_named : List ℕ → List ℕ → Member → Bool
-  is_named n d m = bytes_eq n (name_of c m).name && bytes_eq d (name_of c m).descriptor
-
-  has_it : (n d : List ℕ) (m : Member) → has_key c n d m ≡ is_named n d m
-  has_it n d m = rw (nat_list_eq_equiv.symm (name_of c m).name n, nat_list_eq_equiv.symm (name_of c m).descriptor d) refl
-
-  was_called : (called : List (List ℕ × List ℕ)) (n d : List ℕ) (m : Member) → is_named n d m ≡ true → is_called c called m ≡ has called n d
-  was_called called n d m e =
-      let both = both_true (bytes_eq n (name_of c m).name) (bytes_eq d (name_of c m).descriptor) e in
-      ap (λ (x : List ℕ). has called x (name_of c m).descriptor) (sym (same_bytes n (name_of c m).name both.0)) ∙ ap (has called n) (sym (same_bytes d (name_of c m).descriptor both.1))
+  pub called_as : {f g : MethodName → Bool} {s t : State} → ((m : Declared) → f (full_name m) ≡ g (full_name m)) → Visits ms f s t → Visits ms g s t
+  called_as {f} {g} {s} {t} h v = record { called = λ m. v.called m ∙ ap (λ (b : Bool). is_called s.called m || b) (h m); queue = v.queue; less = v.less }
 
   -- what one call finds
-  pub call_finds : (groups : List ((List ℕ × List ℕ) × List Member)) → IsGrouped c groups → (n d : List ℕ) (s t : State)
-      → ((name descriptor : List ℕ) → has t.called name descriptor ≡ (has s.called name descriptor || bytes_eq n name && bytes_eq d descriptor))
-      → t.queue ≡ s.queue ++ (if has s.called n d then [] else group_of groups n d) → Visits c (λ k. bytes_eq n k.name && bytes_eq d k.descriptor) s t
-  call_finds groups grouped n d s t called queue = go (has s.called n d) refl
+  pub call_finds : (groups : List (MethodName × List Declared)) → IsGrouped ms groups → (w : MethodName) (named : MethodName → Bool) → ((m : Declared) → is_name (method_key m) w ≡ named (full_name m)) → (s t : State)
+      → ((q : MethodName) → has t.called q ≡ (has s.called q || is_name q w))
+      → t.queue ≡ s.queue ++ (if has s.called w then [] else group_of groups w) → Visits ms named s t
+  call_finds groups grouped w named means s t called queue = go (has s.called w) refl
     where
-      now : (m : Member) → is_called c t.called m ≡ (is_called c s.called m || is_named n d m)
-      now m = called (name_of c m).name (name_of c m).descriptor
+      now : (m : Declared) → is_called t.called m ≡ (is_called s.called m || is_name (method_key m) w)
+      now m = called (method_key m)
 
       old_fresh : (a x y k : Bool) → y ≡ (x || k) → (k ≡ true → x ≡ true) → (not (a || x) && y) ≡ false
       old_fresh true x y k e f = refl
@@ -204,177 +230,136 @@ module _ (c : ClassFile) where
       not_still true y k e h = ap not e
       not_still false y k e h = ap not (e ∙ h)
 
-      go : (b : Bool) → has s.called n d ≡ b → Visits c (λ k. bytes_eq n k.name && bytes_eq d k.descriptor) s t
+      go : (b : Bool) → has s.called w ≡ b → Visits ms named s t
       go true e =
-          let stays : t.queue ≡ s.queue = queue ∙ ap (λ (b : Bool). s.queue ++ (if b then [] else group_of groups n d)) e ∙ append-nil s.queue in
-          let known : (m : Member) → is_named n d m ≡ true → is_called c s.called m ≡ true = λ m k. was_called s.called n d m k ∙ e in
-          let none : filter (is_fresh c s.called t.called) c.methods ≡ [] =
-          filter_as (is_fresh c s.called t.called) (λ m. false) c.methods (λ m. old_fresh (is_root c.pool m) (is_called c s.called m) (is_called c t.called m) (is_named n d m) (now m) (known m)) ∙ none_pass c.methods in
-          let same : filter (λ m. not (is_called c t.called m)) c.methods ≡ filter (λ m. not (is_called c s.called m)) c.methods =
-          filter_as (λ m. not (is_called c t.called m)) (λ m. not (is_called c s.called m)) c.methods (λ m. old_called (is_called c s.called m) (is_called c t.called m) (is_named n d m) (now m) (known m)) in
+          let stays : t.queue ≡ s.queue = queue ∙ ap (λ (b : Bool). s.queue ++ (if b then [] else group_of groups w)) e ∙ append-nil s.queue in
+          let known : (m : Declared) → is_name (method_key m) w ≡ true → is_called s.called m ≡ true = λ m k. was_called s.called w m k ∙ e in
+          let none : filter (is_fresh s.called t.called) ms ≡ [] =
+          filter_as (is_fresh s.called t.called) (λ m. false) ms (λ m. old_fresh (is_root_of m) (is_called s.called m) (is_called t.called m) (is_name (method_key m) w) (now m) (known m)) ∙ none_pass ms in
+          let same : filter (λ m. not (is_called t.called m)) ms ≡ filter (λ m. not (is_called s.called m)) ms =
+          filter_as (λ m. not (is_called t.called m)) (λ m. not (is_called s.called m)) ms (λ m. old_called (is_called s.called m) (is_called t.called m) (is_name (method_key m) w) (now m) (known m)) in
           record {
-            called = now;
-            queue = λ test. ap (list_any test) stays ∙ sym (ap (λ (ms : List Member). list_any test s.queue || list_any test ms) none ∙ or_false (list_any test s.queue));
-            less = omega (arith, ap (λ (ms : List Member). length ms) stays, ap (λ (ms : List Member). length ms) same);
+            called = λ m. now m ∙ ap (λ (b : Bool). is_called s.called m || b) (means m);
+            queue = λ test. ap (list_any test) stays ∙ sym (ap (λ (ms : List Declared). list_any test s.queue || list_any test ms) none ∙ or_false (list_any test s.queue));
+            less = omega (arith, ap (λ (ms : List Declared). length ms) stays, ap (λ (ms : List Declared). length ms) same);
           }
       go false e =
-          let known : (m : Member) → is_named n d m ≡ true → is_called c s.called m ≡ false = λ m k. was_called s.called n d m k ∙ e in
-          let found : group_of groups n d ≡ filter (λ m. not (is_root c.pool m) && is_named n d m) c.methods =
-          grouped n d ∙ filter_as (λ m. not (is_root c.pool m) && has_key c n d m) (λ m. not (is_root c.pool m) && is_named n d m) c.methods (λ m. ap (λ (b : Bool). not (is_root c.pool m) && b) (has_it n d m)) in
-          let more : t.queue ≡ s.queue ++ filter (λ m. not (is_root c.pool m) && is_named n d m) c.methods =
-          queue ∙ ap (λ (b : Bool). s.queue ++ (if b then [] else group_of groups n d)) e ∙ ap (λ (ms : List Member). s.queue ++ ms) found in
-          let fresh : filter (is_fresh c s.called t.called) c.methods ≡ filter (λ m. not (is_root c.pool m) && is_named n d m) c.methods =
-          filter_as (is_fresh c s.called t.called) (λ m. not (is_root c.pool m) && is_named n d m) c.methods (λ m. new_fresh (is_root c.pool m) (is_called c s.called m) (is_called c t.called m) (is_named n d m) (now m) (known m)) in
-          let few : length (filter (λ m. not (is_root c.pool m) && is_named n d m) c.methods) + uncalled c t.called ≤ uncalled c s.called =
-          two_parts (λ m. not (is_root c.pool m) && is_named n d m) (λ m. not (is_called c t.called m)) (λ m. not (is_called c s.called m)) c.methods
-          (λ m h. ap not (known m ((both_true (not (is_root c.pool m)) (is_named n d m) h).1)))
-          (λ m h. still (is_called c s.called m) (is_called c t.called m) (is_named n d m) (now m) h)
-          (λ m h. not_still (is_called c s.called m) (is_called c t.called m) (is_named n d m) (now m) ((both_true (not (is_root c.pool m)) (is_named n d m) h).1)) in
+          let known : (m : Declared) → is_name (method_key m) w ≡ true → is_called s.called m ≡ false = λ m k. was_called s.called w m k ∙ e in
+          let found : group_of groups w ≡ filter (λ m. not (is_root_of m) && is_name (method_key m) w) ms =
+          grouped w ∙ filter_as (λ m. not (is_root_of m) && is_name w (method_key m)) (λ m. not (is_root_of m) && is_name (method_key m) w) ms (λ m. ap (λ (b : Bool). not (is_root_of m) && b) (name_symm w (method_key m))) in
+          let more : t.queue ≡ s.queue ++ filter (λ m. not (is_root_of m) && is_name (method_key m) w) ms =
+          queue ∙ ap (λ (b : Bool). s.queue ++ (if b then [] else group_of groups w)) e ∙ ap (λ (ms : List Declared). s.queue ++ ms) found in
+          let fresh : filter (is_fresh s.called t.called) ms ≡ filter (λ m. not (is_root_of m) && is_name (method_key m) w) ms =
+          filter_as (is_fresh s.called t.called) (λ m. not (is_root_of m) && is_name (method_key m) w) ms (λ m. new_fresh (is_root_of m) (is_called s.called m) (is_called t.called m) (is_name (method_key m) w) (now m) (known m)) in
+          let few : length (filter (λ m. not (is_root_of m) && is_name (method_key m) w) ms) + uncalled ms t.called ≤ uncalled ms s.called =
+          two_parts (λ m. not (is_root_of m) && is_name (method_key m) w) (λ m. not (is_called t.called m)) (λ m. not (is_called s.called m)) ms
+          (λ m h. ap not (known m ((both_true (not (is_root_of m)) (is_name (method_key m) w) h).1)))
+          (λ m h. still (is_called s.called m) (is_called t.called m) (is_name (method_key m) w) (now m) h)
+          (λ m h. not_still (is_called s.called m) (is_called t.called m) (is_name (method_key m) w) (now m) ((both_true (not (is_root_of m)) (is_name (method_key m) w) h).1)) in
           record {
-            called = now;
-            queue = λ test. ap (list_any test) more ∙ list_any-append test s.queue (filter (λ m. not (is_root c.pool m) && is_named n d m) c.methods) ∙ ap (λ (ms : List Member). list_any test s.queue || list_any test ms) (sym fresh);
-            less = omega (arith, ap (λ (ms : List Member). length ms) more, length-append s.queue (filter (λ m. not (is_root c.pool m) && is_named n d m) c.methods), few);
+            called = λ m. now m ∙ ap (λ (b : Bool). is_called s.called m || b) (means m);
+            queue = λ test. ap (list_any test) more ∙ list_any-append test s.queue (filter (λ m. not (is_root_of m) && is_name (method_key m) w) ms) ∙ ap (λ (ms : List Declared). list_any test s.queue || list_any test ms) (sym fresh);
+            less = omega (arith, ap (λ (ms : List Declared). length ms) more, length-append s.queue (filter (λ m. not (is_root_of m) && is_name (method_key m) w) ms), few);
           }
 
-  -- a call that is no constructor of another class takes the methods of its name
-  pub taken_by_name : (n : MemberName) (m : Member) → is_foreign (own_name c) n ≡ false → (bytes_eq n.name (name_of c m).name && bytes_eq n.descriptor (name_of c m).descriptor) ≡ is_taken_by n (name_of c m)
-  taken_by_name n m h = go (bytes_eq n.name (name_of c m).name) (bytes_eq n.descriptor (name_of c m).descriptor) (bytes_eq n.name (codes "<init>")) (bytes_eq n.class (own_name c)) h
-    where
-      go : (a b i o : Bool) → (i && not o) ≡ false → (a && b) ≡ (a && b && (not i || o))
-      go false b i o h = refl
-      go true false i o h = refl
-      go true true true true h = refl
-      go true true true false h = absurd cc
-      go true true false o h = refl
+-- a call finds the methods of its key
+pub finds_call : (groups : List (MethodName × List Declared)) (n : MemberName) (k : MethodName) → k ≡ call_key n → (s t : State) → ((q : MethodName) → has t.called q ≡ (has s.called q || is_name q k))
+    → t.queue ≡ s.queue ++ (if has s.called k then [] else group_of groups k) → VisitsOf groups (is_taken_by n) s t
+finds_call groups n k is s t called queue ms grouped = call_finds ms groups grouped k (is_taken_by n) (λ m. ap (is_name (method_key m)) is ∙ taken_by n m) s t called queue
 
-  -- a constructor of another class takes none
-  pub foreign_takes_none : (n : MemberName) (m : Member) → is_foreign (own_name c) n ≡ true → false ≡ is_taken_by n (name_of c m)
-  foreign_takes_none n m h = go (bytes_eq n.name (name_of c m).name) (bytes_eq n.descriptor (name_of c m).descriptor) (bytes_eq n.name (codes "<init>")) (bytes_eq n.class (own_name c)) h
-    where
-      go : (a b i o : Bool) → (i && not o) ≡ true → false ≡ (a && b && (not i || o))
-      go false b i o h = refl
-      go true false i o h = refl
-      go true true true true h = absurd cc
-      go true true true false h = refl
-      go true true false o h = absurd cc
+pub visits_if_ok : (r : Result (Unit {0}) NoMemory) (groups : List (MethodName × List Declared)) (f g : MethodName → Bool) (s t : State) → ((m : Declared) → f (full_name m) ≡ g (full_name m))
+    → OnOk r (VisitsOf groups f s t) → OnOk r (VisitsOf groups g s t)
+visits_if_ok (Ok u) groups f g s t h v = λ ms grouped. called_as ms h (v ms grouped)
+visits_if_ok (Err e) groups f g s t h v = tt
 
-  -- what an instruction calls, by the name that it invokes
-  call_or_none : (i : Instr) (o : Option MemberName) → invoked c.pool i ≡ o → (n : MemberName) → Some n ≡ call_of c i → (is_foreign (own_name c) n ≡ false) × (invoked c.pool i ≡ Some n)
-  call_or_none i None e n h = let no : Some n ≡ None = h ∙ ap (option_and_then (λ (n : MemberName). if is_foreign (own_name c) n then None else Some n)) e in absurd cc
-  call_or_none i (Some k) e n h = go (is_foreign (own_name c) k) refl (h ∙ ap (option_and_then (λ (n : MemberName). if is_foreign (own_name c) n then None else Some n)) e)
-    where
-      go : (b : Bool) → is_foreign (own_name c) k ≡ b → Some n ≡ cond b None (Some k) → (is_foreign (own_name c) n ≡ false) × (invoked c.pool i ≡ Some n)
-      go true f g = absurd cc
-      go false f g = let same : n ≡ k = cc in (ap (is_foreign (own_name c)) same ∙ f, e ∙ sym g)
-
-  pub finds_call : (groups : List ((List ℕ × List ℕ) × List Member)) → IsGrouped c groups → (i : Instr) (n : MemberName) (s t : State) (r : Result (Unit {0}) NoMemory) → Some n ≡ call_of c i
-      → OnOk r ((name descriptor : List ℕ) → has t.called name descriptor ≡ (has s.called name descriptor || bytes_eq n.name name && bytes_eq n.descriptor descriptor))
-      → OnOk r (t.queue ≡ s.queue ++ (if has s.called n.name n.descriptor then [] else group_of groups n.name n.descriptor)) → OnOk r (Visits c (is_named_by (invoked c.pool i)) s t)
-  finds_call groups grouped i n s t (Ok u) is called queue =
-      let found = call_or_none i (invoked c.pool i) refl n is in
-      called_as (λ m. taken_by_name n m found.0 ∙ ap (λ (o : Option MemberName). is_named_by o (name_of c m)) (sym found.1)) (call_finds groups grouped n.name n.descriptor s t called queue)
-  finds_call groups grouped i n s t (Err e) is called queue = tt
-
-  pub finds_none : (i : Instr) (s : State) → None ≡ call_of c i → Visits c (is_named_by (invoked c.pool i)) s s
-  finds_none i s h = go (invoked c.pool i) refl
-    where
-      go : (o : Option MemberName) → invoked c.pool i ≡ o → Visits c (is_named_by (invoked c.pool i)) s s
-      go None e = called_as (λ m. ap (λ (o : Option MemberName). is_named_by o (name_of c m)) (sym e)) (nothing_called s)
-      go (Some n) e = foreign (is_foreign (own_name c) n) refl (h ∙ ap (option_and_then (λ (n : MemberName). if is_foreign (own_name c) n then None else Some n)) e)
-        where
-          foreign : (b : Bool) → is_foreign (own_name c) n ≡ b → None ≡ cond b None (Some n) → Visits c (is_named_by (invoked c.pool i)) s s
-          foreign true f g = called_as (λ m. foreign_takes_none n m f ∙ ap (λ (o : Option MemberName). is_named_by o (name_of c m)) (sym e)) (nothing_called s)
-          foreign false f g = absurd cc
-
-  -- a name of another class is no method's
-  pub other_class : (called : List (List ℕ × List ℕ)) (k : MethodName) (m : Member) → bytes_eq k.class (own_name c) ≡ false → is_called c called m ≡ (is_called c called m || is_name (name_of c m) k)
-  other_class called k m h = go (is_called c called m) (bytes_eq (name_of c m).name k.name) (bytes_eq (name_of c m).descriptor k.descriptor) (bytes_eq (own_name c) k.class) (nat_list_eq_equiv.symm (own_name c) k.class ∙ h)
-    where
-      go : (x a b o : Bool) → o ≡ false → x ≡ (x || (a && b && o))
-      go true a b o h = refl
-      go false true true o h = sym h
-      go false true false o h = refl
-      go false false b o h = refl
-
+module _ (cs : List ClassFile) where
   -- ---- the search as a whole
 
-  abbrev takes : Member → Bool
-  takes m = list_any (λ k. calls c k m) (filter (is_taken c) c.methods)
+  abbrev takes : Declared → Bool
+  takes m = list_any (λ k. calls k m) (filter (is_taken cs) (methods_in cs))
 
   -- what the found methods call is called or will be, and what is called, found and waits is taken
   pub record IsUnderWay (s : State) : Type 0 where
-    pub reached : (m : Member) → list_any (λ k. calls c k m) (filter (is_found c s.called) c.methods) ≡ true → (is_called c s.called m || list_any (λ k. calls c k m) s.queue) ≡ true
-    pub called : (m : Member) → is_called c s.called m ≡ true → takes m ≡ true
-    pub queued : (test : Member → Bool) → list_any test s.queue ≡ true → list_any test (filter (is_taken c) c.methods) ≡ true
+    pub reached : (m : Declared) → list_any (λ k. calls k m) (filter (is_found s.called) (methods_in cs)) ≡ true → (is_called s.called m || list_any (λ k. calls k m) s.queue) ≡ true
+    pub called : (m : Declared) → is_called s.called m ≡ true → takes m ≡ true
+    pub queued : (test : Declared → Bool) → list_any test s.queue ≡ true → list_any test (filter (is_taken cs) (methods_in cs)) ≡ true
 
-  marked_taken : Within (is_root c.pool) (is_taken c) c.methods
-  marked_taken = all_map _ _ c.methods (λ m h e. h (or_left (is_root c.pool m) (takes m) e)) (closed c)
+  marked_taken : Within (is_root_of) (is_taken cs) (methods_in cs)
+  marked_taken = all_map _ _ (methods_in cs) (λ m h e. h (or_left (is_root_of m) (takes m) e)) (closed cs)
 
-  pub starts : IsUnderWay (starting c)
+  pub starts : IsUnderWay (starting (methods_in cs))
   starts = record {
-    reached = λ m h. ap (list_any (λ k. calls c k m)) (sym (filter_as (is_found c []) (is_root c.pool) c.methods (λ k. or_false (is_root c.pool k)))) ∙ h;
+    reached = λ m h. ap (list_any (λ k. calls k m)) (sym (filter_as (is_found []) (is_root_of) (methods_in cs) (λ k. or_false (is_root_of k)))) ∙ h;
     called = λ m h. absurd cc;
-    queued = λ test h. filter_covers (is_root c.pool) (is_taken c) c.methods marked_taken test h;
+    queued = λ test h. filter_covers (is_root_of) (is_taken cs) (methods_in cs) marked_taken test h;
   }
 
   -- one more method was visited
-  pub goes_on : (s t u : State) (p : Member) → t.called ≡ s.called → s.queue ≡ t.queue ++ p ∷ [] → Visits c (code_calls c.pool (decoded c p)) t u → IsUnderWay s → IsUnderWay u
+  pub goes_on : (s t u : State) (p : Declared) → t.called ≡ s.called → s.queue ≡ t.queue ++ p ∷ [] → Visits (methods_in cs) (code_calls p.class.pool (decoded p.class p.member)) t u → IsUnderWay s → IsUnderWay u
   goes_on s t u p same pops v way = record { reached = reached; called = called; queued = queued }
     where
-      now : (m : Member) → is_called c u.called m ≡ (is_called c s.called m || calls c p m)
-      now m = v.called m ∙ ap (λ (l : List (List ℕ × List ℕ)). is_called c l m || calls c p m) same
+      now : (m : Declared) → is_called u.called m ≡ (is_called s.called m || calls p m)
+      now m = v.called m ∙ ap (λ (l : List MethodName). is_called l m || calls p m) same
 
-      waits : (test : Member → Bool) → list_any test s.queue ≡ (list_any test t.queue || test p)
+      waits : (test : Declared → Bool) → list_any test s.queue ≡ (list_any test t.queue || test p)
       waits test = ap (list_any test) pops ∙ list_any-append test t.queue (p ∷ []) ∙ ap (λ (b : Bool). list_any test t.queue || b) (or_false (test p))
 
-      added : (test : Member → Bool) → list_any test u.queue ≡ (list_any test t.queue || list_any test (filter (is_fresh c s.called u.called) c.methods))
-      added test = v.queue test ∙ ap (λ (l : List (List ℕ × List ℕ)). list_any test t.queue || list_any test (filter (is_fresh c l u.called) c.methods)) same
+      added : (test : Declared → Bool) → list_any test u.queue ≡ (list_any test t.queue || list_any test (filter (is_fresh s.called u.called) (methods_in cs)))
+      added test = v.queue test ∙ ap (λ (l : List MethodName). list_any test t.queue || list_any test (filter (is_fresh l u.called) (methods_in cs))) same
 
-      split : (test : Member → Bool) → list_any test (filter (is_found c u.called) c.methods) ≡ (list_any test (filter (is_found c s.called) c.methods) || list_any test (filter (is_fresh c s.called u.called) c.methods))
+      split : (test : Declared → Bool) → list_any test (filter (is_found u.called) (methods_in cs)) ≡ (list_any test (filter (is_found s.called) (methods_in cs)) || list_any test (filter (is_fresh s.called u.called) (methods_in cs)))
       split test =
-          ap (list_any test) (filter_as (is_found c u.called) (λ m. is_found c s.called m || is_fresh c s.called u.called m) c.methods (λ m. found_split (is_root c.pool m) (is_called c s.called m) (is_called c u.called m) (calls c p m) (now m)))
-          ∙ any_or (is_found c s.called) (is_fresh c s.called u.called) test c.methods
+          ap (list_any test) (filter_as (is_found u.called) (λ m. is_found s.called m || is_fresh s.called u.called m) (methods_in cs) (λ m. found_split (is_root_of m) (is_called s.called m) (is_called u.called m) (calls p m) (now m)))
+          ∙ any_or (is_found s.called) (is_fresh s.called u.called) test (methods_in cs)
 
-      reached : (m : Member) → list_any (λ k. calls c k m) (filter (is_found c u.called) c.methods) ≡ true → (is_called c u.called m || list_any (λ k. calls c k m) u.queue) ≡ true
+      reached : (m : Declared) → list_any (λ k. calls k m) (filter (is_found u.called) (methods_in cs)) ≡ true → (is_called u.called m || list_any (λ k. calls k m) u.queue) ≡ true
       reached m h =
-          let test : Member → Bool = λ k. calls c k m in
-          either (list_any test (filter (is_found c s.called) c.methods)) (list_any test (filter (is_fresh c s.called u.called) c.methods)) (sym (split test) ∙ h)
-          (λ old. either (is_called c s.called m) (list_any test s.queue) (way.reached m old)
-          (λ e. or_left (is_called c u.called m) (list_any test u.queue) (now m ∙ or_left (is_called c s.called m) (calls c p m) e))
-          (λ e. either (list_any test t.queue) (calls c p m) (sym (waits test) ∙ e)
-          (λ w. or_right (is_called c u.called m) (list_any test u.queue) (added test ∙ or_left (list_any test t.queue) (list_any test (filter (is_fresh c s.called u.called) c.methods)) w))
-          (λ w. or_left (is_called c u.called m) (list_any test u.queue) (now m ∙ or_right (is_called c s.called m) (calls c p m) w))))
-          (λ new. or_right (is_called c u.called m) (list_any test u.queue) (added test ∙ or_right (list_any test t.queue) (list_any test (filter (is_fresh c s.called u.called) c.methods)) new))
+          let test : Declared → Bool = λ k. calls k m in
+          either (list_any test (filter (is_found s.called) (methods_in cs))) (list_any test (filter (is_fresh s.called u.called) (methods_in cs))) (sym (split test) ∙ h)
+          (λ old. either (is_called s.called m) (list_any test s.queue) (way.reached m old)
+          (λ e. or_left (is_called u.called m) (list_any test u.queue) (now m ∙ or_left (is_called s.called m) (calls p m) e))
+          (λ e. either (list_any test t.queue) (calls p m) (sym (waits test) ∙ e)
+          (λ w. or_right (is_called u.called m) (list_any test u.queue) (added test ∙ or_left (list_any test t.queue) (list_any test (filter (is_fresh s.called u.called) (methods_in cs))) w))
+          (λ w. or_left (is_called u.called m) (list_any test u.queue) (now m ∙ or_right (is_called s.called m) (calls p m) w))))
+          (λ new. or_right (is_called u.called m) (list_any test u.queue) (added test ∙ or_right (list_any test t.queue) (list_any test (filter (is_fresh s.called u.called) (methods_in cs))) new))
 
-      called : (m : Member) → is_called c u.called m ≡ true → takes m ≡ true
+      called : (m : Declared) → is_called u.called m ≡ true → takes m ≡ true
       called m h =
-          either (is_called c s.called m) (calls c p m) (sym (now m) ∙ h) (λ e. way.called m e)
-          (λ e. way.queued (λ k. calls c k m) (waits (λ k. calls c k m) ∙ or_right (list_any (λ k. calls c k m) t.queue) (calls c p m) e))
+          either (is_called s.called m) (calls p m) (sym (now m) ∙ h) (λ e. way.called m e)
+          (λ e. way.queued (λ k. calls k m) (waits (λ k. calls k m) ∙ or_right (list_any (λ k. calls k m) t.queue) (calls p m) e))
 
-      queued : (test : Member → Bool) → list_any test u.queue ≡ true → list_any test (filter (is_taken c) c.methods) ≡ true
+      queued : (test : Declared → Bool) → list_any test u.queue ≡ true → list_any test (filter (is_taken cs) (methods_in cs)) ≡ true
       queued test h =
-          let fresh_taken : Within (is_fresh c s.called u.called) (is_taken c) c.methods =
-          all_map _ _ c.methods (λ m k e. k (or_right (is_root c.pool m) (takes m) (called m ((both_true (not (is_found c s.called m)) (is_called c u.called m) e).1)))) (closed c) in
-          either (list_any test t.queue) (list_any test (filter (is_fresh c s.called u.called) c.methods)) (sym (added test) ∙ h)
+          let fresh_taken : Within (is_fresh s.called u.called) (is_taken cs) (methods_in cs) =
+          all_map _ _ (methods_in cs) (λ m k e. k (or_right (is_root_of m) (takes m) (called m ((both_true (not (is_found s.called m)) (is_called u.called m) e).1)))) (closed cs) in
+          either (list_any test t.queue) (list_any test (filter (is_fresh s.called u.called) (methods_in cs))) (sym (added test) ∙ h)
           (λ e. way.queued test (waits test ∙ or_left (list_any test t.queue) (test p) e))
-          (λ e. filter_covers (is_fresh c s.called u.called) (is_taken c) c.methods fresh_taken test e)
+          (λ e. filter_covers (is_fresh s.called u.called) (is_taken cs) (methods_in cs) fresh_taken test e)
 
   -- nothing waits any more
-  pub is_done : (s : State) → s.queue ≡ [] → IsUnderWay s → Finds c s.called
-  is_done s done way = both c.methods ((taken_law c).least (is_found c s.called) found_closed) sound
+  pub is_done : (s : State) → s.queue ≡ [] → IsUnderWay s → Finds cs s.called
+  is_done s done way = both (methods_in cs) ((taken_law cs).least (is_found s.called) found_closed) sound
     where
-      found_closed : IsClosed c (is_found c s.called)
-      found_closed = all_of _ c.methods (λ m h. either (is_root c.pool m) (list_any (λ k. calls c k m) (filter (is_found c s.called) c.methods)) h
-          (λ e. or_left (is_root c.pool m) (is_called c s.called m) e)
-          (λ e. or_right (is_root c.pool m) (is_called c s.called m) (sym (ap (λ (ms : List Member). is_called c s.called m || list_any (λ k. calls c k m) ms) done ∙ or_false (is_called c s.called m)) ∙ way.reached m e)))
+      found_closed : IsClosed cs (is_found s.called)
+      found_closed = all_of _ (methods_in cs) (λ m h. either (is_root_of m) (list_any (λ k. calls k m) (filter (is_found s.called) (methods_in cs))) h
+          (λ e. or_left (is_root_of m) (is_called s.called m) e)
+          (λ e. or_right (is_root_of m) (is_called s.called m) (sym (ap (λ (ms : List Declared). is_called s.called m || list_any (λ k. calls k m) ms) done ∙ or_false (is_called s.called m)) ∙ way.reached m e)))
 
-      sound : Within (is_found c s.called) (is_taken c) c.methods
-      sound = all_map _ _ c.methods (λ m k h. either (is_root c.pool m) (is_called c s.called m) h
-          (λ e. k (or_left (is_root c.pool m) (takes m) e)) (λ e. k (or_right (is_root c.pool m) (takes m) (way.called m e)))) (closed c)
+      sound : Within (is_found s.called) (is_taken cs) (methods_in cs)
+      sound = all_map _ _ (methods_in cs) (λ m k h. either (is_root_of m) (is_called s.called m) h
+          (λ e. k (or_left (is_root_of m) (takes m) e)) (λ e. k (or_right (is_root_of m) (takes m) (way.called m e)))) (closed cs)
 
-      both : (ms : List Member) → Within (is_taken c) (is_found c s.called) ms → Within (is_found c s.called) (is_taken c) ms → Same (is_found c s.called) (is_taken c) ms
+      both : (ms : List Declared) → Within (is_taken cs) (is_found s.called) ms → Within (is_found s.called) (is_taken cs) ms → Same (is_found s.called) (is_taken cs) ms
       both [] f g = tt
-      both (m ∷ ms) f g = (same_test (is_found c s.called m) (is_taken c m) g.0 f.0, both ms f.1 g.1)
+      both (m ∷ ms) f g = (same_test (is_found s.called m) (is_taken cs m) g.0 f.0, both ms f.1 g.1)
 
-  pub flags : (called : List (List ℕ × List ℕ)) → Finds c called → map (is_found c called) c.methods ≡ map (is_taken c) c.methods
-  flags called h = map_same (is_found c called) (is_taken c) c.methods h
+  pub flags : (called : List MethodName) → Finds cs called → map (is_found called) (methods_in cs) ≡ map (is_taken cs) (methods_in cs)
+  flags called h = map_same (is_found called) (is_taken cs) (methods_in cs) h
+
+-- the answers of one class among classes are its answers alone
+pub lone_flags : (c : ClassFile) → map (is_taken (c ∷ [])) (methods_in (c ∷ [])) ≡ map (alone.is_taken c) c.methods
+lone_flags c = ap (map (is_taken (c ∷ []))) (append-nil (declared_in c c.methods)) ∙ go c.methods
+  where
+    go : (ms : List Member) → map (is_taken (c ∷ [])) (declared_in c ms) ≡ map (alone.is_taken c) ms
+    go [] = refl
+    go (m ∷ ms) = ap (λ (b : Bool). b ∷ map (is_taken (c ∷ [])) (declared_in c ms)) (taken_here c m) ∙ ap (λ (bs : List Bool). alone.is_taken c m ∷ bs) (go ms)

@@ -4,3 +4,5 @@ pub mod Numbers
 pub mod Names
 pub mod Search
 pub mod Forms
+pub mod Faults
+pub mod Ordered

@@ -1,16 +1,17 @@
--- Names of methods of one class, each with a descriptor.
-use Rattle.std.specs.Prelude.{ℕ, List, [], Bool, ◌&&◌, bytes_eq, unwrap_or}
+-- Names of methods, and what stands under them.
+use Rattle.std.specs.Prelude.{ℕ, List, [], Bool, unwrap_or}
 use Rattle.std.specs.List.{list_any}
 use Rattle.std.specs.Map.{lookup}
+use Rattle.jmodel.specs.declared.name.MethodName.{MethodName}
+use Rattle.jmodel.specs.Linking.{is_name}
 
--- whether a name is this one
-abbrev pub is_key : List ℕ → List ℕ → List ℕ × List ℕ → Bool
-is_key name descriptor k = bytes_eq k.0 name && bytes_eq k.1 descriptor
+abbrev pub named : List ℕ → List ℕ → List ℕ → MethodName
+named class name descriptor = record { class = class; name = name; descriptor = descriptor }
 
 -- whether a name is among names
-abbrev pub has : List (List ℕ × List ℕ) → List ℕ → List ℕ → Bool
-has names name descriptor = list_any (is_key name descriptor) names
+abbrev pub has : List MethodName → MethodName → Bool
+has names n = list_any (is_name n) names
 
 -- what stands under a name
-abbrev pub group_of : {X : Type 0} → List ((List ℕ × List ℕ) × List X) → List ℕ → List ℕ → List X
-group_of groups name descriptor = unwrap_or (lookup (is_key name descriptor) groups) []
+abbrev pub group_of : {X : Type 0} → List (MethodName × List X) → MethodName → List X
+group_of groups n = unwrap_or (lookup (is_name n) groups) []

@@ -1,7 +1,8 @@
 //! Programs of class files.
 ghost use Rattle.std.specs.Prelude.{◌≡◌, [], ◌∷◌, ◌||◌, true, length, map, filter, zip, IfOk, OnOk};
 ghost use Rattle.std.specs.List.{list_any};
-ghost use Rattle.hierarchy.specs.Search.{is_called};
+ghost use Rattle.hierarchy.specs.Names.{has};
+ghost use Rattle.jmodel.specs.declared.name.MethodName.{MethodName as NameForm};
 ghost use Rattle.hierarchy.specs.Built.{Builds, Links, relinked_seen};
 ghost use Rattle.jmodel.specs.Source.{IsSource};
 ghost use Rattle.jmodel.specs.Layout.{fields_from, statics};
@@ -19,10 +20,10 @@ use crate::method::{form_method, method_of};
 use crate::names::Names;
 use crate::outcome::BuildEnd;
 use crate::program::{Field, Method, Program};
-use crate::symbols::{is_static, names_of, own_name, same, text};
+use crate::symbols::{is_static, names_of, own_name, text};
 use const_pool::{ClassFile, Member, Pool};
 use jmodel::op::Place;
-use jmodel::{Bytes, MethodName, NoMemory};
+use jmodel::{Bytes, NoMemory};
 use std::alloc::{AllocError, Global};
 
 // A static field of a lone class, whose static base lies at 2.
@@ -126,32 +127,18 @@ fn form_program(
     Ok(Program::new(fields, built))
 }
 
-// Puts a name among those of a class, where it is one.
-fn insert_own<'a>(
-    names: &mut Names<'a>,
-    class: &ClassFile,
-    name: &'a MethodName,
-) -> Result<(), NoMemory>
-    ensures { OnOk result ((m : Member) → is_called class.now names.new m ≡ (is_called class.now names.old m || is_name (name_of_member class.now m) name.now)) }
-{
-    if !same(&name.class, own_name(class)) {
-        return Ok(());
-    }
-    names.insert(name.name.as_slice(), name.descriptor.as_slice())?;
-    Ok(())
-}
-
-// The names of a program's methods that are of a class.
-fn own_names<'a>(
-    alloc: Global,
-    class: &ClassFile,
-    program: &'a Program,
-) -> Result<Names<'a>, NoMemory>
-    ensures { IfOk result (λ names. (m : Member) → is_called class.now names m ≡ list_any (λ (k : MethodForm). is_name (name_of_member class.now m) k.name) program.now.methods) }
+// The names of a program's methods.
+fn method_names<'a>(alloc: Global, program: &'a Program) -> Result<Names<'a>, NoMemory>
+    ensures { IfOk result (λ names. (n : NameForm) → has names n ≡ list_any (λ (k : MethodForm). is_name n k.name) program.now.methods) }
 {
     let mut names = Names::new(alloc);
     for method in program.methods() {
-        insert_own(&mut names, class, method.name())?;
+        let name = method.name();
+        names.insert(
+            name.class.as_slice(),
+            name.name.as_slice(),
+            name.descriptor.as_slice(),
+        )?;
     }
     Ok(names)
 }
@@ -163,10 +150,11 @@ fn is_rewritten_method<'a>(
     names: &Names<'a>,
     method: &Member,
 ) -> Result<bool, NoMemory>
-    ensures { IfOk result (λ b. b ≡ (takes_a_context class.now.pool method.now || is_called class.now names.now method.now)) }
+    ensures { IfOk result (λ b. b ≡ (takes_a_context class.now.pool method.now || has names.now (name_of_member class.now method.now))) }
 {
     let pool = &class.pool;
-    if names.contains(text(pool, method.name), text(pool, method.descriptor)) {
+    let name = text(pool, method.name);
+    if names.contains(own_name(class), name, text(pool, method.descriptor)) {
         return Ok(true);
     }
     takes_context(alloc, pool, method)
@@ -177,7 +165,7 @@ fn methods_over<'a>(
     class: &'a ClassFile,
     names: &Names<'a>,
 ) -> Result<Vec<&'a Member>, NoMemory>
-    ensures { IfOk result (λ v. map (λ m. m.now) v.items ≡ filter (λ m. takes_a_context class.now.pool m || is_called class.now names.now m) class.now.methods) }
+    ensures { IfOk result (λ v. map (λ m. m.now) v.items ≡ filter (λ m. takes_a_context class.now.pool m || has names.now (name_of_member class.now m)) class.now.methods) }
 {
     let mut methods = Vec::new(alloc);
     for method in &class.methods {
@@ -196,7 +184,7 @@ fn rewritten_members<'a>(
 ) -> Result<Vec<&'a Member>, NoMemory>
     ensures { IfOk result (λ v. map (λ m. m.now) v.items ≡ methods_of_rewritten original.now class.now) }
 {
-    let names = own_names(alloc, class, original)?;
+    let names = method_names(alloc, original)?;
     methods_over(alloc, class, &names)
 }
 

@@ -80,8 +80,8 @@ fn is_form_name(pool: &Pool, method: &Member) -> bool
     !is_special(text(pool, method.name)) || is_initialiser(pool, method) && !is_marked(pool, method)
 }
 
-// A static method that takes values of one word and gives one or nothing, with code and without a monitor.
-fn is_form_atomic(alloc: Global, pool: &Pool, method: &Member) -> Result<bool, NoMemory>
+/// Whether a method is static, takes values of one word and gives one or nothing, with code and without a monitor.
+pub fn is_form_atomic(alloc: Global, pool: &Pool, method: &Member) -> Result<bool, NoMemory>
     ensures { IfOk result (λ b. b ≡ form_atomic pool.now method.now) }
 {
     let has_shape = shape_of(alloc, text(pool, method.descriptor))?.is_some();
@@ -133,8 +133,8 @@ fn is_among(name: &[u8], names: &[&[u8]]) -> bool
     names.iter().any(|known| equal(name, known))
 }
 
-// Whether no class of the library has this name.
-fn is_free_name(name: &[u8]) -> bool
+/// Whether no class of the library has this name.
+pub fn is_free_name(name: &[u8]) -> bool
     ensures { result ≡ free_name name.now }
 {
     !is_among(name, &library())
@@ -176,7 +176,8 @@ fn have_own_names(pool: &Pool, fields: &[Member]) -> bool
     true
 }
 
-fn are_form_fields(class: &ClassFile) -> bool
+/// Whether at most 100 fields are static, each of a type of one word and with a name of its own.
+pub fn are_form_fields(class: &ClassFile) -> bool
     ensures { result ≡ form_fields class.now }
 {
     let fields = class.fields.as_slice();
@@ -197,7 +198,8 @@ fn each_is_method(alloc: Global, class: &ClassFile, taken: &[bool]) -> Result<bo
     Ok(true)
 }
 
-fn count_taken(taken: &[bool]) -> usize
+/// How many of these methods are taken.
+pub fn count_taken(taken: &[bool]) -> usize
     ensures { result ≡ length (filter (λ b. b) taken.now) }
 {
     taken.iter().filter(|b| **b).count()
@@ -213,7 +215,8 @@ fn are_form_methods(alloc: Global, class: &ClassFile, taken: &[bool]) -> Result<
     each_is_method(alloc, class, taken)
 }
 
-fn each_is_constant(entries: &[Constant]) -> bool
+/// Whether no text of a pool has a part that rewriting keeps for itself.
+pub fn each_is_constant(entries: &[Constant]) -> bool
     ensures { result ≡ list_all form_constant entries.now }
 {
     entries.iter().all(|c| is_form_constant(c))

@@ -4,6 +4,8 @@
 mod build;
 pub mod code;
 mod constants;
+mod declared;
+mod faults;
 mod form;
 mod layout;
 mod marks;
@@ -11,15 +13,18 @@ mod meaning;
 mod method;
 mod names;
 mod numbered;
+mod ordering;
 mod outcome;
 pub mod program;
 pub mod reference;
 mod shape;
+mod superclasses;
 pub mod symbols;
 mod taken;
 pub mod word_types;
 
 pub use code::pc_of;
+pub use faults::first_fault;
 pub use layout::{memory_words, opening_words};
 pub use marks::{is_root, retries_of};
 pub use outcome::BuildEnd;

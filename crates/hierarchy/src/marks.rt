@@ -73,8 +73,8 @@ fn misplaced(alloc: Global, class: &ClassFile, method: &Member) -> Result<Refusa
     Ok(Refusal::Construct(kind, printed(alloc, class, method)?, 0))
 }
 
-// The fault of a method's annotations and their mark.
-fn mark_fault(
+/// The fault of a method's annotations and their mark.
+pub fn mark_fault(
     alloc: Global,
     class: &ClassFile,
     method: &Member,

@@ -1,8 +1,10 @@
-//! Names of methods of one class, each with a descriptor.
-ghost use Rattle.std.specs.Prelude.{◌≡◌, ℕ, List, [], ◌∷◌, ◌++◌, ◌||◌, ◌&&◌, map, not, bytes_eq, IfOk, OnOk, if◌then◌else◌};
-ghost use Rattle.hierarchy.specs.Names.{has, group_of};
+//! Names of methods, each with a class and a descriptor.
+ghost use Rattle.std.specs.Prelude.{◌≡◌, List, [], ◌∷◌, ◌++◌, ◌||◌, map, not, IfOk, OnOk, if◌then◌else◌};
+ghost use Rattle.jmodel.specs.declared.name.MethodName.{MethodName as Name};
+ghost use Rattle.jmodel.specs.Linking.{is_name};
+ghost use Rattle.hierarchy.specs.Names.{named, has, group_of};
 
-use const_pool::Member;
+use crate::declared::Declared;
 use jmodel::NoMemory;
 use std::alloc::Global;
 use std::collections::{BTreeMap, BTreeSet};
@@ -12,6 +14,7 @@ use std::marker::Model;
 struct Key<'a> {
     name: &'a [u8],
     descriptor: &'a [u8],
+    class: &'a [u8],
 }
 
 /// A set of names.
@@ -21,11 +24,13 @@ pub struct Names<'a> {
 }
 
 impl<'a> Model for Names<'a> {
-    ghost use Rattle.std.specs.Prelude.{ℕ, List, map};
+    ghost use Rattle.std.specs.Prelude.{List, map};
+    ghost use Rattle.jmodel.specs.declared.name.MethodName.{MethodName as Name};
+    ghost use Rattle.hierarchy.specs.Names.{named};
 
-    ghost Value = { List (List ℕ × List ℕ) };
+    ghost Value = { List Name };
 
-    ghost view = { λ n. map (λ k. (k.name.now, k.descriptor.now)) n.keys.keys };
+    ghost view = { λ n. map (λ k. named k.class.now k.name.now k.descriptor.now) n.keys.keys };
 }
 
 impl<'a> Names<'a> {
@@ -39,34 +44,51 @@ impl<'a> Names<'a> {
     }
 
     /// Whether a name is among them.
-    pub fn contains(&self, name: &'a [u8], descriptor: &'a [u8]) -> bool
-        ensures { result ≡ has self.now name.now descriptor.now }
+    pub fn contains(&self, class: &'a [u8], name: &'a [u8], descriptor: &'a [u8]) -> bool
+        ensures { result ≡ has self.now (named class.now name.now descriptor.now) }
     {
-        self.keys.contains(&Key { name, descriptor })
+        self.keys.contains(&Key {
+            name,
+            descriptor,
+            class,
+        })
     }
 
     /// Puts a name among them, and answers whether it is new.
-    pub fn insert(&mut self, name: &'a [u8], descriptor: &'a [u8]) -> Result<bool, NoMemory>
-        ensures is_new { IfOk result (λ b. b ≡ not (has self.old name.now descriptor.now)) }
-        ensures added { OnOk result ((n d : List ℕ) → has self.new n d ≡ (has self.old n d || bytes_eq name.now n && bytes_eq descriptor.now d)) }
+    pub fn insert(
+        &mut self,
+        class: &'a [u8],
+        name: &'a [u8],
+        descriptor: &'a [u8],
+    ) -> Result<bool, NoMemory>
+        ensures is_new { IfOk result (λ b. b ≡ not (has self.old (named class.now name.now descriptor.now))) }
+        ensures added { OnOk result ((q : Name) → has self.new q ≡ (has self.old q || is_name q (named class.now name.now descriptor.now))) }
     {
-        Ok(self.keys.insert(Key { name, descriptor })?)
+        Ok(
+            self.keys.insert(Key {
+                name,
+                descriptor,
+                class,
+            })?,
+        )
     }
 }
 
-/// Methods by name and descriptor.
+/// Methods by names.
 #[derive(Drop)]
 pub struct Groups<'a> {
-    methods: BTreeMap<Key<'a>, Vec<&'a Member>>,
+    methods: BTreeMap<Key<'a>, Vec<&'a Declared<'a>>>,
 }
 
 impl<'a> Model for Groups<'a> {
-    ghost use Rattle.std.specs.Prelude.{ℕ, List, map};
-    ghost use Rattle.jmodel.specs.ClassFile.{Member as Form};
+    ghost use Rattle.std.specs.Prelude.{List, map};
+    ghost use Rattle.jmodel.specs.declared.name.MethodName.{MethodName as Name};
+    ghost use Rattle.jmodel.specs.Classes.{Declared as Form};
+    ghost use Rattle.hierarchy.specs.Names.{named};
 
-    ghost Value = { List ((List ℕ × List ℕ) × List Form) };
+    ghost Value = { List (Name × List Form) };
 
-    ghost view = { λ g. map (λ e. ((e.0.name.now, e.0.descriptor.now), map (λ m. m.now) e.1.items)) g.methods.entries };
+    ghost view = { λ g. map (λ e. (named e.0.class.now e.0.name.now e.0.descriptor.now, map (λ m. m.now) e.1.items)) g.methods.entries };
 }
 
 impl<'a> Groups<'a> {
@@ -79,32 +101,43 @@ impl<'a> Groups<'a> {
         }
     }
 
-    /// Appends the methods of a name and a descriptor to a list.
+    /// Appends the methods of a name to a list.
     pub fn append_to(
         &self,
+        class: &'a [u8],
         name: &'a [u8],
         descriptor: &'a [u8],
-        list: &mut Vec<&'a Member>,
+        list: &mut Vec<&'a Declared<'a>>,
     ) -> Result<(), NoMemory>
-        ensures { OnOk result (map (λ m. m.now) list.new.items ≡ map (λ m. m.now) list.old.items ++ group_of self.now name.now descriptor.now) }
+        ensures { OnOk result (map (λ m. m.now) list.new.items ≡ map (λ m. m.now) list.old.items ++ group_of self.now (named class.now name.now descriptor.now)) }
     {
-        if let Some(group) = self.methods.get(&Key { name, descriptor }) {
+        let key = Key {
+            name,
+            descriptor,
+            class,
+        };
+        if let Some(group) = self.methods.get(&key) {
             list.extend_from_slice(group.as_slice())?;
         }
         Ok(())
     }
 
-    /// Puts a method behind those of its name and descriptor.
+    /// Puts a method behind those of a name.
     pub fn push(
         &mut self,
         alloc: Global,
+        class: &'a [u8],
         name: &'a [u8],
         descriptor: &'a [u8],
-        method: &'a Member,
+        method: &'a Declared<'a>,
     ) -> Result<(), NoMemory>
-        ensures { OnOk result ((n d : List ℕ) → group_of self.new n d ≡ group_of self.old n d ++ (if bytes_eq name.now n && bytes_eq descriptor.now d then method.now ∷ [] else [])) }
+        ensures { OnOk result ((q : Name) → group_of self.new q ≡ group_of self.old q ++ (if is_name q (named class.now name.now descriptor.now) then method.now ∷ [] else [])) }
     {
-        let key = Key { name, descriptor };
+        let key = Key {
+            name,
+            descriptor,
+            class,
+        };
         match self.methods.get_mut(&key) {
             Some(group) => group.push(method)?,
             None => {

@@ -3,6 +3,7 @@ ghost use Rattle.std.specs.Prelude.{◌≡◌, option_copied, bytes_eq, IfOk, ma
 ghost use Rattle.jmodel.specs.Pool.{utf8, field_name as field_of, method_name as method_of, MemberName};
 ghost use Rattle.jmodel.specs.Layout.{text_or_none, is_static as is_static_member};
 ghost use Rattle.jmodel.specs.ClassRules.{same_text, is_named as is_named_attribute};
+ghost use Rattle.jmodel.specs.Superclasses.{super_name as super_name_of};
 ghost use Rattle.jmodel.specs.Decoding.{own_name as own_name_of, name_of as method_name_of};
 
 use const_pool::{Attribute, ClassFile, Constant, Member, Pool};
@@ -48,6 +49,16 @@ pub fn own_name(class: &ClassFile) -> &[u8]
     ensures { result.now ≡ own_name_of class.now }
 {
     match class.pool.class_name(class.this_class) {
+        Some(bytes) => bytes.as_slice(),
+        None => b"",
+    }
+}
+
+/// The name of the class above, no bytes where it has none.
+pub fn super_name(class: &ClassFile) -> &[u8]
+    ensures { result.now ≡ super_name_of class.now }
+{
+    match class.pool.class_name(class.super_class) {
         Some(bytes) => bytes.as_slice(),
         None => b"",
     }

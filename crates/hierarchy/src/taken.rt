@@ -1,13 +1,16 @@
-//! Which methods of a class are taken: those that are marked, the static initialisers, and those that taken ones call, by whatever chain.
-ghost use Rattle.std.specs.Prelude.{◌≡◌, ℕ, List, [], ◌∷◌, ◌++◌, ◌&&◌, ◌||◌, map, bytes_eq, IfOk, OnOk, MatchOption, if◌then◌else◌};
+//! Which methods of classes are taken: those that are marked, the static initialisers, and those that taken ones call, by whatever chain.
+ghost use Rattle.std.specs.Prelude.{◌≡◌, List, Bool, [], ◌∷◌, ◌++◌, length, map, filter, IfOk, OnOk, MatchOption};
+ghost use Rattle.jmodel.specs.ClassFile.{ClassFile as ClassForm};
 ghost use Rattle.jmodel.specs.Coded.{decoded as decoded_of};
-ghost use Rattle.jmodel.specs.Taken.{index_of as index_in, invoked as invoked_by, is_named_by, code_calls, is_taken};
+ghost use Rattle.jmodel.specs.Taken.{index_of as index_in, invoked as invoked_by, is_taken_by, is_named_by, code_calls, is_taken};
 ghost use Rattle.jmodel.specs.Linking.{program_methods as methods_of_program};
-ghost use Rattle.hierarchy.specs.Names.{has, group_of};
-ghost use Rattle.hierarchy.specs.Search.{call_of, instrs_call, starting, is_found, IsGrouped, Visits, Finds};
+ghost use Rattle.jmodel.specs.Classes.{Declared as DeclaredForm, methods_in as methods_of_classes};
+ghost use Rattle.jmodel.specs.ClassesTaken.{is_taken as is_taken_among};
+ghost use Rattle.hierarchy.specs.Names.{named};
+ghost use Rattle.hierarchy.specs.Search.{class_for as class_of_key, method_key as key_of_method, instrs_call, starting, is_found, IsGrouped, VisitsOf, Finds};
 
 use crate::code::decoded;
-use crate::marks::is_root;
+use crate::declared::{Declared, methods_in};
 use crate::names::{Groups, Names};
 use crate::reference::{Reference, member_reference};
 use crate::symbols::{equal, own_name, text};
@@ -37,32 +40,46 @@ pub fn invoked<'a>(pool: &'a Pool, i: &Instr) -> Option<Reference<'a>>
     member_reference(pool, index_of(&i.operands)?)
 }
 
-// What an instruction calls that may be a method of the class: any method, but of constructors the class's own alone.
-fn call<'a>(class: &'a ClassFile, i: &Instr) -> Option<Reference<'a>>
-    ensures { result ≡ call_of class.now i.now }
+// The class under which calls of a method of this name find it: of a constructor its own, of any other method none.
+fn class_for<'a>(name: &[u8], class: &'a [u8]) -> &'a [u8]
+    ensures { result.now ≡ class_of_key name.now class.now }
 {
-    let found = invoked(&class.pool, i)?;
-    if equal(found.name, b"<init>") && !equal(found.class, own_name(class)) {
-        return None;
+    if equal(name, b"<init>") { class } else { b"" }
+}
+
+// What calls of a method have in common.
+fn method_key<'a>(method: &Declared<'a>) -> Reference<'a>
+    ensures { named result.class result.name result.descriptor ≡ key_of_method method.now }
+{
+    let class = method.class;
+    let member = method.member;
+    let name = text(&class.pool, member.name);
+    let descriptor = text(&class.pool, member.descriptor);
+    Reference::new(class_for(name, own_name(class)), name, descriptor)
+}
+
+// Puts a method into the group of its name, unless it is marked or a static initialiser.
+fn group<'a>(
+    alloc: Global,
+    groups: &mut Groups<'a>,
+    method: &'a Declared<'a>,
+) -> Result<(), NoMemory>
+    ensures { OnOk result ((ms : List DeclaredForm) → IsGrouped ms groups.old → IsGrouped (ms ++ method.now ∷ []) groups.new) }
+{
+    if method.is_root() {
+        return Ok(());
     }
-    Some(found)
+    let key = method_key(method);
+    groups.push(alloc, key.class, key.name, key.descriptor, method)
 }
 
 // The methods that are neither marked nor static initialisers, by their names.
-fn grouped<'a>(alloc: Global, class: &'a ClassFile) -> Result<Groups<'a>, NoMemory>
-    ensures { IfOk result (IsGrouped class.now) }
+fn grouped<'a>(alloc: Global, methods: &'a [Declared<'a>]) -> Result<Groups<'a>, NoMemory>
+    ensures { IfOk result (IsGrouped methods.now) }
 {
     let mut groups = Groups::new(alloc);
-    let pool = &class.pool;
-    for method in &class.methods {
-        if !is_root(pool, method) {
-            groups.push(
-                alloc,
-                text(pool, method.name),
-                text(pool, method.descriptor),
-                method,
-            )?;
-        }
+    for method in methods {
+        group(alloc, &mut groups, method)?;
     }
     Ok(groups)
 }
@@ -71,7 +88,7 @@ fn grouped<'a>(alloc: Global, class: &'a ClassFile) -> Result<Groups<'a>, NoMemo
 #[derive(Drop)]
 struct Search<'a> {
     called: Names<'a>,
-    queue: Vec<&'a Member>,
+    queue: Vec<&'a Declared<'a>>,
 }
 
 impl<'a> Model for Search<'a> {
@@ -85,12 +102,12 @@ impl<'a> Model for Search<'a> {
 
 impl<'a> Search<'a> {
     // The search at its start: the marked methods and the static initialisers are found.
-    fn start(alloc: Global, class: &'a ClassFile) -> Result<Self, NoMemory>
-        ensures { IfOk result (λ s. s ≡ starting class.now) }
+    fn start(alloc: Global, methods: &'a [Declared<'a>]) -> Result<Self, NoMemory>
+        ensures { IfOk result (λ s. s ≡ starting methods.now) }
     {
         let mut queue = Vec::new(alloc);
-        for method in &class.methods {
-            if is_root(&class.pool, method) {
+        for method in methods {
+            if method.is_root() {
                 queue.push(method)?;
             }
         }
@@ -101,20 +118,20 @@ impl<'a> Search<'a> {
     }
 
     // Takes a method whose calls are still to be looked at.
-    fn next(&mut self) -> Option<&'a Member>
+    fn next(&mut self) -> Option<&'a Declared<'a>>
         ensures called { self.new.called ≡ self.old.called }
         ensures queue { MatchOption result (self.old.queue ≡ []) (λ m. self.old.queue ≡ self.new.queue ++ m.now ∷ []) }
     {
         self.queue.pop()
     }
 
-    // Finds the methods of a name that is called, unless it was called before.
+    // Finds the methods that a call takes, unless it was made before.
     fn find(&mut self, groups: &Groups<'a>, call: &Reference<'a>) -> Result<(), NoMemory>
-        ensures called { OnOk result ((n d : List ℕ) → has self.new.called n d ≡ (has self.old.called n d || bytes_eq call.now.name n && bytes_eq call.now.descriptor d)) }
-        ensures queue { OnOk result (self.new.queue ≡ self.old.queue ++ (if has self.old.called call.now.name call.now.descriptor then [] else group_of groups.now call.now.name call.now.descriptor)) }
+        ensures { OnOk result (VisitsOf groups.now (is_taken_by call.now) self.old self.new) }
     {
-        if self.called.insert(call.name, call.descriptor)? {
-            groups.append_to(call.name, call.descriptor, &mut self.queue)?;
+        let class = class_for(call.name, call.class);
+        if self.called.insert(class, call.name, call.descriptor)? {
+            groups.append_to(class, call.name, call.descriptor, &mut self.queue)?;
         }
         Ok(())
     }
@@ -122,14 +139,13 @@ impl<'a> Search<'a> {
     // Finds what an instruction calls.
     fn find_called(
         &mut self,
-        class: &'a ClassFile,
+        pool: &'a Pool,
         groups: &Groups<'a>,
         i: &Instr,
     ) -> Result<(), NoMemory>
-        requires { IsGrouped class.now groups.now }
-        ensures { OnOk result (Visits class.now (is_named_by (invoked_by class.now.pool i.now)) self.old self.new) }
+        ensures { OnOk result (VisitsOf groups.now (is_named_by (invoked_by pool.now i.now)) self.old self.new) }
     {
-        match call(class, i) {
+        match invoked(pool, i) {
             Some(found) => self.find(groups, &found),
             None => Ok(()),
         }
@@ -138,15 +154,14 @@ impl<'a> Search<'a> {
     // Finds what instructions call.
     fn find_all(
         &mut self,
-        class: &'a ClassFile,
+        pool: &'a Pool,
         groups: &Groups<'a>,
         instrs: &[Instr],
     ) -> Result<(), NoMemory>
-        requires { IsGrouped class.now groups.now }
-        ensures { OnOk result (Visits class.now (instrs_call class.now instrs.now) self.old self.new) }
+        ensures { OnOk result (VisitsOf groups.now (instrs_call pool.now instrs.now) self.old self.new) }
     {
         for i in instrs {
-            self.find_called(class, groups, i)?;
+            self.find_called(pool, groups, i)?;
         }
         Ok(())
     }
@@ -155,54 +170,83 @@ impl<'a> Search<'a> {
     fn visit(
         &mut self,
         alloc: Global,
-        class: &'a ClassFile,
         groups: &Groups<'a>,
-        method: &Member,
+        method: &'a Declared<'a>,
     ) -> Result<(), NoMemory>
-        requires { IsGrouped class.now groups.now }
-        ensures { OnOk result (Visits class.now (code_calls class.now.pool (decoded_of class.now method.now)) self.old self.new) }
+        ensures { OnOk result (VisitsOf groups.now (code_calls method.now.class.pool (decoded_of method.now.class method.now.member)) self.old self.new) }
     {
-        match decoded(alloc, class, method) {
-            Ok(coded) => self.find_all(class, groups, coded.instrs.as_slice()),
+        let class = method.class;
+        match decoded(alloc, class, method.member) {
+            Ok(coded) => self.find_all(&class.pool, groups, coded.instrs.as_slice()),
             Err(Halt::Refused(_)) => Ok(()),
             Err(Halt::NoMemory) => Err(NoMemory),
         }
     }
 }
 
-// The names that taken methods call.
-fn called<'a>(alloc: Global, class: &'a ClassFile) -> Result<Names<'a>, NoMemory>
-    ensures { IfOk result (Finds class.now) }
+// What taken methods call.
+fn called<'a>(alloc: Global, methods: &'a [Declared<'a>]) -> Result<Names<'a>, NoMemory>
+    ensures { IfOk result (λ called. (cs : List ClassForm) → methods.now ≡ methods_of_classes cs → Finds cs called) }
 {
-    let groups = grouped(alloc, class)?;
-    let mut search = Search::start(alloc, class)?;
+    let groups = grouped(alloc, methods)?;
+    let mut search = Search::start(alloc, methods)?;
     while let Some(method) = search.next() {
-        search.visit(alloc, class, &groups, method)?;
+        search.visit(alloc, &groups, method)?;
     }
     Ok(search.called)
 }
 
-// Whether a method is marked or a static initialiser, or has a name that is called.
-fn is_found<'a>(class: &'a ClassFile, called: &Names<'a>, method: &Member) -> bool
-    ensures { result ≡ is_found class.now called.now method.now }
+// Whether a method is marked or a static initialiser, or is called.
+fn is_found<'a>(called: &Names<'a>, method: &Declared<'a>) -> bool
+    ensures { result ≡ is_found called.now method.now }
 {
-    let pool = &class.pool;
-    is_root(pool, method) || called.contains(text(pool, method.name), text(pool, method.descriptor))
+    let key = method_key(method);
+    method.is_root() || called.contains(key.class, key.name, key.descriptor)
 }
 
 // For each method whether it is found.
 fn are_found<'a>(
     alloc: Global,
-    class: &'a ClassFile,
     called: &Names<'a>,
+    methods: &'a [Declared<'a>],
 ) -> Result<Vec<bool>, NoMemory>
-    ensures { IfOk result (λ v. v.items ≡ map (is_found class.now called.now) class.now.methods) }
+    ensures { IfOk result (λ v. v.items ≡ map (is_found called.now) methods.now) }
 {
     let mut found = Vec::new(alloc);
-    for method in &class.methods {
-        found.push(is_found(class, called, method))?;
+    for method in methods {
+        found.push(is_found(called, method))?;
     }
     Ok(found)
+}
+
+/// For each method of classes, where these are all of them, whether it is taken: whether it is marked as atomic or a static initialiser,
+/// or a taken one calls it. Decodes the code of each taken method once.
+pub fn are_taken_among<'a>(
+    alloc: Global,
+    methods: &'a [Declared<'a>],
+) -> Result<Vec<bool>, NoMemory>
+    ensures { IfOk result (λ v. (cs : List ClassForm) → methods.now ≡ methods_of_classes cs → v.items ≡ map (is_taken_among cs) methods.now) }
+{
+    let called = called(alloc, methods)?;
+    are_found(alloc, &called, methods)
+}
+
+/// The methods that are taken, where it is known which are.
+pub fn taken_among<'a>(
+    alloc: Global,
+    methods: &'a [Declared<'a>],
+    taken: &[bool],
+) -> Result<Vec<&'a Declared<'a>>, NoMemory>
+    requires { length taken.now ≡ length methods.now }
+    ensures { IfOk result (λ v. (p : DeclaredForm → Bool) → taken.now ≡ map p methods.now → map (λ m. m.now) v.items ≡ filter p methods.now) }
+{
+    let mut chosen = Vec::new(alloc);
+    for (i, method) in methods.iter().enumerate() {
+        if taken[i] {
+            chosen.push(method)?;
+        }
+    }
+    Ok(chosen)
 }
 
 /// For each method of a class, in the order of the file, whether it is taken: whether it is marked as atomic or a static initialiser, or a
@@ -210,8 +254,8 @@ fn are_found<'a>(
 pub fn are_taken(alloc: Global, class: &ClassFile) -> Result<Vec<bool>, NoMemory>
     ensures { IfOk result (λ v. v.items ≡ map (is_taken class.now) class.now.methods) }
 {
-    let called = called(alloc, class)?;
-    are_found(alloc, class, &called)
+    let methods = methods_in(alloc, &[class])?;
+    are_taken_among(alloc, methods.as_slice())
 }
 
 /// The methods of a class that are taken, where it is known which are.

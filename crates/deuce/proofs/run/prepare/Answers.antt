@@ -1,5 +1,6 @@
 use Rattle.deuce.specs.Ending.{EndsOnClass, NoScript, NoOpening, IsOutsideForm}
-use Rattle.deuce.proofs.Running.{err_is, of_build, of_typing, of_rewriting}
+use Rattle.deuce.proofs.Lists.{err_is}
+use Rattle.deuce.proofs.Running.{of_build, of_typing, of_rewriting}
 use Rattle.deuce.proofs.run.prepare.Goals as goal
 
 pub returns-in_err-original-clause-cause : goal.returns-in_err-original-clause-cause

@@ -1,5 +1,6 @@
 use Rattle.deuce.specs.Ending.{EndsScript, EndsOnClass, IsBadScript, IsUnopened, IsOutsideForm}
-use Rattle.deuce.proofs.Running.{ready, runnable, err_is, on_err, of_preparing, of_script}
+use Rattle.deuce.proofs.Lists.{err_is}
+use Rattle.deuce.proofs.Running.{ready, runnable, on_err, of_preparing, of_script}
 use Rattle.deuce.proofs.run.run_class.Goals as goal
 
 pub run_script-requires-clause-ready : goal.run_script-requires-clause-ready

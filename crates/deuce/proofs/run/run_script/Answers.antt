@@ -11,7 +11,8 @@ use Rattle.deuce.specs.Headline.{AreCalls}
 use Rattle.deuce.specs.Lines.{line_in}
 use Rattle.deuce.proofs.Scripted.{scripted, few_attempts, region_fits, lanes_fit}
 use Rattle.deuce.specs.Ending.{EndsScript}
-use Rattle.deuce.proofs.Running.{are_calls, is_run, err_is, of_opening}
+use Rattle.deuce.proofs.Lists.{err_is}
+use Rattle.deuce.proofs.Running.{are_calls, is_run, of_opening}
 use Rattle.deuce.proofs.run.run_script.Goals as goal
 
 pub run_phases-requires-clause-scripted : goal.run_phases-requires-clause-scripted

@@ -1,7 +1,6 @@
-use Rattle.std.proofs.Common.{◌≡◌, ◌+◌, List, drop, Option, Some, sym, ap, ◌∙◌}
+use Rattle.std.proofs.Common.{◌≡◌, ◌+◌, drop, Option, Some, sym, ap, ◌∙◌}
 use Rattle.std.specs.Option.{option_or}
 use Rattle.jmodel.specs.declared.refusal.Refusal.{Refusal}
-use Rattle.jmodel.specs.ClassFile.{Member}
 use Rattle.jmodel.specs.Linking.{mark_fault, marks_fault}
 use Rattle.hierarchy.proofs.Each.{item_is}
 use Rattle.hierarchy.proofs.marks.marks_fault.Goals as goal

@@ -5,4 +5,4 @@ use Rattle.hierarchy.proofs.taken.are_found.Given as goal
 
 -- the answers so far
 abbrev pub invariant-loop-method : goal.invariant-loop-method
-invariant-loop-method l = l.found.items ≡ map (is_found l.class l.called) (take l.method-index l.method-items)
+invariant-loop-method l = l.found.items ≡ map (is_found l.called) (take l.method-index l.methods)

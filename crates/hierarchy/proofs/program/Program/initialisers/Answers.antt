@@ -1,9 +1,9 @@
-use Rattle.std.proofs.Common.{◌≡◌, ℕ, suc, ◌+◌, ◌<◌, ◌≤◌, List, [], ◌∷◌, ◌++◌, length, drop, Bool, true, false, refl, sym, ap, subst, ◌∙◌, append_assoc, add-one, slice_index_or}
+use Rattle.std.proofs.Common.{◌≡◌, ℕ, suc, ◌+◌, ◌<◌, List, [], ◌∷◌, ◌++◌, length, drop, Bool, true, false, refl, sym, ap, ◌∙◌, append_assoc, add-one, slice_index_or}
 use Rattle.std.specs.Prelude.{if◌then◌else◌}
 use Rattle.std.proofs.lemmas.List.{append-nil, drop_all}
 use Rattle.jmodel.specs.Program.{Method}
 use Rattle.jmodel.specs.Coded.{names_initialiser}
-use Rattle.jmodel.specs.Opening.{initialisers_from, initialisers}
+use Rattle.jmodel.specs.Opening.{initialisers_from}
 use Rattle.hierarchy.proofs.Each.{item_is}
 use Rattle.hierarchy.proofs.program.Program.initialisers.Goals as goal
 use Rattle.hierarchy.proofs.program.Program.initialisers.Goals.{then-is_initialiser+in_ok-push, else-is_initialiser}

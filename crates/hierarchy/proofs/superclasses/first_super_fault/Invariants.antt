@@ -1,0 +1,7 @@
+use Rattle.std.proofs.Common.{◌≡◌, map, drop}
+use Rattle.jmodel.specs.ClassesLinking.{super_fault, first_fault}
+use Rattle.hierarchy.proofs.superclasses.first_super_fault.Given as goal
+
+-- the classes before have no fault
+abbrev pub invariant-loop-class : goal.invariant-loop-class
+invariant-loop-class l = first_fault (super_fault (map (λ c. c.now) l.classes)) (map (λ c. c.now) (drop l.class-index l.classes)) ≡ first_fault (super_fault (map (λ c. c.now) l.classes)) (map (λ c. c.now) l.classes)

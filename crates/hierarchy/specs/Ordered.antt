@@ -1,0 +1,14 @@
+-- Classes in the order of their names, each under its name.
+use Rattle.std.specs.Prelude.{◌≡◌, ℕ, List, map}
+use Rattle.std.specs.Borrow.{Bor}
+use Rattle.jmodel.specs.ClassFile.{ClassFile}
+use Rattle.jmodel.specs.Superclasses.{own_name}
+use Rattle.jmodel.specs.Classes.{in_order}
+
+-- the entries of a tree, seen behind references
+abbrev pub named_classes : List (Bor (List ℕ) × Bor ClassFile) → List (List ℕ × ClassFile)
+named_classes es = map (λ e. (e.0.now, e.1.now)) es
+
+-- the entries are the classes in order
+abbrev pub IsInOrder : List (Bor (List ℕ) × Bor ClassFile) → List ClassFile → Type 0
+IsInOrder es cs = named_classes es ≡ map (λ (c : ClassFile). (own_name c, c)) (in_order cs)

@@ -1,0 +1,57 @@
+//! The classes of a folder in the byte order of their names.
+ghost use Rattle.std.specs.Prelude.{◌≡◌, Some, None, map, IfOk};
+ghost use Rattle.jmodel.specs.declared.refusal.Refusal.TheVariants.{DoubledClass};
+ghost use Rattle.jmodel.specs.Classes.{doubled_class as fault_of_names, in_order as order_of_classes};
+ghost use Rattle.hierarchy.specs.Ordered.{IsInOrder};
+
+use crate::form::is_free_name;
+use crate::symbols::own_name;
+use const_pool::ClassFile;
+use jmodel::{Bytes, NoMemory, Refusal};
+use std::alloc::{AllocError, Global};
+use std::collections::{BTreeMap, BTreeSet};
+
+fn doubled(alloc: Global, name: &[u8]) -> Result<Option<Refusal>, AllocError>
+    ensures { IfOk result (λ o. o ≡ Some (DoubledClass name.now)) }
+{
+    Ok(Some(Refusal::DoubledClass(Bytes::from_slice(alloc, name)?)))
+}
+
+/// The fault of the names of classes, in the order of their files: `DoubledClass` with the first name that a class of the library has, or
+/// an earlier file's class.
+pub fn doubled_class(alloc: Global, files: &[ClassFile]) -> Result<Option<Refusal>, NoMemory>
+    ensures { IfOk result (λ o. o ≡ fault_of_names files.now) }
+{
+    let mut names = BTreeSet::new(alloc);
+    for file in files {
+        let name = own_name(file);
+        if !is_free_name(name) || !names.insert(name)? {
+            return Ok(doubled(alloc, name)?);
+        }
+    }
+    Ok(None)
+}
+
+// The class files by the names of their classes.
+fn by_name<'a>(
+    alloc: Global,
+    files: &'a [ClassFile],
+) -> Result<BTreeMap<&'a [u8], &'a ClassFile>, NoMemory>
+    requires { fault_of_names files.now ≡ None }
+    ensures { IfOk result (λ m. IsInOrder m.entries files.now) }
+{
+    let mut classes = BTreeMap::new(alloc);
+    for file in files.iter().rev() {
+        classes.insert(own_name(file), file)?;
+    }
+    Ok(classes)
+}
+
+/// The class files in the byte order of the names of their classes, of which no two are the same.
+pub fn in_order<'a>(alloc: Global, files: &'a [ClassFile]) -> Result<Vec<&'a ClassFile>, NoMemory>
+    requires { fault_of_names files.now ≡ None }
+    ensures { IfOk result (λ v. map (λ c. c.now) v.items ≡ order_of_classes files.now) }
+{
+    let classes = by_name(alloc, files)?;
+    Ok(classes.into_values().collect(alloc)?)
+}
