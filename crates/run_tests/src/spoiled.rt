@@ -21,8 +21,8 @@ fn a_front_of_a_class_is_truncated(rt: HostRuntime) -> Result<(), Fail> {
     Ok(())
 }
 
-/// Whether a run of one call on a class ends: with its answer, with a fault of the file, of its annotations or of its code, with a call of no
-/// marked method, or as not built.
+/// Whether a run of one call on a class ends: with its answer, with a fault of the file, of its name or superclass, of its annotations or of its code, with a
+/// call of no marked method, or as not built.
 fn ends<R: Threads + Sync>(rt: &R, alloc: Global, class: &[u8]) -> Result<bool, IoEnd> {
     let mut folder = folder_of(alloc, class, ONE_CALL)?;
     let (status, text) = call(rt, alloc, RUN, &mut folder, MemSink::new(alloc, 64))?;
@@ -33,6 +33,9 @@ fn ends<R: Threads + Sync>(rt: &R, alloc: Global, class: &[u8]) -> Result<bool, 
         4 => {
             written.starts_with(b"error 4 13 BadInstr Counter.inc()I ")
                 || written.starts_with(b"error 4 14 BadTarget Counter.inc()I ")
+                || written == b"error 4 17 DoubledClass java/lang/Object\n".as_slice()
+                || written.starts_with(b"error 4 18 UnknownClass ")
+                || written == b"error 4 19 Circular Counter\n".as_slice()
                 || written.starts_with(b"error 4 22 BadAnnotation Counter.inc()I ")
         }
         5 => written.starts_with(b"error 5 32 Untypable Counter.inc()I "),
