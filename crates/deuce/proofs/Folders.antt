@@ -1,5 +1,5 @@
 -- The names of the class files among the items of a folder, and their order.
-use Rattle.std.proofs.Common.{Bor, ◌≡◌, ◌<◌, ◌+◌, ◌∙◌, ◌↔◌, inl, inr, ℕ, zero, suc, ◌-◌, Bool, true, false, List, [], ◌∷◌, ◌++◌, length, get_or, map, ap, sym, refl, subst, Contains, arith, length-append}
+use Rattle.std.proofs.Common.{Bor, ◌≡◌, ◌<◌, ◌+◌, ◌∙◌, ◌↔◌, ◌⊎◌, inl, inr, ℕ, zero, suc, ◌-◌, Bool, true, false, List, [], ◌∷◌, ◌++◌, length, get_or, map, ap, sym, refl, subst, Contains, arith, length-append}
 use Rattle.std.specs.Prelude.{bytes_eq}
 use Rattle.std.specs.List.{All, AllPairs}
 use Rattle.std.specs.List.Sorted.{IsPermutation, IsSorted}
@@ -7,7 +7,7 @@ use Rattle.std.specs.declared.cmp.Ordering.{Ordering}
 use Rattle.std.specs.declared.cmp.Ordering.TheVariants.{Less, Equal, Greater}
 use Rattle.std.specs.Ordering.{nat_cmp, is_lt, is_eq, ordering_reverse}
 use Rattle.std.specs.Cmp.Lexicographic.{slice_cmp, texts_ties}
-use Rattle.std.proofs.lemmas.Cmp.{nat_list_cmp_total, nat_list_eq_equiv, tied_itself}
+use Rattle.std.proofs.lemmas.Cmp.{nat_list_cmp_total, nat_list_eq_equiv}
 use Rattle.std.proofs.lemmas.List.{length-map, get_or-map, get_or_append_left, get_or-append_right}
 use Rattle.std.proofs.lemmas.List.Elements.{Contains-get_or}
 use Rattle.std.proofs.lemmas.List.Sorted.{IsPermutation-map, IsPermutation-sym, Contains-permutation, ranks_by, sorted_far}
@@ -165,25 +165,66 @@ listed files dir xs names l h = record {
   ascend = h.ascend;
 }
 
--- where a class file stands alone, there is no other name
-pub lone_name : (Here : List ℕ × Bool → Type 0) (names : List (List ℕ)) (name : List ℕ) → AreClassNames Here (name ∷ []) → AreClassNames Here names → names ≡ name ∷ []
-lone_name Here names name one all = go names all
+-- ---- there is one order
+
+before_back : (a b : List ℕ) → is_before a b ≡ true → is_before b a ≡ true → ⊥
+before_back a b h k =
+    let flipped : slice_cmp nat_cmp b a ≡ ordering_reverse (slice_cmp nat_cmp a b) = nat_list_cmp_total.antisymm b a in
+    go (slice_cmp nat_cmp a b) h (ap is_lt (sym flipped) ∙ k)
   where
-    same : (a : List ℕ) (ns : List (List ℕ)) → AreClassNames Here ns → Contains ns a → a ≡ name
-    same a ns h there = only a ((one.each a).1 ((h.each a).0 there))
-      where
-        only : (a : List ℕ) → Contains (name ∷ []) a → a ≡ name
-        only a (zero, lt, is) = sym is
-        only a (suc k, lt, is) = absurd (omega (arith, lt))
+    go : (o : Ordering) → is_lt o ≡ true → is_lt (ordering_reverse o) ≡ true → ⊥
+    go Less h k = cc
+    go Equal h k = cc
+    go Greater h k = cc
 
-    itself : (a : List ℕ) → is_before a a ≡ true → ⊥
-    itself a h = let tied = tied_itself nat_list_cmp_total a in let never : is_before a a ≡ false = ap is_lt tied in cc
+abbrev Ascend : List (List ℕ) → Type 0
+Ascend names = AllPairs (λ x y. is_before x y ≡ true) names
 
-    go : (ns : List (List ℕ)) → AreClassNames Here ns → ns ≡ name ∷ []
-    go [] h = let there = (h.each name).1 ((one.each name).0 (0, omega arith, refl)) in absurd (omega (arith, there.1))
-    go (a ∷ []) h = ap (λ (n : List ℕ). n ∷ []) (same a (a ∷ []) h (0, omega arith, refl))
-    go (a ∷ b ∷ ns) h =
-        let first = same a (a ∷ b ∷ ns) h (0, omega arith, refl) in
-        let second = same b (a ∷ b ∷ ns) h (1, omega arith, refl) in
-        let rises : is_before a b ≡ true = h.ascend 0 1 a (omega arith) (omega arith) in
-        absurd (itself name (rw (first, second) at rises))
+-- the first comes before each other
+before_others : (x : List ℕ) (xs : List (List ℕ)) (a : List ℕ) → Ascend (x ∷ xs) → Contains xs a → is_before x a ≡ true
+before_others x xs a up (k, lt, is) = subst (λ (b : List ℕ). is_before x b ≡ true) is (up 0 (suc k) a (omega arith) (omega (arith, lt)))
+
+ascend_behind : (x : List ℕ) (xs : List (List ℕ)) → Ascend (x ∷ xs) → Ascend xs
+ascend_behind x xs up = λ i j d lt end. up (suc i) (suc j) d (omega (arith, lt)) (omega (arith, end))
+
+-- what is there is the first or another
+first_or : (x : List ℕ) (xs : List (List ℕ)) (a : List ℕ) → Contains (x ∷ xs) a → (a ≡ x) ⊎ Contains xs a
+first_or x xs a (zero, lt, is) = inl (sym is)
+first_or x xs a (suc k, lt, is) = inr (k, omega (arith, lt), is)
+
+as_other : (x : List ℕ) (xs : List (List ℕ)) (a : List ℕ) → Contains xs a → Contains (x ∷ xs) a
+as_other x xs a (k, lt, is) = (suc k, omega (arith, lt), is)
+
+same_first : (x y : List ℕ) (xs ys : List (List ℕ)) → Ascend (x ∷ xs) → Ascend (y ∷ ys) → Contains (y ∷ ys) x → Contains (x ∷ xs) y → x ≡ y
+same_first x y xs ys up down there back =
+    elim (first_or y ys x there) as (λ _. x ≡ y) [
+      | inl e ↦ e
+      | inr a ↦ elim (first_or x xs y back) as (λ _. x ≡ y) [
+        | inl e ↦ sym e
+        | inr b ↦ absurd (before_back x y (before_others x xs y up b) (before_others y ys x down a))
+      ]
+    ]
+
+-- what ascends and has the same names is the same
+same_behind : (x : List ℕ) (xs ys : List (List ℕ)) (a : List ℕ) → Ascend (x ∷ xs) → Contains (x ∷ ys) a → Contains xs a → Contains ys a
+same_behind x xs ys a up there h =
+    elim (first_or x ys a there) as (λ _. Contains ys a) [
+      | inl e ↦ let rises = subst (λ (b : List ℕ). is_before x b ≡ true) e (before_others x xs a up h) in absurd (before_back x x rises rises)
+      | inr k ↦ k
+    ]
+
+one_order : (xs ys : List (List ℕ)) → Ascend xs → Ascend ys → ((a : List ℕ) → Contains xs a → Contains ys a) → ((a : List ℕ) → Contains ys a → Contains xs a) → xs ≡ ys
+one_order [] [] up down there back = refl
+one_order [] (y ∷ ys) up down there back = let none = back y (0, omega arith, refl) in absurd (omega (arith, none.1))
+one_order (x ∷ xs) [] up down there back = let none = there x (0, omega arith, refl) in absurd (omega (arith, none.1))
+one_order (x ∷ xs) (y ∷ ys) up down there back =
+    let first = same_first x y xs ys up down (there x (0, omega arith, refl)) (back y (0, omega arith, refl)) in
+    let Down : List ℕ → Type 0 = λ z. Ascend (z ∷ ys) in
+    let In : List ℕ → List ℕ → Type 0 = λ a z. Contains (z ∷ ys) a in
+    let rest = one_order xs ys (ascend_behind x xs up) (ascend_behind y ys down) (λ a h. same_behind x xs ys a up (subst (In a) (sym first) (there a (as_other x xs a h))) h)
+    (λ a h. same_behind x ys xs a (subst Down (sym first) down) (back a (as_other y ys a h)) h) in
+    ap (λ (z : List ℕ). z ∷ xs) first ∙ ap (λ (l : List (List ℕ)). y ∷ l) rest
+
+-- a folder's class files have one list of names
+pub same_names : (Here : List ℕ × Bool → Type 0) (xs ys : List (List ℕ)) → AreClassNames Here xs → AreClassNames Here ys → xs ≡ ys
+same_names Here xs ys a b = one_order xs ys a.ascend b.ascend (λ n h. (b.each n).1 ((a.each n).0 h)) (λ n h. (a.each n).1 ((b.each n).0 h))

@@ -1,7 +1,10 @@
 pub mod Lists
+pub mod Ordered
+pub mod Named
 pub mod Opens
 pub mod Scripted
 pub mod Reading
+pub mod Initialisers
 pub mod Running
 pub mod Folders
 pub mod Listing
@@ -11,5 +14,5 @@ pub mod Printed
 pub mod Complete
 pub mod Filed
 pub mod Placed
-pub mod Lone
+pub mod PutFiles
 pub mod Refused

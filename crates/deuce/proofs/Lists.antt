@@ -4,6 +4,7 @@ use Rattle.std.specs.Prelude.{IfOk, IfErr}
 use Rattle.std.specs.Result.{IsErrAnd}
 use Rattle.std.specs.List.{AllByRecursion, AllZip}
 use Rattle.std.proofs.lemmas.List.{take_more}
+use Rattle.std.proofs.lemmas.Option.{slice_get_read}
 
 -- a list of three by its elements
 pub three : {X : Type 0} (xs : List X) (a b c : X) → length xs ≡ 3 → a ≡ slice_index_or xs 0 a → b ≡ slice_index_or xs 1 b → c ≡ slice_index_or xs 2 c
@@ -53,3 +54,17 @@ zip_more {A} {B} R xs ys i x y lt is all one =
 
 pub some_not_none : {A : Type 0} (x : A) → Some x ≡ None → ⊥
 some_not_none x h = cc
+
+-- what holds of each holds of the one at a place
+pub all_at : {A : Type 0} (P : A → Type 0) (xs : List A) (i : ℕ) (x : A) → AllByRecursion P xs → slice_get xs i ≡ Some x → P x
+all_at P [] i x all h = cc
+all_at P (y ∷ xs) zero x all h = let same : y ≡ x = cc in subst P same all.0
+all_at P (y ∷ xs) (suc i) x all h = all_at P xs i x all.1 h
+
+pub all_read : {A : Type 0} (P : A → Type 0) (xs : List A) (i : ℕ) (x : A) → AllByRecursion P xs → i < length xs → x ≡ get_or xs i x → P x
+all_read P xs i x all lt is = all_at P xs i x all (slice_get_read xs (length xs) i x refl lt is)
+
+-- what follows from what holds of each
+pub all_as : {A : Type 0} (P Q : A → Type 0) → ((x : A) → P x → Q x) → (xs : List A) → AllByRecursion P xs → AllByRecursion Q xs
+all_as P Q f [] h = tt
+all_as P Q f (x ∷ xs) h = (f x h.0, all_as P Q f xs h.1)

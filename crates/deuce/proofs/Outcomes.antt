@@ -1,33 +1,27 @@
 -- The outcomes of commands.
-use Rattle.std.proofs.Common.{◌≡◌, ℕ, List, [], ◌∷◌, None, inl, inr}
+use Rattle.std.proofs.Common.{◌≡◌, ◌≤◌, ℕ, List, inl, inr}
 use Rattle.std.specs.Prelude.{String, string_bytes}
 use Rattle.std.specs.declared.alloc.Global.{Global}
-use Rattle.deuce_io.specs.Fault.{Call}
+use Rattle.deuce_io.specs.Fault.{Call, rose_since}
 use Rattle.jmodel.specs.declared.refusal.Refusal.{Refusal}
 use Rattle.jmodel.specs.declared.value.Answer.{Answer}
 use Rattle.jmodel.specs.ClassFile.{ClassFile}
-use Rattle.jmodel.specs.ClassesLinking.{linking_files}
-use Rattle.deuce.specs.Command.{NamesFolder}
+use Rattle.deuce.specs.Command.{seen_words, rewrite_words, NamesFolder}
 use Rattle.deuce.specs.declared.inputs.ClassInput.{ClassInput}
 use Rattle.deuce.specs.declared.inputs.InputEnd.{InputEnd}
 use Rattle.deuce.specs.declared.inputs.InputEnd.TheVariants as ends
+use Rattle.deuce.specs.declared.putting.PutEnd.{PutEnd}
+use Rattle.deuce.specs.declared.putting.PutEnd.TheVariants as put_ends
 use Rattle.deuce.specs.declared.run.RunEnd.{RunEnd}
 use Rattle.deuce.specs.declared.run.RunEnd.TheVariants as run_ends
 use Rattle.deuce.specs.declared.outcome.Outcome.{Outcome}
 use Rattle.deuce.specs.declared.outcome.Outcome.TheVariants as outcomes
-use Rattle.hierarchy.specs.Faults.{fault_in}
-use Rattle.deuce.specs.Folder.{HasClass, IsLone}
-use Rattle.deuce.specs.Ending.{Failed, AreClassInputs, AreClassesOf, EndsInputs, EndsLone, EndsOnClass, IsBadProgram, IsUntypable, AreUnbuilt, HasUnbuilt}
-use Rattle.deuce.specs.Outcomes.{Seen, Says, IsUnreadAs, IsRefusedAs, IsOutcome, IsNotBuilt, FailedOutside}
-use Rattle.deuce.proofs.Reading.{bad_class, has_classes}
+use Rattle.deuce.specs.Folder.{HasClasses, placed_in}
+use Rattle.deuce.specs.Ending.{Failed, names_of, AreRewritten, EndsPuts, AreClassInputs, AreClassesOf, EndsInputs, EndsClasses, EndsOnClasses, IsBadProgram, IsUntypable, HasUnbuilt}
+use Rattle.deuce.specs.Outcomes.{Seen, Says, ArePut, IsUnreadAs, IsRefusedAs, IsNotPutAs, IsOutcome, IsNotBuilt, FailedOutside}
+use Rattle.deuce.proofs.Reading.{bad_class, has_classes, stopped_at}
 
--- where there is none alone, nothing is said of that
-none_alone : (Unbuilt : ClassFile → Type 0) (cs : List ClassFile) → AreUnbuilt (λ c. ⊥) cs → AreUnbuilt Unbuilt cs
-none_alone Unbuilt [] h = (h.0, tt)
-none_alone Unbuilt (c ∷ []) h = absurd h.1
-none_alone Unbuilt (c ∷ d ∷ cs) h = (h.0, tt)
-
-module _ (words : List (String Global)) (old new : Seen) (dir : List ℕ) (kept : new.files ≡ old.files) (names : NamesFolder words dir) (Unbuilt : ClassFile → Type 0)
+module _ (words : List (String Global)) (old new : Seen) (dir : List ℕ) (kept : new.files ≡ old.files) (names : NamesFolder words dir) (Unbuilt : List ClassFile → Type 0)
     (unbuilt : HasUnbuilt old.files dir Unbuilt → IsNotBuilt words old.files) where
   -- of a command whose inputs weren't there
   pub unread : (Asks : Call → Type 0) (end : InputEnd) (o : Outcome) → ((path : List ℕ) → Failed Asks path old.faults new.faults new.failed → FailedOutside words path old.faults new.faults new.failed)
@@ -39,22 +33,46 @@ module _ (words : List (String Global)) (old new : Seen) (dir : List ℕ) (kept 
   unread Asks ends.NoMemory o fails h is = absurd is
 
   module _ (inputs : List ClassInput) (a : AreClassInputs old.files dir inputs) where
-    -- of a command over class files that aren't one class alone
-    pub not_alone : (end : InputEnd) (o : Outcome) → EndsLone inputs end → IsUnreadAs end o → IsOutcome words old new o
-    not_alone (ends.Outside path) o h is = absurd h
-    not_alone (ends.BadClass path r) o h is = rw is (kept, (dir, names, bad_class old.files dir inputs (string_bytes path) r a h))
-    not_alone (ends.Refused r) o h is = rw is (kept, (dir, names, inr (has_classes old.files dir inputs h.0 (IsBadProgram r) a h.1 (inl h.2))))
-    not_alone ends.NotBuilt o h is = rw is (kept, unbuilt (inr (has_classes old.files dir inputs h.0 (AreUnbuilt Unbuilt) a h.1 (none_alone Unbuilt h.0 h.2))))
-    not_alone ends.NoMemory o h is = absurd is
+    -- of a command over class files that aren't all good
+    pub not_good : (end : InputEnd) (o : Outcome) → EndsClasses inputs end → IsUnreadAs end o → IsOutcome words old new o
+    not_good (ends.Outside path) o h is = absurd h
+    not_good (ends.BadClass path r) o h is = rw is (kept, (dir, names, bad_class old.files dir inputs (string_bytes path) r a h))
+    not_good (ends.Refused r) o h is = absurd h
+    not_good ends.NotBuilt o h is = absurd h
+    not_good ends.NoMemory o h is = absurd is
 
-    -- of a command over the class that was read
-    pub refused : (c : ClassFile) (Bad : Refusal → ClassFile → Type 0) (Shut : List ℕ → Answer → ClassFile → Type 0) (end : RunEnd) (o : Outcome) → AreClassesOf inputs (c ∷ [])
-        → fault_in (linking_files (c ∷ [])) ≡ None → ((r : Refusal) → Bad r c → HasClass old.files dir (Bad r) → Says words old new (outcomes.BadScript r))
-        → ((name : List ℕ) (x : Answer) → Shut name x c → HasClass old.files dir (Shut name x) → Says words old new (outcomes.Unopened name x))
-        → EndsOnClass c Bad Shut Unbuilt end → IsRefusedAs end o → IsOutcome words old new o
-    refused c Bad Shut (run_ends.Refused r) o good linked bad shut h is = rw is (kept, (dir, names, inr (has_classes old.files dir inputs (c ∷ []) (IsBadProgram r) a good h)))
-    refused c Bad Shut (run_ends.Untyped r) o good linked bad shut h is = rw is (kept, (dir, names, has_classes old.files dir inputs (c ∷ []) (IsLone (IsUntypable r)) a good h))
-    refused c Bad Shut (run_ends.BadScript r) o good linked bad shut h is = rw is (kept, bad r h (has_classes old.files dir inputs (c ∷ []) (IsLone (Bad r)) a good h))
-    refused c Bad Shut (run_ends.Unopened name x) o good linked bad shut h is = rw is (kept, shut name x h (has_classes old.files dir inputs (c ∷ []) (IsLone (Shut name x)) a good h))
-    refused c Bad Shut run_ends.NotBuilt o good linked bad shut h is = rw is (kept, unbuilt (inr (has_classes old.files dir inputs (c ∷ []) (AreUnbuilt Unbuilt) a good (linked, h))))
-    refused c Bad Shut run_ends.NoMemory o good linked bad shut h is = absurd is
+    -- of a command over the class files that were read
+    pub refused : (cs : List ClassFile) (Bad : Refusal → List ClassFile → Type 0) (Shut : List ℕ → Answer → List ClassFile → Type 0) (end : RunEnd) (o : Outcome) → AreClassesOf inputs cs
+        → ((r : Refusal) → Bad r cs → HasClasses old.files dir (Bad r) → Says words old new (outcomes.BadScript r))
+        → ((name : List ℕ) (x : Answer) → Shut name x cs → HasClasses old.files dir (Shut name x) → Says words old new (outcomes.Unopened name x))
+        → EndsOnClasses cs Bad Shut Unbuilt end → IsRefusedAs end o → IsOutcome words old new o
+    refused cs Bad Shut (run_ends.Refused r) o good bad shut h is = rw is (kept, (dir, names, inr (has_classes old.files dir inputs cs (IsBadProgram r) a good h)))
+    refused cs Bad Shut (run_ends.Untyped r) o good bad shut h is = rw is (kept, (dir, names, has_classes old.files dir inputs cs (IsUntypable r) a good h))
+    refused cs Bad Shut (run_ends.BadScript r) o good bad shut h is = rw is (kept, bad r h (has_classes old.files dir inputs cs (Bad r) a good h))
+    refused cs Bad Shut (run_ends.Unopened name x) o good bad shut h is = rw is (kept, shut name x h (has_classes old.files dir inputs cs (Shut name x) a good h))
+    refused cs Bad Shut run_ends.NotBuilt o good bad shut h is = rw is (kept, unbuilt (inr (has_classes old.files dir inputs cs Unbuilt a good h)))
+    refused cs Bad Shut run_ends.NoMemory o good bad shut h is = absurd is
+
+-- ---- puts that stopped
+
+module _ (words : List (String Global)) (old new : Seen) (dir out : List ℕ) (w : seen_words words ≡ rewrite_words dir out) (inputs : List ClassInput) (news : List (List ℕ)) (taken marked : ℕ)
+    (made : AreRewritten old.files dir (names_of inputs) news taken marked) (puts : List (List ℕ × List ℕ)) (are : puts ≡ placed_in out (names_of inputs) news) (before : ℕ) (later : old.put_faults ≤ before) where
+  pub not_put : (end : PutEnd) (o : Outcome) → EndsPuts puts old.files new.files before new.put_faults new.failed end → IsNotPutAs end o → IsOutcome words old new o
+  not_put (put_ends.Failed path) o h is = rw is (
+    tt,
+    (
+      dir,
+      out,
+      w,
+      record {
+        stopped = stopped_at old.files new.files dir out inputs news taken marked made puts are (string_bytes path) h.0;
+        rose = rose_since old.put_faults before new.put_faults later h.1.rose;
+        is_last = h.1.is_last;
+      },
+    ),
+  )
+  not_put put_ends.NoMemory o h is = absurd is
+
+  pub stopped : (end : PutEnd) → EndsPuts puts old.files new.files before new.put_faults new.failed end → ArePut words old.files new.files
+  stopped (put_ends.Failed path) h = inr (dir, out, w, inr (string_bytes path, stopped_at old.files new.files dir out inputs news taken marked made puts are (string_bytes path) h.0))
+  stopped put_ends.NoMemory h = inr (dir, out, w, inr (h.0, stopped_at old.files new.files dir out inputs news taken marked made puts are h.0 h.1))

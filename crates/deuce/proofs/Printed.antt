@@ -10,7 +10,7 @@ use Rattle.deuce.specs.Rewritten.{counts_text}
 use Rattle.deuce.specs.declared.outcome.Outcome.{Outcome}
 use Rattle.deuce.specs.declared.outcome.Outcome.TheVariants.{Journal, Rewritten, Usage, BadClass, BadProgram, Untyped, BadScript, Unopened, Outside, NotPut, NotBuilt}
 use Rattle.deuce.specs.Ending.{IsJournalOf, IsRewritingOf}
-use Rattle.deuce.specs.Outcomes.{Seen, Says, IsTextOf, Appends, status_of, IsBadClassOfWords, IsBadProgramOfWords, IsUntypableOfWords, IsBadScriptOfWords, IsUnopenedOfWords}
+use Rattle.deuce.specs.Outcomes.{Seen, Keeps, IsRefusal, Says, IsTextOf, Appends, status_of, IsBadClassOfWords, IsBadProgramOfWords, IsUntypableOfWords, IsBadScriptOfWords, IsUnopenedOfWords}
 use Rattle.deuce.proofs.Asked.{one_run, one_rewriting, apart}
 
 module _ (words : List (String Global)) (old new : Seen) (printed : List ℕ) (before now : Option (List ℕ)) (status : ℕ) where
@@ -20,7 +20,7 @@ module _ (words : List (String Global)) (old new : Seen) (printed : List ℕ) (b
   journal_printed (Journal text) h s is all z = λ dir script w.
       let same = one_run words h.0 h.1 dir script h.2 w in
       (text, rw (same.0, same.1) at h.3, rw is at all)
-  journal_printed (Rewritten t m) h s is all z = λ dir script w. absurd (apart words dir script h.0 h.1 w h.2)
+  journal_printed (Rewritten n t m) h s is all z = λ dir script w. absurd (apart words dir script h.0 h.1 w h.2)
   journal_printed Usage h s is all z = absurd (omega (arith, s, z))
   journal_printed (BadClass path r) h s is all z = absurd (omega (arith, s, z))
   journal_printed (BadProgram r) h s is all z = absurd (omega (arith, s, z))
@@ -33,11 +33,11 @@ module _ (words : List (String Global)) (old new : Seen) (printed : List ℕ) (b
 
   -- counts of a rewriting, where one was asked for
   pub rewriting_printed : (o : Outcome) → Says words old new o → status ≡ status_of o → IsTextOf o printed → Appends before now printed → status ≡ 0
-      → (dir to : List ℕ) → seen_words words ≡ rewrite_words dir to → (taken : ℕ) × (marked : ℕ) × IsRewritingOf old.files new.files dir to taken marked × Appends before now (counts_text taken marked)
+      → (dir to : List ℕ) → seen_words words ≡ rewrite_words dir to → (classes : ℕ) × (taken : ℕ) × (marked : ℕ) × IsRewritingOf old.files new.files dir to classes taken marked × Appends before now (counts_text classes taken marked)
   rewriting_printed (Journal text) h s is all z = λ dir to w. absurd (apart words h.0 h.1 dir to h.2 w)
-  rewriting_printed (Rewritten t m) h s is all z = λ dir to w.
+  rewriting_printed (Rewritten n t m) h s is all z = λ dir to w.
       let same = one_rewriting words h.0 h.1 dir to h.2 w in
-      (t, m, rw (same.0, same.1) at h.3, rw is at all)
+      (n, t, m, rw (same.0, same.1) at h.3, rw is at all)
   rewriting_printed Usage h s is all z = absurd (omega (arith, s, z))
   rewriting_printed (BadClass path r) h s is all z = absurd (omega (arith, s, z))
   rewriting_printed (BadProgram r) h s is all z = absurd (omega (arith, s, z))
@@ -52,7 +52,7 @@ module _ (words : List (String Global)) (old new : Seen) (printed : List ℕ) (b
   pub fault_printed : (o : Outcome) → Says words old new o → status ≡ status_of o → IsTextOf o printed → Appends before now printed → status ≡ 3
       → (path : List ℕ) × (r : Refusal) × IsBadClassOfWords words old.files path r × Appends before now (error_text (codes "3") (path and refusal_text r))
   fault_printed (Journal text) h s is all z = absurd (omega (arith, s, z))
-  fault_printed (Rewritten t m) h s is all z = absurd (omega (arith, s, z))
+  fault_printed (Rewritten n t m) h s is all z = absurd (omega (arith, s, z))
   fault_printed Usage h s is all z = absurd (omega (arith, s, z))
   fault_printed (BadClass path r) h s is all z = (string_bytes path, r, h, rw is at all)
   fault_printed (BadProgram r) h s is all z = absurd (omega (arith, s, z))
@@ -67,7 +67,7 @@ module _ (words : List (String Global)) (old new : Seen) (printed : List ℕ) (b
   pub program_printed : (o : Outcome) → Says words old new o → status ≡ status_of o → IsTextOf o printed → Appends before now printed → status ≡ 4
       → (r : Refusal) × IsBadProgramOfWords words old.files r × Appends before now (error_text (codes "4") (refusal_text r))
   program_printed (Journal text) h s is all z = absurd (omega (arith, s, z))
-  program_printed (Rewritten t m) h s is all z = absurd (omega (arith, s, z))
+  program_printed (Rewritten n t m) h s is all z = absurd (omega (arith, s, z))
   program_printed Usage h s is all z = absurd (omega (arith, s, z))
   program_printed (BadClass path r) h s is all z = absurd (omega (arith, s, z))
   program_printed (BadProgram r) h s is all z = (r, h, rw is at all)
@@ -82,7 +82,7 @@ module _ (words : List (String Global)) (old new : Seen) (printed : List ℕ) (b
   pub untyped_printed : (o : Outcome) → Says words old new o → status ≡ status_of o → IsTextOf o printed → Appends before now printed → status ≡ 5
       → (r : Refusal) × IsUntypableOfWords words old.files r × Appends before now (error_text (codes "5") (refusal_text r))
   untyped_printed (Journal text) h s is all z = absurd (omega (arith, s, z))
-  untyped_printed (Rewritten t m) h s is all z = absurd (omega (arith, s, z))
+  untyped_printed (Rewritten n t m) h s is all z = absurd (omega (arith, s, z))
   untyped_printed Usage h s is all z = absurd (omega (arith, s, z))
   untyped_printed (BadClass path r) h s is all z = absurd (omega (arith, s, z))
   untyped_printed (BadProgram r) h s is all z = absurd (omega (arith, s, z))
@@ -97,7 +97,7 @@ module _ (words : List (String Global)) (old new : Seen) (printed : List ℕ) (b
   pub script_printed : (o : Outcome) → Says words old new o → status ≡ status_of o → IsTextOf o printed → Appends before now printed → status ≡ 6
       → (r : Refusal) × IsBadScriptOfWords words old.files r × Appends before now (error_text (codes "6") (refusal_text r))
   script_printed (Journal text) h s is all z = absurd (omega (arith, s, z))
-  script_printed (Rewritten t m) h s is all z = absurd (omega (arith, s, z))
+  script_printed (Rewritten n t m) h s is all z = absurd (omega (arith, s, z))
   script_printed Usage h s is all z = absurd (omega (arith, s, z))
   script_printed (BadClass path r) h s is all z = absurd (omega (arith, s, z))
   script_printed (BadProgram r) h s is all z = absurd (omega (arith, s, z))
@@ -112,7 +112,7 @@ module _ (words : List (String Global)) (old new : Seen) (printed : List ℕ) (b
   pub unopened_printed : (o : Outcome) → Says words old new o → status ≡ status_of o → IsTextOf o printed → Appends before now printed → status ≡ 7
       → (class : List ℕ) × (x : Answer) × IsUnopenedOfWords words old.files class x × Appends before now (error_text (codes "7") (class and answer_text x))
   unopened_printed (Journal text) h s is all z = absurd (omega (arith, s, z))
-  unopened_printed (Rewritten t m) h s is all z = absurd (omega (arith, s, z))
+  unopened_printed (Rewritten n t m) h s is all z = absurd (omega (arith, s, z))
   unopened_printed Usage h s is all z = absurd (omega (arith, s, z))
   unopened_printed (BadClass path r) h s is all z = absurd (omega (arith, s, z))
   unopened_printed (BadProgram r) h s is all z = absurd (omega (arith, s, z))
@@ -122,3 +122,23 @@ module _ (words : List (String Global)) (old new : Seen) (printed : List ℕ) (b
   unopened_printed (Outside path) h s is all z = absurd (omega (arith, s, z))
   unopened_printed (NotPut path) h s is all z = absurd (omega (arith, s, z))
   unopened_printed NotBuilt h s is all z = absurd (omega (arith, s, z))
+
+-- nothing is put before a refusal
+pub refusal_keeps : (o : Outcome) (old new : Seen) (status : ℕ) → Keeps o old new → status ≡ status_of o → IsRefusal status → new.files ≡ old.files
+refusal_keeps (Journal text) old new status kept s h = kept
+refusal_keeps (Rewritten n t m) old new status kept s h = absurd (none status s h)
+  where
+    none : (status : ℕ) → status ≡ 0 → IsRefusal status → ⊥
+    none status s h = grind (arith, s, h)
+refusal_keeps Usage old new status kept s h = kept
+refusal_keeps (BadClass path r) old new status kept s h = kept
+refusal_keeps (BadProgram r) old new status kept s h = kept
+refusal_keeps (Untyped r) old new status kept s h = kept
+refusal_keeps (BadScript r) old new status kept s h = kept
+refusal_keeps (Unopened class x) old new status kept s h = kept
+refusal_keeps (Outside path) old new status kept s h = kept
+refusal_keeps (NotPut path) old new status kept s h = absurd (none status s h)
+  where
+    none : (status : ℕ) → status ≡ 11 → IsRefusal status → ⊥
+    none status s h = grind (arith, s, h)
+refusal_keeps NotBuilt old new status kept s h = kept

@@ -1,9 +1,9 @@
 -- Files that were read whole.
-use Rattle.std.proofs.Common.{◌≡◌, ◌∙◌, ℕ, suc, ◌≤◌, List, [], ◌∷◌, ◌++◌, length, get_or, min, Option, Some, None, refl, sym, subst, ap, take, arith}
+use Rattle.std.proofs.Common.{◌≡◌, ◌∙◌, ℕ, suc, ◌≤◌, List, [], ◌∷◌, ◌++◌, length, map, min, Option, Some, None, refl, sym, subst, ap, take, arith}
 use Rattle.std.specs.Prelude.{option_map, string_bytes}
 use Rattle.std.specs.List.{AllByRecursion, AllZip}
-use Rattle.std.proofs.lemmas.List.{length-take, take_all, map-append}
-use Rattle.deuce_io.specs.Files.{Files, inside, with_content}
+use Rattle.std.proofs.lemmas.List.{length-map, length-take, take_all, map-append}
+use Rattle.deuce_io.specs.Files.{Files, inside}
 use Rattle.jmodel.specs.declared.refusal.Refusal.{Refusal}
 use Rattle.jmodel.specs.declared.value.Answer.{Answer}
 use Rattle.jmodel.specs.ClassFile.{ClassFile}
@@ -12,8 +12,8 @@ use Rattle.deuce.specs.declared.inputs.ClassInput.{ClassInput}
 use Rattle.deuce.specs.declared.inputs.Inputs.{Inputs}
 use Rattle.deuce.specs.Headline.{IsRun}
 use Rattle.deuce.specs.Rewritten.{IsRewriting}
-use Rattle.deuce.specs.Folder.{HoldsClasses, HoldsOneClass, IsFrontOf, Holds, IsFileOf, IsGoodFile, HasClasses, HasClass, IsBadClass}
-use Rattle.deuce.specs.Ending.{IsClassInput, AreClassInputs, AreInputs, names_of, AreClassesOf, IsFirstFault, IsJournalOf, IsRewritingOf, PutsOne, IsUnopened, HasUnopened}
+use Rattle.deuce.specs.Folder.{HoldsClasses, HoldsContents, IsFrontOf, Holds, IsFileOf, IsGoodFile, HasClasses, IsBadClass, with_files, placed_in, ArePutUpTo}
+use Rattle.deuce.specs.Ending.{IsClassInput, AreClassInputs, AreInputs, names_of, AreClassesOf, IsFirstFault, IsJournalOf, AreRewritten, IsRewritingOf, StopsAt, IsUnopened, HasUnopened}
 
 whole : (most limit : ℕ) (o : Option (List ℕ)) (bytes : List ℕ) → most ≡ suc limit → option_map (take most) o ≡ Some bytes → length bytes ≤ limit → o ≡ Some bytes
 whole most limit None bytes m e le = absurd (cc)
@@ -26,10 +26,22 @@ whole most limit (Some xs) bytes m e le =
 holds : (files : Option Files) (path : List ℕ) (most limit : ℕ) (bytes : List ℕ) → most ≡ suc limit → IsFrontOf files path most bytes → length bytes ≤ limit → Holds files path bytes
 holds files path most limit bytes m front le = λ told is. whole most limit (told path) bytes m (front told is) le
 
--- a class that was read keeps the rules of class files
-pub lone_form : (inputs : List ClassInput) (c : ClassFile) → AreClassesOf inputs (c ∷ []) → IsClassFile c
-lone_form [] c good = absurd good
-lone_form (i ∷ inputs) c good = good.0.1.class
+-- classes that were read keep the rules of class files
+pub all_form : (inputs : List ClassInput) (cs : List ClassFile) → AreClassesOf inputs cs → AllByRecursion IsClassFile cs
+all_form [] [] good = tt
+all_form [] (c ∷ cs) good = absurd good
+all_form (i ∷ inputs) [] good = absurd good
+all_form (i ∷ inputs) (c ∷ cs) good = (good.0.1.class, all_form inputs cs good.1)
+
+-- the bytes that were read
+abbrev pub contents_of : List ClassInput → List (List ℕ)
+contents_of inputs = map (λ (i : ClassInput). i.bytes) inputs
+
+pub all_spell : (inputs : List ClassInput) (cs : List ClassFile) → AreClassesOf inputs cs → AllZip Spells (contents_of inputs) cs
+all_spell [] [] good = tt
+all_spell [] (c ∷ cs) good = absurd good
+all_spell (i ∷ inputs) [] good = absurd good
+all_spell (i ∷ inputs) (c ∷ cs) good = (good.0.1, all_spell inputs cs good.1)
 
 module _ (files : Option Files) (dir : List ℕ) where
   -- a class file that is good
@@ -87,58 +99,62 @@ module _ (files : Option Files) (dir : List ℕ) where
       those_before [] ys h = tt
       those_before (x ∷ xs) ys h = (h.0, those_before xs ys h.1)
 
-  -- the class file that stands alone
-  pub record IsLoneFile (c : ClassFile) (input : ClassInput) : Type 0 where
-    pub class_file : HoldsOneClass files dir (string_bytes input.name)
-    pub class : Holds files (inside dir (string_bytes input.name)) input.bytes
-    pub spells : Spells input.bytes c
-
-  pub lone_file : (inputs : List ClassInput) (c : ClassFile) → AreClassInputs files dir inputs → AreClassesOf inputs (c ∷ []) → (input : ClassInput) × (inputs ≡ input ∷ []) × IsLoneFile c input
+  -- the class files have what was read
+  all_hold : (inputs : List ClassInput) (cs : List ClassFile) → AllByRecursion (IsClassInput files dir) inputs → AreClassesOf inputs cs → AllZip (λ name. Holds files (inside dir name)) (names_of inputs) (contents_of inputs)
   unfolding good_file
-  lone_file [] c a good = absurd good
-  lone_file (i ∷ []) c a good = (i, refl, record { class_file = a.class_files; class = (good_file i c a.each.0 good.0).holds; spells = good.0.1 })
-  lone_file (i ∷ j ∷ inputs) c a good = absurd good.1
+  all_hold [] cs a good = tt
+  all_hold (i ∷ inputs) [] a good = absurd good
+  all_hold (i ∷ inputs) (c ∷ cs) a good = ((good_file i c a.0 good.0).holds, all_hold inputs cs a.1 good.1)
 
-  -- it is the first
-  pub first_file : (inputs : List ClassInput) (c : ClassFile) (first : ClassInput) → first ≡ get_or inputs 0 first → AreClassInputs files dir inputs → AreClassesOf inputs (c ∷ []) → IsLoneFile c first
-  first_file inputs c first is a good =
-      let lone = lone_file inputs c a good in
-      subst (IsLoneFile c) (sym (is ∙ ap (λ (l : List ClassInput). get_or l 0 first) lone.1)) lone.2
+  pub read_whole : (inputs : List ClassInput) (cs : List ClassFile) → AreClassInputs files dir inputs → AreClassesOf inputs cs → HoldsContents files dir (names_of inputs) (contents_of inputs)
+  read_whole inputs cs a good = record { class_files = a.class_files; each = all_hold inputs cs a.each good }
 
 -- a run of what was read whole
-pub journal_of : (files : Option Files) (dir script : List ℕ) (inputs : Inputs) (c : ClassFile) (text : List ℕ) → AreInputs files dir script inputs → AreClassesOf inputs.classes.items (c ∷ [])
-    → ((bytes : List ℕ) → Spells bytes c → IsRun bytes inputs.script text) → IsJournalOf files dir script text
-journal_of files dir script inputs c text a good ran =
-    let lone = lone_file files dir inputs.classes.items c a.of_classes good in
-    let run = ran lone.0.bytes lone.2.spells in
+pub journal_of : (files : Option Files) (dir script : List ℕ) (inputs : Inputs) (cs : List ClassFile) (text : List ℕ) → AreInputs files dir script inputs → AreClassesOf inputs.classes.items cs
+    → ((contents : List (List ℕ)) → AllZip Spells contents cs → IsRun contents inputs.script text) → IsJournalOf files dir script text
+journal_of files dir script inputs cs text a good ran =
+    let run = ran (contents_of inputs.classes.items) (all_spell inputs.classes.items cs good) in
     record {
-      name = string_bytes lone.0.name;
-      class_file = lone.2.class_file;
-      class_bytes = lone.0.bytes;
-      class = lone.2.class;
+      names = names_of inputs.classes.items;
+      contents = contents_of inputs.classes.items;
+      class_files = read_whole files dir inputs.classes.items cs a.of_classes good;
       script_bytes = inputs.script;
       script_holds = holds files script 16777217 16777216 inputs.script refl a.script_bytes run.is_script.fits;
       run = run;
     }
 
 -- a run that doesn't begin, of what was read whole
-pub unopened_of : (files : Option Files) (dir script bytes name : List ℕ) (x : Answer) → IsFrontOf files script 16777217 bytes → length bytes ≤ 16777216 → HasClass files dir (IsUnopened bytes name x) → HasUnopened files dir script name x
-unopened_of files dir script bytes name x front fits h = record { script_bytes = bytes; script_holds = holds files script 16777217 16777216 bytes refl front fits; of_class = h }
+pub unopened_of : (files : Option Files) (dir script bytes name : List ℕ) (x : Answer) → IsFrontOf files script 16777217 bytes → length bytes ≤ 16777216 → HasClasses files dir (IsUnopened bytes name x) → HasUnopened files dir script name x
+unopened_of files dir script bytes name x front fits h = record { script_bytes = bytes; script_holds = holds files script 16777217 16777216 bytes refl front fits; of_classes = h }
 
-module _ (files files' : Option Files) (dir out path : List ℕ) (c : ClassFile) (input : ClassInput) (lone : IsLoneFile files dir c input) (at_path : path ≡ inside out (string_bytes input.name)) where
-  -- a rewriting of what was read whole, that was put
-  pub rewriting_of : (new : List ℕ) (taken marked : ℕ) → ((bytes : List ℕ) → Spells bytes c → IsRewriting bytes new taken marked)
-      → files' ≡ option_map (with_content path (Some new)) files → IsRewritingOf files files' dir out taken marked
-  rewriting_of new taken marked rewriting put = record {
-    name = string_bytes input.name;
-    class_file = lone.class_file;
-    class_bytes = input.bytes;
-    class = lone.class;
-    new = new;
-    rewriting = rewriting input.bytes lone.spells;
-    put = rw at_path at put;
+-- a rewriting of what was read whole
+pub rewritten_of : (files : Option Files) (dir : List ℕ) (inputs : List ClassInput) (cs : List ClassFile) (news : List (List ℕ)) (taken marked : ℕ) → AreClassInputs files dir inputs → AreClassesOf inputs cs
+    → ((contents : List (List ℕ)) → AllZip Spells contents cs → IsRewriting contents news taken marked) → AreRewritten files dir (names_of inputs) news taken marked
+rewritten_of files dir inputs cs news taken marked a good made = record {
+  contents = contents_of inputs;
+  class_files = read_whole files dir inputs cs a good;
+  rewriting = made (contents_of inputs) (all_spell inputs cs good);
+}
+
+module _ (files files' : Option Files) (dir out : List ℕ) (inputs : List ClassInput) (news : List (List ℕ)) (taken marked : ℕ) (made : AreRewritten files dir (names_of inputs) news taken marked)
+    (puts : List (List ℕ × List ℕ)) (are : puts ≡ placed_in out (names_of inputs) news) where
+  -- that was put
+  pub rewriting_of : (classes : ℕ) → classes ≡ length inputs → files' ≡ option_map (with_files puts) files → IsRewritingOf files files' dir out classes taken marked
+  rewriting_of classes count put = record {
+    names = names_of inputs;
+    news = news;
+    rewriting = made;
+    count = count ∙ sym (length-map inputs (λ (i : ClassInput). string_bytes i.name));
+    put = subst (λ (fs : List (List ℕ × List ℕ)). files' ≡ option_map (with_files fs) files) are put;
   }
 
-  -- one path, of which nothing is known
-  pub one_put : (found : Option (List ℕ)) → files' ≡ option_map (with_content path found) files → PutsOne files files' dir out
-  one_put found left = record { name = string_bytes input.name; class_file = lone.class_file; found = found; left = rw at_path at left }
+  -- or the puts of which stopped
+  pub stopped_at : (path : List ℕ) → ArePutUpTo puts files files' path → StopsAt files files' dir out path
+  stopped_at path put = record {
+    names = names_of inputs;
+    news = news;
+    taken = taken;
+    marked = marked;
+    rewriting = made;
+    put = subst (λ (fs : List (List ℕ × List ℕ)). ArePutUpTo fs files files' path) are put;
+  }

@@ -141,67 +141,67 @@ are_ints : (types : List WordType) (path : List ℕ) (args : List Data) (vs : Li
 are_ints types path args vs h =
     each_gives (value_in types path) (IsOfType word.Int) (λ i d v is. let t = unwrap_or (slice_get types i) word.Int in is_int t d v (there (BadArgs (at path i)) (as_value t d) v is)) 0 args vs h
 
-module _ (file : ClassFile) (P : Program) where
+module _ (cs : List ClassFile) (P : Program) where
   -- a call of a method with as many ints as that takes
   call_made : (m many : ℕ) (vs : List Value) (k : Known) → takes (method_at P m) many ≡ true → length vs ≡ many → AllByRecursion (IsOfType word.Int) vs → ◌≡◌ {A = Result Known Refusal} (Ok (record { method = m; args = vs })) (Ok k) → IsCallOf P k
   call_made m many vs k taken count all h =
       let same : k ≡ record { method = m; args = vs } = cc in
       rw same (record { takes_them = ap (takes (method_at P m)) count ∙ taken; ints = all })
 
-  is_call : (path : List ℕ) (d : Data) (k : Known) → known_at file P path d ≡ Ok k → IsCallOf P k
+  is_call : (path : List ℕ) (d : Data) (k : Known) → known_at cs P path d ≡ Ok k → IsCallOf P k
   is_call path d k h =
       let place = under path (codes "args") in
       let made : ℕ → List Value → Result Known Refusal = λ m vs. Ok (record { method = m; args = vs }) in
       let taken : List Data → ℕ → Result Known Refusal = λ args m. must (takes (method_at P m) (length args)) (BadArgs place) (values_of (types_of (method_at P m)) place args >>= made m) in
-      let named : List ℕ → List Data → Result Known Refusal = λ text args. or_refused (not_callable file (under path (codes "call")) text) (number_named P text) >>= taken args in
+      let named : List ℕ → List Data → Result Known Refusal = λ text args. or_refused (not_callable cs (under path (codes "call")) text) (number_named P text) >>= taken args in
       let a = passed (is_object_of (codes "call" ∷ codes "args" ∷ []) d) (bad_shape path) (wanted as_str path (codes "call") d >>= λ text. wanted as_list path (codes "args") d >>= named text) k h in
       let b = bound (wanted as_str path (codes "call") d) (λ text. wanted as_list path (codes "args") d >>= named text) k a.1 in
       let c = bound (wanted as_list path (codes "args") d) (named b.0) k b.2 in
-      let m = bound (or_refused (not_callable file (under path (codes "call")) b.0) (number_named P b.0)) (taken c.0) k c.2 in
+      let m = bound (or_refused (not_callable cs (under path (codes "call")) b.0) (number_named P b.0)) (taken c.0) k c.2 in
       let e = passed (takes (method_at P m.0) (length c.0)) (BadArgs place) (values_of (types_of (method_at P m.0)) place c.0 >>= made m.0) k m.2 in
       let types = types_of (method_at P m.0) in
       let v = bound (values_of types place c.0) (made m.0) k e.1 in
       call_made m.0 (length c.0) v.0 k e.0 (each_length (value_in types place) 0 c.0 v.0 v.1) (are_ints types place c.0 v.0 v.1) v.2
 
-  lane_calls_are : (path : List ℕ) (l : ℕ) (ds : List Data) (ks : List Known) → lane_in file P path l ds ≡ Ok ks → AllByRecursion (IsCallOf P) ks
-  lane_calls_are path l = each_gives (call_in file P (at path l)) (IsCallOf P) (λ i d k is. is_call (at (at path l) i) d k is) 0
+  lane_calls_are : (path : List ℕ) (l : ℕ) (ds : List Data) (ks : List Known) → lane_in cs P path l ds ≡ Ok ks → AllByRecursion (IsCallOf P) ks
+  lane_calls_are path l = each_gives (call_in cs P (at path l)) (IsCallOf P) (λ i d k is. is_call (at (at path l) i) d k is) 0
 
-  lanes_are_calls : (p : ℕ) (ls : List (List Data)) (phase : Phase) → lanes_of file P p ls ≡ Ok phase → AllByRecursion (AllByRecursion (IsCallOf P)) phase
-  lanes_are_calls p = each_gives (lane_in file P (lanes_path p)) (AllByRecursion (IsCallOf P)) (lane_calls_are (lanes_path p)) 0
+  lanes_are_calls : (p : ℕ) (ls : List (List Data)) (phase : Phase) → lanes_of cs P p ls ≡ Ok phase → AllByRecursion (AllByRecursion (IsCallOf P)) phase
+  lanes_are_calls p = each_gives (lane_in cs P (lanes_path p)) (AllByRecursion (IsCallOf P)) (lane_calls_are (lanes_path p)) 0
 
-  bag_calls_are : (p : ℕ) (ds : List Data) (ks : List Known) → bag_of file P p ds ≡ Ok ks → AllByRecursion (IsCallOf P) ks
-  bag_calls_are p = each_gives (call_in file P (bag_path p)) (IsCallOf P) (λ i d k is. is_call (at (bag_path p) i) d k is) 0
+  bag_calls_are : (p : ℕ) (ds : List Data) (ks : List Known) → bag_of cs P p ds ≡ Ok ks → AllByRecursion (IsCallOf P) ks
+  bag_calls_are p = each_gives (call_in cs P (bag_path p)) (IsCallOf P) (λ i d k is. is_call (at (bag_path p) i) d k is) 0
 
-  phase_calls_are : (lanes p : ℕ) (l : Listed) (phase : ScriptPhase) → phase_of file P lanes p l ≡ Ok phase → AllByRecursion (AllByRecursion (IsCallOf P)) (lists_in phase)
+  phase_calls_are : (lanes p : ℕ) (l : Listed) (phase : ScriptPhase) → phase_of cs P lanes p l ≡ Ok phase → AllByRecursion (AllByRecursion (IsCallOf P)) (lists_in phase)
   phase_calls_are lanes p (InLanes ls) phase h =
-      let a = bound (lanes_of file P p ls) (λ ks. Ok (Lanes ks)) phase h in
+      let a = bound (lanes_of cs P p ls) (λ ks. Ok (Lanes ks)) phase h in
       let same : phase ≡ Lanes a.0 = let is = a.2 in cc in
       rw same (lanes_are_calls p ls a.0 a.1)
   phase_calls_are lanes p (InBag ds) phase h =
-      let a = bound (bag_of file P p ds) (λ ks. Ok (Bag lanes ks)) phase h in
+      let a = bound (bag_of cs P p ds) (λ ks. Ok (Bag lanes ks)) phase h in
       let same : phase ≡ Bag lanes a.0 = let is = a.2 in cc in
       rw same (bag_calls_are p ds a.0 a.1, tt)
 
-  calls_are : (lanes : ℕ) (lists : List Listed) (phases : List ScriptPhase) → each_from (phase_of file P lanes) 0 lists ≡ Ok phases
+  calls_are : (lanes : ℕ) (lists : List Listed) (phases : List ScriptPhase) → each_from (phase_of cs P lanes) 0 lists ≡ Ok phases
       → AllByRecursion (λ (p : ScriptPhase). AllByRecursion (AllByRecursion (IsCallOf P)) (lists_in p)) phases
-  calls_are lanes = each_gives (phase_of file P lanes) (λ (p : ScriptPhase). AllByRecursion (AllByRecursion (IsCallOf P)) (lists_in p)) (phase_calls_are lanes) 0
+  calls_are lanes = each_gives (phase_of cs P lanes) (λ (p : ScriptPhase). AllByRecursion (AllByRecursion (IsCallOf P)) (lists_in p)) (phase_calls_are lanes) 0
 
   -- a phase has as many lanes as there are lists of calls
-  phase_lanes_are : (lanes p : ℕ) (l : Listed) (phase : ScriptPhase) → (1 ≤ lanes) × (lanes ≤ 16) → FewLists l → phase_of file P lanes p l ≡ Ok phase → HasLanes phase
+  phase_lanes_are : (lanes p : ℕ) (l : Listed) (phase : ScriptPhase) → (1 ≤ lanes) × (lanes ≤ 16) → FewLists l → phase_of cs P lanes p l ≡ Ok phase → HasLanes phase
   phase_lanes_are lanes p (InLanes ls) phase some few h =
-      let a = bound (lanes_of file P p ls) (λ ks. Ok (Lanes ks)) phase h in
+      let a = bound (lanes_of cs P p ls) (λ ks. Ok (Lanes ks)) phase h in
       let same : phase ≡ Lanes a.0 = let is = a.2 in cc in
-      let long = each_length (lane_in file P (lanes_path p)) 0 ls a.0 a.1 in
+      let long = each_length (lane_in cs P (lanes_path p)) 0 ls a.0 a.1 in
       rw same (omega (arith, few, long))
   phase_lanes_are lanes p (InBag ds) phase some few h =
-      let a = bound (bag_of file P p ds) (λ ks. Ok (Bag lanes ks)) phase h in
+      let a = bound (bag_of cs P p ds) (λ ks. Ok (Bag lanes ks)) phase h in
       let same : phase ≡ Bag lanes a.0 = let is = a.2 in cc in
       rw same some
 
   lanes_are : (lanes : ℕ) (lists : List Listed) (phases : List ScriptPhase) → (1 ≤ lanes) × (lanes ≤ 16) → AllByRecursion FewLists lists
-      → each_from (phase_of file P lanes) 0 lists ≡ Ok phases → AllByRecursion HasLanes phases
+      → each_from (phase_of cs P lanes) 0 lists ≡ Ok phases → AllByRecursion HasLanes phases
   lanes_are lanes lists phases some few h =
-      each_all (phase_of file P lanes) FewLists HasLanes (λ p l phase le is. phase_lanes_are lanes p l phase some le is) 0 lists phases few h
+      each_all (phase_of cs P lanes) FewLists HasLanes (λ p l phase le is. phase_lanes_are lanes p l phase some le is) 0 lists phases few h
 
 -- ---- how many lanes and calls there are
 
@@ -263,35 +263,35 @@ many_in_script phase (p ∷ ps) =
 -- ---- scripts
 
 -- the parts of a script
-record HasParts (file : ClassFile) (P : Program) (s : Script) : Type 0 where
+record HasParts (cs : List ClassFile) (P : Program) (s : Script) : Type 0 where
   head : Head
   lists : List Listed
   lanes : (int_le (pos 1) head.lanes && int_le head.lanes (pos 16)) ≡ true
   attempts : (int_le (pos 1) head.attempts && int_le head.attempts (pos 1000000)) ≡ true
   many : (int_le (pos 0) (pos (length lists)) && int_le (pos (length lists)) (pos 10000)) ≡ true
   few : AllByRecursion FewLists lists
-  phases : each_from (phase_of file P (unsigned_abs head.lanes)) 0 lists ≡ Ok s.phases
+  phases : each_from (phase_of cs P (unsigned_abs head.lanes)) 0 lists ≡ Ok s.phases
   calls : nat_le (sum_by calls_of s.phases) 100000 ≡ true
   attempts_are : s.attempts ≡ unsigned_abs head.attempts
-  region : (int_le (pos (length (opening_words (file ∷ [])))) head.region && int_le head.region (pos 1048576)) ≡ true
+  region : (int_le (pos (length (opening_words cs))) head.region && int_le head.region (pos 1048576)) ≡ true
   region_is : s.region ≡ unsigned_abs head.region
   lanes_is : s.lanes ≡ unsigned_abs head.lanes
 
-module _ (file : ClassFile) (P : Program) (s : Script) where
-  parts_of : (d : Data) (head : Head) (lists : List Listed) → lists_of head.lanes d ≡ Ok lists → script_of file P head lists ≡ Ok s → HasParts file P s
+module _ (cs : List ClassFile) (P : Program) (s : Script) where
+  parts_of : (d : Data) (head : Head) (lists : List Listed) → lists_of head.lanes d ≡ Ok lists → script_of cs P head lists ≡ Ok s → HasParts cs P s
   parts_of d head lists are h =
-      let ended : Head → Result Script Refusal = λ k. each_from (phase_of file P (unsigned_abs head.lanes)) 0 lists >>= script_with k in
-      let region : Head → Result Head Refusal = λ k. within (codes "region") (pos (length (opening_words (file ∷ [])))) (pos 1048576) k.region (within (codes "phases") (pos 0) (pos 10000) (pos (length lists)) (Ok k)) in
-      let a = bound (is_within file head (length lists)) ended s h in
+      let ended : Head → Result Script Refusal = λ k. each_from (phase_of cs P (unsigned_abs head.lanes)) 0 lists >>= script_with k in
+      let region : Head → Result Head Refusal = λ k. within (codes "region") (pos (length (opening_words cs))) (pos 1048576) k.region (within (codes "phases") (pos 0) (pos 10000) (pos (length lists)) (Ok k)) in
+      let a = bound (is_within cs head (length lists)) ended s h in
       let b = bound (numbers_within head) region a.0 a.1 in
       let lanes = inside (codes "lanes") (pos 1) (pos 16) head.lanes (within (codes "budget") (pos 1) (pos 1000000) head.budget (within (codes "attempts") (pos 1) (pos 1000000) head.attempts (Ok head))) b.0 b.1 in
       let budget = inside (codes "budget") (pos 1) (pos 1000000) head.budget (within (codes "attempts") (pos 1) (pos 1000000) head.attempts (Ok head)) b.0 lanes.1 in
       let attempts = inside (codes "attempts") (pos 1) (pos 1000000) head.attempts (Ok head) b.0 budget.1 in
-      let words = inside (codes "region") (pos (length (opening_words (file ∷ [])))) (pos 1048576) b.0.region (within (codes "phases") (pos 0) (pos 10000) (pos (length lists)) (Ok b.0)) a.0 b.2 in
+      let words = inside (codes "region") (pos (length (opening_words cs))) (pos 1048576) b.0.region (within (codes "phases") (pos 0) (pos 10000) (pos (length lists)) (Ok b.0)) a.0 b.2 in
       let many = inside (codes "phases") (pos 0) (pos 10000) (pos (length lists)) (Ok b.0) a.0 words.1 in
       let same_head : b.0 ≡ head = let x = attempts.1 in cc in
       let kept : head ≡ a.0 = let x = attempts.1 in let y = many.1 in cc in
-      let c = bound (each_from (phase_of file P (unsigned_abs head.lanes)) 0 lists) (script_with a.0) s a.2 in
+      let c = bound (each_from (phase_of cs P (unsigned_abs head.lanes)) 0 lists) (script_with a.0) s a.2 in
       let e = passed (nat_le (sum_by calls_of c.0) 100000) (OverLimit (codes "calls") (pos (sum_by calls_of c.0))) (Ok (record { budget = unsigned_abs a.0.budget; attempts = unsigned_abs a.0.attempts; lanes = unsigned_abs a.0.lanes; region = unsigned_abs a.0.region; phases = c.0 })) s c.2 in
       let is : s ≡ record { budget = unsigned_abs a.0.budget; attempts = unsigned_abs a.0.attempts; lanes = unsigned_abs a.0.lanes; region = unsigned_abs a.0.region; phases = c.0 } = let x = e.1 in cc in
       let phases : s.phases ≡ c.0 = ap (λ (t : Script). t.phases) is in
@@ -305,47 +305,47 @@ module _ (file : ClassFile) (P : Program) (s : Script) where
         phases = c.1 ∙ ap (λ (ps : List ScriptPhase). Ok ps) (sym phases);
         calls = ap (λ (ps : List ScriptPhase). nat_le (sum_by calls_of ps) 100000) phases ∙ e.0;
         attempts_are = ap (λ (t : Script). t.attempts) is ∙ ap (λ (k : Head). unsigned_abs k.attempts) (sym kept);
-        region = subst (λ (k : Head). (int_le (pos (length (opening_words (file ∷ [])))) k.region && int_le k.region (pos 1048576)) ≡ true) same_head words.0;
+        region = subst (λ (k : Head). (int_le (pos (length (opening_words cs))) k.region && int_le k.region (pos 1048576)) ≡ true) same_head words.0;
         lanes_is = ap (λ (t : Script). t.lanes) is ∙ ap (λ (k : Head). unsigned_abs k.lanes) (sym kept);
         region_is = ap (λ (t : Script). t.region) is ∙ ap (λ (k : Head). unsigned_abs k.region) (sym kept);
       }
 
-  parts : (bytes : List ℕ) → IsScript file P bytes s → HasParts file P s
+  parts : (bytes : List ℕ) → IsScript cs P bytes s → HasParts cs P s
   parts bytes is =
       let d = is.value in
-      let of_head : Head → Result Script Refusal = λ head. lists_of head.lanes d >>= script_of file P head in
+      let of_head : Head → Result Script Refusal = λ head. lists_of head.lanes d >>= script_of cs P head in
       let a = passed (is_object_of script_keys d) (bad_shape []) (head_of d >>= of_head) s is.script in
       let b = bound (head_of d) of_head s a.1 in
-      let c = bound (lists_of b.0.lanes d) (script_of file P b.0) s b.2 in
+      let c = bound (lists_of b.0.lanes d) (script_of cs P b.0) s b.2 in
       parts_of d b.0 c.0 c.1 c.2
 
   -- the calls of a script are as a run asks
-  pub scripted : (bytes : List ℕ) → IsScript file P bytes s → AreScripted P s.phases
+  pub scripted : (bytes : List ℕ) → IsScript cs P bytes s → AreScripted P s.phases
   scripted bytes is =
       let p = parts bytes is in
-      let same = each_length (phase_of file P (unsigned_abs p.head.lanes)) 0 p.lists s.phases p.phases in
+      let same = each_length (phase_of cs P (unsigned_abs p.head.lanes)) 0 p.lists s.phases p.phases in
       let many = few_phases (length p.lists) p.many in
       let calls = few_calls (sum_by calls_of s.phases) p.calls in
       let all = many_in_script 0 s.phases in
       record {
-        calls = calls_are file P (unsigned_abs p.head.lanes) p.lists s.phases p.phases;
-        lanes = lanes_are file P (unsigned_abs p.head.lanes) p.lists s.phases (some_lanes p.head.lanes p.lanes) p.few p.phases;
+        calls = calls_are cs P (unsigned_abs p.head.lanes) p.lists s.phases p.phases;
+        lanes = lanes_are cs P (unsigned_abs p.head.lanes) p.lists s.phases (some_lanes p.head.lanes p.lanes) p.few p.phases;
         few_phases = omega (arith, same, many);
         few_calls = omega (arith, all, calls);
       }
 
   -- and so are its attempts
-  pub few_attempts : (bytes : List ℕ) → IsScript file P bytes s → (1 ≤ s.attempts) × (s.attempts ≤ 1000000)
+  pub few_attempts : (bytes : List ℕ) → IsScript cs P bytes s → (1 ≤ s.attempts) × (s.attempts ≤ 1000000)
   few_attempts bytes is =
       let p = parts bytes is in
       rw p.attempts_are (some p.head.attempts p.attempts, few p.head.attempts p.attempts)
 
   -- a region has room for the words that a run begins with
-  pub region_fits : (bytes : List ℕ) → IsScript file P bytes s → (length (opening_words (file ∷ [])) ≤ s.region) × (s.region ≤ 1048576)
+  pub region_fits : (bytes : List ℕ) → IsScript cs P bytes s → (length (opening_words cs) ≤ s.region) × (s.region ≤ 1048576)
   region_fits bytes is =
       let p = parts bytes is in
-      rw p.region_is (room (length (opening_words (file ∷ []))) p.head.region p.region, most_words (length (opening_words (file ∷ []))) p.head.region p.region)
+      rw p.region_is (room (length (opening_words cs)) p.head.region p.region, most_words (length (opening_words cs)) p.head.region p.region)
 
   -- and there are few lanes
-  pub lanes_fit : (bytes : List ℕ) → IsScript file P bytes s → s.lanes ≤ 16
+  pub lanes_fit : (bytes : List ℕ) → IsScript cs P bytes s → s.lanes ≤ 16
   lanes_fit bytes is = let p = parts bytes is in rw p.lanes_is (some_lanes p.head.lanes p.lanes).1

@@ -1,38 +1,41 @@
 -- What the program writes, and why it ends as it does.
-use Rattle.std.specs.Prelude.{◌≡◌, ◌⊎◌, ℕ, ◌≤◌, pos, List, [], ◌∷◌, ◌++◌, length, map, Bool, true, Option, Some, None, Ok, Err, Contains, slice_get, codes, string_bytes, option_map, take}
+use Rattle.std.specs.Prelude.{◌≡◌, ◌⊎◌, ℕ, ◌<◌, ◌≤◌, pos, List, ◌∷◌, ◌++◌, length, map, bytes_eq, Bool, true, Option, Some, None, Ok, Err, Contains, slice_get, codes, string_bytes, option_map, take}
 use Rattle.std.specs.List.{AllByRecursion, AllZip}
-use Rattle.deuce_io.specs.Fault.{Call, list_of, read_of, put_of, Rose}
-use Rattle.deuce_io.specs.Files.{Files, inside, with_content, StandsIn}
+use Rattle.std.specs.Borrow.{Bor}
+use Rattle.std.specs.Map.{lookup}
+use Rattle.deuce_io.specs.Fault.{Call, list_of, read_of, put_of, Rose, HasFailed}
+use Rattle.deuce_io.specs.Files.{Files, inside}
 use Rattle.deuce_io.specs.declared.end.IoEnd.{IoEnd}
 use Rattle.deuce_io.specs.declared.end.IoEnd.TheVariants as io
 use Rattle.jmodel.specs.declared.refusal.Refusal.{Refusal}
-use Rattle.jmodel.specs.declared.refusal.Refusal.TheVariants.{OverLimit, PoolFull, Untypable}
+use Rattle.jmodel.specs.declared.refusal.Refusal.TheVariants.{OverLimit, Untypable}
 use Rattle.jmodel.specs.ClassFile.{ClassFile}
-use Rattle.jmodel.specs.ClassRules.{Spells}
 use Rattle.jmodel.specs.Name.{printed}
 use Rattle.jmodel.specs.declared.value.Answer.{Answer}
-use Rattle.jmodel.specs.Program.{Method, Program}
+use Rattle.jmodel.specs.Program.{Method, Program, method_at}
 use Rattle.jmodel.specs.State.{State}
 use Rattle.jmodel.specs.Layout.{opening_state}
-use Rattle.jmodel.specs.Opening.{initialisers, Opening, Fails}
+use Rattle.jmodel.specs.Opening.{Opening, Fails}
 use Rattle.driver.specs.declared.memory.Memory.{Memory}
 use Rattle.driver.specs.Memory.{Holds as StandsFor}
 use Rattle.driver.specs.declared.setting_up.SetUpEnd.{SetUpEnd}
 use Rattle.driver.specs.declared.setting_up.SetUpEnd.TheVariants as set_ends
-use Rattle.jmodel.specs.Decoding.{own_name}
-use Rattle.jmodel.specs.Linking.{linking, linked, pc_of}
-use Rattle.jmodel.specs.ClassesLinking.{linking_files}
+use Rattle.jmodel.specs.Superclasses.{class_named}
+use Rattle.jmodel.specs.Classes.{in_order, doubled_class}
+use Rattle.jmodel.specs.ClassesLinking.{linking, linking_files, pc_of, initialisers_in}
 use Rattle.jmodel.specs.Typing.{IsTypable, IsUntypableAt}
-use Rattle.rewriter.specs.Rewritten.{rewritten_class}
+use Rattle.rewriter.specs.RewrittenClasses.{rewritten_classes}
 use Rattle.script.specs.Script.{Script, IsScript, IsFault}
-use Rattle.hierarchy.specs.Faults.{fault_in}
-use Rattle.deuce.specs.Folder.{IsClassFileName, AreClassNames, HoldsClasses, HoldsOneClass, HasFolder, HasManyClasses, IsFrontOf, Holds, IsFileFault, IsFileOf, HasClasses, IsLone, IfLone, HasClass}
-use Rattle.deuce.specs.Headline.{IsRun, CanRun, IsRunnable}
+use Rattle.deuce.specs.Folder.{IsClassFileName, HoldsClasses, HasFolder, HasManyClasses, IsFrontOf, Holds, HoldsContents, IsFileFault, IsFileOf, HasClasses, with_files, placed_in, ArePutUpTo}
+use Rattle.deuce.specs.Headline.{name_in, linked_files, IsRun, CanRun, IsRunnable}
 use Rattle.deuce.specs.Rewritten.{IsRewriting, CanRewrite, HasManyMembers}
 use Rattle.deuce.specs.declared.inputs.ClassInput.{ClassInput}
 use Rattle.deuce.specs.declared.inputs.Inputs.{Inputs}
 use Rattle.deuce.specs.declared.inputs.InputEnd.{InputEnd}
 use Rattle.deuce.specs.declared.inputs.InputEnd.TheVariants as ends
+use Rattle.deuce.specs.declared.putting.NewFile.{NewFile}
+use Rattle.deuce.specs.declared.putting.PutEnd.{PutEnd}
+use Rattle.deuce.specs.declared.putting.PutEnd.TheVariants as put_ends
 use Rattle.deuce.specs.declared.run.RunEnd.{RunEnd}
 use Rattle.deuce.specs.declared.run.RunEnd.TheVariants as run_ends
 
@@ -72,148 +75,136 @@ pub record AreInputs (files : Option Files) (dir script : List ℕ) (inputs : In
   pub of_classes : AreClassInputs files dir inputs.classes.items
   pub script_bytes : IsFrontOf files script 16777217 inputs.script
 
--- The text is that of a run of the script at a path on the class file of a folder.
+-- The text is that of a run of the script at a path on the class files of a folder.
 pub record IsJournalOf (files : Option Files) (dir script text : List ℕ) : Type 0 where
-  pub name : List ℕ
-  pub class_file : HoldsOneClass files dir name
-  pub class_bytes : List ℕ
-  pub class : Holds files (inside dir name) class_bytes
+  pub names : List (List ℕ)
+  pub contents : List (List ℕ)
+  pub class_files : HoldsContents files dir names contents
   pub script_bytes : List ℕ
   pub script_holds : Holds files script script_bytes
-  pub run : IsRun class_bytes script_bytes text
+  pub run : IsRun contents script_bytes text
 
--- The one class file of a folder was rewritten, and the new one put into another folder under its own name, with nothing else.
-pub record IsRewritingOf (files files' : Option Files) (dir out : List ℕ) (taken marked : ℕ) : Type 0 where
-  pub name : List ℕ
-  pub class_file : HoldsOneClass files dir name
-  pub class_bytes : List ℕ
-  pub class : Holds files (inside dir name) class_bytes
-  pub new : List ℕ
-  pub rewriting : IsRewriting class_bytes new taken marked
-  pub put : files' ≡ option_map (with_content (inside out name) (Some new)) files
+-- A folder's class files have these names, and these are the bytes of their rewriting, file by file.
+pub record AreRewritten (files : Option Files) (dir : List ℕ) (names news : List (List ℕ)) (taken marked : ℕ) : Type 0 where
+  pub contents : List (List ℕ)
+  pub class_files : HoldsContents files dir names contents
+  pub rewriting : IsRewriting contents news taken marked
 
--- Nothing is known of the path that one file under its own name has in another folder; all else is as before.
-pub record PutsOne (files files' : Option Files) (dir out : List ℕ) : Type 0 where
-  pub name : List ℕ
-  pub class_file : HoldsOneClass files dir name
-  pub found : Option (List ℕ)
-  pub left : files' ≡ option_map (with_content (inside out name) found) files
+-- The class files of a folder, so many, were rewritten, and each new one was put into another folder under its own name, with nothing else.
+pub record IsRewritingOf (files files' : Option Files) (dir out : List ℕ) (classes taken marked : ℕ) : Type 0 where
+  pub names : List (List ℕ)
+  pub news : List (List ℕ)
+  pub rewriting : AreRewritten files dir names news taken marked
+  pub count : classes ≡ length names
+  pub put : files' ≡ option_map (with_files (placed_in out names news)) files
 
--- the count of failed puts rose, and the last failed call is the put of this path, where the class file of a folder was to go
-pub record FailedPut (files : Option Files) (dir out path : List ℕ) (before now : ℕ) (last : Option Call) : Type 0 where
-  pub name : List ℕ
-  pub class_file : HoldsOneClass files dir name
-  pub is_path : path ≡ inside out name
+-- The new files of a rewriting were put one after another, in the order of their names, up to the one at this path, of which nothing is known.
+pub record StopsAt (files files' : Option Files) (dir out path : List ℕ) : Type 0 where
+  pub names : List (List ℕ)
+  pub news : List (List ℕ)
+  pub taken : ℕ
+  pub marked : ℕ
+  pub rewriting : AreRewritten files dir names news taken marked
+  pub put : ArePutUpTo (placed_in out names news) files files' path
+
+-- the count of failed puts rose, and the last failed call is the put of this path, where the puts of a rewriting stopped
+pub record FailedPut (files files' : Option Files) (dir out path : List ℕ) (before now : ℕ) (last : Option Call) : Type 0 where
+  pub stopped : StopsAt files files' dir out path
   pub rose : Rose before now
   pub is_last : last ≡ Some (put_of path)
 
--- a full pool is named by its class
-abbrev pub in_class : List ℕ → Refusal → Refusal
-in_class name (PoolFull n) = PoolFull name
-in_class name r = r
+-- this is the first limit that the rewriting of a program's classes passes
+abbrev pub PassesLimit : Program → List ClassFile → Refusal → Type 0
+PassesLimit P cs r = rewritten_classes cs P ≡ Err r
 
--- the first limit that the rewriting of a class passes
-abbrev pub PassesLimit : Program → ClassFile → Refusal → Type 0
-PassesLimit P file r = (fault : Refusal) × (rewritten_class P file ≡ Err fault) × (r ≡ in_class (own_name file) fault)
+-- The classes of class files mean a program of which each method has a typing, and this is the first limit that their rewriting passes.
+abbrev pub IsOverLimit : Refusal → List ClassFile → Type 0
+IsOverLimit r files = (P : Program) × (linked_files files ≡ Some P) × AllByRecursion (IsTypable P) P.methods × PassesLimit P (in_order files) r
 
--- A class means a program of which each method has a typing, and this is the first limit that its rewriting passes.
-abbrev pub IsOverLimit : Refusal → ClassFile → Type 0
-IsOverLimit r file = (P : Program) × (linked file ≡ Some P) × AllByRecursion (IsTypable P) P.methods × PassesLimit P file r
-
--- Why classes whose files are good are refused: their linking ends with this fault; or there is one alone, whose rewriting passes this limit.
+-- Why class files that are good are refused: the linking of their classes ends with this fault, or their rewriting passes this limit.
 abbrev pub IsBadProgram : Refusal → List ClassFile → Type 0
-IsBadProgram r cs = (linking_files cs ≡ Err r) ⊎ IsLone (IsOverLimit r) cs
+IsBadProgram r files = (linking_files files ≡ Err r) ⊎ IsOverLimit r files
 
 -- Why class files are refused: there are too many, or they are good, and their classes are refused.
 abbrev pub HasBadProgram : Option Files → List ℕ → Refusal → Type 0
 HasBadProgram files dir r = HasManyClasses files dir r ⊎ HasClasses files dir (IsBadProgram r)
 
--- The methods before number m of the program that a class means have typings, and that has none, for the instruction at this
--- place, as the refusal says.
-pub record IsUntypable (r : Refusal) (file : ClassFile) : Type 0 where
-  pub program : Program
-  pub links : linked file ≡ Some program
+-- Of a program's methods, those before this one have typings, and it has none, for the instruction at a place, as the refusal says.
+pub record IsFirstUntypable (P : Program) (cs : List ClassFile) (r : Refusal) : Type 0 where
   pub number : ℕ
   pub method : Method
-  pub there : slice_get program.methods number ≡ Some method
-  pub before : AllByRecursion (IsTypable program) (take number program.methods)
+  pub there : slice_get P.methods number ≡ Some method
+  pub before : AllByRecursion (IsTypable P) (take number P.methods)
   pub place : ℕ
-  pub untypable : IsUntypableAt program method place
+  pub untypable : IsUntypableAt P method place
   pub pc : ℕ
-  pub pc_is : pc_of file number place ≡ Some pc
+  pub pc_is : pc_of cs number place ≡ Some pc
   pub refusal : r ≡ Untypable (printed method.name) (pos pc)
 
--- Bytes are no script for a program and its class file: there is none that they are, and this is the first rule that they break.
-pub record IsNoScript (file : ClassFile) (P : Program) (bytes : List ℕ) (r : Refusal) : Type 0 where
-  pub fault : IsFault file P bytes r
-  pub none : (s : Script) → IsScript file P bytes s → ⊥
+-- The classes of class files mean a program, a method of which has no typing, as the refusal says; it is the first.
+abbrev pub IsUntypable : Refusal → List ClassFile → Type 0
+IsUntypable r files = (P : Program) × (linked_files files ≡ Some P) × IsFirstUntypable P (in_order files) r
 
--- Why a script is refused: the class can be run, and the bytes are no script for it.
-abbrev pub IsBadScript : List ℕ → Refusal → ClassFile → Type 0
-IsBadScript bytes r file = (P : Program) × IsRunnable file P × IsNoScript file P bytes r
+-- Bytes are no script for classes and their program: there is none that they are, and this is the first rule that they break.
+pub record IsNoScript (P : Program) (cs : List ClassFile) (bytes : List ℕ) (r : Refusal) : Type 0 where
+  pub fault : IsFault cs P bytes r
+  pub none : (s : Script) → IsScript cs P bytes s → ⊥
 
--- Why a run doesn't begin: the class can be run and the bytes are a script for it, but its static initialiser, run alone from the state of
--- the opening words, within the script's turns and the words of a region, doesn't return. It ends so; the name is that of the class.
-pub record IsUnopened (bytes name : List ℕ) (x : Answer) (file : ClassFile) : Type 0 where
-  pub program : Program
-  pub runnable : IsRunnable file program
-  pub script : Script
-  pub is_script : IsScript file program bytes script
-  pub class : name ≡ own_name file
+-- Why a script is refused: the class files can be run, and the bytes are no script for them.
+abbrev pub IsBadScript : List ℕ → Refusal → List ClassFile → Type 0
+IsBadScript bytes r files = (P : Program) × IsRunnable files P × IsNoScript P (in_order files) bytes r
+
+-- Of the static initialisers of classes, superclasses first, each run alone from what those before it left, the first from the state of the
+-- opening words, this is the first that doesn't return, and it ends so; the name is that of its class. A region has size words.
+pub record IsShut (P : Program) (cs : List ClassFile) (size budget : ℕ) (name : List ℕ) (x : Answer) : Type 0 where
   pub number : ℕ
-  pub fails : Fails program script.region script.budget (opening_state (file ∷ [])) (initialisers program) number x
+  pub method : Method
+  pub there : slice_get P.methods number ≡ Some method
+  pub class : name ≡ method.name.class
+  pub fails : Fails P size budget (opening_state cs) (initialisers_in cs P) number x
 
--- the class isn't of the form that is built so far
-abbrev pub IsOutsideForm : ClassFile → Type 0
-IsOutsideForm file = linking file ≡ Ok None
+-- Why a run doesn't begin: the class files can be run and the bytes are a script for them, but a static initialiser doesn't return, within the
+-- script's turns and the words of a region.
+pub record IsUnopened (bytes name : List ℕ) (x : Answer) (files : List ClassFile) : Type 0 where
+  pub program : Program
+  pub runnable : IsRunnable files program
+  pub script : Script
+  pub is_script : IsScript (in_order files) program bytes script
+  pub shut : IsShut program (in_order files) script.region script.budget name x
 
--- A class isn't of the form that is built so far, or its rewriting would have too many members.
-abbrev pub IsNotRewritten : ClassFile → Type 0
-IsNotRewritten file = IsOutsideForm file ⊎ HasManyMembers file
+-- the classes of class files have no fault, but aren't of the form that is built so far
+abbrev pub IsOutsideForm : List ClassFile → Type 0
+IsOutsideForm files = linking_files files ≡ Ok None
 
--- The linking of classes has no fault, but there are none or several, or the one is none that is built.
-abbrev pub AreUnbuilt : (ClassFile → Type 0) → List ClassFile → Type 0
-AreUnbuilt Unbuilt cs = (fault_in (linking_files cs) ≡ None) × IfLone Unbuilt cs
+-- They aren't of the form that is built so far, or of their rewriting a class would have too many members.
+abbrev pub IsNotRewritten : List ClassFile → Type 0
+IsNotRewritten files = IsOutsideForm files ⊎ HasManyMembers files
 
 -- Why a folder of class files isn't built: something in it is a folder; or the class files are good, and their classes aren't built.
-abbrev pub HasUnbuilt : Option Files → List ℕ → (ClassFile → Type 0) → Type 0
-HasUnbuilt files dir Unbuilt = HasFolder files dir ⊎ HasClasses files dir (AreUnbuilt Unbuilt)
+abbrev pub HasUnbuilt : Option Files → List ℕ → (List ClassFile → Type 0) → Type 0
+HasUnbuilt files dir Unbuilt = HasFolder files dir ⊎ HasClasses files dir Unbuilt
 
--- A folder has one good class file, for which the script, of which at most one byte over the limit is looked at, has this fault.
+-- A folder has good class files, for which the script, of which at most one byte over the limit is looked at, has this fault.
 pub record HasBadScript (files : Option Files) (dir script : List ℕ) (r : Refusal) : Type 0 where
   pub script_bytes : List ℕ
   pub script_front : IsFrontOf files script 16777217 script_bytes
-  pub of_class : HasClass files dir (IsBadScript script_bytes r)
+  pub of_classes : HasClasses files dir (IsBadScript script_bytes r)
 
--- A folder has one good class file, and a script for it, but a run of it doesn't begin.
+-- A folder has good class files, and a script for them, but a run of it doesn't begin.
 pub record HasUnopened (files : Option Files) (dir script name : List ℕ) (x : Answer) : Type 0 where
   pub script_bytes : List ℕ
   pub script_holds : Holds files script script_bytes
-  pub of_class : HasClass files dir (IsUnopened script_bytes name x)
+  pub of_classes : HasClasses files dir (IsUnopened script_bytes name x)
 
--- The files of a folder, as it tells them, let the script at a path be run on the folder's one class file.
+-- The files of a folder, as it tells them, let the script at a path be run on the folder's class files.
 pub record CanRunIn (told : Files) (dir script : List ℕ) : Type 0 where
-  pub name : List ℕ
-  pub class_file : AreClassNames (StandsIn told dir) (name ∷ [])
-  pub class_bytes : List ℕ
-  pub class : told (inside dir name) ≡ Some class_bytes
-  pub within : length class_bytes ≤ 1048576
-  pub file : ClassFile
-  pub spells : Spells class_bytes file
   pub script_bytes : List ℕ
   pub script_holds : told script ≡ Some script_bytes
-  pub can : CanRun file script_bytes
+  pub of_classes : HasClasses (Some told) dir (λ files. CanRun files script_bytes)
 
--- The files of a folder, as it tells them, let its one class file be rewritten.
-pub record CanRewriteIn (told : Files) (dir : List ℕ) : Type 0 where
-  pub name : List ℕ
-  pub class_file : AreClassNames (StandsIn told dir) (name ∷ [])
-  pub class_bytes : List ℕ
-  pub class : told (inside dir name) ≡ Some class_bytes
-  pub within : length class_bytes ≤ 1048576
-  pub file : ClassFile
-  pub spells : Spells class_bytes file
-  pub can : CanRewrite file
+-- The files of a folder, as it tells them, let its class files be rewritten.
+abbrev pub CanRewriteIn : Files → List ℕ → Type 0
+CanRewriteIn told dir = HasClasses (Some told) dir CanRewrite
 
 -- a command that ended before its inputs were there: where it failed outside, the folder says so
 abbrev pub EndsInputs : (Call → Type 0) → Option Files → List ℕ → ℕ → ℕ → Option Call → InputEnd → Type 0
@@ -268,21 +259,27 @@ EndsClasses inputs (ends.BadClass path r) = IsFirstFault inputs (string_bytes pa
 EndsClasses inputs ends.NoMemory = Unit {0}
 EndsClasses inputs end = ⊥
 
--- why there is no class alone in those that were read, whose linking has no fault
-abbrev pub EndsLone : List ClassInput → InputEnd → Type 0
-EndsLone inputs (ends.Outside path) = ⊥
-EndsLone inputs (ends.BadClass path r) = IsFirstFault inputs (string_bytes path) r
-EndsLone inputs (ends.Refused r) = (cs : List ClassFile) × AreClassesOf inputs cs × (linking_files cs ≡ Err r)
-EndsLone inputs ends.NotBuilt = (cs : List ClassFile) × AreClassesOf inputs cs × AreUnbuilt (λ c. ⊥) cs
-EndsLone inputs ends.NoMemory = Unit {0}
+-- a tree has classes under their names, the first of those of one name
+abbrev pub AreUnderNames : List (Bor (List ℕ) × Bor ClassFile) → List ClassFile → Type 0
+AreUnderNames es cs = (name : List ℕ) → option_map (λ c. c.now) (lookup (λ k. bytes_eq name k.now) es) ≡ class_named cs name
+
+-- files that are to be put, each with its path
+abbrev pub seen_files : List NewFile → List (List ℕ × List ℕ)
+seen_files fs = map (λ (f : NewFile). (string_bytes f.path, f.bytes)) fs
+
+-- Files were put up to one; where its put failed, the folder says so.
+abbrev pub EndsPuts : List (List ℕ × List ℕ) → Option Files → Option Files → ℕ → ℕ → Option Call → PutEnd → Type 0
+EndsPuts fs files files' before now last (put_ends.Failed path) =
+    ArePutUpTo fs files files' (string_bytes path) × HasFailed before now last (put_of (string_bytes path))
+EndsPuts fs files files' before now last put_ends.NoMemory = (path : List ℕ) × ArePutUpTo fs files files' path
 
 -- a command without a script has none that is refused
-abbrev pub NoScript : Refusal → ClassFile → Type 0
-NoScript r file = ⊥
+abbrev pub NoScript : Refusal → List ClassFile → Type 0
+NoScript r files = ⊥
 
 -- and begins no run
-abbrev pub NoOpening : List ℕ → Answer → ClassFile → Type 0
-NoOpening name x file = ⊥
+abbrev pub NoOpening : List ℕ → Answer → List ClassFile → Type 0
+NoOpening name x files = ⊥
 
 -- why there is no class of these bytes
 abbrev pub EndsReading : List ℕ → RunEnd → Type 0
@@ -290,63 +287,68 @@ EndsReading class (run_ends.Refused r) = IsFileFault class r
 EndsReading class run_ends.NoMemory = Unit {0}
 EndsReading class end = ⊥
 
--- why a command over a class isn't done; what a script is refused for, why a run doesn't begin, and what isn't built, is said of the class
-abbrev pub EndsOnClass : ClassFile → (Refusal → ClassFile → Type 0) → (List ℕ → Answer → ClassFile → Type 0) → (ClassFile → Type 0) → RunEnd → Type 0
-EndsOnClass file Bad Shut Unbuilt (run_ends.Refused r) = IsBadProgram r (file ∷ [])
-EndsOnClass file Bad Shut Unbuilt (run_ends.Untyped r) = IsUntypable r file
-EndsOnClass file Bad Shut Unbuilt (run_ends.BadScript r) = Bad r file
-EndsOnClass file Bad Shut Unbuilt (run_ends.Unopened name x) = Shut name x file
-EndsOnClass file Bad Shut Unbuilt run_ends.NotBuilt = Unbuilt file
-EndsOnClass file Bad Shut Unbuilt run_ends.NoMemory = Unit {0}
+-- Why a command over class files isn't done; what a script is refused for, why a run doesn't begin, and what isn't built, is said of them.
+abbrev pub EndsOnClasses : List ClassFile → (Refusal → List ClassFile → Type 0) → (List ℕ → Answer → List ClassFile → Type 0) → (List ClassFile → Type 0) → RunEnd → Type 0
+EndsOnClasses files Bad Shut Unbuilt (run_ends.Refused r) = IsBadProgram r files
+EndsOnClasses files Bad Shut Unbuilt (run_ends.Untyped r) = IsUntypable r files
+EndsOnClasses files Bad Shut Unbuilt (run_ends.BadScript r) = Bad r files
+EndsOnClasses files Bad Shut Unbuilt (run_ends.Unopened name x) = Shut name x files
+EndsOnClasses files Bad Shut Unbuilt run_ends.NotBuilt = Unbuilt files
+EndsOnClasses files Bad Shut Unbuilt run_ends.NoMemory = Unit {0}
 
--- why a class has no program
-abbrev pub EndsBuild : ClassFile → RunEnd → Type 0
-EndsBuild file (run_ends.Refused r) = linking file ≡ Err r
-EndsBuild file run_ends.NotBuilt = IsOutsideForm file
-EndsBuild file run_ends.NoMemory = Unit {0}
-EndsBuild file end = ⊥
+-- why class files have no order
+abbrev pub EndsOrder : List ClassFile → RunEnd → Type 0
+EndsOrder files (run_ends.Refused r) = doubled_class files ≡ Some r
+EndsOrder files run_ends.NoMemory = Unit {0}
+EndsOrder files end = ⊥
 
--- why not each method of a class's program has a typing
-abbrev pub EndsTyping : ClassFile → RunEnd → Type 0
-EndsTyping file (run_ends.Untyped r) = IsUntypable r file
-EndsTyping file run_ends.NoMemory = Unit {0}
-EndsTyping file end = ⊥
+-- why classes have no program
+abbrev pub EndsBuild : List ClassFile → RunEnd → Type 0
+EndsBuild cs (run_ends.Refused r) = linking cs ≡ Err r
+EndsBuild cs run_ends.NotBuilt = linking cs ≡ Ok None
+EndsBuild cs run_ends.NoMemory = Unit {0}
+EndsBuild cs end = ⊥
 
--- why a class has no rewriting
-abbrev pub EndsRewriting : Program → ClassFile → RunEnd → Type 0
-EndsRewriting P file (run_ends.Refused r) = PassesLimit P file r
-EndsRewriting P file run_ends.NoMemory = Unit {0}
-EndsRewriting P file end = ⊥
+-- why not each method of a program has a typing
+abbrev pub EndsTyping : Program → List ClassFile → RunEnd → Type 0
+EndsTyping P cs (run_ends.Untyped r) = IsFirstUntypable P cs r
+EndsTyping P cs run_ends.NoMemory = Unit {0}
+EndsTyping P cs end = ⊥
 
--- the end of a run on a class whose rewriting has this fault
-abbrev pub IsLimit : ClassFile → Refusal → RunEnd → Type 0
-IsLimit file fault (run_ends.Refused r) = r ≡ in_class (own_name file) fault
-IsLimit file fault run_ends.NoMemory = Unit {0}
-IsLimit file fault end = ⊥
+-- why the classes of a program have no rewriting
+abbrev pub EndsRewriting : Program → List ClassFile → RunEnd → Type 0
+EndsRewriting P cs (run_ends.Refused r) = PassesLimit P cs r
+EndsRewriting P cs run_ends.NoMemory = Unit {0}
+EndsRewriting P cs end = ⊥
 
 -- memory stands for the state that the static initialisers leave, from the state of the opening words
-abbrev pub IsOpened : ClassFile → Program → ℕ → ℕ → Memory → Type 0
-IsOpened file P size budget memory = (τ : State) × Opening P size budget (opening_state (file ∷ [])) (initialisers P) τ × StandsFor P size memory τ
+abbrev pub IsOpened : Program → List ClassFile → ℕ → ℕ → Memory → Type 0
+IsOpened P cs size budget memory = (τ : State) × Opening P size budget (opening_state cs) (initialisers_in cs P) τ × StandsFor P size memory τ
 
--- why the static initialisers of a class leave none
-abbrev pub EndsOpening : ClassFile → Program → ℕ → ℕ → RunEnd → Type 0
-EndsOpening file P size budget (run_ends.Unopened name x) = (name ≡ own_name file) × (n : ℕ) × Fails P size budget (opening_state (file ∷ [])) (initialisers P) n x
-EndsOpening file P size budget run_ends.NoMemory = Unit {0}
-EndsOpening file P size budget end = ⊥
+-- why the static initialisers of classes leave none
+abbrev pub EndsOpening : Program → List ClassFile → ℕ → ℕ → RunEnd → Type 0
+EndsOpening P cs size budget (run_ends.Unopened name x) = IsShut P cs size budget name x
+EndsOpening P cs size budget run_ends.NoMemory = Unit {0}
+EndsOpening P cs size budget end = ⊥
 
--- the end of a run on a class whose static initialisers ended so
-abbrev pub IsUnopenedAs : ClassFile → SetUpEnd → RunEnd → Type 0
-IsUnopenedAs file (set_ends.Failed n x) (run_ends.Unopened name y) = (name ≡ own_name file) × (y ≡ x)
-IsUnopenedAs file set_ends.NoMemory (run_ends.Unopened name y) = ⊥
-IsUnopenedAs file e run_ends.NoMemory = Unit {0}
-IsUnopenedAs file e end = ⊥
+-- a static initialiser that failed is a method of the program
+abbrev pub IsNumbered : Program → SetUpEnd → Type 0
+IsNumbered P (set_ends.Failed n x) = n < length P.methods
+IsNumbered P set_ends.NoMemory = Unit {0}
 
--- why a script isn't run on a class that can be
-abbrev pub EndsScript : ClassFile → Program → List ℕ → RunEnd → Type 0
-EndsScript file P bytes (run_ends.BadScript r) = IsNoScript file P bytes r
-EndsScript file P bytes (run_ends.Unopened name x) = (s : Script) × IsScript file P bytes s × EndsOpening file P s.region s.budget (run_ends.Unopened name x)
-EndsScript file P bytes run_ends.NoMemory = Unit {0}
-EndsScript file P bytes end = ⊥
+-- the end of a run whose static initialisers ended so
+abbrev pub IsUnopenedAs : Program → SetUpEnd → RunEnd → Type 0
+IsUnopenedAs P (set_ends.Failed n x) (run_ends.Unopened name y) = (name ≡ (name_in (method_at P n)).class) × (y ≡ x)
+IsUnopenedAs P set_ends.NoMemory (run_ends.Unopened name y) = ⊥
+IsUnopenedAs P e run_ends.NoMemory = Unit {0}
+IsUnopenedAs P e end = ⊥
+
+-- why a script isn't run on classes that can be
+abbrev pub EndsScript : Program → List ClassFile → List ℕ → RunEnd → Type 0
+EndsScript P cs bytes (run_ends.BadScript r) = IsNoScript P cs bytes r
+EndsScript P cs bytes (run_ends.Unopened name x) = (s : Script) × IsScript cs P bytes s × IsShut P cs s.region s.budget name x
+EndsScript P cs bytes run_ends.NoMemory = Unit {0}
+EndsScript P cs bytes end = ⊥
 
 -- the end of a run whose call of the folder ended so at a path
 abbrev pub IsOutsideAt : IoEnd → List ℕ → InputEnd → Type 0

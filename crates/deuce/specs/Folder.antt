@@ -1,8 +1,8 @@
 -- What a folder of class files is: the names of its class files in their order, the classes that these spell, and the first file that is none.
-use Rattle.std.specs.Prelude.{◌≡◌, ◌⊎◌, ◌↔◌, ℕ, ◌<◌, ◌≤◌, pos, List, [], ◌∷◌, ◌++◌, length, Bool, true, false, Option, Some, Err, Contains, codes, option_map, take}
+use Rattle.std.specs.Prelude.{◌≡◌, ◌⊎◌, ◌↔◌, ℕ, ◌<◌, ◌≤◌, pos, List, [], ◌∷◌, ◌++◌, length, map, zip, Bool, true, false, Option, Some, Err, Contains, codes, option_map, slice_get, take}
 use Rattle.std.specs.Option.{ForSome}
 use Rattle.std.specs.List.{AllPairs, AllZip}
-use Rattle.deuce_io.specs.Files.{Files, inside, StandsIn}
+use Rattle.deuce_io.specs.Files.{Files, inside, with_content, StandsIn}
 use Rattle.jmodel.specs.declared.refusal.Refusal.{Refusal}
 use Rattle.jmodel.specs.declared.refusal.Refusal.TheVariants.{OverLimit}
 use Rattle.jmodel.specs.ClassFile.{ClassFile}
@@ -25,10 +25,6 @@ pub record AreClassNames (Here : List ℕ × Bool → Type 0) (names : List (Lis
 -- in a folder, where it tells its files, the class files have these names, and nothing is a folder
 abbrev pub HoldsClasses : Option Files → List ℕ → List (List ℕ) → Type 0
 HoldsClasses files dir names = ForSome files (λ told. AreClassNames (StandsIn told dir) names)
-
--- the same of a class file that stands alone
-abbrev pub HoldsOneClass : Option Files → List ℕ → List ℕ → Type 0
-HoldsOneClass files dir name = HoldsClasses files dir (name ∷ [])
 
 -- in a folder, where it tells its files, something is a folder
 abbrev pub HasFolder : Option Files → List ℕ → Type 0
@@ -57,6 +53,11 @@ abbrev pub IsFileFault : List ℕ → Refusal → Type 0
 IsFileFault bytes r = ((1048576 < length bytes) × (r ≡ OverLimit (codes "file") (pos (length bytes))))
     ⊎ (((c : ClassFile) → Spells bytes c → ⊥) × (class_file_of bytes ≡ Err r))
 
+-- In a folder, where it tells its files, the class files have these names, in ascending order, and these bytes.
+pub record HoldsContents (files : Option Files) (dir : List ℕ) (names contents : List (List ℕ)) : Type 0 where
+  pub class_files : HoldsClasses files dir names
+  pub each : AllZip (λ name. Holds files (inside dir name)) names contents
+
 -- bytes are a class file, within its limit, and spell this class
 abbrev pub IsFileOf : List ℕ → ClassFile → Type 0
 IsFileOf bytes c = (length bytes ≤ 1048576) × Spells bytes c
@@ -76,22 +77,6 @@ pub record HasClasses (files : Option Files) (dir : List ℕ) (Holding : List Cl
   pub good : AllZip (IsGoodFile files dir) names classes
   pub holding : Holding classes
 
--- there is one class alone, of which this holds
-abbrev pub IsLone : (ClassFile → Type 0) → List ClassFile → Type 0
-IsLone Holding [] = ⊥
-IsLone Holding (c ∷ []) = Holding c
-IsLone Holding (c ∷ d ∷ cs) = ⊥
-
--- if there is one class alone, this holds of it
-abbrev pub IfLone : (ClassFile → Type 0) → List ClassFile → Type 0
-IfLone Holding [] = Unit {0}
-IfLone Holding (c ∷ []) = Holding c
-IfLone Holding (c ∷ d ∷ cs) = Unit {0}
-
--- a folder has one good class file, of which this holds
-abbrev pub HasClass : Option Files → List ℕ → (ClassFile → Type 0) → Type 0
-HasClass files dir Holding = HasClasses files dir (IsLone Holding)
-
 -- Of the class files of a folder, no more than 256, this one is the first that isn't good: it has this path, and this fault, for which at
 -- most one byte over the limit is looked at.
 pub record IsBadClass (files : Option Files) (dir path : List ℕ) (r : Refusal) : Type 0 where
@@ -106,3 +91,22 @@ pub record IsBadClass (files : Option Files) (dir path : List ℕ) (r : Refusal)
   pub bytes : List ℕ
   pub front : IsFrontOf files path 1048577 bytes
   pub fault : IsFileFault bytes r
+
+-- ---- what is put
+
+-- these files with each of those, a path and its bytes, put one after another
+abbrev pub with_files : List (List ℕ × List ℕ) → Files → Files
+with_files [] told = told
+with_files (f ∷ fs) told = with_files fs (with_content f.0 (Some f.1) told)
+
+-- new bytes for files of these names in a folder, each with its path
+abbrev pub placed_in : List ℕ → List (List ℕ) → List (List ℕ) → List (List ℕ × List ℕ)
+placed_in dir names news = zip (map (inside dir) names) news
+
+-- Of files with their paths, those before one were put. Nothing is known of the path of that one; all else is as before.
+pub record ArePutUpTo (fs : List (List ℕ × List ℕ)) (files files' : Option Files) (path : List ℕ) : Type 0 where
+  pub number : ℕ
+  pub bytes : List ℕ
+  pub file : slice_get fs number ≡ Some (path, bytes)
+  pub found : Option (List ℕ)
+  pub left : files' ≡ option_map (λ told. with_content path found (with_files (take number fs) told)) files

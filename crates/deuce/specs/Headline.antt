@@ -1,18 +1,19 @@
 -- What a run promises: its answers are those of the original methods, called one after another.
-use Rattle.std.specs.Prelude.{◌≡◌, Ok, ℕ, List, [], ◌∷◌, map, Option, Some, None}
-use Rattle.std.specs.List.{AllByRecursion}
+use Rattle.std.specs.Prelude.{◌≡◌, Ok, ℕ, List, [], map, Option, Some, None}
+use Rattle.std.specs.List.{AllByRecursion, AllZip}
 use Rattle.jmodel.specs.declared.name.MethodName.{MethodName}
 use Rattle.jmodel.specs.ClassFile.{ClassFile}
 use Rattle.jmodel.specs.ClassRules.{Spells}
 use Rattle.jmodel.specs.Program.{Method, Program, method_at}
 use Rattle.jmodel.specs.State.{State}
 use Rattle.jmodel.specs.Layout.{opening_state}
-use Rattle.jmodel.specs.Opening.{initialisers, Opening}
+use Rattle.jmodel.specs.Opening.{Opening}
 use Rattle.jmodel.specs.Schedule.{Made, IsJournal, ScriptPhase}
-use Rattle.jmodel.specs.Linking.{linked}
+use Rattle.jmodel.specs.Classes.{in_order}
+use Rattle.jmodel.specs.ClassesLinking.{linking_files, program_in, initialisers_in}
 use Rattle.jmodel.specs.Typing.{IsTypable}
 use Rattle.jmodel.specs.Output.{Line, journal_text}
-use Rattle.rewriter.specs.Rewritten.{rewritten_class}
+use Rattle.rewriter.specs.RewrittenClasses.{rewritten_classes}
 use Rattle.script.specs.Script.{Script, IsScript}
 
 abbrev pub no_name : MethodName
@@ -33,33 +34,38 @@ pub record AreCalls (P : Program) (size budget : ℕ) (opening : State) (phases 
   pub is_journal : IsJournal P size budget opening phases placed unplaced
   pub is_text : text ≡ journal_text (map (line_of P) placed) (map (line_of P) unplaced)
 
--- What a class can be run as: it means a program of which each method has a typing, and its rewriting passes no limit of a
+-- The program that the classes of class files mean together, in the order of their names, of which no two are the same; none where they have a fault.
+abbrev pub linked_files : List ClassFile → Option Program
+linked_files files = program_in (linking_files files)
+
+-- What class files can be run as: their classes mean a program of which each method has a typing, and their rewriting passes no limit of a
 -- class file.
-pub record IsRunnable (file : ClassFile) (P : Program) : Type 0 where
-  pub links : linked file ≡ Some P
+pub record IsRunnable (files : List ClassFile) (P : Program) : Type 0 where
+  pub links : linked_files files ≡ Some P
   pub typed : AllByRecursion (IsTypable P) P.methods
-  pub instrumented : ClassFile
-  pub rewrites : rewritten_class P file ≡ Ok instrumented
+  pub instrumented : List ClassFile
+  pub rewrites : rewritten_classes (in_order files) P ≡ Ok instrumented
 
--- The script can be run on the class: its static initialiser returns, within the script's turns and the words of a region.
-pub record CanRun (file : ClassFile) (bytes : List ℕ) : Type 0 where
+-- The script can be run on the class files: their classes' static initialisers, superclasses first, each return, within the script's turns and
+-- the words of a region.
+pub record CanRun (files : List ClassFile) (bytes : List ℕ) : Type 0 where
   pub program : Program
-  pub runnable : IsRunnable file program
+  pub runnable : IsRunnable files program
   pub script : Script
-  pub is_script : IsScript file program bytes script
+  pub is_script : IsScript (in_order files) program bytes script
   pub opening : State
-  pub opens : Opening program script.region script.budget (opening_state (file ∷ [])) (initialisers program) opening
+  pub opens : Opening program script.region script.budget (opening_state (in_order files)) (initialisers_in (in_order files) program) opening
 
--- The text is the journal of a run of a script on a class file each of whose methods has a typing: each call of the script once, in
--- an order that keeps the phases' and each lane's, from the state that the static initialiser leaves.
-pub record IsRun (class bytes text : List ℕ) : Type 0 where
-  pub file : ClassFile
-  pub spells : Spells class file
+-- The text is the journal of a run of a script on class files, each given by its bytes, each of whose methods has a typing: each call of the
+-- script once, in an order that keeps the phases' and each lane's, from the state that the static initialisers leave.
+pub record IsRun (class_files : List (List ℕ)) (bytes text : List ℕ) : Type 0 where
+  pub files : List ClassFile
+  pub spell : AllZip Spells class_files files
   pub program : Program
-  pub links : linked file ≡ Some program
+  pub links : linked_files files ≡ Some program
   pub typed : AllByRecursion (IsTypable program) program.methods
   pub script : Script
-  pub is_script : IsScript file program bytes script
+  pub is_script : IsScript (in_order files) program bytes script
   pub opening : State
-  pub opens : Opening program script.region script.budget (opening_state (file ∷ [])) (initialisers program) opening
+  pub opens : Opening program script.region script.budget (opening_state (in_order files)) (initialisers_in (in_order files) program) opening
   pub are_calls : AreCalls program script.region script.budget opening script.phases text

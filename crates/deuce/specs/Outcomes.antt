@@ -9,10 +9,12 @@ use Rattle.jmodel.specs.declared.value.Answer.{Answer}
 use Rattle.jmodel.specs.Output.{◌and◌, answer_text, refusal_text, error_text}
 use Rattle.deuce.specs.Command.{seen_words, run_words, rewrite_words, IsNoCommand, NamesFolder}
 use Rattle.deuce.specs.Rewritten.{counts_text}
-use Rattle.deuce.specs.Folder.{IsBadClass, HasClass}
-use Rattle.deuce.specs.Ending.{IsCallOfFolder, IsCallOfRun, Failed, FailedPut, IsJournalOf, IsRewritingOf, PutsOne, HasBadProgram, IsUntypable, HasBadScript, HasUnopened, IsOutsideForm, IsNotRewritten, HasUnbuilt, CanRunIn, CanRewriteIn}
+use Rattle.deuce.specs.Folder.{IsBadClass, HasClasses}
+use Rattle.deuce.specs.Ending.{IsCallOfFolder, IsCallOfRun, Failed, FailedPut, IsJournalOf, IsRewritingOf, StopsAt, HasBadProgram, IsUntypable, HasBadScript, HasUnopened, IsOutsideForm, IsNotRewritten, HasUnbuilt, CanRunIn, CanRewriteIn}
 use Rattle.deuce.specs.declared.inputs.InputEnd.{InputEnd}
 use Rattle.deuce.specs.declared.inputs.InputEnd.TheVariants as ends
+use Rattle.deuce.specs.declared.putting.PutEnd.{PutEnd}
+use Rattle.deuce.specs.declared.putting.PutEnd.TheVariants as put_ends
 use Rattle.deuce.specs.declared.run.RunEnd.{RunEnd}
 use Rattle.deuce.specs.declared.run.RunEnd.TheVariants as run_ends
 use Rattle.deuce.specs.declared.outcome.Outcome.{Outcome}
@@ -21,7 +23,7 @@ use Rattle.deuce.specs.declared.outcome.Outcome.TheVariants.{Journal, Rewritten,
 -- the text that an outcome is printed as
 abbrev pub IsTextOf : Outcome → List ℕ → Type 0
 IsTextOf (Journal text) printed = printed ≡ text
-IsTextOf (Rewritten taken marked) printed = printed ≡ counts_text taken marked
+IsTextOf (Rewritten classes taken marked) printed = printed ≡ counts_text classes taken marked
 IsTextOf Usage printed = printed ≡ error_text (codes "2") (codes "usage")
 IsTextOf (BadClass path refusal) printed = printed ≡ error_text (codes "3") (string_bytes path and refusal_text refusal)
 IsTextOf (BadProgram refusal) printed = printed ≡ error_text (codes "4") (refusal_text refusal)
@@ -35,7 +37,7 @@ IsTextOf NotBuilt printed = printed ≡ error_text (codes "12") (codes "NotBuilt
 -- the status of an outcome that is printed whole
 abbrev pub status_of : Outcome → ℕ
 status_of (Journal text) = 0
-status_of (Rewritten taken marked) = 0
+status_of (Rewritten classes taken marked) = 0
 status_of Usage = 2
 status_of (BadClass path refusal) = 3
 status_of (BadProgram refusal) = 4
@@ -46,7 +48,7 @@ status_of (Outside path) = 8
 status_of (NotPut path) = 11
 status_of NotBuilt = 12
 
--- the outcome of a command over a class that ended so
+-- the outcome of a command over class files that ended so
 abbrev pub IsRefusedAs : RunEnd → Outcome → Type 0
 IsRefusedAs (run_ends.Refused r) o = o ≡ BadProgram r
 IsRefusedAs (run_ends.Untyped r) o = o ≡ Untyped r
@@ -55,13 +57,18 @@ IsRefusedAs (run_ends.Unopened class x) o = o ≡ Unopened class x
 IsRefusedAs run_ends.NotBuilt o = o ≡ NotBuilt
 IsRefusedAs run_ends.NoMemory o = ⊥
 
--- the outcome of a command without inputs, or without a class alone
+-- the outcome of a command without inputs, or without their classes
 abbrev pub IsUnreadAs : InputEnd → Outcome → Type 0
 IsUnreadAs (ends.Outside path) o = o ≡ Outside path
 IsUnreadAs (ends.BadClass path r) o = o ≡ BadClass path r
 IsUnreadAs (ends.Refused r) o = o ≡ BadProgram r
 IsUnreadAs ends.NotBuilt o = o ≡ NotBuilt
 IsUnreadAs ends.NoMemory o = ⊥
+
+-- the outcome of a rewriting the puts of which ended so
+abbrev pub IsNotPutAs : PutEnd → Outcome → Type 0
+IsNotPutAs (put_ends.Failed path) o = o ≡ NotPut path
+IsNotPutAs put_ends.NoMemory o = ⊥
 
 -- in the folder that the words name, the class file at this path is the first that isn't good, with this fault
 abbrev pub IsBadClassOfWords : List (String Global) → Option Files → List ℕ → Refusal → Type 0
@@ -71,23 +78,23 @@ IsBadClassOfWords words files path r = (dir : List ℕ) × NamesFolder words dir
 abbrev pub IsBadProgramOfWords : List (String Global) → Option Files → Refusal → Type 0
 IsBadProgramOfWords words files r = (dir : List ℕ) × NamesFolder words dir × HasBadProgram files dir r
 
--- in the folder that the words name stands one good class file, a method of which has no typing, as the refusal says
+-- the class files of the folder that the words name are good, and a method of their classes has no typing, as the refusal says
 abbrev pub IsUntypableOfWords : List (String Global) → Option Files → Refusal → Type 0
-IsUntypableOfWords words files r = (dir : List ℕ) × NamesFolder words dir × HasClass files dir (IsUntypable r)
+IsUntypableOfWords words files r = (dir : List ℕ) × NamesFolder words dir × HasClasses files dir (IsUntypable r)
 
 -- The words ask for a run, and its script has this fault.
 abbrev pub IsBadScriptOfWords : List (String Global) → Option Files → Refusal → Type 0
 IsBadScriptOfWords words files r = (dir : List ℕ) × (script : List ℕ) × (seen_words words ≡ run_words dir script) × HasBadScript files dir script r
 
--- The words ask for a run, and the static initialiser of its class doesn't return.
+-- The words ask for a run, and a static initialiser of its classes, of the class of this name, doesn't return.
 abbrev pub IsUnopenedOfWords : List (String Global) → Option Files → List ℕ → Answer → Type 0
 IsUnopenedOfWords words files class x = (dir : List ℕ) × (script : List ℕ) × (seen_words words ≡ run_words dir script) × HasUnopened files dir script class x
 
--- The words ask for a run, and its folder isn't built: something in it is a folder, or its class files are good, and not one alone of the form.
+-- The words ask for a run, and its folder isn't built: something in it is a folder, or its class files are good, and not of the form.
 abbrev pub IsUnbuiltRun : List (String Global) → Option Files → Type 0
 IsUnbuiltRun words files = (dir : List ℕ) × (script : List ℕ) × (seen_words words ≡ run_words dir script) × HasUnbuilt files dir IsOutsideForm
 
--- The words ask for a rewriting, and its folder isn't built: the same, or the one can't be rewritten.
+-- The words ask for a rewriting, and its folder isn't built: the same, or a rewritten class would have too many members.
 abbrev pub IsUnbuiltRewriting : List (String Global) → Option Files → Type 0
 IsUnbuiltRewriting words files = (dir : List ℕ) × (out : List ℕ) × (seen_words words ≡ rewrite_words dir out) × HasUnbuilt files dir IsNotRewritten
 
@@ -99,15 +106,15 @@ abbrev pub IsJournalOfWords : List (String Global) → Option Files → List ℕ
 IsJournalOfWords words files text = (dir : List ℕ) × (script : List ℕ) × (seen_words words ≡ run_words dir script) × IsJournalOf files dir script text
 
 -- The rewriting that the words ask for was put, and these are its counts.
-abbrev pub IsRewritingOfWords : List (String Global) → Option Files → Option Files → ℕ → ℕ → Type 0
-IsRewritingOfWords words files files' taken marked =
-    (dir : List ℕ) × (out : List ℕ) × (seen_words words ≡ rewrite_words dir out) × IsRewritingOf files files' dir out taken marked
+abbrev pub IsRewritingOfWords : List (String Global) → Option Files → Option Files → ℕ → ℕ → ℕ → Type 0
+IsRewritingOfWords words files files' classes taken marked =
+    (dir : List ℕ) × (out : List ℕ) × (seen_words words ≡ rewrite_words dir out) × IsRewritingOf files files' dir out classes taken marked
 
 -- The words ask for a run, and the folder tells files with which that can be made.
 abbrev pub CanRunWords : List (String Global) → Option Files → Type 0
 CanRunWords words files = (dir : List ℕ) × (script : List ℕ) × (told : Files) × (seen_words words ≡ run_words dir script) × (files ≡ Some told) × CanRunIn told dir script
 
--- The words ask for a rewriting, and the folder tells a class file that can be rewritten.
+-- The words ask for a rewriting, and the folder tells class files that can be rewritten.
 abbrev pub CanRewriteWords : List (String Global) → Option Files → Type 0
 CanRewriteWords words files = (dir : List ℕ) × (out : List ℕ) × (told : Files) × (seen_words words ≡ rewrite_words dir out) × (files ≡ Some told) × CanRewriteIn told dir
 
@@ -117,14 +124,19 @@ FailedOutside words path before now last = (dir : List ℕ) × (other : List ℕ
     × (((seen_words words ≡ run_words dir other) × Failed (IsCallOfRun dir other) path before now last)
     ⊎ ((seen_words words ≡ rewrite_words dir other) × Failed (IsCallOfFolder dir) path before now last))
 
--- the put of the rewriting that the words ask for failed, at this path
-abbrev pub FailedPutOfWords : List (String Global) → Option Files → List ℕ → ℕ → ℕ → Option Call → Type 0
-FailedPutOfWords words files path before now last =
-    (dir : List ℕ) × (out : List ℕ) × (seen_words words ≡ rewrite_words dir out) × FailedPut files dir out path before now last
+-- a put of the rewriting that the words ask for failed, at this path
+abbrev pub FailedPutOfWords : List (String Global) → Option Files → Option Files → List ℕ → ℕ → ℕ → Option Call → Type 0
+FailedPutOfWords words files files' path before now last =
+    (dir : List ℕ) × (out : List ℕ) × (seen_words words ≡ rewrite_words dir out) × FailedPut files files' dir out path before now last
 
--- The files are as before, or the words ask for a rewriting, and so are all but the one that it puts.
+-- what puts made of a folder's files: they put each file of a rewriting, or stopped at one
+abbrev pub IsPutInto : Option Files → Option Files → List ℕ → List ℕ → Type 0
+IsPutInto files files' dir out =
+    ((classes : ℕ) × (taken : ℕ) × (marked : ℕ) × IsRewritingOf files files' dir out classes taken marked) ⊎ ((path : List ℕ) × StopsAt files files' dir out path)
+
+-- The files are as before, or the words ask for a rewriting, and its puts made them so.
 abbrev pub ArePut : List (String Global) → Option Files → Option Files → Type 0
-ArePut words files files' = (files' ≡ files) ⊎ ((dir : List ℕ) × (out : List ℕ) × (seen_words words ≡ rewrite_words dir out) × PutsOne files files' dir out)
+ArePut words files files' = (files' ≡ files) ⊎ ((dir : List ℕ) × (out : List ℕ) × (seen_words words ≡ rewrite_words dir out) × IsPutInto files files' dir out)
 
 -- what a folder tells: its files, its counts of faults, and its last failed call
 pub record Seen : Type 0 where
@@ -142,14 +154,14 @@ IsRefusal status = (status ≡ 2) ⊎ ((status ≡ 3) ⊎ ((status ≡ 4) ⊎ ((
 
 -- an outcome before which nothing is put
 abbrev pub Keeps : Outcome → Seen → Seen → Type 0
-Keeps (Rewritten taken marked) old new = Unit {0}
+Keeps (Rewritten classes taken marked) old new = Unit {0}
 Keeps (NotPut path) old new = Unit {0}
 Keeps o old new = new.files ≡ old.files
 
 -- what an outcome says of the words, and of what the folder told before and tells now
 abbrev pub Says : List (String Global) → Seen → Seen → Outcome → Type 0
 Says words old new (Journal text) = IsJournalOfWords words old.files text
-Says words old new (Rewritten taken marked) = IsRewritingOfWords words old.files new.files taken marked
+Says words old new (Rewritten classes taken marked) = IsRewritingOfWords words old.files new.files classes taken marked
 Says words old new Usage = IsNoCommand words
 Says words old new (BadClass path refusal) = IsBadClassOfWords words old.files (string_bytes path) refusal
 Says words old new (BadProgram refusal) = IsBadProgramOfWords words old.files refusal
@@ -157,7 +169,7 @@ Says words old new (Untyped refusal) = IsUntypableOfWords words old.files refusa
 Says words old new (BadScript refusal) = IsBadScriptOfWords words old.files refusal
 Says words old new (Unopened class answer) = IsUnopenedOfWords words old.files class answer
 Says words old new (Outside path) = FailedOutside words (string_bytes path) old.faults new.faults new.failed
-Says words old new (NotPut path) = FailedPutOfWords words old.files (string_bytes path) old.put_faults new.put_faults new.failed
+Says words old new (NotPut path) = FailedPutOfWords words old.files new.files (string_bytes path) old.put_faults new.put_faults new.failed
 Says words old new NotBuilt = IsNotBuilt words old.files
 
 abbrev pub IsOutcome : List (String Global) → Seen → Seen → Outcome → Type 0

@@ -2,14 +2,15 @@
 ghost use Rattle.std.specs.Prelude.{◌≡◌, List, String, IfOk};
 ghost use Rattle.std.specs.declared.alloc.Global.{Global};
 ghost use Rattle.deuce.specs.Command.{seen_words, run_words, rewrite_words};
-ghost use Rattle.deuce.specs.Outcomes.{IsUnreadAs, IsRefusedAs, IsOutcome, ArePut, seen};
+ghost use Rattle.deuce.specs.Outcomes.{IsUnreadAs, IsRefusedAs, IsNotPutAs, IsOutcome, ArePut, seen};
 
-use crate::classes::lone_class;
+use crate::classes::classes_of;
 use crate::inputs::{InputEnd, read_classes, read_inputs};
 use crate::outcome::Outcome;
+use crate::putting::{PutEnd, new_files, put_each};
 use crate::rewriting::write_rewriting;
-use crate::run::{RunEnd, run_class};
-use deuce_io::{Folder, IoEnd};
+use crate::run::{RunEnd, run_files};
+use deuce_io::Folder;
 use jmodel::NoMemory;
 use std::alloc::Global;
 use std::thread::Threads;
@@ -30,11 +31,11 @@ pub fn run_command<R: Threads + Sync, F: Folder>(
         Ok(inputs) => inputs,
         Err(end) => return unread(end),
     };
-    let class = match lone_class(alloc, inputs.classes.as_slice()) {
-        Ok(class) => class,
+    let files = match classes_of(alloc, inputs.classes.as_slice()) {
+        Ok(files) => files,
         Err(end) => return unread(end),
     };
-    match run_class(rt, alloc, &class, inputs.script.as_slice()) {
+    match run_files(rt, alloc, files.as_slice(), inputs.script.as_slice()) {
         Ok(text) => Ok(Outcome::Journal(text)),
         Err(end) => refused(end),
     }
@@ -55,28 +56,26 @@ pub fn rewrite_command<F: Folder>(
         Ok(inputs) => inputs,
         Err(end) => return unread(end),
     };
-    let class = match lone_class(alloc, inputs.as_slice()) {
-        Ok(class) => class,
+    let files = match classes_of(alloc, inputs.as_slice()) {
+        Ok(files) => files,
         Err(end) => return unread(end),
     };
-    let new = match write_rewriting(alloc, &class) {
-        Ok(new) => new,
+    let written = match write_rewriting(alloc, files.as_slice()) {
+        Ok(written) => written,
         Err(end) => return refused(end),
     };
-    let Ok(path) = format!(in alloc; "{out}/{name}", name = inputs[0].name) else {
-        return Err(NoMemory);
-    };
-    match folder.put(path.as_str(), new.bytes.as_slice()) {
+    let news = new_files(alloc, out, inputs.as_slice(), written.files)?;
+    match put_each(folder, news) {
         Ok(()) => Ok(Outcome::Rewritten {
-            taken: new.taken,
-            marked: new.marked,
+            classes: inputs.len(),
+            taken: written.taken,
+            marked: written.marked,
         }),
-        Err(IoEnd::Failed) => Ok(Outcome::NotPut(path)),
-        Err(IoEnd::NoMemory) => Err(NoMemory),
+        Err(end) => not_put(end),
     }
 }
 
-/// The outcome of a command without inputs, or without a class alone.
+/// The outcome of a command without inputs, or without their classes.
 fn unread(end: InputEnd) -> Result<Outcome, NoMemory>
     ensures { IfOk result (IsUnreadAs end) }
 {
@@ -89,7 +88,7 @@ fn unread(end: InputEnd) -> Result<Outcome, NoMemory>
     }
 }
 
-/// The outcome of a command over a class that ended so.
+/// The outcome of a command over class files that ended so.
 fn refused(end: RunEnd) -> Result<Outcome, NoMemory>
     ensures { IfOk result (IsRefusedAs end) }
 {
@@ -100,5 +99,15 @@ fn refused(end: RunEnd) -> Result<Outcome, NoMemory>
         RunEnd::Unopened { class, answer } => Ok(Outcome::Unopened { class, answer }),
         RunEnd::NotBuilt => Ok(Outcome::NotBuilt),
         RunEnd::NoMemory => Err(NoMemory),
+    }
+}
+
+/// The outcome of a rewriting the puts of which ended so.
+fn not_put(end: PutEnd) -> Result<Outcome, NoMemory>
+    ensures { IfOk result (IsNotPutAs end) }
+{
+    match end {
+        PutEnd::Failed(path) => Ok(Outcome::NotPut(path)),
+        PutEnd::NoMemory => Err(NoMemory),
     }
 }

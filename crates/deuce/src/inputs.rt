@@ -34,16 +34,16 @@ pub struct Inputs {
     pub script: Bytes,
 }
 
-/// Why a command has no inputs, or no class alone.
+/// Why a command has no inputs, or no classes.
 #[derive(Drop)]
 pub enum InputEnd {
     /// A list or a read failed at this path.
     Outside(String),
     /// The file at this path is no class file, with the first fault.
     BadClass { path: String, refusal: Refusal },
-    /// There are too many class files, or their classes have this fault, the first.
+    /// There are too many class files, as this says.
     Refused(Refusal),
-    /// The folder isn't of the form that is built so far.
+    /// Something in the folder is a folder.
     NotBuilt,
     NoMemory,
 }

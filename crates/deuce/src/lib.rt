@@ -1,4 +1,4 @@
-//! What Deuce STM does for the words of its command line: runs a script on the class of a folder, or puts its rewritten class file.
+//! What Deuce STM does for the words of its command line: runs a script on the class files of a folder, or puts their rewriting.
 //! [`top::deuce`] is the top call, over any folder and sink.
 #![tactic(auto)]
 
@@ -7,6 +7,7 @@ mod commands;
 mod inputs;
 mod outcome;
 mod print;
+mod putting;
 mod refusal;
 mod rewriting;
 pub mod run;

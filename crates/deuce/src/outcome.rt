@@ -14,25 +14,35 @@ use std::alloc::{AllocError, Global};
 pub enum Outcome {
     /// With a journal, of which this is the text.
     Journal(Bytes),
-    /// With a new class file, which was put: so many methods of the class are taken, and so many of them are marked.
-    Rewritten { taken: usize, marked: usize },
+    /// With new class files, so many, which were put: so many methods of their classes are taken, and so many of these are marked.
+    Rewritten {
+        classes: usize,
+        taken: usize,
+        marked: usize,
+    },
     /// The words were of no form.
     Usage,
     /// The file at this path, the first such, is no class file, with the first fault.
-    BadClass { path: String, refusal: Refusal },
-    /// There are too many class files, or their classes have this fault, or the rewriting of the one class passes this limit.
+    BadClass {
+        path: String,
+        refusal: Refusal,
+    },
+    /// There are too many class files, or their classes have this fault, or their rewriting passes this limit.
     BadProgram(Refusal),
-    /// A method of the class has no typing.
+    /// A method of the classes has no typing.
     Untyped(Refusal),
-    /// The script is none for the class, with the first rule that it breaks.
+    /// The script is none for the classes, with the first rule that it breaks.
     BadScript(Refusal),
-    /// The static initialiser of the class of this name doesn't return, but ends so.
-    Unopened { class: Bytes, answer: Answer },
+    /// A static initialiser of the class of this name doesn't return, but ends so.
+    Unopened {
+        class: Bytes,
+        answer: Answer,
+    },
     /// A list or a read of the folder failed at this path.
     Outside(String),
     /// The put at this path failed.
     NotPut(String),
-    /// The folder or its classes aren't of the form that is built so far, or the rewritten class would have too many members.
+    /// The folder or its classes aren't of the form that is built so far, or a rewritten class would have too many members.
     NotBuilt,
 }
 
@@ -57,7 +67,7 @@ fn refusal_line(alloc: Global, head: &[u8], refusal: &Refusal) -> Result<Bytes, 
     Ok(line)
 }
 
-// The line of a class whose static initialiser ends so.
+// The line of a class a static initialiser of which ends so.
 fn unopened_line(alloc: Global, class: &Bytes, answer: &Answer) -> Result<Bytes, AllocError>
     ensures { IfOk result (λ line. line ≡ error_text (codes "7") (class.now and answer_text answer.now)) }
 {
@@ -80,10 +90,10 @@ fn path_line(alloc: Global, head: &[u8], path: &str) -> Result<Bytes, AllocError
 }
 
 // How many classes there are, and how many of their methods are taken and marked.
-fn counts(alloc: Global, taken: usize, marked: usize) -> Result<Bytes, AllocError>
-    ensures { IfOk result (λ text. text ≡ counts_text taken marked) }
+fn counts(alloc: Global, classes: usize, taken: usize, marked: usize) -> Result<Bytes, AllocError>
+    ensures { IfOk result (λ text. text ≡ counts_text classes taken marked) }
 {
-    let text = format!(in alloc; "classes 1\ntaken {taken}\natomic {marked}\n")?;
+    let text = format!(in alloc; "classes {classes}\ntaken {taken}\natomic {marked}\n")?;
     Bytes::from_slice(alloc, text.as_bytes())
 }
 
@@ -93,7 +103,11 @@ pub fn text_of(alloc: Global, outcome: Outcome) -> Result<Bytes, AllocError>
 {
     match outcome {
         Outcome::Journal(text) => Ok(text),
-        Outcome::Rewritten { taken, marked } => counts(alloc, taken, marked),
+        Outcome::Rewritten {
+            classes,
+            taken,
+            marked,
+        } => counts(alloc, classes, taken, marked),
         Outcome::Usage => Bytes::from_slice(alloc, b"error 2 usage\n"),
         Outcome::BadClass { path, refusal } => bad_class_line(alloc, path.as_str(), &refusal),
         Outcome::BadProgram(refusal) => refusal_line(alloc, b"error 4 ", &refusal),

@@ -1,14 +1,18 @@
-//! A run, from a class and a script to the text of its journal.
-ghost use Rattle.std.specs.Prelude.{◌≡◌, ◌≤◌, ◌<◌, ◌+◌, ◌^◌, ℕ, List, [], ◌∷◌, length, Some, Ok, IfOk, IfErr, OnOk};
+//! A run, from class files and a script to the text of its journal.
+ghost use Rattle.std.specs.Prelude.{◌≡◌, ◌≤◌, ◌<◌, ◌+◌, ◌^◌, ℕ, List, length, map, None, Some, Ok, IfOk, IfErr, OnOk};
+ghost use Rattle.std.specs.List.{AllByRecursion, AllZip};
+ghost use Rattle.jmodel.specs.ClassFile.{ClassFile as Form};
 ghost use Rattle.jmodel.specs.ClassRules.{IsClassFile, Spells};
-ghost use Rattle.jmodel.specs.Linking.{linked};
+ghost use Rattle.jmodel.specs.Classes.{in_order as order_of_classes, doubled_class};
+ghost use Rattle.jmodel.specs.ClassesLinking.{linked, linking};
 ghost use Rattle.jmodel.specs.Rewriting.{rewritten as rewritten_program};
 ghost use Rattle.jmodel.specs.Typing.{IsTypable};
-ghost use Rattle.std.specs.List.{AllByRecursion};
 ghost use Rattle.rewriter.specs.Meaning.{AreFiled, HasFewMembers};
-ghost use Rattle.rewriter.specs.Rewritten.{rewritten_class};
-ghost use Rattle.deuce.specs.Headline.{IsRun};
-ghost use Rattle.deuce.specs.Ending.{EndsReading, EndsOnClass, EndsBuild, EndsRewriting, EndsScript, EndsOpening, IsOpened, IsUnopenedAs, IsLimit, IsBadScript, IsUnopened, NoScript, NoOpening, IsOutsideForm};
+ghost use Rattle.rewriter.specs.ClassesMeaning.{AreLinked};
+ghost use Rattle.rewriter.specs.Rewritten.{Keeps};
+ghost use Rattle.rewriter.specs.RewrittenClasses.{rewritten_classes};
+ghost use Rattle.deuce.specs.Headline.{linked_files, IsRun};
+ghost use Rattle.deuce.specs.Ending.{EndsReading, EndsOnClasses, EndsOrder, EndsBuild, EndsRewriting, EndsScript, EndsOpening, IsOpened, IsNumbered, IsUnopenedAs, IsBadScript, IsUnopened, NoScript, NoOpening, IsOutsideForm};
 ghost use Rattle.script.specs.Script.{IsScript};
 ghost use Rattle.jmodel.specs.Layout.{opening_words as first_words, opening_state};
 ghost use Rattle.jmodel.specs.Program.{Program as Meant};
@@ -21,26 +25,25 @@ use crate::typed::type_all;
 use class_reader::read_class;
 use const_pool::ClassFile;
 use driver::{Limits, Memory, SetUpEnd, run_phases, set_up};
-use hierarchy::symbols::own_name;
-use hierarchy::{BuildEnd, Program, memory_words, opening_words};
+use hierarchy::{BuildEnd, Program, in_order, initialisers, memory_words, opening_words};
 use jmodel::{Answer, Bytes, Halt, Refusal};
 use rewriter::{Rewriting, rewrite};
 use script::{Script, read_script};
 use std::alloc::{AllocError, Global};
 use std::thread::Threads;
 
-/// Why a command over a class file isn't done.
+/// Why a command over class files isn't done.
 #[derive(Drop)]
 pub enum RunEnd {
-    /// The bytes are no class file, with this fault, the first; or the class has it, or its rewriting passes this limit.
+    /// The bytes are no class file, with this fault, the first; or the classes have it, or their rewriting passes this limit.
     Refused(Refusal),
     /// A method has no typing.
     Untyped(Refusal),
-    /// The script is none for the class, with the first rule that it breaks.
+    /// The script is none for the classes, with the first rule that it breaks.
     BadScript(Refusal),
-    /// The static initialiser of the class of this name doesn't return, but ends so.
+    /// A static initialiser of the class of this name doesn't return, but ends so.
     Unopened { class: Bytes, answer: Answer },
-    /// The class isn't of the form that is built so far, or the rewritten class would have too many members.
+    /// The classes aren't of the form that is built so far, or a rewritten class would have too many members.
     NotBuilt,
     NoMemory,
 }
@@ -74,62 +77,82 @@ pub fn class_of(alloc: Global, bytes: &[u8]) -> Result<ClassFile, RunEnd>
     }
 }
 
-/// Runs a script on a class, and gives the text of its journal.
-pub fn run_class<R: Threads + Sync>(
+/// Runs a script on class files, and gives the text of its journal.
+pub fn run_files<R: Threads + Sync>(
     rt: &R,
     alloc: Global,
-    class: &ClassFile,
+    files: &[ClassFile],
     script: &[u8],
 ) -> Result<Bytes, RunEnd>
-    requires form { IsClassFile class.now }
-    requires filed { AreFiled class.now }
-    ensures run { IfOk result (λ text. (bytes : List ℕ) → Spells bytes class.now → IsRun bytes script.now text) }
-    ensures cause { IfErr result (EndsOnClass class.now (IsBadScript script.now) (IsUnopened script.now) IsOutsideForm) }
+    requires form { AllByRecursion IsClassFile files.now }
+    requires filed { AllByRecursion AreFiled files.now }
+    ensures run { IfOk result (λ text. (contents : List (List ℕ)) → AllZip Spells contents files.now → IsRun contents script.now text) }
+    ensures cause { IfErr result (EndsOnClasses files.now (IsBadScript script.now) (IsUnopened script.now) IsOutsideForm) }
 {
-    let prepared = prepare(alloc, class)?;
+    let prepared = prepare(alloc, files)?;
     run_script(
         rt,
         alloc,
-        class,
+        prepared.classes.as_slice(),
         &prepared.original,
         &prepared.rewriting.program,
         script,
     )
 }
 
-/// The program that a class means, each of whose methods has a typing, and the rewriting of the class.
+/// The classes of class files in the order of their names, the program that they mean, each of whose methods has a typing, and their rewriting.
 #[derive(Drop)]
-pub struct Prepared {
+pub struct Prepared<'a> {
+    pub classes: Vec<&'a ClassFile>,
     pub original: Program,
     pub rewriting: Rewriting,
 }
 
-/// Gives a class its program, types that, and rewrites the class.
-pub fn prepare(alloc: Global, class: &ClassFile) -> Result<Prepared, RunEnd>
-    requires form { IsClassFile class.now }
-    requires filed { AreFiled class.now }
-    ensures links { IfOk result (λ p. linked class.now ≡ Some p.original) }
+/// Gives the classes of class files their program, types that, and rewrites them.
+pub fn prepare(alloc: Global, files: &[ClassFile]) -> Result<Prepared<'_>, RunEnd>
+    requires form { AllByRecursion IsClassFile files.now }
+    requires filed { AllByRecursion AreFiled files.now }
+    ensures order { IfOk result (λ p. map (λ c. c.now) p.classes.items ≡ order_of_classes files.now) }
+    ensures single { OnOk result (doubled_class files.now ≡ None) }
+    ensures linked { IfOk result (λ p. AreLinked (order_of_classes files.now) p.original) }
     ensures typed { IfOk result (λ p. AllByRecursion (IsTypable p.original) p.original.methods) }
-    ensures rewritten { IfOk result (λ p. (p.rewriting.program ≡ rewritten_program p.original) × (rewritten_class p.original class.now ≡ Ok p.rewriting.class)) }
+    ensures rewritten { IfOk result (λ p. (p.rewriting.program ≡ rewritten_program p.original) × (rewritten_classes (order_of_classes files.now) p.original ≡ Ok p.rewriting.classes.items)) }
+    ensures keeps { IfOk result (λ p. AllZip Keeps (order_of_classes files.now) p.rewriting.classes.items) }
     ensures stays_typed { IfOk result (λ p. AllByRecursion (IsTypable p.rewriting.program) p.rewriting.program.methods) }
-    ensures rules { IfOk result (λ p. HasFewMembers p.rewriting.class → IsClassFile p.rewriting.class) }
-    ensures cause { IfErr result (EndsOnClass class.now NoScript NoOpening IsOutsideForm) }
+    ensures rules { IfOk result (λ p. AllByRecursion (λ (c : Form). HasFewMembers c → IsClassFile c) p.rewriting.classes.items) }
+    ensures cause { IfErr result (EndsOnClasses files.now NoScript NoOpening IsOutsideForm) }
 {
-    let original = build(alloc, class)?;
-    type_all(alloc, class, &original)?;
-    let rewriting = instrument(alloc, class, &original)?;
+    let classes = ordered(alloc, files)?;
+    let original = build(alloc, classes.as_slice())?;
+    type_all(alloc, classes.as_slice(), &original)?;
+    let rewriting = instrument(alloc, classes.as_slice(), &original)?;
     Ok(Prepared {
+        classes,
         original,
         rewriting,
     })
 }
 
-/// The program that a class means.
-pub fn build(alloc: Global, class: &ClassFile) -> Result<Program, RunEnd>
-    ensures links { IfOk result (λ p. linked class.now ≡ Some p) }
-    ensures cause { IfErr result (EndsBuild class.now) }
+/// The classes of class files in the order of their names.
+fn ordered(alloc: Global, files: &[ClassFile]) -> Result<Vec<&ClassFile>, RunEnd>
+    ensures order { IfOk result (λ v. map (λ c. c.now) v.items ≡ order_of_classes files.now) }
+    ensures single { OnOk result (doubled_class files.now ≡ None) }
+    ensures still_single { OnOk result (doubled_class (order_of_classes files.now) ≡ None) }
+    ensures cause { IfErr result (EndsOrder files.now) }
 {
-    match Program::build(alloc, class) {
+    match in_order(alloc, files) {
+        Ok(classes) => Ok(classes),
+        Err(Halt::Refused(refusal)) => Err(RunEnd::Refused(refusal)),
+        Err(Halt::NoMemory) => Err(RunEnd::NoMemory),
+    }
+}
+
+/// The program that classes mean.
+fn build(alloc: Global, classes: &[&ClassFile]) -> Result<Program, RunEnd>
+    ensures links { IfOk result (λ p. linking (map (λ c. c.now) classes.now) ≡ Ok (Some p)) }
+    ensures cause { IfErr result (EndsBuild (map (λ c. c.now) classes.now)) }
+{
+    match Program::build(alloc, classes) {
         Ok(program) => Ok(program),
         Err(BuildEnd::Refused(refusal)) => Err(RunEnd::Refused(refusal)),
         Err(BuildEnd::NotBuilt) => Err(RunEnd::NotBuilt),
@@ -137,48 +160,38 @@ pub fn build(alloc: Global, class: &ClassFile) -> Result<Program, RunEnd>
     }
 }
 
-/// The rewriting of a typed class, with the program that it means, whose methods are typed too.
-pub fn instrument(alloc: Global, class: &ClassFile, original: &Program) -> Result<Rewriting, RunEnd>
-    requires form { IsClassFile class.now }
-    requires filed { AreFiled class.now }
-    requires links { linked class.now ≡ Some original.now }
+/// The rewriting of typed classes, with the program that they mean, whose methods are typed too.
+fn instrument(
+    alloc: Global,
+    classes: &[&ClassFile],
+    original: &Program,
+) -> Result<Rewriting, RunEnd>
+    requires linked { AreLinked (map (λ c. c.now) classes.now) original.now }
     requires typed { AllByRecursion (IsTypable original.now) original.now.methods }
-    ensures rewritten { IfOk result (λ r. (r.program ≡ rewritten_program original.now) × (rewritten_class original.now class.now ≡ Ok r.class)) }
+    ensures rewritten { IfOk result (λ r. (r.program ≡ rewritten_program original.now) × (rewritten_classes (map (λ c. c.now) classes.now) original.now ≡ Ok r.classes.items)) }
+    ensures keeps { IfOk result (λ r. AllZip Keeps (map (λ c. c.now) classes.now) r.classes.items) }
     ensures typed { IfOk result (λ r. AllByRecursion (IsTypable r.program) r.program.methods) }
-    ensures rules { IfOk result (λ r. HasFewMembers r.class → IsClassFile r.class) }
-    ensures cause { IfErr result (EndsRewriting original.now class.now) }
+    ensures rules { IfOk result (λ r. AllByRecursion (λ (c : Form). HasFewMembers c → IsClassFile c) r.classes.items) }
+    ensures cause { IfErr result (EndsRewriting original.now (map (λ c. c.now) classes.now)) }
 {
-    match rewrite(alloc, class, original) {
+    match rewrite(alloc, classes, original) {
         Ok(rewriting) => Ok(rewriting),
-        Err(Halt::Refused(refusal)) => Err(limit(alloc, class, refusal)),
+        Err(Halt::Refused(refusal)) => Err(RunEnd::Refused(refusal)),
         Err(Halt::NoMemory) => Err(RunEnd::NoMemory),
     }
 }
 
-/// The end of a run on a class whose rewriting passes a limit; a full pool is named by its class.
-fn limit(alloc: Global, class: &ClassFile, refusal: Refusal) -> RunEnd
-    ensures { IsLimit class.now refusal result }
-{
-    match refusal {
-        Refusal::PoolFull(_) => match Bytes::from_slice(alloc, own_name(class)) {
-            Ok(name) => RunEnd::Refused(Refusal::PoolFull(name)),
-            Err(_) => RunEnd::NoMemory,
-        },
-        other => RunEnd::Refused(other),
-    }
-}
-
-/// The script that bytes are for a class and its program.
+/// The script that bytes are for classes and their program.
 fn script_of(
     alloc: Global,
-    class: &ClassFile,
+    classes: &[&ClassFile],
     program: &Program,
     bytes: &[u8],
 ) -> Result<Script, RunEnd>
-    ensures script { IfOk result (IsScript class.now program.now bytes.now) }
-    ensures cause { IfErr result (EndsScript class.now program.now bytes.now) }
+    ensures script { IfOk result (IsScript (map (λ c. c.now) classes.now) program.now bytes.now) }
+    ensures cause { IfErr result (EndsScript program.now (map (λ c. c.now) classes.now) bytes.now) }
 {
-    match read_script(alloc, class, program, bytes) {
+    match read_script(alloc, classes, program, bytes) {
         Ok(script) => Ok(script),
         Err(Halt::Refused(refusal)) => Err(RunEnd::BadScript(refusal)),
         Err(Halt::NoMemory) => Err(RunEnd::NoMemory),
@@ -189,83 +202,88 @@ fn script_of(
 /// region 0 as the static bases have.
 fn first_memory(
     alloc: Global,
-    class: &ClassFile,
+    classes: &[&ClassFile],
     lanes: u64,
     size: u64,
 ) -> Result<Memory, AllocError>
     requires lanes { lanes ≤ 16 }
-    requires room { (length (first_words (class.now ∷ [])) ≤ size) × (size ≤ 1048576) }
-    ensures holds { (P : Meant) → linked class.now ≡ Some P → IfOk result (λ m. Holds P size m (opening_state (class.now ∷ []))) }
+    requires room { (length (first_words (map (λ c. c.now) classes.now)) ≤ size) × (size ≤ 1048576) }
+    ensures holds { (P : Meant) → linked (map (λ c. c.now) classes.now) ≡ Some P → IfOk result (λ m. Holds P size m (opening_state (map (λ c. c.now) classes.now))) }
     ensures size { IfOk result (λ m. length m.words.items + 4097 < 2 ^ 32) }
 {
-    let fixed = opening_words(alloc, class)?;
-    let words = memory_words(alloc, class, size as usize, lanes as usize + 1)?;
+    let fixed = opening_words(alloc, classes)?;
+    let words = memory_words(alloc, classes, size as usize, lanes as usize + 1)?;
     Ok(Memory {
         words,
         used: fixed.len() as u64,
     })
 }
 
-/// Runs the static initialisers of a class's program by its rewriting, alone, over the memory that a run of so many lanes begins with, and gives the
-/// memory that they left.
+/// Runs the static initialisers of a program by its rewriting, alone, superclasses first, over the memory that a run of so many lanes begins with, and
+/// gives the memory that they left.
 fn opened(
     alloc: Global,
-    class: &ClassFile,
+    classes: &[&ClassFile],
     original: &Program,
     rewritten: &Program,
     lanes: u64,
     limits: Limits,
 ) -> Result<Memory, RunEnd>
-    requires links { linked class.now ≡ Some original.now }
+    requires links { linked (map (λ c. c.now) classes.now) ≡ Some original.now }
     requires ready { IsReady original.now rewritten.now }
     requires attempts { (1 ≤ limits.attempts) × (limits.attempts ≤ 1000000) }
     requires lanes { lanes ≤ 16 }
-    requires room { (length (first_words (class.now ∷ [])) ≤ limits.size) × (limits.size ≤ 1048576) }
-    ensures opens { IfOk result (IsOpened class.now original.now limits.size limits.budget) }
+    requires room { (length (first_words (map (λ c. c.now) classes.now)) ≤ limits.size) × (limits.size ≤ 1048576) }
+    ensures opens { IfOk result (IsOpened original.now (map (λ c. c.now) classes.now) limits.size limits.budget) }
     ensures size { IfOk result (λ m. length m.words.items + 4097 < 2 ^ 32) }
-    ensures cause { IfErr result (EndsOpening class.now original.now limits.size limits.budget) }
+    ensures cause { IfErr result (EndsOpening original.now (map (λ c. c.now) classes.now) limits.size limits.budget) }
 {
-    let memory = first_memory(alloc, class, lanes, limits.size)?;
-    match set_up(alloc, original, rewritten, memory, limits) {
+    let memory = first_memory(alloc, classes, lanes, limits.size)?;
+    let order = initialisers(alloc, classes, original)?;
+    match set_up(alloc, original, rewritten, memory, order.as_slice(), limits) {
         Ok(memory) => Ok(memory),
-        Err(end) => Err(unopened(alloc, class, end)),
+        Err(end) => Err(unopened(alloc, original, end)),
     }
 }
 
-/// The end of a run on a class whose static initialisers ended so.
-fn unopened(alloc: Global, class: &ClassFile, end: SetUpEnd) -> RunEnd
-    ensures { IsUnopenedAs class.now end result }
+/// The end of a run on a program whose static initialisers ended so.
+fn unopened(alloc: Global, original: &Program, end: SetUpEnd) -> RunEnd
+    requires { IsNumbered original.now end }
+    ensures { IsUnopenedAs original.now end result }
 {
     match end {
-        SetUpEnd::Failed(_, answer) => match Bytes::from_slice(alloc, own_name(class)) {
-            Ok(class) => RunEnd::Unopened { class, answer },
-            Err(_) => RunEnd::NoMemory,
-        },
+        SetUpEnd::Failed(number, answer) => {
+            match original.methods()[number].name().class.copy(alloc) {
+                Ok(class) => RunEnd::Unopened { class, answer },
+                Err(_) => RunEnd::NoMemory,
+            }
+        }
         SetUpEnd::NoMemory => RunEnd::NoMemory,
     }
 }
 
-/// Runs a script on a class's program by its rewriting.
+/// Runs a script on the program of classes by its rewriting.
 fn run_script<R: Threads + Sync>(
     rt: &R,
     alloc: Global,
-    class: &ClassFile,
+    classes: &[&ClassFile],
     original: &Program,
     rewritten: &Program,
     script: &[u8],
 ) -> Result<Bytes, RunEnd>
-    requires links { linked class.now ≡ Some original.now }
+    requires links { linked (map (λ c. c.now) classes.now) ≡ Some original.now }
     requires ready { IsReady original.now rewritten.now }
-    ensures run { IfOk result (λ text. (bytes : List ℕ) → Spells bytes class.now → IsRun bytes script.now text) }
-    ensures cause { IfErr result (EndsScript class.now original.now script.now) }
+    ensures run { IfOk result (λ text. (files : List Form) (contents : List (List ℕ)) → order_of_classes files ≡ map (λ c. c.now) classes.now → linked_files files ≡ Some original.now
+        → AllZip Spells contents files → IsRun contents script.now text) }
+    ensures cause { IfErr result (EndsScript original.now (map (λ c. c.now) classes.now) script.now) }
 {
-    let wanted = script_of(alloc, class, original, script)?;
+    let wanted = script_of(alloc, classes, original, script)?;
     let limits = Limits {
         budget: wanted.budget,
         attempts: wanted.attempts,
         size: wanted.region,
     };
-    let memory = opened(alloc, class, original, rewritten, wanted.lanes, limits)?;
+    let memory = opened(alloc, classes, original, rewritten, wanted.lanes, limits)?;
     let made = run_phases(
         rt,
         alloc,

@@ -22,18 +22,18 @@ use std::thread::Threads;
 ///
 /// | Status | Comes |
 /// |---|---|
-/// | 0 | the journal of the run was written whole; or the rewritten class file was put, and its counts were written whole |
+/// | 0 | the journal of the run was written whole; or each rewritten class file was put, and the counts were written whole |
 /// | 2 | the words are none of the forms |
 /// | 3 | a file is no class file; the path of the first and its first fault are printed |
-/// | 4 | there are more than 256 class files, their classes have a fault, or the rewriting of the one class passes a limit; that is printed |
-/// | 5 | a method of the class has no typing; the first is printed |
-/// | 6 | the script is none for the class; the first rule that it breaks is printed |
-/// | 7 | the static initialiser of the class doesn't return; the class and the answer are printed |
+/// | 4 | there are more than 256 class files, their classes have a fault, or their rewriting passes a limit; that is printed |
+/// | 5 | a method of the classes has no typing; the first is printed |
+/// | 6 | the script is none for the classes; the first rule that it breaks is printed |
+/// | 7 | a static initialiser doesn't return; its class and the answer are printed |
 /// | 8 | a list or a read of this command failed |
 /// | 9 | the sink failed; a front of the output was written |
 /// | 10 | memory ran out; nothing was written, or a front of the output |
-/// | 11 | the put of the rewritten class file failed |
-/// | 12 | something in the folder is a folder; or there isn't one class file alone, or its class isn't of the form that is built so far, or the rewritten class would have too many members |
+/// | 11 | the put of a rewritten class file failed; those before it, in the order of their names, were put |
+/// | 12 | something in the folder is a folder; or the classes aren't of the form that is built so far, or a rewritten class would have too many members |
 pub fn deuce<R: Threads + Sync, F: Folder, O: Sink>(
     rt: &R,
     alloc: Global,
@@ -52,41 +52,42 @@ pub fn deuce<R: Threads + Sync, F: Folder, O: Sink>(
 
     // `rewrite DIR OUT`: what was put, where the folder tells its files, and the counts that were written.
     ensures rewriting { result ≡ 0 → (dir to : List ℕ) → seen_words words.now ≡ rewrite_words dir to
-        → (taken : ℕ) × (marked : ℕ) × IsRewritingOf (F.files folder.old) (F.files folder.new) dir to taken marked
-        × Appends (O.written out.old) (O.written out.new) (counts_text taken marked) }
+        → (classes : ℕ) × (taken : ℕ) × (marked : ℕ) × IsRewritingOf (F.files folder.old) (F.files folder.new) dir to classes taken marked
+        × Appends (O.written out.old) (O.written out.new) (counts_text classes taken marked) }
 
     // This class file is the first, in the order of the names, that isn't good, and has this fault.
     ensures bad_class { result ≡ 3 → (path : List ℕ) × (refusal : Refusal)
         × IsBadClassOfWords words.now (F.files folder.old) path refusal
         × Appends (O.written out.old) (O.written out.new) (error_text (codes "3") (path and refusal_text refusal)) }
 
-    // There are more class files than 256, as this says; or they are good, and their classes have this fault, or the rewriting of the one class passes this limit.
+    // There are more class files than 256, as this says; or they are good, and their classes have this fault, or their rewriting passes this limit.
     ensures bad_program { result ≡ 4 → (refusal : Refusal) × IsBadProgramOfWords words.now (F.files folder.old) refusal
         × Appends (O.written out.old) (O.written out.new) (error_text (codes "4") (refusal_text refusal)) }
 
-    // There is one class file, of the form, and this method of it is the first that has no typing.
+    // The class files are good and of the form, and this method of their classes is the first that has no typing.
     ensures untypable { result ≡ 5 → (refusal : Refusal) × IsUntypableOfWords words.now (F.files folder.old) refusal
         × Appends (O.written out.old) (O.written out.new) (error_text (codes "5") (refusal_text refusal)) }
 
-    // It can be run, and the script, of which at most one byte over its limit is looked at, is none for it: this is the first rule that it breaks.
+    // They can be run, and the script, of which at most one byte over its limit is looked at, is none for them: this is the first rule that it breaks.
     ensures bad_script { result ≡ 6 → (refusal : Refusal) × IsBadScriptOfWords words.now (F.files folder.old) refusal
         × Appends (O.written out.old) (O.written out.new) (error_text (codes "6") (refusal_text refusal)) }
 
-    // It can be run, and the script is one for it, but its static initialiser, run alone within the script's turns, doesn't return: it ends so.
+    // They can be run, and the script is one for them, but a static initialiser, the first such, run alone within the script's turns, doesn't return: it ends so.
     ensures unopened { result ≡ 7 → (class : List ℕ) × (answer : Answer) × IsUnopenedOfWords words.now (F.files folder.old) class answer
         × Appends (O.written out.old) (O.written out.new) (error_text (codes "7") (class and answer_text answer)) }
 
-    // Something in the folder is a folder; or the class files are good and their classes without a fault, but there isn't one alone, or that isn't of the
-    // form, or the rewritten class would have too many members.
+    // Something in the folder is a folder; or the class files are good and their classes without a fault, but not of the form, or a rewritten class
+    // would have too many members.
     ensures not_built { result ≡ 12 → IsNotBuilt words.now (F.files folder.old) }
     ensures not_built_line { result ≡ 12 → Appends (O.written out.old) (O.written out.new) (error_text (codes "12") (codes "NotBuilt")) }
 
-    // A fault of the folder is one of this command's calls, and its path is printed; a fault of the sink is the sink's.
+    // A fault of the folder is one of this command's calls, and its path is printed; the new files before one whose put failed were put whole. A fault of
+    // the sink is the sink's.
     ensures outside { result ≡ 8 → (path : List ℕ)
         × FailedOutside words.now path (F.faults folder.old) (F.faults folder.new) (F.failed folder.new)
         × Appends (O.written out.old) (O.written out.new) (error_text (codes "8") path) }
     ensures not_put { result ≡ 11 → (path : List ℕ)
-        × FailedPutOfWords words.now (F.files folder.old) path (F.put_faults folder.old) (F.put_faults folder.new) (F.failed folder.new)
+        × FailedPutOfWords words.now (F.files folder.old) (F.files folder.new) path (F.put_faults folder.old) (F.put_faults folder.new) (F.failed folder.new)
         × Appends (O.written out.old) (O.written out.new) (error_text (codes "11") path) }
     ensures sink { result ≡ 9 → Rose (O.faults out.old) (O.faults out.new) }
 
@@ -99,7 +100,7 @@ pub fn deuce<R: Threads + Sync, F: Folder, O: Sink>(
     ensures complete { CanRunWords words.now (F.files folder.old) → (result ≡ 0) ⊎ ((result ≡ 8) ⊎ ((result ≡ 9) ⊎ (result ≡ 10))) }
     ensures complete_rewriting { CanRewriteWords words.now (F.files folder.old) → (result ≡ 0) ⊎ ((result ≡ 8) ⊎ ((result ≡ 9) ⊎ ((result ≡ 10) ⊎ (result ≡ 11)))) }
 
-    // The folder's files stay as they were, but for the one that a rewriting puts.
+    // The folder's files stay as they were, but for those that a rewriting puts, all of them or the first up to one of which nothing is known.
     ensures files_kept { IsNoRewriting words.now → F.files folder.new ≡ F.files folder.old }
     ensures refused_keeps { IsRefusal result → F.files folder.new ≡ F.files folder.old }
     ensures put { ArePut words.now (F.files folder.old) (F.files folder.new) }

@@ -1,8 +1,8 @@
 //! Types of the methods of a program.
-ghost use Rattle.std.specs.Prelude.{◌≡◌, ◌<◌, Some, IfOk, IfErr, length, slice_get, take};
+ghost use Rattle.std.specs.Prelude.{◌≡◌, ◌<◌, Some, IfOk, IfErr, length, map, slice_get, take};
 ghost use Rattle.std.specs.List.{AllByRecursion};
 ghost use Rattle.jmodel.specs.Program.{Method};
-ghost use Rattle.jmodel.specs.Linking.{linked};
+ghost use Rattle.jmodel.specs.ClassesLinking.{linked};
 ghost use Rattle.jmodel.specs.Typing.{IsTypable, IsUntypableAt};
 ghost use Rattle.deuce.specs.Ending.{EndsTyping};
 
@@ -13,18 +13,18 @@ use jmodel::Refusal;
 use std::alloc::Global;
 use verifier::{TypeEnd, infer};
 
-/// Finds a typing of each method of a class's program. Refused as Untypable at the first that has none, with its printed name
+/// Finds a typing of each method of the program of classes. Refused as Untypable at the first that has none, with its printed name
 /// and the least pc such that no table meets the rules of the instructions up to it.
-pub fn type_all(alloc: Global, class: &ClassFile, program: &Program) -> Result<(), RunEnd>
-    requires { linked class.now ≡ Some program.now }
+pub fn type_all(alloc: Global, classes: &[&ClassFile], program: &Program) -> Result<(), RunEnd>
+    requires { linked (map (λ c. c.now) classes.now) ≡ Some program.now }
     ensures typed { IfOk result (λ _. AllByRecursion (IsTypable program.now) program.now.methods) }
-    ensures cause { IfErr result (EndsTyping class.now) }
+    ensures cause { IfErr result (EndsTyping program.now (map (λ c. c.now) classes.now)) }
 {
     for method in 0..program.methods().len() {
         match infer(alloc, program, method) {
             Ok(_) => {}
             Err(TypeEnd::Untypable(place)) => return Err(untyped(
-                alloc, class, program, method, place,
+                alloc, classes, program, method, place,
             )),
             Err(TypeEnd::NoMemory) => return Err(RunEnd::NoMemory),
         }
@@ -35,21 +35,21 @@ pub fn type_all(alloc: Global, class: &ClassFile, program: &Program) -> Result<(
 /// The refusal of a method that has no typing, for the instruction at a place.
 fn untyped(
     alloc: Global,
-    class: &ClassFile,
+    classes: &[&ClassFile],
     program: &Program,
     number: usize,
     place: usize,
 ) -> RunEnd
-    requires links { linked class.now ≡ Some program.now }
+    requires links { linked (map (λ c. c.now) classes.now) ≡ Some program.now }
     requires number { number < length program.now.methods }
     requires before { AllByRecursion (IsTypable program.now) (take number program.now.methods) }
     requires none { (k : Method) → slice_get program.now.methods number ≡ Some k → IsUntypableAt program.now k place }
-    ensures { EndsTyping class.now result }
+    ensures { EndsTyping program.now (map (λ c. c.now) classes.now) result }
 {
     let Ok(name) = program.methods()[number].name().printed(alloc) else {
         return RunEnd::NoMemory;
     };
-    match pc_of(alloc, class, number, place) {
+    match pc_of(alloc, classes, number, place) {
         Ok(Some(pc)) => RunEnd::Untyped(Refusal::Untypable(name, pc as i64)),
         Ok(None) => unreachable!(),
         Err(_) => RunEnd::NoMemory,

@@ -1,18 +1,15 @@
 -- The static initialisers of a program, one after another.
-use Rattle.std.proofs.Common.{◌≡◌, ◌≢◌, ℕ, zero, suc, ◌+◌, ◌<◌, slice_index_or, List, [], ◌∷◌, ◌++◌, length, Bool, true, false, Option, Some, refl, sym, ap, ◌∙◌, subst, inl, inr, arith}
-use Rattle.std.specs.Prelude.{slice_get, if◌then◌else◌}
+use Rattle.std.proofs.Common.{◌≡◌, ◌≢◌, ℕ, zero, suc, ◌<◌, slice_index_or, List, [], ◌∷◌, ◌++◌, length, Bool, true, false, Option, refl, sym, ap, ◌∙◌, subst, inl, inr, arith}
 use Rattle.std.specs.List.{AllByRecursion}
 use Rattle.std.specs.Bool.{MatchBool}
 use Rattle.jmodel.specs.declared.value.Value.{Value}
 use Rattle.jmodel.specs.declared.value.Answer.{Answer}
 use Rattle.jmodel.specs.declared.value.Answer.TheVariants.{Returned, Threw, Budget, Depth, Heap, Spent, NoMemory}
-use Rattle.jmodel.specs.Coded.{names_initialiser}
-use Rattle.jmodel.specs.Program.{Method, Program, method_at}
+use Rattle.jmodel.specs.Program.{Program, method_at}
 use Rattle.jmodel.specs.State.{State}
 use Rattle.jmodel.specs.Call.{Calls}
 use Rattle.jmodel.specs.Schedule.{takes}
-use Rattle.jmodel.specs.LinkedLaw.{CanSetUp}
-use Rattle.jmodel.specs.Opening.{first_region, initialisers_from, initialisers, Opening, is_return, Fails}
+use Rattle.jmodel.specs.Opening.{first_region, Opening, is_return, Fails}
 use Rattle.jmodel.specs.declared.op.Access.{Access}
 use Rattle.jmodel.specs.declared.value.Stamp.{Stamp}
 use Rattle.jmodel.specs.Attempt.{Log}
@@ -40,26 +37,6 @@ record_at at m x stamp = record { phase = at.phase; lane = at.lane; index = at.f
 -- a method that can be called without arguments
 abbrev pub IsCallable : Program → ℕ → Type 0
 IsCallable P m = takes (method_at P m) 0 ≡ true
-
--- initialisers can be called
-callable_from : (P : Program) (i : ℕ) (ks : List Method) → ((j : ℕ) → slice_get P.methods (i + j) ≡ slice_get ks j) → AllByRecursion CanSetUp ks
-    → AllByRecursion (IsCallable P) (initialisers_from i ks)
-callable_from P i [] at h = tt
-callable_from P i (k ∷ ks) at h = go (names_initialiser k.name) refl (callable_from P (suc i) ks later h.1)
-  where
-    later : (j : ℕ) → slice_get P.methods (suc i + j) ≡ slice_get ks j
-    later j = let z : suc i + j ≡ i + suc j = omega arith in ap (slice_get P.methods) z ∙ at (suc j)
-
-    here : slice_get P.methods i ≡ Some k
-    here = let z : i ≡ i + 0 = omega arith in ap (slice_get P.methods) z ∙ at 0
-
-    go : (b : Bool) → names_initialiser k.name ≡ b → AllByRecursion (IsCallable P) (initialisers_from (suc i) ks)
-        → AllByRecursion (IsCallable P) (if b then i ∷ initialisers_from (suc i) ks else initialisers_from (suc i) ks)
-    go true e rest = (ap (λ (o : Option Method). takes o 0) here ∙ h.0 e, rest)
-    go false e rest = rest
-
-pub callable : (P : Program) → AllByRecursion CanSetUp P.methods → AllByRecursion (IsCallable P) (initialisers P)
-callable P h = callable_from P 0 P.methods (λ j. let z : 0 + j ≡ j = omega arith in ap (slice_get P.methods) z) h
 
 -- initialisers, and behind them others
 opening_append : (P : Program) (size budget : ℕ) (σ ρ τ : State) (ms ns : List ℕ) → Opening P size budget σ ms ρ → Opening P size budget ρ ns τ → Opening P size budget σ (ms ++ ns) τ

@@ -4,7 +4,7 @@ use Rattle.jmodel.specs.declared.value.Answer.{Answer}
 use Rattle.jmodel.specs.Program.{Program}
 use Rattle.jmodel.specs.State.{State}
 use Rattle.jmodel.specs.Call.{Calls}
-use Rattle.jmodel.specs.Opening.{first_region, initialisers, Opening, Fails}
+use Rattle.jmodel.specs.Opening.{first_region, Opening, Fails}
 use Rattle.driver.specs.declared.memory.Memory.{Memory}
 use Rattle.driver.specs.declared.setting_up.SetUpEnd.{SetUpEnd}
 use Rattle.driver.specs.declared.setting_up.SetUpEnd.TheVariants as ends
@@ -19,7 +19,7 @@ AnswersAlone P size budget memory m x left = (σ : State) → Holds P size memor
 abbrev pub OpensTo : Program → ℕ → ℕ → Memory → List ℕ → Memory → Type 0
 OpensTo P size budget memory ms left = (σ : State) → Holds P size memory σ → (τ : State) × Opening P size budget σ ms τ × Holds P size left τ
 
--- why not all initialisers of a program returned: from each state that memory stands for, this is the first that doesn't, and it ends so
-abbrev pub EndsSetUp : Program → ℕ → ℕ → Memory → SetUpEnd → Type 0
-EndsSetUp P size budget memory (ends.Failed m x) = (σ : State) → Holds P size memory σ → Fails P size budget σ (initialisers P) m x
-EndsSetUp P size budget memory ends.NoMemory = Unit {0}
+-- why not all of these initialisers returned: from each state that memory stands for, this is the first that doesn't, and it ends so
+abbrev pub EndsSetUp : Program → ℕ → ℕ → Memory → List ℕ → SetUpEnd → Type 0
+EndsSetUp P size budget memory ms (ends.Failed m x) = (σ : State) → Holds P size memory σ → Fails P size budget σ ms m x
+EndsSetUp P size budget memory ms ends.NoMemory = Unit {0}

@@ -3,8 +3,7 @@ ghost use Rattle.std.specs.Prelude.{◌≡◌, ◌≤◌, true, length, IfOk, If
 ghost use Rattle.std.specs.List.{AllByRecursion};
 ghost use Rattle.jmodel.specs.Program.{method_at};
 ghost use Rattle.jmodel.specs.Schedule.{takes};
-ghost use Rattle.jmodel.specs.LinkedLaw.{CanSetUp};
-ghost use Rattle.jmodel.specs.Opening.{initialisers, is_return as is_return_of};
+ghost use Rattle.jmodel.specs.Opening.{is_return as is_return_of};
 ghost use Rattle.jmodel.specs.History.{Entry};
 ghost use Rattle.session.specs.Rule.{IsRuled, IsReady};
 ghost use Rattle.driver.specs.SetUp.{AnswersAlone, OpensTo, EndsSetUp};
@@ -37,27 +36,27 @@ impl From<AllocError> for SetUpEnd {
     }
 }
 
-/// Runs the static initialisers of a program, each alone, one after another, from the memory that a run begins with, and gives the memory that
-/// they left. Each may take the turns and the attempts of `limits`, and all together the words of region 0. The rewritten program is what runs. At the
-/// first that doesn't return, its number and its answer are given, and no other runs.
+/// Runs the static initialisers of a program that have these numbers, each alone, one after another as they stand there, from the memory that
+/// a run begins with, and gives the memory that they left. Each may take the turns and the attempts of `limits`, and all together the words of
+/// region 0. The rewritten program is what runs. At the first that doesn't return, its number and its answer are given, and no other runs.
 pub fn set_up(
     alloc: Global,
     original: &Program,
     rewritten: &Program,
     memory: Memory,
+    initialisers: &[usize],
     limits: Limits,
 ) -> Result<Memory, SetUpEnd>
     requires ready { IsReady original.now rewritten.now }
-    requires initialisers { AllByRecursion CanSetUp original.now.methods }
+    requires callable { AllByRecursion (λ m. takes (method_at original.now m) 0 ≡ true) initialisers.now }
     requires attempts { (1 ≤ limits.attempts) × (limits.attempts ≤ 1000000) }
     requires room_size { limits.size ≤ 1048576 }
-    ensures opens { IfOk result (λ left. OpensTo original.now limits.size limits.budget memory (initialisers original.now) left) }
+    ensures opens { IfOk result (λ left. OpensTo original.now limits.size limits.budget memory initialisers.now left) }
     ensures size { IfOk result (λ left. length left.words.items ≡ length memory.words.items) }
-    ensures cause { IfErr result (EndsSetUp original.now limits.size limits.budget memory) }
+    ensures cause { IfErr result (EndsSetUp original.now limits.size limits.budget memory initialisers.now) }
 {
-    let numbers = original.initialisers(alloc)?;
     let mut memory = memory;
-    for number in &numbers {
+    for number in initialisers {
         let (answer, left) = call_alone(alloc, original, rewritten, memory, limits, *number)?;
         if !is_return(&answer) {
             return Err(SetUpEnd::Failed(*number, answer));

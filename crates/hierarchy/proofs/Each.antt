@@ -1,6 +1,11 @@
 -- What each item gives, as a loop collects it.
-use Rattle.std.proofs.Common.{◌≡◌, ℕ, suc, ◌+◌, ◌≤◌, ◌<◌, List, [], ◌∷◌, ◌++◌, length, map, drop, get_or, Option, Some, None, Bor, refl, sym, ap, ◌∙◌, append_assoc, add-one, drop-cons}
-use Rattle.std.proofs.lemmas.List.{append-nil, drop_all}
+use Rattle.std.proofs.Common.{◌≡◌, Bool, true, false, cond, ◌||◌, ℕ, suc, ◌+◌, ◌≤◌, ◌<◌, List, [], ◌∷◌, ◌++◌, length, map, take, drop, reverse, get_or, Option, Some, None, Bor, refl, sym, ap, ◌∙◌, append_assoc, add-one, drop-cons, arith}
+use Rattle.std.proofs.lemmas.List.{append-nil, drop_all, map_more, take_more, map-append, reverse-append, length-append}
+use Rattle.std.proofs.lemmas.List.Elements.{filter_more}
+use Rattle.std.proofs.lemmas.List.Folds.{list_any-append}
+use Rattle.std.proofs.lemmas.Grind.{flat_map-append}
+use Rattle.std.specs.Prelude.{filter, if◌then◌else◌}
+use Rattle.std.specs.List.{list_any, flat_map}
 use Rattle.jmodel.specs.Decoding.{in_front, each}
 use Rattle.hierarchy.specs.declared.outcome.BuildEnd.{BuildEnd}
 use Rattle.hierarchy.specs.declared.outcome.BuildEnd.TheVariants.{Refused, NotBuilt, NoMemory}
@@ -57,10 +62,44 @@ module _ {A B : Type 0} (f : A → Option B) where
       sym so_far ∙ one ∙ ap (λ (ys : List B). Some ys) (append-nil front)
 
 -- what is seen behind references
-pub each_seen : {A B : Type 0} (f : A → Option B) (xs : List (Bor A)) → each (λ x. f x.now) xs ≡ each f (map (λ x. x.now) xs)
-each_seen f [] = refl
-each_seen f (x ∷ xs) = ap (in_front (f x.now)) (each_seen f xs)
-
 pub map_seen : {A B : Type 0} (f : A → B) (xs : List (Bor A)) → map (λ x. f x.now) xs ≡ map f (map (λ x. x.now) xs)
 map_seen f [] = refl
 map_seen {A} {B} f (x ∷ xs) = ap (λ (ys : List B). f x.now ∷ ys) (map_seen f xs)
+
+-- one more item is seen
+pub map_next : {A B : Type 0} (f : A → B) (xs : List A) (i : ℕ) (x : A) → i < length xs → x ≡ get_or xs i x → map f (take (i + 1) xs) ≡ map f (take i xs) ++ f x ∷ []
+map_next {A} f xs i x inside is = map_more f xs i x inside ∙ ap (λ (y : A). map f (take i xs) ++ f y ∷ []) (sym is)
+
+pub any_next : {A : Type 0} (test : A → Bool) (xs : List A) (i : ℕ) (x : A) → i < length xs → x ≡ get_or xs i x → list_any test (take (i + 1) xs) ≡ (list_any test (take i xs) || test x)
+any_next {A} test xs i x inside is =
+    ap (list_any test) (take_more xs i x inside ∙ ap (λ (y : A). take i xs ++ y ∷ []) (sym is)) ∙ list_any-append test (take i xs) (x ∷ []) ∙ ap (λ (b : Bool). list_any test (take i xs) || b) (last (test x))
+  where
+    last : (b : Bool) → (b || false) ≡ b
+    last true = refl
+    last false = refl
+
+pub flat_map_next : {A B : Type 0} (f : A → List B) (xs : List A) (i : ℕ) (x : A) → i < length xs → x ≡ get_or xs i x → flat_map f (take (i + 1) xs) ≡ flat_map f (take i xs) ++ f x
+flat_map_next {A} {B} f xs i x inside is =
+    ap (flat_map f) (take_more xs i x inside ∙ ap (λ (y : A). take i xs ++ y ∷ []) (sym is)) ∙ flat_map-append f (take i xs) (x ∷ []) ∙ ap (λ (l : List B). flat_map f (take i xs) ++ l) (append-nil (f x))
+
+pub reverse_seen : {A B : Type 0} (f : A → B) (xs : List A) → map f (reverse xs) ≡ reverse (map f xs)
+reverse_seen f [] = refl
+reverse_seen {A} {B} f (x ∷ xs) =
+    ap (map f) (reverse-append (x ∷ []) xs) ∙ map-append f (reverse xs) (x ∷ []) ∙ ap (λ (l : List B). l ++ f x ∷ []) (reverse_seen f xs) ∙ sym (reverse-append (f x ∷ []) (map f xs))
+
+-- how many of them pass
+pub count_next : {A : Type 0} (p : A → Bool) (xs : List A) (i : ℕ) (x : A) → i < length xs → x ≡ get_or xs i x → length (filter p (take (i + 1) xs)) ≡ length (filter p (take i xs)) + (if p x then 1 else 0)
+count_next {A} p xs i x inside is =
+    ap (λ (l : List A). length l) (filter_more p xs i x inside ∙ ap (λ (y : A). filter p (take i xs) ++ cond (p y) (y ∷ []) []) (sym is)) ∙ go (p x)
+  where
+    go : (b : Bool) → length (filter p (take i xs) ++ cond b (x ∷ []) []) ≡ length (filter p (take i xs)) + (if b then 1 else 0)
+    go true = length-append (filter p (take i xs)) (x ∷ [])
+    go false = length-append (filter p (take i xs)) []
+
+pub few_pass : {A : Type 0} (p : A → Bool) (xs : List A) → length (filter p xs) ≤ length xs
+few_pass p [] = omega arith
+few_pass {A} p (x ∷ xs) = go (p x) (few_pass p xs)
+  where
+    go : (b : Bool) → length (filter p xs) ≤ length xs → length (cond b (x ∷ filter p xs) (filter p xs)) ≤ length (x ∷ xs)
+    go true less = omega (arith, less)
+    go false less = omega (arith, less)

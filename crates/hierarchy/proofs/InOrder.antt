@@ -33,7 +33,7 @@ abbrev pub AreApart : List ClassFile → Type 0
 AreApart [] = Unit {0}
 AreApart (c ∷ cs) = (has_class (own_name c) cs ≡ false) × AreApart cs
 
-itself : (a : List ℕ) → bytes_eq a a ≡ true
+pub itself : (a : List ℕ) → bytes_eq a a ≡ true
 itself a = (bytes_eq-Decides a a).1 refl
 
 split : {A : Type 0} (b : Bool) (x : A) (o : Option A) → (if b then Some x else o) ≡ None → (b ≡ false) × (o ≡ None)
@@ -48,7 +48,7 @@ apart_from names a b f g = go (bytes_eq a b) refl
     go true e = sym g ∙ sym (ap (λ (x : List ℕ). list_any (bytes_eq x) names) (same_bytes a b e)) ∙ f
     go false e = refl
 
-none_has : (names : List (List ℕ)) (cs : List ClassFile) → doubled_among names cs ≡ None → (name : List ℕ) → list_any (bytes_eq name) names ≡ true → has_class name cs ≡ false
+pub none_has : (names : List (List ℕ)) (cs : List ClassFile) → doubled_among names cs ≡ None → (name : List ℕ) → list_any (bytes_eq name) names ≡ true → has_class name cs ≡ false
 none_has names [] h name k = refl
 none_has names (c ∷ cs) h name k =
     let parts = split (list_any (bytes_eq (own_name c)) names) (DoubledClass (own_name c)) (doubled_among (own_name c ∷ names) cs) h in
@@ -113,7 +113,7 @@ is_doubled keys c cs h =
 
 -- ---- classes in order
 
-has_placed : (name : List ℕ) (c : ClassFile) (ds : List ClassFile) → has_class name (placed c ds) ≡ (bytes_eq (own_name c) name || has_class name ds)
+pub has_placed : (name : List ℕ) (c : ClassFile) (ds : List ClassFile) → has_class name (placed c ds) ≡ (bytes_eq (own_name c) name || has_class name ds)
 has_placed name c [] = refl
 has_placed name c (d ∷ ds) = go (is_lt (slice_cmp nat_cmp (own_name d) (own_name c))) (has_placed name c ds)
   where
@@ -122,7 +122,7 @@ has_placed name c (d ∷ ds) = go (is_lt (slice_cmp nat_cmp (own_name d) (own_na
     go true h = ap (λ (b : Bool). bytes_eq (own_name d) name || b) h ∙ or_second (bytes_eq (own_name d) name) (bytes_eq (own_name c) name) (has_class name ds)
     go false h = refl
 
-has_in_order : (name : List ℕ) (cs : List ClassFile) → has_class name (in_order cs) ≡ has_class name cs
+pub has_in_order : (name : List ℕ) (cs : List ClassFile) → has_class name (in_order cs) ≡ has_class name cs
 has_in_order name [] = refl
 has_in_order name (c ∷ cs) = has_placed name c (in_order cs) ∙ ap (λ (b : Bool). bytes_eq (own_name c) name || b) (has_in_order name cs)
 

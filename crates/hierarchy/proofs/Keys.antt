@@ -1,6 +1,6 @@
 -- Look-ups by names in trees.
-use Rattle.std.proofs.Common.{◌≡◌, ℕ, Bool, true, false, ◌&&◌, ◌||◌, cond, List, [], ◌∷◌, ◌++◌, Option, Some, Vec, Bor, refl, sym, ap, ◌∙◌}
-use Rattle.std.specs.Prelude.{map, bytes_eq, option_map, unwrap_or, if◌then◌else◌}
+use Rattle.std.proofs.Common.{◌≡◌, ℕ, ◌+◌, Bool, true, false, ◌&&◌, ◌||◌, cond, List, [], ◌∷◌, ◌++◌, Option, Some, None, Vec, Bor, refl, sym, ap, ◌∙◌, arith}
+use Rattle.std.specs.Prelude.{map, bytes_eq, is_some, option_copied, option_map, unwrap_or, if◌then◌else◌}
 use Rattle.std.specs.List.{list_any}
 use Rattle.std.specs.Map.{lookup}
 use Rattle.std.specs.BTreeMap.{is_at}
@@ -15,7 +15,8 @@ use Rattle.hierarchy.specs.contracts.names.KeyOrd.TheImpl.{cmp-value}
 use Rattle.jmodel.specs.declared.name.MethodName.{MethodName}
 use Rattle.jmodel.specs.Linking.{is_name}
 use Rattle.jmodel.specs.Classes.{Declared}
-use Rattle.hierarchy.specs.Names.{named, has, group_of}
+use Rattle.hierarchy.specs.Names.{named, has, group_of, number_of, count_of}
+use Rattle.hierarchy.specs.Numbers.{or_number}
 use Rattle.hierarchy.proofs.Parts.{any_map}
 use Rattle.hierarchy.proofs.SearchLaws.{name_symm, same_name}
 
@@ -62,6 +63,20 @@ set_with k old new h q =
     go false true e h = refl
     go false false e h = h
 
+-- ---- what stands under a key
+
+module _ {X Y : Type 0} (f : X → Y) where
+  found : (k : Key) (es : List (Key × X)) → lookup (is_name (texts k)) (map (λ e. (texts e.0, f e.1)) es) ≡ option_map f (lookup (is_at (cmp-value.it k)) es)
+  found k [] = refl
+  found k (e ∷ es) = go (is_name (texts k) (texts e.0)) (is_at (cmp-value.it k) e.0) (tested k e.0) (found k es)
+    where
+      go : (a b : Bool) → b ≡ a → lookup (is_name (texts k)) (map (λ e. (texts e.0, f e.1)) es) ≡ option_map f (lookup (is_at (cmp-value.it k)) es)
+          → cond a (Some (f e.1)) (lookup (is_name (texts k)) (map (λ e. (texts e.0, f e.1)) es)) ≡ option_map f (cond b (Some e.1) (lookup (is_at (cmp-value.it k)) es))
+      go true true h r = refl
+      go true false h r = absurd cc
+      go false true h r = absurd cc
+      go false false h r = r
+
 -- ---- groups
 
 module _ {A : Type 0} where
@@ -77,19 +92,8 @@ module _ {A : Type 0} where
   abbrev pub group : Option (Vec (Bor Declared) A) → List Declared
   group o = unwrap_or (option_map methods o) []
 
-  found : (k : Key) (es : List (Key × Vec (Bor Declared) A)) → lookup (is_name (texts k)) (seen es) ≡ option_map methods (under es k)
-  found k [] = refl
-  found k (e ∷ es) = go (is_name (texts k) (texts e.0)) (is_at (cmp-value.it k) e.0) (tested k e.0) (found k es)
-    where
-      go : (a b : Bool) → b ≡ a → lookup (is_name (texts k)) (seen es) ≡ option_map methods (under es k)
-          → cond a (Some (methods e.1)) (lookup (is_name (texts k)) (seen es)) ≡ option_map methods (cond b (Some e.1) (under es k))
-      go true true h r = refl
-      go true false h r = absurd cc
-      go false true h r = absurd cc
-      go false false h r = r
-
   pub group_is : (k : Key) (es : List (Key × Vec (Bor Declared) A)) → group_of (seen es) (texts k) ≡ group (under es k)
-  group_is k es = ap (λ (o : Option (List Declared)). unwrap_or o []) (found k es)
+  group_is k es = ap (λ (o : Option (List Declared)). unwrap_or o []) (found methods k es)
 
   -- groups after one has one more method
   pub group_with : (k : Key) (m : Bor Declared) (w : Vec (Bor Declared) A) (old new : List (Key × Vec (Bor Declared) A)) → methods w ≡ group (under old k) ++ m.now ∷ []
@@ -105,3 +109,57 @@ module _ {A : Type 0} where
           let old_is : group_of (seen old) q ≡ group (under old k) = ap (group_of (seen old)) (same_name q (texts k) e) ∙ group_is k old in
           now_under true e ∙ is ∙ ap (λ (l : List Declared). l ++ m.now ∷ []) (sym old_is)
       go false e = now_under false e ∙ sym (group_is (key q) old) ∙ sym (append-nil (group_of (seen old) q))
+
+-- ---- numbers
+
+abbrev pub noted : List (Key × ℕ) → List (MethodName × ℕ)
+noted es = map (λ e. (texts e.0, e.1)) es
+
+itself : {A : Type 0} (o : Option A) → option_map (λ x. x) o ≡ o
+itself None = refl
+itself (Some x) = refl
+
+pub number_is : (k : Key) (es : List (Key × ℕ)) → number_of (noted es) (texts k) ≡ lookup (is_at (cmp-value.it k)) es
+number_is k es = found (λ (n : ℕ). n) k es ∙ itself (lookup (is_at (cmp-value.it k)) es)
+
+pub none_there : {A : Type 0} (o : Option (Bor A)) → is_some o ≡ false → option_copied o ≡ None
+none_there None h = refl
+none_there (Some x) h = absurd cc
+
+pub some_there : {A : Type 0} (o : Option (Bor A)) → is_some o ≡ true → (x : A) × (option_copied o ≡ Some x)
+some_there None h = absurd cc
+some_there (Some x) h = (x.now, refl)
+
+-- what stands under a name doesn't change where it has a number
+pub stays : (numbers : List (MethodName × ℕ)) (n : MethodName) (m number : ℕ) → number_of numbers n ≡ Some m
+    → (q : MethodName) → number_of numbers q ≡ (if is_name q n then or_number (number_of numbers q) number else number_of numbers q)
+stays numbers n m number is q = go (is_name q n) refl
+  where
+    go : (b : Bool) → is_name q n ≡ b → number_of numbers q ≡ (if b then or_number (number_of numbers q) number else number_of numbers q)
+    go true e =
+        let there : number_of numbers q ≡ Some m = ap (number_of numbers) (same_name q n e) ∙ is in
+        there ∙ sym (ap (λ (o : Option ℕ). or_number o number) there)
+    go false e = refl
+
+-- a number is put under a key
+module _ (k : Key) (number : ℕ) (old new : List (Key × ℕ)) (puts : (q : Key) → lookup (is_at (cmp-value.it q)) new ≡ cond (is_at (cmp-value.it k) q) (Some number) (lookup (is_at (cmp-value.it q)) old)) where
+  put_there : (q : MethodName) → number_of (noted new) q ≡ cond (is_name q (texts k)) (Some number) (number_of (noted old) q)
+  put_there q =
+      number_is (key q) new ∙ puts (key q) ∙ ap (λ (t : Bool). cond t (Some number) (lookup (is_at (cmp-value.it (key q))) old)) (tested k (key q) ∙ name_symm (texts k) q)
+      ∙ ap (cond (is_name q (texts k)) (Some number)) (sym (number_is (key q) old))
+
+  -- it is the first
+  pub first : number_of (noted old) (texts k) ≡ None → (q : MethodName) → number_of (noted new) q ≡ (if is_name q (texts k) then or_number (number_of (noted old) q) number else number_of (noted old) q)
+  first none q = put_there q ∙ go (is_name q (texts k)) refl
+    where
+      go : (b : Bool) → is_name q (texts k) ≡ b → cond b (Some number) (number_of (noted old) q) ≡ (if b then or_number (number_of (noted old) q) number else number_of (noted old) q)
+      go true e = sym (ap (λ (o : Option ℕ). or_number o number) (ap (number_of (noted old)) (same_name q (texts k) e) ∙ none))
+      go false e = refl
+
+  -- it is one more than before
+  pub counts : number ≡ count_of (noted old) (texts k) + 1 → (q : MethodName) → count_of (noted new) q ≡ count_of (noted old) q + (if is_name q (texts k) then 1 else 0)
+  counts more q = ap (λ (o : Option ℕ). unwrap_or o 0) (put_there q) ∙ go (is_name q (texts k)) refl
+    where
+      go : (b : Bool) → is_name q (texts k) ≡ b → unwrap_or (cond b (Some number) (number_of (noted old) q)) 0 ≡ count_of (noted old) q + (if b then 1 else 0)
+      go true e = more ∙ ap (λ (n : MethodName). count_of (noted old) n + 1) (sym (same_name q (texts k) e))
+      go false e = omega arith

@@ -1,8 +1,14 @@
 pub mod Bools
 pub mod Parts
 pub mod Each
-pub mod Relinked
 pub mod Numbering
+pub mod Numbers
+pub mod ClassPlaces
+pub mod Single
+pub mod Relinked
+pub mod Bases
+pub mod Visits
+pub mod Declaring
 pub mod Decoded
 pub mod Source
 pub mod Zipped

@@ -1,8 +1,11 @@
 -- Parts of texts, and tests of what is seen of items.
-use Rattle.std.proofs.Common.{◌≡◌, ℕ, suc, ◌+◌, ◌<◌, List, length, drop, get_or, ◌∷◌, true, false, refl, ap, ◌∙◌, sym, nat_eq, add-one, drop-cons}
+use Rattle.std.proofs.Common.{◌≡◌, ℕ, suc, ◌+◌, ◌<◌, ◌≤◌, List, length, drop, get_or, ◌∷◌, true, false, Bor, IfSome, refl, ap, ◌∙◌, sym, nat_eq, nat_lt, add-one, drop-cons, arith}
 use Rattle.std.specs.List.{starts_with, list_any}
+use Rattle.std.specs.Option.{option_eq}
 use Rattle.std.proofs.lemmas.Slice.Eq.{bytes_eq-Decides}
-use Rattle.std.specs.Prelude.{◌||◌, bytes_eq, map, [], Bool, Option, Some, None, Err}
+use Rattle.std.specs.Prelude.{◌||◌, bytes_eq, map, [], Bool, Option, Some, None, Err, is_some, option_copied, option_map, slice_get}
+use Rattle.std.proofs.lemmas.Bool.Decides.{nat_tests}
+use Rattle.std.proofs.lemmas.Option.{slice_get_past, slice_get-get_or}
 use Rattle.jmodel.specs.declared.refusal.Refusal.{Refusal}
 use Rattle.jmodel.specs.Descriptor.{Signature}
 use Rattle.jmodel.specs.DescriptorReading.{signature_or}
@@ -28,3 +31,33 @@ any_map p f (x ∷ xs) = ap (λ b. p (f x) || b) (any_map p f xs)
 pub no_signature : (q r : Refusal) (o : Option Signature) → signature_or q o ≡ Err r → o ≡ None
 no_signature q r None h = refl
 no_signature q r (Some s) h = cc
+
+-- what is got at an index is the item there
+pub got : {A : Type 0} (xs : List A) (i : ℕ) (o : Option (Bor A)) → is_some o ≡ nat_lt i (length xs) → IfSome o (λ x. x.now ≡ get_or xs i x.now) → option_copied o ≡ slice_get xs i
+got xs i None there is = let past : length xs ≤ i = grind (arith, nat_tests) in sym (slice_get_past xs i past)
+got xs i (Some x) there is =
+    let inside : i < length xs = grind (arith, nat_tests) in
+    ap (λ y. Some y) is ∙ sym (slice_get-get_or xs i x.now inside)
+
+-- what is there behind a reference
+pub none_seen : {A : Type 0} (o : Option (Bor A)) → is_some o ≡ false → option_map (λ x. x.now) o ≡ None
+none_seen None there = refl
+none_seen (Some x) there = absurd cc
+
+pub some_seen : {A : Type 0} (o : Option (Bor A)) → is_some o ≡ true → (x : A) × (option_map (λ y. y.now) o ≡ Some x)
+some_seen None there = absurd cc
+some_seen (Some x) there = (x.now, refl)
+
+-- numbers that are there, compared
+pub same_option : (a b : Option ℕ) → option_eq nat_eq a b ≡ true → a ≡ b
+same_option None None h = refl
+same_option None (Some y) h = absurd cc
+same_option (Some x) None h = absurd cc
+same_option (Some x) (Some y) h = let same : x ≡ y = grind (arith, nat_tests) in ap (λ (n : ℕ). Some n) same
+
+pub option_itself : (a b : Option ℕ) → a ≡ b → option_eq nat_eq a b ≡ true
+option_itself a b h = ap (option_eq nat_eq a) (sym h) ∙ itself a
+  where
+    itself : (o : Option ℕ) → option_eq nat_eq o o ≡ true
+    itself None = refl
+    itself (Some x) = grind (arith, nat_tests)

@@ -1,58 +1,69 @@
--- The methods of a class's program, seen behind references.
-use Rattle.std.proofs.Common.{◌≡◌, ℕ, ◌-◌, List, [], ◌∷◌, length, map, take, drop, Option, None, Bool, true, Bor, sym, ap, ◌∙◌}
-use Rattle.std.specs.Prelude.{nat_le, zip, if◌then◌else◌}
-use Rattle.std.proofs.lemmas.List.{length-map, take-map, drop-map}
+-- The methods of rewritten classes by their kinds, and their program.
+use Rattle.std.proofs.Common.{◌≡◌, ℕ, ◌*◌, ◌/◌, ◌<◌, ◌≤◌, Bool, true, false, ◌||◌, List, ◌++◌, length, Option, Some, None, nat_le, refl, ap, ◌∙◌, arith}
+use Rattle.std.specs.Prelude.{filter, option_map, if◌then◌else◌}
+use Rattle.std.specs.List.{list_any, list_all, flat_map}
+use Rattle.std.proofs.lemmas.Bool.Decides.{nat_tests}
 use Rattle.jmodel.specs.declared.name.MethodName.{MethodName}
-use Rattle.jmodel.specs.ClassFile.{Member, ClassFile}
-use Rattle.jmodel.specs.Program.{Field, Method}
-use Rattle.jmodel.specs.Decoding.{Symbols, each, name_of}
-use Rattle.jmodel.specs.Layout.{base_of}
-use Rattle.jmodel.specs.Linking.{Coded, form_method, method_of, is_untouched, joined, relinked_methods, symbols_of}
-use Rattle.hierarchy.specs.Built.{relinked_seen}
-use Rattle.hierarchy.proofs.Each.{each_seen, map_seen}
+use Rattle.jmodel.specs.ClassFile.{ClassFile}
+use Rattle.jmodel.specs.Program.{Method, Program}
+use Rattle.jmodel.specs.Linking.{is_name, takes_context}
+use Rattle.jmodel.specs.Classes.{Declared, declared_in, full_name}
+use Rattle.jmodel.specs.ClassesLinking.{is_rewritten_method, rewritten_methods, own_count, has_copies, old_members, accessor_members, duplicate_members, relinked}
+use Rattle.jmodel.proofs.Taken.{filter_same, all_of}
+use Rattle.hierarchy.specs.Names.{has}
+use Rattle.hierarchy.specs.declared.outcome.BuildEnd.{BuildEnd}
+use Rattle.hierarchy.specs.declared.outcome.BuildEnd.TheVariants.{Refused, NotBuilt, NoMemory}
+use Rattle.hierarchy.specs.Built.{Ends, parts_in, relinked_in}
 
-abbrev if_enough : Bool → Option (List Method) → Option (List Method) → Option (List Method)
-if_enough b xs ys = if b then joined xs ys else None
+abbrev Parts : Type 0
+Parts = List Declared × List Declared × List Declared
 
-module _ (s : Symbols) (n : ℕ) (ms : List (Bor Member)) where
-  abbrev seen : List Member
-  seen = map (λ m. m.now) ms
+module _ (P : Program) where
+  -- the methods of a class that its program has, where names are those of the original's methods
+  pub methods_are : (names : List MethodName) (c : ClassFile) → ((n : MethodName) → has names n ≡ list_any (λ (k : Method). is_name n k.name) P.methods)
+      → filter (λ (k : Declared). takes_context k.class.pool k.member || has names (full_name k)) (declared_in c c.methods) ≡ rewritten_methods P c
+  methods_are names c are =
+      filter_same (λ (k : Declared). takes_context k.class.pool k.member || has names (full_name k)) (is_rewritten_method P) (declared_in c c.methods)
+      (all_of _ (declared_in c c.methods) (λ k. ap (λ (b : Bool). takes_context k.class.pool k.member || b) (are (full_name k))))
 
-  len : length (map (λ m. m.now) ms) ≡ length ms
-  len = length-map _ _
+  -- whether each has its copy
+  pub no_copies : (c : ClassFile) (len count : ℕ) → len ≡ length (rewritten_methods P c) → count ≡ own_count P c → len / 2 < count → has_copies P c ≡ false
+  no_copies c len count methods own less = few (own_count P c) (length (rewritten_methods P c)) (omega (arith, methods, own, less))
+    where
+      few : (n m : ℕ) → m < 2 * n → nat_le (2 * n) m ≡ false
+      few n m h = grind (arith, nat_tests)
 
-  abbrev old_method : Member → Option Method
-  old_method m = method_of s (is_untouched s.class.pool m) m
+  pub copies : (c : ClassFile) (len count : ℕ) → len ≡ length (rewritten_methods P c) → count ≡ own_count P c → count ≤ len / 2 → has_copies P c ≡ true
+  copies c len count methods own enough = many (own_count P c) (length (rewritten_methods P c)) (omega (arith, methods, own, enough))
+    where
+      many : (n m : ℕ) → 2 * n ≤ m → nat_le (2 * n) m ≡ true
+      many n m h = grind (arith, nat_tests)
 
-  front_seen : each old_method (take (length seen - n) seen) ≡ each (λ m. old_method m.now) (take (length ms - n) ms)
-  front_seen =
-      ap (λ (k : ℕ). each old_method (take (k - n) (map (λ m. m.now) ms))) len
-      ∙ ap (each old_method) (take-map (λ (m : Bor Member). m.now) (length ms - n) ms) ∙ sym (each_seen old_method (take (length ms - n) ms))
+module _ (P : Program) (cs : List ClassFile) where
+  abbrev all_parts : Parts
+  all_parts = (flat_map (old_members P) cs, flat_map (accessor_members P) cs, flat_map (duplicate_members P) cs)
 
-  back_seen : each (method_of s true) (drop (length seen - n) seen) ≡ each (λ m. method_of s true m.now) (drop (length ms - n) ms)
-  back_seen =
-      ap (λ (k : ℕ). each (method_of s true) (drop (k - n) (map (λ m. m.now) ms))) len
-      ∙ ap (each (method_of s true)) (drop-map (λ (m : Bor Member). m.now) (length ms - n) ms) ∙ sym (each_seen (method_of s true) (drop (length ms - n) ms))
+  pub no_parts : list_all (has_copies P) cs ≡ false → parts_in P cs ≡ None
+  no_parts h = ap (λ (b : Bool). if b then Some all_parts else None) h
 
-  all_seen : relinked_methods s n (map (λ m. m.now) ms) ≡ relinked_seen s n ms
-  all_seen =
-      ap (λ (k : ℕ). if_enough (nat_le n k) (each old_method (take (length seen - n) seen)) (each (method_of s true) (drop (length seen - n) seen))) len
-      ∙ ap (λ (xs : Option (List Method)). if_enough (nat_le n (length ms)) xs (each (method_of s true) (drop (length seen - n) seen))) front_seen
-      ∙ ap (if_enough (nat_le n (length ms)) (each (λ m. old_method m.now) (take (length ms - n) ms))) back_seen
+  pub these_parts : (a b d : List Declared) → list_all (has_copies P) cs ≡ true → flat_map (old_members P) cs ≡ a → flat_map (accessor_members P) cs ≡ b → flat_map (duplicate_members P) cs ≡ d
+      → parts_in P cs ≡ Some (a, b, d)
+  these_parts a b d h p q r = ap (λ (t : Bool). if t then Some all_parts else None) h ∙ rw (p, q, r) refl
 
-abbrev symbols : ClassFile → List Field → List MethodName → Symbols
-symbols c fields names = record { class = c; fields = fields; methods = names; base = base_of (c ∷ []) 0; classes = [] }
+  -- the program of what the parts mean
+  pub relinked_is : (a b d : List Declared) → parts_in P cs ≡ Some (a, b, d) → relinked P cs ≡ option_map (λ ms. record { fields = P.fields; methods = ms }) (relinked_in P cs (a ++ b) d)
+  relinked_is a b d h = go (list_all (has_copies P) cs) refl h
+    where
+      one : (x y : Parts) → Some x ≡ Some y → x ≡ y
+      one x y h = cc
 
-module _ (c : ClassFile) (fields : List Field) (names : List MethodName) (ms : List (Bor Member)) (members : List Member) (are : map (λ m. m.now) ms ≡ members) (named : names ≡ map (λ m. name_of c m.now) ms) where
-  same : symbols c fields names ≡ symbols_of c fields members
-  same = ap (symbols c fields) (named ∙ map_seen (name_of c) ms ∙ ap (map (name_of c)) are)
+      go : (t : Bool) → list_all (has_copies P) cs ≡ t → (if t then Some all_parts else None) ≡ Some (a, b, d) → relinked P cs ≡ option_map (λ ms. record { fields = P.fields; methods = ms }) (relinked_in P cs (a ++ b) d)
+      go true e h =
+          rw e (ap (λ (p : Parts). option_map (λ (ms : List Method). let q : Program = record { fields = P.fields; methods = ms } in q) (relinked_in P cs (p.0 ++ p.1) p.2)) (one all_parts (a, b, d) h))
+      go false e h = absurd cc
 
-  pub form_all : (ks : List Coded) → each (λ (p : Member × Coded). form_method (symbols c fields names) p.0 p.1) (zip (map (λ m. m.now) ms) ks)
-      ≡ each (λ (p : Member × Coded). form_method (symbols_of c fields members) p.0 p.1) (zip members ks)
-  form_all ks =
-      ap (λ (l : List Member). each (λ (p : Member × Coded). form_method (symbols c fields names) p.0 p.1) (zip l ks)) are
-      ∙ ap (λ (s : Symbols). each (λ (p : Member × Coded). form_method s p.0 p.1) (zip members ks)) same
-
-  pub relinked_all : (n : ℕ) → relinked_seen (symbols c fields names) n ms ≡ relinked_methods (symbols_of c fields members) n members
-  relinked_all n =
-      sym (all_seen (symbols c fields names) n ms) ∙ ap (relinked_methods (symbols c fields names) n) are ∙ ap (λ (s : Symbols). relinked_methods s n members) same
+-- an end is that of what is made of the same
+pub ends_map : {X Y : Type 0} (f : X → Y) (e : BuildEnd) (o : Option X) → Ends e o → Ends e (option_map f o)
+ends_map f (Refused r) o h = h
+ends_map f NotBuilt o h = ap (option_map f) h
+ends_map f NoMemory o h = h

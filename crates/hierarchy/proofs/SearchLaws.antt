@@ -8,17 +8,15 @@ use Rattle.std.proofs.lemmas.List.Elements.{filter-append}
 use Rattle.std.proofs.lemmas.List.Folds.{list_any-append}
 use Rattle.jmodel.specs.declared.name.MethodName.{MethodName}
 use Rattle.jmodel.specs.declared.refusal.NoMemory.{NoMemory}
-use Rattle.jmodel.specs.ClassFile.{Member, ClassFile}
+use Rattle.jmodel.specs.ClassFile.{ClassFile}
 use Rattle.jmodel.specs.Pool.{MemberName}
 use Rattle.jmodel.specs.Coded.{decoded}
 use Rattle.jmodel.specs.Linking.{is_name}
 use Rattle.jmodel.specs.Taken.{code_calls, is_taken_by}
-use Rattle.jmodel.specs.Taken as alone
-use Rattle.jmodel.specs.Classes.{Declared, declared_in, methods_in, full_name}
+use Rattle.jmodel.specs.Classes.{Declared, methods_in, full_name}
 use Rattle.jmodel.specs.ClassesTaken.{calls, is_taken, IsClosed}
 use Rattle.jmodel.proofs.Taken.{Within, or_right, filter_covers, Same, filter_same, all_map, all_of}
 use Rattle.jmodel.proofs.ClassesTaken.{closed, taken_law}
-use Rattle.jmodel.proofs.ClassesLone.{taken_here}
 use Rattle.hierarchy.proofs.Bools.{or_left, or_second}
 use Rattle.hierarchy.proofs.Parts.{same_bytes}
 use Rattle.hierarchy.specs.Names.{has, group_of}
@@ -355,11 +353,3 @@ module _ (cs : List ClassFile) where
 
   pub flags : (called : List MethodName) → Finds cs called → map (is_found called) (methods_in cs) ≡ map (is_taken cs) (methods_in cs)
   flags called h = map_same (is_found called) (is_taken cs) (methods_in cs) h
-
--- the answers of one class among classes are its answers alone
-pub lone_flags : (c : ClassFile) → map (is_taken (c ∷ [])) (methods_in (c ∷ [])) ≡ map (alone.is_taken c) c.methods
-lone_flags c = ap (map (is_taken (c ∷ []))) (append-nil (declared_in c c.methods)) ∙ go c.methods
-  where
-    go : (ms : List Member) → map (is_taken (c ∷ [])) (declared_in c ms) ≡ map (alone.is_taken c) ms
-    go [] = refl
-    go (m ∷ ms) = ap (λ (b : Bool). b ∷ map (is_taken (c ∷ [])) (declared_in c ms)) (taken_here c m) ∙ ap (λ (bs : List Bool). alone.is_taken c m ∷ bs) (go ms)

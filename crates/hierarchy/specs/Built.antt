@@ -1,12 +1,13 @@
 -- What building a program answers.
-use Rattle.std.specs.Prelude.{◌≡◌, Option, Some, None, Result, Ok, Err}
-use Rattle.std.specs.Prelude.{ℕ, ◌-◌, List, length, take, drop, true, nat_le, if◌then◌else◌}
-use Rattle.std.specs.Borrow.{Bor}
+use Rattle.std.specs.Prelude.{◌≡◌, ◌++◌, List, map, true, Option, Some, None, Result, Ok, Err, if◌then◌else◌}
+use Rattle.std.specs.List.{flat_map, list_all}
 use Rattle.jmodel.specs.declared.refusal.Refusal.{Refusal}
-use Rattle.jmodel.specs.ClassFile.{Member}
-use Rattle.jmodel.specs.Program.{Method}
-use Rattle.jmodel.specs.Decoding.{Symbols, each}
+use Rattle.jmodel.specs.ClassFile.{ClassFile}
+use Rattle.jmodel.specs.Program.{Method, Program}
+use Rattle.jmodel.specs.Decoding.{each}
 use Rattle.jmodel.specs.Linking.{method_of, is_untouched, joined}
+use Rattle.jmodel.specs.Classes.{Declared, full_name}
+use Rattle.jmodel.specs.ClassesLinking.{symbols_in, has_copies, old_members, accessor_members, duplicate_members}
 use Rattle.hierarchy.specs.declared.outcome.BuildEnd.{BuildEnd}
 use Rattle.hierarchy.specs.declared.outcome.BuildEnd.TheVariants.{Refused, NotBuilt, NoMemory}
 
@@ -32,12 +33,15 @@ abbrev pub Links : {X Y : Type 0} → (X → Y) → Result X BuildEnd → Result
 Links view (Ok x) meaning = meaning ≡ Ok (Some (view x))
 Links view (Err e) meaning = EndsLinking e meaning
 
--- the methods of a rewritten class, seen behind references: the last n, which are duplicates, count, and so do those that
--- stayed as they were
-abbrev pub relinked_seen : Symbols → ℕ → List (Bor Member) → Option (List Method)
-relinked_seen s n ms = if nat_le n (length ms)
-    then joined (each (λ m. method_of s (is_untouched s.class.pool m.now) m.now) (take (length ms - n) ms)) (each (λ m. method_of s true m.now) (drop (length ms - n) ms))
-    else None
+-- the methods of rewritten classes by their kinds: the originals', the accessors and the duplicates
+abbrev pub parts_in : Program → List ClassFile → Option (List Declared × List Declared × List Declared)
+parts_in P cs = if list_all (has_copies P) cs then Some (flat_map (old_members P) cs, flat_map (accessor_members P) cs, flat_map (duplicate_members P) cs) else None
+
+-- what methods of rewritten classes mean, of which the last ones are duplicates
+abbrev pub relinked_in : Program → List ClassFile → List Declared → List Declared → Option (List Method)
+relinked_in P cs front back = joined
+    (each (λ (k : Declared). method_of (symbols_in cs P.fields (map full_name (front ++ back)) k.class) (is_untouched k.class.pool k.member) k.member) front)
+    (each (λ (k : Declared). method_of (symbols_in cs P.fields (map full_name (front ++ back)) k.class) true k.member) back)
 
 -- both of two, where both are there
 abbrev pub both_parts : {A B : Type 0} → Option A → Option B → Option (A × B)

@@ -3,6 +3,8 @@ pub mod Built
 pub mod Numbers
 pub mod Names
 pub mod Search
-pub mod Forms
-pub mod Faults
 pub mod Ordered
+pub mod Places
+pub mod Members
+pub mod Starting
+pub mod Fields

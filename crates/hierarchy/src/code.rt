@@ -1,14 +1,16 @@
 //! The code of methods, with its instructions.
-ghost use Rattle.std.specs.Prelude.{◌≡◌, ◌≤◌, ◌∷◌, [], length, map, option_map, option_and_then, slice_get, IfOk, IfSome};
+ghost use Rattle.std.specs.Prelude.{◌≡◌, ◌≤◌, [], length, map, option_map, option_and_then, slice_get, IfOk, IfSome};
 ghost use Rattle.jmodel.specs.Instruction.{SpellsInstrs};
 ghost use Rattle.jmodel.specs.Reading.{Gives};
 ghost use Rattle.jmodel.specs.declared.refusal.Halt.TheVariants as halts;
+ghost use Rattle.jmodel.specs.ClassesLinking.{all_decoded as all_of, pc_of as place_of};
 ghost use Rattle.jmodel.specs.Name.{printed as printed_name};
 ghost use Rattle.jmodel.specs.Decoding.{name_of as method_name};
-ghost use Rattle.jmodel.specs.Linking.{code_in as code_of_member, in_method as named, decoded_code as decoded_of_code, decoded as decoded_of, all_decoded as all_of, program_methods as methods_of_program, Coded as CodedForm, pc_of as place_of};
+ghost use Rattle.jmodel.specs.Linking.{code_in as code_of_member, in_method as named, decoded_code as decoded_of_code, decoded as decoded_of, Coded as CodedForm, pc_in as place_in};
 
+use crate::declared::{Declared, methods_in};
 use crate::symbols::{find_attribute, name_of};
-use crate::taken::program_methods;
+use crate::taken::{are_taken_among, taken_among};
 use bytecode::decode;
 use const_pool::{ClassFile, Code, Member, Pool};
 use jmodel::{Bytes, Halt, Instr, NoMemory, Refusal};
@@ -100,16 +102,12 @@ pub fn decoded(alloc: Global, class: &ClassFile, method: &Member) -> Result<Code
 }
 
 /// The same of each method, or the first fault.
-pub fn all_decoded(
-    alloc: Global,
-    class: &ClassFile,
-    methods: &[&Member],
-) -> Result<Vec<Coded>, Halt>
-    ensures { Gives (λ v. v.items) result (all_of class.now (map (λ m. m.now) methods.now)) }
+pub fn all_decoded(alloc: Global, methods: &[&Declared]) -> Result<Vec<Coded>, Halt>
+    ensures { Gives (λ v. v.items) result (all_of (map (λ m. m.now) methods.now)) }
 {
     let mut coded = Vec::new(alloc);
     for method in methods {
-        coded.push(decoded(alloc, class, method)?)?;
+        coded.push(decoded(alloc, method.class, method.member)?)?;
     }
     Ok(coded)
 }
@@ -122,20 +120,34 @@ fn pc_in(coded: &[Coded], method: usize, number: usize) -> Option<u16>
 
 ghost use Rattle.jmodel.specs.declared.instruction.Instr.{Instr as JInstr};
 
-/// The place in its code of an instruction of a method of the class's program, by their numbers; None where there is none.
-/// Decodes the code again.
-pub fn pc_of(
+// The place of an instruction of a method among methods, by their numbers.
+fn pc_among(
     alloc: Global,
-    class: &ClassFile,
+    methods: &[&Declared],
     method: usize,
     number: usize,
 ) -> Result<Option<u16>, NoMemory>
-    ensures { IfOk result (λ pc. pc ≡ place_of class.now method number) }
+    ensures { IfOk result (λ pc. pc ≡ place_in method (all_of (map (λ m. m.now) methods.now)) number) }
 {
-    let methods = program_methods(alloc, class)?;
-    match all_decoded(alloc, class, methods.as_slice()) {
+    match all_decoded(alloc, methods) {
         Ok(coded) => Ok(pc_in(coded.as_slice(), method, number)),
         Err(Halt::Refused(_)) => Ok(None),
         Err(Halt::NoMemory) => Err(NoMemory),
     }
+}
+
+/// The place in its code of an instruction of a method of the program of these classes, by their numbers; None where there is none.
+/// Decodes the code again.
+pub fn pc_of(
+    alloc: Global,
+    classes: &[&ClassFile],
+    method: usize,
+    number: usize,
+) -> Result<Option<u16>, NoMemory>
+    ensures { IfOk result (λ pc. pc ≡ place_of (map (λ c. c.now) classes.now) method number) }
+{
+    let methods = methods_in(alloc, classes)?;
+    let flags = are_taken_among(alloc, methods.as_slice())?;
+    let taken = taken_among(alloc, methods.as_slice(), flags.as_slice())?;
+    pc_among(alloc, taken.as_slice(), method, number)
 }

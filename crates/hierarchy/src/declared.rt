@@ -1,9 +1,12 @@
 //! Methods of classes, each with the class that declares it.
 ghost use Rattle.std.specs.Prelude.{◌≡◌, ◌++◌, map, IfOk, OnOk};
-ghost use Rattle.jmodel.specs.Classes.{methods_in as methods_of_classes, declared_in};
+ghost use Rattle.jmodel.specs.Classes.{methods_in as methods_of_classes, declared_in, full_name};
+ghost use Rattle.hierarchy.specs.Names.{named};
 ghost use Rattle.hierarchy.specs.Search.{is_root_of};
 
 use crate::marks::is_root;
+use crate::reference::Reference;
+use crate::symbols::{own_name, text};
 use const_pool::{ClassFile, Member};
 use std::alloc::{AllocError, Global};
 use std::marker::Model;
@@ -30,6 +33,19 @@ impl<'a> Declared<'a> {
     {
         let class = self.class;
         is_root(&class.pool, self.member)
+    }
+
+    /// The method's name, as a call of it has it.
+    pub fn reference(&self) -> Reference<'a>
+        ensures { named result.class result.name result.descriptor ≡ full_name self.now }
+    {
+        let class = self.class;
+        let member = self.member;
+        Reference::new(
+            own_name(class),
+            text(&class.pool, member.name),
+            text(&class.pool, member.descriptor),
+        )
     }
 }
 

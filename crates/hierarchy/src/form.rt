@@ -1,18 +1,22 @@
 //! The form of the classes of which programs are built so far: int code of static methods that take values of one word and give
 //! one or nothing. Temporary: the form grows until it has every program that is accepted.
-ghost use Rattle.std.specs.Prelude.{◌≡◌, ◌≤◌, length, filter, map, bytes_eq, not, ◌&&◌, if◌then◌else◌, option_map, IfOk};
+ghost use Rattle.std.specs.Prelude.{◌≡◌, length, filter, map, bytes_eq, IfOk};
 ghost use Rattle.std.specs.List.{list_all, list_any};
-ghost use Rattle.jmodel.specs.Taken.{invoked as invoked_by, is_taken};
-ghost use Rattle.hierarchy.specs.Forms.{is_form_kind as form_kind};
+ghost use Rattle.jmodel.specs.Taken.{invoked as invoked_by};
 ghost use Rattle.jmodel.specs.Layout.{library as library_names, is_static as static_member};
-ghost use Rattle.jmodel.specs.Linking.{has_part as part_of, is_reserved as reserved, is_form_constant as form_constant, is_form_field as form_field, are_distinct as distinct, field_name_of as name_of_field, takes_context as with_context, program_methods as methods_of_program, is_special as special, is_form_atomic as form_atomic, is_form_method as form_method, is_free_name as free_name, are_form_fields as form_fields, are_form_methods as form_methods, is_form_head as form_head, is_form_code as form_code, is_of_reference as of_reference, widened as widened_op, is_form_instr as form_instr, is_form_op as form_op, is_form_method_of as form_method_of, is_form_name as form_name, is_form_callee as form_callee, is_form_outside as form_outside};
+ghost use Rattle.jmodel.specs.Linking.{has_part as part_of, is_reserved as reserved, is_form_constant as form_constant, is_form_field as form_field, are_distinct as distinct, field_name_of as name_of_field, takes_context as with_context, is_special as special, is_form_atomic as form_atomic, is_free_name as free_name, are_form_fields as form_fields, is_form_code as form_code, is_of_reference as of_reference, widened as widened_op, is_form_instr as form_instr, is_form_op as form_op, is_form_method_of as form_method_of, is_form_name as form_name, is_form_callee as form_callee};
+ghost use Rattle.jmodel.specs.Classes.{Declared as DeclaredForm, methods_in as methods_of_classes};
+ghost use Rattle.jmodel.specs.ClassesTaken.{is_taken};
+ghost use Rattle.jmodel.specs.ClassesLinking.{is_form_super as form_super, is_form_head as form_head, is_form_class as form_class, are_form_outside as form_outside, has_few_methods, program_methods, are_form_methods as form_methods};
 
 use crate::code::Coded;
+use crate::declared::Declared;
+use crate::layout::count_statics;
 use crate::marks::{is_initialiser, is_marked};
 use crate::program::Method;
 use crate::shape::{has_context, shape_of};
-use crate::symbols::{equal, is_static, is_text, own_name, text};
-use crate::taken::{are_taken, invoked, taken_methods};
+use crate::symbols::{equal, is_static, own_name, super_name, text};
+use crate::taken::invoked;
 use crate::word_types::word_type;
 use const_pool::{ClassFile, Code, Constant, Member, Pool};
 use jmodel::op::Op;
@@ -81,23 +85,12 @@ fn is_form_name(pool: &Pool, method: &Member) -> bool
 }
 
 /// Whether a method is static, takes values of one word and gives one or nothing, with code and without a monitor.
-pub fn is_form_atomic(alloc: Global, pool: &Pool, method: &Member) -> Result<bool, NoMemory>
+fn is_form_atomic(alloc: Global, pool: &Pool, method: &Member) -> Result<bool, NoMemory>
     ensures { IfOk result (λ b. b ≡ form_atomic pool.now method.now) }
 {
     let has_shape = shape_of(alloc, text(pool, method.descriptor))?.is_some();
     let with_context = takes_context(alloc, pool, method)?;
     Ok(method.flags & 0x528 == 8 && has_shape && !with_context && is_form_name(pool, method))
-}
-
-// A method that isn't taken may be anything.
-fn is_form_kind(alloc: Global, pool: &Pool, method: &Member, taken: bool) -> Result<bool, NoMemory>
-    ensures { IfOk result (λ b. b ≡ form_kind pool.now taken method.now) }
-{
-    if taken {
-        is_form_atomic(alloc, pool, method)
-    } else {
-        Ok(true)
-    }
 }
 
 fn library() -> [&'static [u8]; 20]
@@ -146,12 +139,6 @@ fn each_is_field(pool: &Pool, fields: &[Member]) -> bool
     fields.iter().all(|m| is_form_field(pool, m))
 }
 
-fn count_statics(fields: &[Member]) -> usize
-    ensures { result ≡ length (filter static_member fields.now) }
-{
-    fields.iter().filter(|m| is_static(m)).count()
-}
-
 // Whether a static field has this name.
 fn have_name(pool: &Pool, name: &[u8], fields: &[Member]) -> bool
     ensures { result ≡ list_any (bytes_eq name.now) (map (name_of_field pool.now) (filter static_member fields.now)) }
@@ -176,84 +163,114 @@ fn have_own_names(pool: &Pool, fields: &[Member]) -> bool
     true
 }
 
-/// Whether at most 100 fields are static, each of a type of one word and with a name of its own.
-pub fn are_form_fields(class: &ClassFile) -> bool
+// Whether at most 100 fields are static, each of a type of one word and with a name of its own.
+fn are_form_fields(class: &ClassFile) -> bool
     ensures { result ≡ form_fields class.now }
 {
     let fields = class.fields.as_slice();
-    count_statics(fields) <= 100
+    count_statics(class) <= 100
         && each_is_field(&class.pool, fields)
         && have_own_names(&class.pool, fields)
 }
 
-fn each_is_method(alloc: Global, class: &ClassFile, taken: &[bool]) -> Result<bool, NoMemory>
-    requires { taken.now ≡ map (is_taken class.now) class.now.methods }
-    ensures { IfOk result (λ b. b ≡ list_all (form_method class.now) class.now.methods) }
+// How many of these methods are taken.
+fn count_taken(taken: &[bool]) -> usize
+    ensures { result ≡ length (filter (λ b. b) taken.now) }
 {
-    for (i, method) in class.methods.iter().enumerate() {
-        if !is_form_kind(alloc, &class.pool, method, taken[i])? {
+    taken.iter().filter(|b| **b).count()
+}
+
+// Whether no text of a pool has a part that rewriting keeps for itself.
+fn each_is_constant(entries: &[Constant]) -> bool
+    ensures { result ≡ list_all form_constant entries.now }
+{
+    entries.iter().all(|c| is_form_constant(c))
+}
+
+// Object, or the name of a class that is neither the library's nor an array's.
+fn is_form_super(name: &[u8]) -> bool
+    ensures { result ≡ form_super name.now }
+{
+    equal(name, b"java/lang/Object") || is_free_name(name) && !name.starts_with(b"[")
+}
+
+// A class, no interface, under such a class.
+fn is_form_head(class: &ClassFile) -> bool
+    ensures { result ≡ form_head class.now }
+{
+    class.flags & 0x200 == 0
+        && is_free_name(own_name(class))
+        && is_form_super(super_name(class))
+        && class.interfaces.is_empty()
+}
+
+fn is_form_class(class: &ClassFile) -> bool
+    ensures { result ≡ form_class class.now }
+{
+    each_is_constant(class.pool.entries()) && is_form_head(class) && are_form_fields(class)
+}
+
+fn each_is_class(classes: &[&ClassFile]) -> bool
+    ensures { result ≡ list_all form_class (map (λ c. c.now) classes.now) }
+{
+    for class in classes {
+        if !is_form_class(class) {
+            return false;
+        }
+    }
+    true
+}
+
+/// Whether classes are at most 256, each of the form without a look at its methods.
+pub fn are_form_outside(classes: &[&ClassFile]) -> bool
+    ensures { result ≡ form_outside (map (λ c. c.now) classes.now) }
+{
+    classes.len() <= 256 && each_is_class(classes)
+}
+
+// No class has more than 100 methods that are taken.
+fn have_few_methods(classes: &[&ClassFile], taken: &[bool]) -> bool
+    requires { taken.now ≡ map (is_taken (map (λ c. c.now) classes.now)) (methods_of_classes (map (λ c. c.now) classes.now)) }
+    ensures { result ≡ list_all (has_few_methods (map (λ c. c.now) classes.now)) (map (λ c. c.now) classes.now) }
+{
+    let mut others = taken;
+    for class in classes {
+        let (own, behind) = others.split_at(class.methods.len());
+        if count_taken(own) > 100 {
+            return false;
+        }
+        others = behind;
+    }
+    true
+}
+
+fn each_is_atomic(alloc: Global, methods: &[&Declared]) -> Result<bool, NoMemory>
+    ensures { IfOk result (λ b. b ≡ list_all (λ (k : DeclaredForm). form_atomic k.class.pool k.member) (map (λ m. m.now) methods.now)) }
+{
+    for method in methods {
+        let class = method.class;
+        if !is_form_atomic(alloc, &class.pool, method.member)? {
             return Ok(false);
         }
     }
     Ok(true)
 }
 
-/// How many of these methods are taken.
-pub fn count_taken(taken: &[bool]) -> usize
-    ensures { result ≡ length (filter (λ b. b) taken.now) }
+/// Whether these methods, which are the taken ones, are of the form, without a look at their code.
+pub fn are_form_methods(
+    alloc: Global,
+    classes: &[&ClassFile],
+    taken: &[bool],
+    methods: &[&Declared],
+) -> Result<bool, NoMemory>
+    requires flags { taken.now ≡ map (is_taken (map (λ c. c.now) classes.now)) (methods_of_classes (map (λ c. c.now) classes.now)) }
+    requires are { map (λ m. m.now) methods.now ≡ program_methods (map (λ c. c.now) classes.now) }
+    ensures { IfOk result (λ b. b ≡ form_methods (map (λ c. c.now) classes.now)) }
 {
-    taken.iter().filter(|b| **b).count()
-}
-
-fn are_form_methods(alloc: Global, class: &ClassFile, taken: &[bool]) -> Result<bool, NoMemory>
-    requires { taken.now ≡ map (is_taken class.now) class.now.methods }
-    ensures { IfOk result (λ b. b ≡ form_methods class.now) }
-{
-    if count_taken(taken) > 100 {
+    if !have_few_methods(classes, taken) {
         return Ok(false);
     }
-    each_is_method(alloc, class, taken)
-}
-
-/// Whether no text of a pool has a part that rewriting keeps for itself.
-pub fn each_is_constant(entries: &[Constant]) -> bool
-    ensures { result ≡ list_all form_constant entries.now }
-{
-    entries.iter().all(|c| is_form_constant(c))
-}
-
-// A class, no interface, that stands right under Object.
-fn is_form_head(class: &ClassFile) -> bool
-    ensures { result ≡ form_head class.now }
-{
-    class.flags & 0x200 == 0
-        && is_free_name(own_name(class))
-        && is_text(
-            class.pool.class_name(class.super_class),
-            b"java/lang/Object",
-        )
-        && class.interfaces.is_empty()
-}
-
-/// Whether a class is of the form, without a look at its methods.
-pub fn is_form_outside(class: &ClassFile) -> bool
-    ensures { result ≡ form_outside class.now }
-{
-    each_is_constant(class.pool.entries()) && is_form_head(class) && are_form_fields(class)
-}
-
-/// The methods of the program of a class, None where they or others aren't of the form. Their code isn't looked at.
-pub fn methods_in_form<'a>(
-    alloc: Global,
-    class: &'a ClassFile,
-) -> Result<Option<Vec<&'a Member>>, NoMemory>
-    ensures { IfOk result (λ o. option_map (λ v. map (λ m. m.now) v.items) o ≡ (if form_methods class.now then Some (methods_of_program class.now) else None)) }
-{
-    let taken = are_taken(alloc, class)?;
-    if !are_form_methods(alloc, class, taken.as_slice())? {
-        return Ok(None);
-    }
-    Ok(Some(taken_methods(alloc, class, taken.as_slice())?))
+    each_is_atomic(alloc, methods)
 }
 
 // A Code without exception entries, of at most 200 locals.

@@ -3,9 +3,12 @@ ghost use Rattle.std.specs.Prelude.{◌≡◌, pos, codes, IfOk};
 ghost use Rattle.jmodel.specs.declared.refusal.Refusal.TheVariants.{Construct};
 ghost use Rattle.jmodel.specs.Name.{printed as printed_name};
 ghost use Rattle.jmodel.specs.Decoding.{name_of as method_name};
-ghost use Rattle.jmodel.specs.Linking.{mark_retries as retries_of_mark, is_marked as marked, is_initialiser as initialiser, retries_of as retries, is_root as root, may_be_marked as may_have_mark, mark_fault as fault_of_mark, marks_fault as fault_of_marks};
+ghost use Rattle.jmodel.specs.Classes.{Declared as DeclaredForm};
+ghost use Rattle.jmodel.specs.ClassesLinking.{first_fault};
+ghost use Rattle.jmodel.specs.Linking.{mark_retries as retries_of_mark, is_marked as marked, is_initialiser as initialiser, retries_of as retries, is_root as root, may_be_marked as may_have_mark, mark_fault as fault_of_mark};
 
 use crate::code::printed;
+use crate::declared::Declared;
 use crate::symbols::is_text;
 use annotations::atomic_of;
 use const_pool::fields::offset;
@@ -73,8 +76,8 @@ fn misplaced(alloc: Global, class: &ClassFile, method: &Member) -> Result<Refusa
     Ok(Refusal::Construct(kind, printed(alloc, class, method)?, 0))
 }
 
-/// The fault of a method's annotations and their mark.
-pub fn mark_fault(
+// The fault of a method's annotations and their mark.
+fn mark_fault(
     alloc: Global,
     class: &ClassFile,
     method: &Member,
@@ -101,12 +104,12 @@ pub fn mark_fault(
     }
 }
 
-/// The first fault of the annotations of a class's methods and of their marks, in the order of the file.
-pub fn marks_fault(alloc: Global, class: &ClassFile) -> Result<Option<Refusal>, NoMemory>
-    ensures { IfOk result (λ o. o ≡ fault_of_marks class.now class.now.methods) }
+/// The first fault of the annotations of methods and of their marks, in their order.
+pub fn marks_fault(alloc: Global, methods: &[Declared]) -> Result<Option<Refusal>, NoMemory>
+    ensures { IfOk result (λ o. o ≡ first_fault (λ (k : DeclaredForm). fault_of_mark k.class k.member) methods.now) }
 {
-    for method in &class.methods {
-        if let Some(fault) = mark_fault(alloc, class, method)? {
+    for method in methods {
+        if let Some(fault) = mark_fault(alloc, method.class, method.member)? {
             return Ok(Some(fault));
         }
     }

@@ -1,37 +1,35 @@
 //! What instructions mean, with every name resolved (JVM Specification, Java SE 7, chapter 6).
 ghost use Rattle.std.specs.Prelude.{◌≡◌, find, option_copied, option_map, IfOk};
 ghost use Rattle.jmodel.specs.Superclasses.{declared_field, declared_method};
-ghost use Rattle.jmodel.specs.Decoding.{is_member as is_member_of, is_field_of as is_same_field, is_method_of as is_same_method, field_number as number_of_field, method_number as number_of_method, long_field as long_field_of, is_base as is_base_of, is_called as is_call_of, is_get_context as is_context_getter, short_local_op as short_local, arithmetic_op as arithmetic, rearranging_op as rearranging, leaving_op as leaving, simple_op as simple, number_op as number, local_op as local, wide_op as wide, test_of as test, jump_to as jump_to_number, jump_op as jump, table_cases as cases_of_table, numbered_case as case_with_number, switch_op as switch, each, get_op as get, put_op as put, static_call_op as static_call, context_op as context_call, virtual_call_op as virtual_call, pool_op as pooled, meaning as meaning_of, op_of as op_of_instr};
+ghost use Rattle.jmodel.specs.Decoding.{is_member as is_member_of, field_number as number_of_field, method_number as number_of_method, long_field as long_field_of, is_base as is_base_of, is_called as is_call_of, is_get_context as is_context_getter, short_local_op as short_local, arithmetic_op as arithmetic, rearranging_op as rearranging, leaving_op as leaving, simple_op as simple, number_op as number, local_op as local, wide_op as wide, test_of as test, jump_to as jump_to_number, jump_op as jump, table_cases as cases_of_table, numbered_case as case_with_number, switch_op as switch, each, get_op as get, put_op as put, static_call_op as static_call, context_op as context_call, virtual_call_op as virtual_call, pool_op as pooled, meaning as meaning_of, op_of as op_of_instr};
 
 use crate::constants::{integer, long_value};
+use crate::members::Members;
 use crate::numbered::Numbered;
-use crate::program::Field;
 use crate::reference::{Reference, field_reference, method_reference};
-use crate::symbols::{equal, is_text, own_name, same};
-use crate::word_types::{read_type, type_descriptor, word_type, write_type};
+use crate::symbols::{equal, is_text, own_name};
+use crate::word_types::{read_type, word_type, write_type};
 use const_pool::{ClassFile, Member, Pool};
 use jmodel::op::{Binary, ContextCall, Division, Op, Rearrange, Test, Unary};
 use jmodel::value::Value;
-use jmodel::{Cases, Instr, MethodName, Operands};
+use jmodel::{Cases, Instr, Operands};
 use std::alloc::{AllocError, Global};
 use std::marker::Model;
 
-/// A class, the static fields of its program, and the names of its methods in order of their numbers.
+/// A class among those of its program, and the members that are found by their names.
 #[derive(Drop)]
-pub struct Symbols<'a> {
+pub struct Symbols<'s, 'a> {
     pub class: &'a ClassFile,
-    pub fields: &'a [Field],
-    pub methods: Vec<MethodName>,
+    pub members: &'s Members<'a>,
 }
 
-impl<'a> Model for Symbols<'a> {
-    ghost use Rattle.std.specs.Prelude.{[], ◌∷◌};
+impl<'s, 'a> Model for Symbols<'s, 'a> {
     ghost use Rattle.jmodel.specs.Decoding.{Symbols as Form};
-    ghost use Rattle.jmodel.specs.Layout.{base_of};
+    ghost use Rattle.hierarchy.specs.Members.{symbols_for};
 
     ghost Value = { Form };
 
-    ghost view = { λ s. record { class = s.class.now; fields = s.fields.now; methods = s.methods.items; base = base_of (s.class.now ∷ []) 0; classes = [] } };
+    ghost view = { λ s. symbols_for s.members.now s.class.now };
 }
 
 fn is_member(pool: &Pool, name: &[u8], descriptor: &[u8], member: &Member) -> bool
@@ -61,35 +59,6 @@ fn long_field(class: &ClassFile, r: &Reference) -> Option<i64>
     }
     let field = find_member(&class.pool, r.name, b"J", class.fields.as_slice())?;
     long_value(&class.pool, field)
-}
-
-fn is_field_of(r: &Reference, field: &Field) -> bool
-    ensures { result ≡ is_same_field r.now field.now }
-{
-    let (_, field_type) = field.place();
-    same(field.name(), r.name)
-        && equal(type_descriptor(field_type), r.descriptor)
-        && same(field.class(), r.class)
-}
-
-fn is_method_of(r: &Reference, name: &MethodName) -> bool
-    ensures { result ≡ is_same_method r.now name.now }
-{
-    same(&name.name, r.name) && same(&name.descriptor, r.descriptor) && same(&name.class, r.class)
-}
-
-// The number of a field.
-fn field_number(fields: &[Field], r: &Reference) -> Option<usize>
-    ensures { result ≡ number_of_field fields.now r.now }
-{
-    fields.iter().position(|f| is_field_of(r, f))
-}
-
-// The number of a method.
-fn method_number(methods: &[MethodName], r: &Reference) -> Option<usize>
-    ensures { result ≡ number_of_method methods.now r.now }
-{
-    methods.iter().position(|m| is_method_of(r, m))
 }
 
 // Whether it is the added field that holds the static base of the class.
@@ -306,20 +275,30 @@ fn switch_op(
 }
 
 // The number of the field that a name stands for.
-fn field_of(symbols: &Symbols, r: &Reference) -> Option<usize>
+fn field_of<'a>(symbols: &Symbols<'_, 'a>, r: &Reference<'a>) -> Option<usize>
     ensures { result ≡ number_of_field symbols.now.fields (declared_field symbols.now.classes r.now) }
 {
-    field_number(symbols.fields, r)
+    let members = symbols.members;
+    members.field_number(r)
 }
 
 // The number of the method that a name stands for.
-fn method_of(symbols: &Symbols, r: &Reference) -> Option<usize>
+fn method_of<'a>(symbols: &Symbols<'_, 'a>, r: &Reference<'a>) -> Option<usize>
     ensures { result ≡ number_of_method symbols.now.methods (declared_method symbols.now.classes r.now) }
 {
-    method_number(symbols.methods.as_slice(), r)
+    let members = symbols.members;
+    members.method_number(r)
 }
 
-fn get_op(symbols: &Symbols, r: &Reference) -> Option<Op>
+// Where the static base of the class lies.
+fn base_of(symbols: &Symbols) -> u64
+    ensures { result ≡ symbols.now.base }
+{
+    let members = symbols.members;
+    members.base(own_name(symbols.class))
+}
+
+fn get_op<'a>(symbols: &Symbols<'_, 'a>, r: &Reference<'a>) -> Option<Op>
     ensures { result ≡ get symbols.now r.now }
 {
     if word_type(r.descriptor).is_some() {
@@ -327,13 +306,13 @@ fn get_op(symbols: &Symbols, r: &Reference) -> Option<Op>
     } else if equal(r.descriptor, b"J") {
         Some(Op::Constant(Value::Long(long_field(symbols.class, r)?)))
     } else if is_base(symbols.class, r) {
-        Some(Op::Constant(Value::Ref(2)))
+        Some(Op::Constant(Value::Ref(base_of(symbols))))
     } else {
         None
     }
 }
 
-fn put_op(symbols: &Symbols, r: &Reference) -> Option<Op>
+fn put_op<'a>(symbols: &Symbols<'_, 'a>, r: &Reference<'a>) -> Option<Op>
     ensures { result ≡ put symbols.now r.now }
 {
     Some(Op::PutStatic(field_of(symbols, r)?))
@@ -347,7 +326,7 @@ fn is_get_context(r: &Reference) -> bool
         && equal(r.descriptor, b"()Lorg/deuce/transaction/Context;")
 }
 
-fn static_call_op(symbols: &Symbols, r: &Reference) -> Option<Op>
+fn static_call_op<'a>(symbols: &Symbols<'_, 'a>, r: &Reference<'a>) -> Option<Op>
     ensures { result ≡ static_call symbols.now r.now }
 {
     if is_get_context(r) {

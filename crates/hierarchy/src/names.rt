@@ -1,8 +1,9 @@
 //! Names of methods, each with a class and a descriptor.
-ghost use Rattle.std.specs.Prelude.{◌≡◌, List, [], ◌∷◌, ◌++◌, ◌||◌, map, not, IfOk, OnOk, if◌then◌else◌};
+ghost use Rattle.std.specs.Prelude.{◌≡◌, ◌+◌, ◌<◌, ◌^◌, List, [], ◌∷◌, ◌++◌, ◌||◌, map, not, IfOk, OnOk, if◌then◌else◌};
 ghost use Rattle.jmodel.specs.declared.name.MethodName.{MethodName as Name};
 ghost use Rattle.jmodel.specs.Linking.{is_name};
-ghost use Rattle.hierarchy.specs.Names.{named, has, group_of};
+ghost use Rattle.hierarchy.specs.Names.{named, has, group_of, number_of, count_of};
+ghost use Rattle.hierarchy.specs.Numbers.{or_number};
 
 use crate::declared::Declared;
 use jmodel::NoMemory;
@@ -144,6 +145,86 @@ impl<'a> Groups<'a> {
                 self.methods.insert(key, vec![in alloc; method]?)?;
             }
         }
+        Ok(())
+    }
+}
+
+/// Numbers by names: under each name the one that was noted first.
+#[derive(Drop)]
+pub struct Numbers<'a> {
+    numbers: BTreeMap<Key<'a>, usize>,
+}
+
+impl<'a> Model for Numbers<'a> {
+    ghost use Rattle.std.specs.Prelude.{ℕ, List, map};
+    ghost use Rattle.jmodel.specs.declared.name.MethodName.{MethodName as Name};
+    ghost use Rattle.hierarchy.specs.Names.{named};
+
+    ghost Value = { List (Name × ℕ) };
+
+    ghost view = { λ n. map (λ e. (named e.0.class.now e.0.name.now e.0.descriptor.now, e.1)) n.numbers.entries };
+}
+
+impl<'a> Numbers<'a> {
+    /// No numbers. Takes no memory.
+    pub fn new(alloc: Global) -> Self
+        ensures { result ≡ [] }
+    {
+        Numbers {
+            numbers: BTreeMap::new(alloc),
+        }
+    }
+
+    /// The number under a name, if there is one.
+    pub fn get(&self, class: &'a [u8], name: &'a [u8], descriptor: &'a [u8]) -> Option<usize>
+        ensures { result ≡ number_of self.now (named class.now name.now descriptor.now) }
+    {
+        let key = Key {
+            name,
+            descriptor,
+            class,
+        };
+        self.numbers.get(&key).copied()
+    }
+
+    /// Notes a number under a name, unless that has one.
+    pub fn note(
+        &mut self,
+        class: &'a [u8],
+        name: &'a [u8],
+        descriptor: &'a [u8],
+        number: usize,
+    ) -> Result<(), NoMemory>
+        ensures { OnOk result ((q : Name) → number_of self.new q ≡ (if is_name q (named class.now name.now descriptor.now) then or_number (number_of self.old q) number else number_of self.old q)) }
+    {
+        let key = Key {
+            name,
+            descriptor,
+            class,
+        };
+        if self.numbers.get(&key).is_none() {
+            self.numbers.insert(key, number)?;
+        }
+        Ok(())
+    }
+
+    /// Adds one to the number under a name, which is 0 at first.
+    pub fn count(
+        &mut self,
+        class: &'a [u8],
+        name: &'a [u8],
+        descriptor: &'a [u8],
+    ) -> Result<(), NoMemory>
+        requires { count_of self.old (named class.now name.now descriptor.now) + 1 < 2 ^ 64 }
+        ensures { OnOk result ((q : Name) → count_of self.new q ≡ count_of self.old q + (if is_name q (named class.now name.now descriptor.now) then 1 else 0)) }
+    {
+        let key = Key {
+            name,
+            descriptor,
+            class,
+        };
+        let count = self.numbers.get(&key).copied().unwrap_or(0);
+        self.numbers.insert(key, count + 1)?;
         Ok(())
     }
 }

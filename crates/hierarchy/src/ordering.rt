@@ -2,12 +2,13 @@
 ghost use Rattle.std.specs.Prelude.{◌≡◌, Some, None, map, IfOk};
 ghost use Rattle.jmodel.specs.declared.refusal.Refusal.TheVariants.{DoubledClass};
 ghost use Rattle.jmodel.specs.Classes.{doubled_class as fault_of_names, in_order as order_of_classes};
-ghost use Rattle.hierarchy.specs.Ordered.{IsInOrder};
+ghost use Rattle.jmodel.specs.Reading.{Gives};
+ghost use Rattle.hierarchy.specs.Ordered.{IsInOrder, ordered};
 
 use crate::form::is_free_name;
 use crate::symbols::own_name;
 use const_pool::ClassFile;
-use jmodel::{Bytes, NoMemory, Refusal};
+use jmodel::{Bytes, Halt, NoMemory, Refusal};
 use std::alloc::{AllocError, Global};
 use std::collections::{BTreeMap, BTreeSet};
 
@@ -17,9 +18,8 @@ fn doubled(alloc: Global, name: &[u8]) -> Result<Option<Refusal>, AllocError>
     Ok(Some(Refusal::DoubledClass(Bytes::from_slice(alloc, name)?)))
 }
 
-/// The fault of the names of classes, in the order of their files: `DoubledClass` with the first name that a class of the library has, or
-/// an earlier file's class.
-pub fn doubled_class(alloc: Global, files: &[ClassFile]) -> Result<Option<Refusal>, NoMemory>
+// The fault of the names of classes, in the order of their files: the first name that a class of the library has, or an earlier file's class.
+fn doubled_class(alloc: Global, files: &[ClassFile]) -> Result<Option<Refusal>, NoMemory>
     ensures { IfOk result (λ o. o ≡ fault_of_names files.now) }
 {
     let mut names = BTreeSet::new(alloc);
@@ -47,11 +47,23 @@ fn by_name<'a>(
     Ok(classes)
 }
 
-/// The class files in the byte order of the names of their classes, of which no two are the same.
-pub fn in_order<'a>(alloc: Global, files: &'a [ClassFile]) -> Result<Vec<&'a ClassFile>, NoMemory>
+// The class files in the byte order of the names of their classes, of which no two are the same.
+fn sorted<'a>(alloc: Global, files: &'a [ClassFile]) -> Result<Vec<&'a ClassFile>, NoMemory>
     requires { fault_of_names files.now ≡ None }
     ensures { IfOk result (λ v. map (λ c. c.now) v.items ≡ order_of_classes files.now) }
 {
     let classes = by_name(alloc, files)?;
     Ok(classes.into_values().collect(alloc)?)
+}
+
+/// The class files in the byte order of the names of their classes. Refused as `DoubledClass` with the name of the first class, in the order
+/// of the files, that is named as one of the library or as that of an earlier file.
+pub fn in_order<'a>(alloc: Global, files: &'a [ClassFile]) -> Result<Vec<&'a ClassFile>, Halt>
+    ensures order { Gives (λ v. map (λ c. c.now) v.items) result (ordered files.now) }
+    ensures single { IfOk result (λ v. fault_of_names (map (λ c. c.now) v.items) ≡ None) }
+{
+    if let Some(fault) = doubled_class(alloc, files)? {
+        return Err(Halt::Refused(fault));
+    }
+    Ok(sorted(alloc, files)?)
 }

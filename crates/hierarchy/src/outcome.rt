@@ -9,9 +9,9 @@ use std::alloc::{AllocError, AllocFailed};
 /// Why no program is built.
 #[derive(Debug, Drop)]
 pub enum BuildEnd {
-    /// The annotations of a method, or the code of one of the program's, have this fault.
+    /// The superclasses, the annotations of a method, or the code of one of the program's have this fault.
     Refused(Refusal),
-    /// The class isn't of the form that is known so far. Temporary: the form grows until it has every program that is
+    /// The classes aren't of the form that is known so far. Temporary: the form grows until it has every program that is
     /// accepted.
     NotBuilt,
     /// Memory ran out.

@@ -291,8 +291,8 @@ impl Program {
         self.methods.get(number)
     }
 
-    /// The numbers of the static initialisers, in the order in which they run.
-    pub fn initialisers(&self, alloc: Global) -> Result<Vec<usize>, AllocError>
+    /// The numbers of the static initialisers, in the order of the methods.
+    pub(crate) fn initialisers(&self, alloc: Global) -> Result<Vec<usize>, AllocError>
         ensures { IfOk result (λ v. v.items ≡ initialisers self.now) }
     {
         let mut numbers = Vec::new(alloc);

@@ -1,25 +1,14 @@
 //! The classes above others, and their faults.
-ghost use Rattle.std.specs.Prelude.{◌≡◌, Some, map, codes, bytes_eq, option_map, IfOk};
+ghost use Rattle.std.specs.Prelude.{◌≡◌, Some, map, IfOk};
 ghost use Rattle.jmodel.specs.declared.refusal.Refusal.TheVariants.{UnknownClass, BadSuper, Circular};
-ghost use Rattle.jmodel.specs.Superclasses.{class_named as class_of_name};
+ghost use Rattle.jmodel.specs.Superclasses.{lineage as lineage_of};
 ghost use Rattle.jmodel.specs.ClassesLinking.{super_fault as fault_of_super, is_above_itself as above_itself, circle_fault as fault_of_circle, first_fault, supers_fault as fault_of_supers};
 
+use crate::places::Places;
 use crate::symbols::{equal, own_name, super_name};
 use const_pool::ClassFile;
 use jmodel::{Bytes, NoMemory, Refusal};
 use std::alloc::{AllocError, Global};
-
-// The class of a name.
-fn class_named<'a>(classes: &[&'a ClassFile], name: &[u8]) -> Option<&'a ClassFile>
-    ensures { option_map (λ c. c.now) result ≡ class_of_name (map (λ c. c.now) classes.now) name.now }
-{
-    for class in classes {
-        if equal(own_name(class), name) {
-            return Some(class);
-        }
-    }
-    None
-}
 
 fn unknown_class(alloc: Global, name: &[u8]) -> Result<Option<Refusal>, AllocError>
     ensures { IfOk result (λ o. o ≡ Some (UnknownClass name.now)) }
@@ -36,18 +25,18 @@ fn bad_super(alloc: Global, own: &[u8], above: &[u8]) -> Result<Option<Refusal>,
 }
 
 // A class stands under Object, or under another of the classes that isn't final.
-fn super_fault(
+fn super_fault<'a>(
     alloc: Global,
-    classes: &[&ClassFile],
-    class: &ClassFile,
+    places: &Places<'a>,
+    class: &'a ClassFile,
 ) -> Result<Option<Refusal>, AllocError>
-    ensures { IfOk result (λ o. o ≡ fault_of_super (map (λ c. c.now) classes.now) class.now) }
+    ensures { IfOk result (λ o. o ≡ fault_of_super places.now class.now) }
 {
     let name = super_name(class);
     if equal(name, b"java/lang/Object") {
         return Ok(None);
     }
-    let Some(above) = class_named(classes, name) else {
+    let Some(above) = places.class_named(name) else {
         return unknown_class(alloc, name);
     };
     if above.flags & 0x10 == 0 {
@@ -58,30 +47,32 @@ fn super_fault(
 }
 
 // Whether a class is met on the way upward from it, in at most as many steps as there are classes.
-fn is_above_itself(classes: &[&ClassFile], class: &ClassFile) -> bool
-    ensures { result ≡ above_itself (map (λ c. c.now) classes.now) class.now }
+fn is_above_itself<'a>(places: &Places<'a>, class: &'a ClassFile) -> bool
+    ensures { result ≡ above_itself places.now class.now }
 {
-    let mut name = super_name(class);
-    for _step in 0..classes.len() {
-        let Some(above) = class_named(classes, name) else {
+    let own = places.place_of(own_name(class));
+    let mut place = places.place_of(super_name(class));
+    let count = places.len();
+    for _step in 0..count {
+        if places.class_at(place).is_none() {
             return false;
-        };
-        if equal(own_name(above), own_name(class)) {
+        }
+        if place == own {
             return true;
         }
-        name = super_name(above);
+        place = places.above(place);
     }
     false
 }
 
-fn circle_fault(
+fn circle_fault<'a>(
     alloc: Global,
-    classes: &[&ClassFile],
-    class: &ClassFile,
+    places: &Places<'a>,
+    class: &'a ClassFile,
 ) -> Result<Option<Refusal>, AllocError>
-    ensures { IfOk result (λ o. o ≡ fault_of_circle (map (λ c. c.now) classes.now) class.now) }
+    ensures { IfOk result (λ o. o ≡ fault_of_circle places.now class.now) }
 {
-    if is_above_itself(classes, class) {
+    if is_above_itself(places, class) {
         let name = Bytes::from_slice(alloc, own_name(class))?;
         Ok(Some(Refusal::Circular(name)))
     } else {
@@ -89,22 +80,22 @@ fn circle_fault(
     }
 }
 
-fn first_super_fault(alloc: Global, classes: &[&ClassFile]) -> Result<Option<Refusal>, AllocError>
-    ensures { IfOk result (λ o. o ≡ first_fault (fault_of_super (map (λ c. c.now) classes.now)) (map (λ c. c.now) classes.now)) }
+fn first_super_fault(alloc: Global, places: &Places) -> Result<Option<Refusal>, AllocError>
+    ensures { IfOk result (λ o. o ≡ first_fault (fault_of_super places.now) places.now) }
 {
-    for class in classes {
-        if let Some(fault) = super_fault(alloc, classes, class)? {
+    for class in places.classes() {
+        if let Some(fault) = super_fault(alloc, places, class)? {
             return Ok(Some(fault));
         }
     }
     Ok(None)
 }
 
-fn first_circle_fault(alloc: Global, classes: &[&ClassFile]) -> Result<Option<Refusal>, AllocError>
-    ensures { IfOk result (λ o. o ≡ first_fault (fault_of_circle (map (λ c. c.now) classes.now)) (map (λ c. c.now) classes.now)) }
+fn first_circle_fault(alloc: Global, places: &Places) -> Result<Option<Refusal>, AllocError>
+    ensures { IfOk result (λ o. o ≡ first_fault (fault_of_circle places.now) places.now) }
 {
-    for class in classes {
-        if let Some(fault) = circle_fault(alloc, classes, class)? {
+    for class in places.classes() {
+        if let Some(fault) = circle_fault(alloc, places, class)? {
             return Ok(Some(fault));
         }
     }
@@ -113,13 +104,34 @@ fn first_circle_fault(alloc: Global, classes: &[&ClassFile]) -> Result<Option<Re
 
 /// The first fault of what classes stand under, in their order: `UnknownClass` with the name of a superclass that is neither Object nor among
 /// them, or `BadSuper` with the names of a class and of its superclass, which is final; where there is none of these, `Circular` with the name
-/// of a class that is above itself. For each class a walk upward of at most as many steps as there are classes, each of which looks through
-/// their names.
+/// of a class that is above itself. For each class a walk upward of at most as many steps as there are classes, by their places.
 pub fn supers_fault(alloc: Global, classes: &[&ClassFile]) -> Result<Option<Refusal>, NoMemory>
     ensures { IfOk result (λ o. o ≡ fault_of_supers (map (λ c. c.now) classes.now)) }
 {
-    if let Some(fault) = first_super_fault(alloc, classes)? {
+    let places = Places::new(alloc, classes)?;
+    if let Some(fault) = first_super_fault(alloc, &places)? {
         return Ok(Some(fault));
     }
-    Ok(first_circle_fault(alloc, classes)?)
+    Ok(first_circle_fault(alloc, &places)?)
+}
+
+/// The first class of a name and those above it, the nearest first; at most as many as there are classes.
+pub fn lineage<'a>(
+    alloc: Global,
+    places: &Places<'a>,
+    name: &'a [u8],
+) -> Result<Vec<&'a ClassFile>, AllocError>
+    ensures { IfOk result (λ v. map (λ c. c.now) v.items ≡ lineage_of places.now name.now) }
+{
+    let mut classes = Vec::new(alloc);
+    let mut place = places.place_of(name);
+    let count = places.len();
+    for _step in 0..count {
+        let Some(class) = places.class_at(place) else {
+            return Ok(classes);
+        };
+        classes.push(class)?;
+        place = places.above(place);
+    }
+    Ok(classes)
 }

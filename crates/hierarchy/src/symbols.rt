@@ -1,12 +1,12 @@
 //! What the names in a class's pool stand for.
-ghost use Rattle.std.specs.Prelude.{◌≡◌, option_copied, bytes_eq, IfOk, map, find};
-ghost use Rattle.jmodel.specs.Pool.{utf8, field_name as field_of, method_name as method_of, MemberName};
+ghost use Rattle.std.specs.Prelude.{◌≡◌, option_copied, bytes_eq, IfOk, find};
+ghost use Rattle.jmodel.specs.Pool.{utf8};
 ghost use Rattle.jmodel.specs.Layout.{text_or_none, is_static as is_static_member};
 ghost use Rattle.jmodel.specs.ClassRules.{same_text, is_named as is_named_attribute};
 ghost use Rattle.jmodel.specs.Superclasses.{super_name as super_name_of};
 ghost use Rattle.jmodel.specs.Decoding.{own_name as own_name_of, name_of as method_name_of};
 
-use const_pool::{Attribute, ClassFile, Constant, Member, Pool};
+use const_pool::{Attribute, ClassFile, Member, Pool};
 use jmodel::{Bytes, MethodName};
 use std::alloc::{AllocError, Global};
 
@@ -94,19 +94,4 @@ pub fn name_of(alloc: Global, class: &ClassFile, method: &Member) -> Result<Meth
         name: Bytes::from_slice(alloc, text(&class.pool, method.name))?,
         descriptor: Bytes::from_slice(alloc, text(&class.pool, method.descriptor))?,
     })
-}
-
-/// The names of methods of the class.
-pub fn names_of(
-    alloc: Global,
-    class: &ClassFile,
-    methods: &[&Member],
-) -> Result<Vec<MethodName>, AllocError>
-    ensures { IfOk result (λ v. v.items ≡ map (λ m. method_name_of class.now m.now) methods.now) }
-{
-    let mut names = Vec::new(alloc);
-    for method in methods {
-        names.push(name_of(alloc, class, method)?)?;
-    }
-    Ok(names)
 }

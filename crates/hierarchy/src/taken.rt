@@ -2,10 +2,9 @@
 ghost use Rattle.std.specs.Prelude.{◌≡◌, List, Bool, [], ◌∷◌, ◌++◌, length, map, filter, IfOk, OnOk, MatchOption};
 ghost use Rattle.jmodel.specs.ClassFile.{ClassFile as ClassForm};
 ghost use Rattle.jmodel.specs.Coded.{decoded as decoded_of};
-ghost use Rattle.jmodel.specs.Taken.{index_of as index_in, invoked as invoked_by, is_taken_by, is_named_by, code_calls, is_taken};
-ghost use Rattle.jmodel.specs.Linking.{program_methods as methods_of_program};
+ghost use Rattle.jmodel.specs.Taken.{index_of as index_in, invoked as invoked_by, is_taken_by, is_named_by, code_calls};
 ghost use Rattle.jmodel.specs.Classes.{Declared as DeclaredForm, methods_in as methods_of_classes};
-ghost use Rattle.jmodel.specs.ClassesTaken.{is_taken as is_taken_among};
+ghost use Rattle.jmodel.specs.ClassesTaken.{is_taken};
 ghost use Rattle.hierarchy.specs.Names.{named};
 ghost use Rattle.hierarchy.specs.Search.{class_for as class_of_key, method_key as key_of_method, instrs_call, starting, is_found, IsGrouped, VisitsOf, Finds};
 
@@ -14,7 +13,7 @@ use crate::declared::{Declared, methods_in};
 use crate::names::{Groups, Names};
 use crate::reference::{Reference, member_reference};
 use crate::symbols::{equal, own_name, text};
-use const_pool::{ClassFile, Member, Pool};
+use const_pool::{ClassFile, Pool};
 use jmodel::{Halt, Instr, NoMemory, Operands};
 use std::alloc::Global;
 use std::marker::Model;
@@ -225,7 +224,7 @@ pub fn are_taken_among<'a>(
     alloc: Global,
     methods: &'a [Declared<'a>],
 ) -> Result<Vec<bool>, NoMemory>
-    ensures { IfOk result (λ v. (cs : List ClassForm) → methods.now ≡ methods_of_classes cs → v.items ≡ map (is_taken_among cs) methods.now) }
+    ensures { IfOk result (λ v. (cs : List ClassForm) → methods.now ≡ methods_of_classes cs → v.items ≡ map (is_taken cs) methods.now) }
 {
     let called = called(alloc, methods)?;
     are_found(alloc, &called, methods)
@@ -249,37 +248,11 @@ pub fn taken_among<'a>(
     Ok(chosen)
 }
 
-/// For each method of a class, in the order of the file, whether it is taken: whether it is marked as atomic or a static initialiser, or a
-/// taken one calls it. Decodes the code of each taken method once.
-pub fn are_taken(alloc: Global, class: &ClassFile) -> Result<Vec<bool>, NoMemory>
-    ensures { IfOk result (λ v. v.items ≡ map (is_taken class.now) class.now.methods) }
+/// For each method of classes, class by class and in the order of each file, whether it is taken: whether it is marked as atomic or a static
+/// initialiser, or a taken one calls it. Decodes the code of each taken method once.
+pub fn are_taken(alloc: Global, classes: &[&ClassFile]) -> Result<Vec<bool>, NoMemory>
+    ensures { IfOk result (λ v. v.items ≡ map (is_taken (map (λ c. c.now) classes.now)) (methods_of_classes (map (λ c. c.now) classes.now))) }
 {
-    let methods = methods_in(alloc, &[class])?;
+    let methods = methods_in(alloc, classes)?;
     are_taken_among(alloc, methods.as_slice())
-}
-
-/// The methods of a class that are taken, where it is known which are.
-pub fn taken_methods<'a>(
-    alloc: Global,
-    class: &'a ClassFile,
-    taken: &[bool],
-) -> Result<Vec<&'a Member>, NoMemory>
-    requires { taken.now ≡ map (is_taken class.now) class.now.methods }
-    ensures { IfOk result (λ v. map (λ m. m.now) v.items ≡ methods_of_program class.now) }
-{
-    let mut methods = Vec::new(alloc);
-    for (i, method) in class.methods.iter().enumerate() {
-        if taken[i] {
-            methods.push(method)?;
-        }
-    }
-    Ok(methods)
-}
-
-/// The methods of a class that its program has, in the order of the file: the taken ones.
-pub fn program_methods<'a>(alloc: Global, class: &'a ClassFile) -> Result<Vec<&'a Member>, NoMemory>
-    ensures { IfOk result (λ v. map (λ m. m.now) v.items ≡ methods_of_program class.now) }
-{
-    let taken = are_taken(alloc, class)?;
-    taken_methods(alloc, class, taken.as_slice())
 }

@@ -1,6 +1,6 @@
 -- What a method with a known Code means.
 use Rattle.std.proofs.Common.{◌≡◌, ℕ, Bool, false, List, [], length, Option, Some, None, Ok, refl, ap, ◌∙◌, arith}
-use Rattle.std.specs.Prelude.{codes, ℤ, pos, bytes_eq, if◌then◌else◌}
+use Rattle.std.specs.Prelude.{codes, ℤ, bytes_eq}
 use Rattle.jmodel.specs.declared.instruction.Instr.{Instr}
 use Rattle.jmodel.specs.declared.name.MethodName.{MethodName}
 use Rattle.jmodel.specs.declared.typing.VType.{VType}

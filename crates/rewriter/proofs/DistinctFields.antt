@@ -3,7 +3,7 @@ use Rattle.std.proofs.Common.{◌≡◌, ℕ, ◌+◌, false, List, [], ◌∷�
 use Rattle.std.specs.Prelude.{codes, bytes_eq}
 use Rattle.std.specs.List.{AllByRecursion, list_any}
 use Rattle.std.proofs.lemmas.List.{append_cancel_right}
-use Rattle.jmodel.specs.ClassFile.{Member, Pool, ClassFile}
+use Rattle.jmodel.specs.ClassFile.{Member, Pool}
 use Rattle.jmodel.specs.Program.{Field, Program}
 use Rattle.jmodel.specs.ClassRules.{IsField, AreDistinct}
 use Rattle.rewriter.specs.Members.{address_name}
@@ -14,7 +14,9 @@ use Rattle.rewriter.proofs.Old.{AreApart}
 use Rattle.rewriter.proofs.Pairs.{all_append}
 use Rattle.rewriter.proofs.Positions.{apart, ends_in}
 use Rattle.rewriter.proofs.Puts.{IsAddress}
-use Rattle.rewriter.proofs.Tables.{Known, form, fields_apart}
+use Rattle.rewriter.proofs.Tables.{Known}
+use Rattle.jmodel.specs.Decoding.{Symbols}
+use Rattle.rewriter.specs.Part.{Part}
 use Rattle.rewriter.proofs.Whole.{Each, AreBases}
 
 -- ---- texts that are apart
@@ -103,20 +105,20 @@ module _ (Z : Pool) where
   olds_keyed (m ∷ ms) h = (member_keyed Z _ m h.0, olds_keyed ms h.1)
 
 -- no two fields have one name and one descriptor
-pub fields_distinct : (c new : ClassFile) (P : Program) → Known c new P → AreDistinct new.pool new.fields
-fields_distinct c new P K =
+pub fields_distinct : (s0 s : Symbols) (P : Program) (part : Part) → Known s0 s P part → AreDistinct s.class.pool s.class.fields
+fields_distinct s0 s P part K =
     let R = K.rewritten in
     let F = R.fields in
-    let old = olds_keyed c.pool c.fields K.rules.fields in
-    let olds : List Key = map (key_of c.pool) c.fields in
-    let added : List Key = address_keys P.fields ++ base_keys F.base in
-    let added_keyed = keyed_append new.pool F.addresses F.base (address_keys P.fields) (base_keys F.base) (addresses_keyed new.pool 0 P.fields F.addresses F.each) (bases_keyed new.pool F.base F.bases) in
-    let more_keyed = subst (λ (ms : List Member). AreKeyed new.pool ms added) (sym F.are) added_keyed in
-    let keyed = keyed_append new.pool c.fields R.more olds added (keys_grown c.pool new.pool R.grown c.fields olds old) more_keyed in
-    let added_unlike = unlike_append (address_keys P.fields) (base_keys F.base) (addresses_unlike P.fields (fields_apart c new P K)) (bases_unlike F.base)
+    let old = olds_keyed s0.class.pool s0.class.fields K.rules.fields in
+    let olds : List Key = map (key_of s0.class.pool) s0.class.fields in
+    let added : List Key = address_keys part.fields ++ base_keys F.base in
+    let added_keyed = keyed_append s.class.pool F.addresses F.base (address_keys part.fields) (base_keys F.base) (addresses_keyed s.class.pool 0 part.fields F.addresses F.each) (bases_keyed s.class.pool F.base F.bases) in
+    let more_keyed = subst (λ (ms : List Member). AreKeyed s.class.pool ms added) (sym F.are) added_keyed in
+    let keyed = keyed_append s.class.pool s0.class.fields R.more olds added (keys_grown s0.class.pool s.class.pool R.grown s0.class.fields olds old) more_keyed in
+    let added_unlike = unlike_append (address_keys part.fields) (base_keys F.base) (addresses_unlike part.fields K.fields_apart) (bases_unlike F.base)
     (kinds_apart (λ (k : Key). k.1 ≡ codes "J") (λ (k : Key). k.1 ≡ codes "Ljava/lang/Object;") (λ k j p q. types_differ k p j q)
-    (address_keys P.fields) (base_keys F.base) (addresses_typed P.fields) (bases_typed F.base)) in
-    let reserved = all_append IsNamedReserved (address_keys P.fields) (base_keys F.base) (addresses_reserved P.fields) (bases_reserved F.base) in
-    let away = kinds_apart IsNamedFree IsNamedReserved names_apart olds added (names_free c.pool (form c new P K).pool c.fields olds old) reserved in
-    subst (AreDistinct new.pool) (sym R.fields_are) (distinct new.pool (c.fields ++ R.more) (olds ++ added) keyed
-    (unlike_append olds added (unlike c.pool c.fields olds old K.rules.distinct_fields) added_unlike away))
+    (address_keys part.fields) (base_keys F.base) (addresses_typed part.fields) (bases_typed F.base)) in
+    let reserved = all_append IsNamedReserved (address_keys part.fields) (base_keys F.base) (addresses_reserved part.fields) (bases_reserved F.base) in
+    let away = kinds_apart IsNamedFree IsNamedReserved names_apart olds added (names_free s0.class.pool K.pool s0.class.fields olds old) reserved in
+    subst (AreDistinct s.class.pool) (sym R.fields_are) (distinct s.class.pool (s0.class.fields ++ R.more) (olds ++ added) keyed
+    (unlike_append olds added (unlike s0.class.pool s0.class.fields olds old K.rules.distinct_fields) added_unlike away))

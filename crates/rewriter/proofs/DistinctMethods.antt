@@ -1,17 +1,15 @@
 -- The methods of a rewritten class differ by their names and descriptors.
-use Rattle.std.proofs.Common.{◌≡◌, inl, inr, ℕ, ◌+◌, Bool, true, false, ◌||◌, List, [], ◌∷◌, ◌++◌, map, Some, refl, sym, ap, ◌∙◌, subst}
+use Rattle.std.proofs.Common.{◌≡◌, inl, inr, ℕ, ◌+◌, Bool, true, false, ◌||◌, List, [], ◌∷◌, ◌++◌, map, refl, sym, ap, ◌∙◌, subst}
 use Rattle.std.specs.Prelude.{codes, bytes_eq, zip}
 use Rattle.std.specs.List.{AllByRecursion, list_any, flat_map}
 use Rattle.std.proofs.lemmas.List.Concat.{flat_map-cons}
-use Rattle.jmodel.specs.declared.name.MethodName.{MethodName}
 use Rattle.jmodel.specs.declared.op.WordType.{WordType}
 use Rattle.jmodel.specs.ClassFile.{Member, Pool, ClassFile}
 use Rattle.jmodel.specs.Pool.{utf8}
 use Rattle.jmodel.specs.Program.{Field, Method, Program}
 use Rattle.jmodel.specs.ClassRules.{IsMethod, AreDistinct}
-use Rattle.jmodel.specs.Decoding.{own_name}
-use Rattle.jmodel.specs.Layout.{text_or_none}
-use Rattle.jmodel.specs.Linking.{has_part, is_reserved, program_methods}
+use Rattle.jmodel.specs.Decoding.{Symbols, own_name}
+use Rattle.jmodel.specs.Linking.{has_part, is_reserved}
 use Rattle.jmodel.specs.Rewriting.{with_context, duplicate_name}
 use Rattle.rewriter.specs.declared.accessors.Accessors.{Accessors}
 use Rattle.rewriter.specs.Members.{Names, getter_name, setter_name, getter_type, setter_type}
@@ -19,16 +17,16 @@ use Rattle.rewriter.specs.Rewritten.{both_of}
 use Rattle.rewriter.proofs.Became.{Became, EachBecame, became}
 use Rattle.rewriter.proofs.Contexts.{context_apart, context_shows, getter_shows, setter_shows, getter_no_setter}
 use Rattle.rewriter.proofs.DistinctFields.{ended_apart}
-use Rattle.rewriter.proofs.Grown.{utf8_grown}
 use Rattle.rewriter.proofs.Keys.{Key, IsKeyed, AreKeyed, IsNone, AreUnlike, keyed_append, unlike_append, kinds_apart, distinct, unlike, key_of, member_keyed, key_grown, shows_context, IsTypedFree, IsTypedReserved, types_apart, types_free}
 use Rattle.rewriter.proofs.Marks.{or_first, or_later, or_false, neither}
 use Rattle.rewriter.proofs.Numbers.{field_names, AreUnreserved, both_pass}
-use Rattle.rewriter.proofs.Old.{AreApart, same_method, AreApartMethods, AllOld, AreBoth, free_text}
+use Rattle.rewriter.proofs.Old.{AreApart, same_method, AreApartMethods, AllOld, AreBoth}
 use Rattle.rewriter.proofs.Pairs.{all_append}
 use Rattle.rewriter.proofs.Positions.{same, apart, ends_in}
 use Rattle.rewriter.proofs.Puts.{AreAccessors}
 use Rattle.rewriter.proofs.Renamed.{duplicate_apart, duplicate_shows}
-use Rattle.rewriter.proofs.Tables.{Known, form, fields_apart, olds, both, no_getter, no_setter, unreserved, apart as methods_apart}
+use Rattle.rewriter.proofs.Tables.{Known, both, no_getter, no_setter, unreserved, apart as methods_apart}
+use Rattle.rewriter.specs.Part.{Part, own_members}
 use Rattle.rewriter.proofs.Whole.{Each, IsCopyOf}
 
 -- ---- accessors
@@ -157,9 +155,15 @@ accessors_typed : (fs : List Field) → AllByRecursion IsTypedReserved (accessor
 accessors_typed [] = tt
 accessors_typed (f ∷ fs) = (shows_context (getter_type f.type) (getter_shows f.type), (shows_context (setter_type f.type) (setter_shows f.type), accessors_typed fs))
 
-module _ (c new : ClassFile) (P : Program) (K : Known c new P) where
+module _ (s0 s : Symbols) (P : Program) (part : Part) (K : Known s0 s P part) where
+  abbrev c : ClassFile
+  c = s0.class
+
+  abbrev new : ClassFile
+  new = s.class
+
   -- the duplicates by their names and descriptors
-  copies_keyed : (names : Names) (n : ℕ) (ms D : List Member) (ks : List Method) → Each (λ Z n p x. IsCopyOf c names Z p x) new.pool n (zip ks ms) D → AllOld c P.fields ms ks
+  copies_keyed : (names : Names) (n : ℕ) (ms D : List Member) (ks : List Method) → Each (λ Z n p x. IsCopyOf c names Z p x) new.pool n (zip ks ms) D → AllOld s0 ms ks
       → AreBoth c.pool ms → AreKeyed new.pool D (copy_keys ks)
   copies_keyed names n [] [] [] w h a = tt
   copies_keyed names n [] D (k ∷ ks) w h a = absurd h
@@ -182,7 +186,7 @@ module _ (c new : ClassFile) (P : Program) (K : Known c new P) where
   olds_keyed (m ∷ ms) h = (member_keyed c.pool _ m h.0.member, olds_keyed ms h.1)
 
   -- what an old method became has its name and its descriptor
-  became_keyed : (m x : Member) (k : Key) → IsKeyed c.pool m k → Became c new P K m x → IsKeyed new.pool x k
+  became_keyed : (m x : Member) (k : Key) → IsKeyed c.pool m k → Became s0 s P part K m x → IsKeyed new.pool x k
   became_keyed m x k h b =
       let G = key_grown c.pool new.pool K.rewritten.grown m k h in
       elim b [
@@ -191,7 +195,7 @@ module _ (c new : ClassFile) (P : Program) (K : Known c new P) where
       ]
 
   -- what the old methods became has their names and descriptors
-  all_keyed : (ms xs : List Member) (ks : List Key) → AreKeyed c.pool ms ks → EachBecame c new P K ms xs → AreKeyed new.pool xs ks
+  all_keyed : (ms xs : List Member) (ks : List Key) → AreKeyed c.pool ms ks → EachBecame s0 s P part K ms xs → AreKeyed new.pool xs ks
   all_keyed [] [] [] h b = tt
   all_keyed [] (x ∷ xs) ks h b = absurd b
   all_keyed [] [] (k ∷ ks) h b = absurd h
@@ -205,17 +209,17 @@ module _ (c new : ClassFile) (P : Program) (K : Known c new P) where
       let M = K.rewritten.methods in
       let N = M.new in
       let old_keys : List Key = map (key_of c.pool) c.methods in
-      let added : List Key = accessor_keys P.fields ++ copy_keys P.methods in
+      let added : List Key = accessor_keys part.fields ++ copy_keys part.methods in
       let old = olds_keyed c.methods K.rules.methods in
-      let front = all_keyed c.methods M.olds old_keys old (became c new P K) in
-      let a = accessors_keyed (own_name c) new.pool 0 P.fields N.accessors N.each in
-      let d = copies_keyed N.copied.names 0 (program_methods c) N.copies P.methods N.copied.each (olds c new P K) (both c new P K) in
-      let back = subst (λ (ms : List Member). AreKeyed new.pool ms added) (sym N.are) (keyed_append new.pool (flat_map both_of N.accessors) N.copies (accessor_keys P.fields) (copy_keys P.methods) a d) in
+      let front = all_keyed c.methods M.olds old_keys old (became s0 s P part K) in
+      let a = accessors_keyed (own_name c) new.pool 0 part.fields N.accessors N.each in
+      let d = copies_keyed N.copied.names 0 (own_members c part) N.copies part.methods N.copied.each K.olds (both s0 s P part K) in
+      let back = subst (λ (ms : List Member). AreKeyed new.pool ms added) (sym N.are) (keyed_append new.pool (flat_map both_of N.accessors) N.copies (accessor_keys part.fields) (copy_keys part.methods) a d) in
       let keyed = keyed_append new.pool M.olds M.added old_keys added front back in
-      let added_unlike = unlike_append (accessor_keys P.fields) (copy_keys P.methods) (accessors_unlike P.fields (fields_apart c new P K)) (copies_unlike P.methods (unreserved c new P K) (methods_apart c new P K))
-      (kinds_apart IsAccessorNamed IsCopyNamed names_differ (accessor_keys P.fields) (copy_keys P.methods) (accessors_shown P.fields)
-      (copies_named P.methods (unreserved c new P K))) in
-      let away = kinds_apart IsTypedFree IsTypedReserved types_apart old_keys added (types_free c.pool (form c new P K).pool c.methods old_keys old)
-      (all_append IsTypedReserved (accessor_keys P.fields) (copy_keys P.methods) (accessors_typed P.fields) (copies_typed P.methods)) in
+      let added_unlike = unlike_append (accessor_keys part.fields) (copy_keys part.methods) (accessors_unlike part.fields K.fields_apart) (copies_unlike part.methods (unreserved s0 s P part K) (methods_apart s0 s P part K))
+      (kinds_apart IsAccessorNamed IsCopyNamed names_differ (accessor_keys part.fields) (copy_keys part.methods) (accessors_shown part.fields)
+      (copies_named part.methods (unreserved s0 s P part K))) in
+      let away = kinds_apart IsTypedFree IsTypedReserved types_apart old_keys added (types_free c.pool K.pool c.methods old_keys old)
+      (all_append IsTypedReserved (accessor_keys part.fields) (copy_keys part.methods) (accessors_typed part.fields) (copies_typed part.methods)) in
       subst (AreDistinct new.pool) (sym M.are) (distinct new.pool (M.olds ++ M.added) (old_keys ++ added) keyed
       (unlike_append old_keys added (unlike c.pool c.methods old_keys old K.rules.distinct_methods) added_unlike away))

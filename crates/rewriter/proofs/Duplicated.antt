@@ -16,22 +16,21 @@ use Rattle.jmodel.specs.declared.op.Catch.{Catch}
 use Rattle.jmodel.specs.declared.op.Catches.TheVariants.{Conflict}
 use Rattle.jmodel.specs.ClassFile.{Member, Pool, ClassFile, code_spelling}
 use Rattle.std.proofs.lemmas.List.Concat.{flat_map-cons}
-use Rattle.jmodel.specs.Pool.{utf8, method_name}
+use Rattle.jmodel.specs.Pool.{utf8}
 use Rattle.jmodel.specs.Program.{Method, Program}
 use Rattle.jmodel.specs.Layout.{text_or_none}
-use Rattle.jmodel.specs.Source.{IsSourceOp, IsSourceMethod}
+use Rattle.jmodel.specs.Source.{IsSource, IsSourceOp, IsSourceMethod}
 use Rattle.jmodel.specs.Rewriting.{getter, setter, duplicate, block as ops_of_block, block_len, block_at, blocks, moved_catch, duplicate_method, with_context, catch, duplicate_name}
 use Rattle.jmodel.specs.TypeOrder.{context_class}
 use Rattle.jmodel.specs.Decoding.{Symbols, own_name, each, op_of, ops_of}
 use Rattle.jmodel.specs.InstructionReading.{instrs_of}
 use Rattle.jmodel.specs.ClassRules.{IsCode}
-use Rattle.jmodel.specs.Linking.{catch_of, shape_of, Coded, descriptor_of, program_methods, rewritten_methods, symbols_of, method_of, linked}
+use Rattle.jmodel.specs.Linking.{catch_of, shape_of, Coded, descriptor_of, method_of}
 use Rattle.jmodel.specs.Relocation.{Block, all_instrs, behind, place_of, laid_to, relocated}
-use Rattle.jmodel.proofs.Linked.{links}
 use Rattle.const_pool.proofs.Takes.{ok_is}
-use Rattle.rewriter.specs.Members.{Names, added_method, plain, laid_code, getter_name, setter_name, getter_type, setter_type, gets, puts, calls, some_op, getter_in, setter_in, block, block_instrs, blocks_from, duplicate_flags}
+use Rattle.rewriter.specs.Members.{Names, added_method, plain, laid_code, gets, puts, calls, some_op, getter_in, setter_in, block, block_instrs, blocks_from, duplicate_flags}
 use Rattle.rewriter.specs.Meaning.{HasBytes}
-use Rattle.rewriter.proofs.Grown.{Grown, utf8_grown}
+use Rattle.rewriter.proofs.Grown.{Grown}
 use Rattle.rewriter.proofs.Lay.{IsSolid, laid_to_append, laid_length, all_cons}
 use Rattle.rewriter.proofs.Puts.{IsMethodAt}
 use Rattle.rewriter.proofs.Read.{IsLaid, shaped_all, LeadsIn}
@@ -43,9 +42,11 @@ use Rattle.rewriter.proofs.Filed.{IsRead, decoded_is, IsFiled, filed, spelled, s
 use Rattle.rewriter.proofs.Laid.{IsLaidCode, laid_is, stub_read, stub_rules, stub_catches}
 use Rattle.rewriter.proofs.Contexts.{wider, wider_shape}
 use Rattle.rewriter.proofs.Whole.{Each, AreCalls, AreNames, IsCopy, IsCopyOf}
-use Rattle.rewriter.proofs.Old.{IsOld}
-use Rattle.rewriter.proofs.Numbers.{wanted}
-use Rattle.rewriter.proofs.Tables.{Known, own_same, calls_getter, calls_setter, calls_copy, method_class, few_params}
+use Rattle.rewriter.proofs.Old.{IsOld, few_params}
+use Rattle.rewriter.proofs.Numbers.{getter_wanted, setter_wanted, copy_wanted}
+use Rattle.rewriter.proofs.Tables.{Known, own_same}
+use Rattle.rewriter.proofs.Tied.{Tied}
+use Rattle.rewriter.specs.Part.{Part}
 
 -- ---- lists
 
@@ -110,71 +111,64 @@ name_of_parts class name descriptor = record { class = class; name = name; descr
 
 -- ---- what duplicates call
 
-module _ (c new : ClassFile) (P : Program) (K : Known c new P) (L : linked c ≡ Some P) (names : Names) (N : AreNames P c new.pool names) where
+module _ (s0 s : Symbols) (P : Program) (part : Part) (K : Known s0 s P part) (T : Tied s0 s P) (O : IsSource P) (names : Names) (N : AreNames P part.methods s.class.pool names) where
+  abbrev c : ClassFile
+  c = s0.class
+
+  abbrev new : ClassFile
+  new = s.class
+
   source_op : (n : ℕ) (k : Method) → slice_get P.methods n ≡ Some k → (j : ℕ) (o : Op) → slice_get k.ops j ≡ Some o → IsSourceOp P k o
-  source_op n k e j o t = all_at (IsSourceOp P k) k.ops j o (all_at (IsSourceMethod P) P.methods n k (links c P L).source.methods e).each t
+  source_op n k e j o t = all_at (IsSourceOp P k) k.ops j o (all_at (IsSourceMethod P) P.methods n k O.methods e).each t
 
-  used : (p : Op → Bool) (n j : ℕ) (k : Method) (o : Op) → slice_get P.methods n ≡ Some k → slice_get k.ops j ≡ Some o → p o ≡ true → some_op p P ≡ true
-  used p n j k o e t h = any_at (λ (y : Method). list_any p y.ops) P.methods n k e (any_at p k.ops j o t h)
+  -- what a method of the class does some method of the class does
+  used : (p : Op → Bool) (n j : ℕ) (k : Method) (o : Op) → slice_get part.methods n ≡ Some k → slice_get k.ops j ≡ Some o → p o ≡ true → some_op p part.methods ≡ true
+  used p n j k o e t h = any_at (λ (y : Method). list_any p y.ops) part.methods n k e (any_at p k.ops j o t h)
 
-  -- the class of a method of the program
-  in_class : (n : ℕ) (k : Method) → slice_get P.methods n ≡ Some k → k.name.class ≡ own_name c
-  in_class n k e = method_class c new P K n k e
+  module _ (n i : ℕ) (k : Method) (e : slice_get P.methods n ≡ Some k) (mine : slice_get part.methods i ≡ Some k) where
+    calls_one : (j : ℕ) (o : Op) → slice_get k.ops j ≡ Some o → Calls s P names o
+    calls_one j (op.GetStatic f) t =
+        let F = some_at P.fields f (source_op n k e j (op.GetStatic f) t) in
+        let x = each_at (λ Z n f x. AreCalls part.methods n f Z x) new.pool 0 P.fields names.accessors f F.0 N.accessors F.1 in
+        let zero_is : f ≡ 0 + f = omega arith in
+        let yes : some_op (gets (0 + f)) part.methods ≡ true = subst (λ (i : ℕ). some_op (gets i) part.methods ≡ true) zero_is (used (gets f) i j k (op.GetStatic f) mine t (eq-eqb f f refl)) in
+        let index : x.0.getter ≡ getter_in (slice_get names.accessors f) = ap getter_in (sym x.1) in
+        subst (λ (i : ℕ). IsCalled s i (getter P f)) index (record { name = getter_wanted F.0; few = (x.2.getter yes).1; is = (x.2.getter yes).0; means = T.getters f F.0 F.1 })
+    calls_one j (op.PutStatic f) t =
+        let F = some_at P.fields f (source_op n k e j (op.PutStatic f) t) in
+        let x = each_at (λ Z n f x. AreCalls part.methods n f Z x) new.pool 0 P.fields names.accessors f F.0 N.accessors F.1 in
+        let zero_is : f ≡ 0 + f = omega arith in
+        let yes : some_op (puts (0 + f)) part.methods ≡ true = subst (λ (i : ℕ). some_op (puts i) part.methods ≡ true) zero_is (used (puts f) i j k (op.PutStatic f) mine t (eq-eqb f f refl)) in
+        let index : x.0.setter ≡ setter_in (slice_get names.accessors f) = ap setter_in (sym x.1) in
+        subst (λ (i : ℕ). IsCalled s i (setter P f)) index (record { name = setter_wanted F.0; few = (x.2.setter yes).1; is = (x.2.setter yes).0; means = T.setters f F.0 F.1 })
+    calls_one j (op.InvokeStatic m) t =
+        let M = some_at P.methods m (source_op n k e j (op.InvokeStatic m) t) in
+        let x = each_at (λ Z n k i. some_op (calls n) part.methods ≡ true → IsMethodAt k.name.class (duplicate_name k.name.name) (with_context k.name.descriptor) Z i) new.pool 0 P.methods names.duplicates m M.0 N.duplicates M.1 in
+        let zero_is : m ≡ 0 + m = omega arith in
+        let yes : some_op (calls (0 + m)) part.methods ≡ true = subst (λ (i : ℕ). some_op (calls i) part.methods ≡ true) zero_is (used (calls m) i j k (op.InvokeStatic m) mine t (eq-eqb m m refl)) in
+        let index : x.0 ≡ slice_index names.duplicates m = sym (get_or_from_slice_get names.duplicates m x.0 0 x.1) in
+        let there = x.2 yes in
+        subst (λ (i : ℕ). IsCalled s i (duplicate P m)) index (record { name = copy_wanted M.0; few = there.1; is = there.0; means = T.copies m M.0 M.1 })
+    calls_one j (op.Constant v) t = tt
+    calls_one j (op.Load i) t = tt
+    calls_one j (op.Store i) t = tt
+    calls_one j (op.Rearrange r) t = tt
+    calls_one j (op.Binary b) t = tt
+    calls_one j (op.Divide d) t = tt
+    calls_one j (op.Unary u) t = tt
+    calls_one j (op.Increment i x) t = tt
+    calls_one j (op.Branch q to) t = tt
+    calls_one j (op.BranchInts q to) t = tt
+    calls_one j (op.Goto to) t = tt
+    calls_one j (op.Switch other cases) t = tt
+    calls_one j o t = tt
 
-  calls_one : (n : ℕ) (k : Method) → slice_get P.methods n ≡ Some k → (j : ℕ) (o : Op) → slice_get k.ops j ≡ Some o → Calls (symbols_of new P.fields (rewritten_methods P new)) P names o
-  calls_one n k e j (op.GetStatic f) t =
-      let F = some_at P.fields f (source_op n k e j (op.GetStatic f) t) in
-      let x = each_at (λ Z n f x. AreCalls P (own_name c) n f Z x) new.pool 0 P.fields names.accessors f F.0 N.accessors F.1 in
-      let zero_is : f ≡ 0 + f = omega arith in
-      let yes : some_op (gets (0 + f)) P ≡ true = subst (λ (i : ℕ). some_op (gets i) P ≡ true) zero_is (used (gets f) n j k (op.GetStatic f) e t (eq-eqb f f refl)) in
-      let index : x.0.getter ≡ getter_in (slice_get names.accessors f) = ap getter_in (sym x.1) in
-      subst (λ (i : ℕ). IsCalled (symbols_of new P.fields (rewritten_methods P new)) i (getter P f)) index
-      (record { name = wanted (own_name c) (getter_name F.0) (getter_type F.0.type); few = (x.2.getter yes).1; is = (x.2.getter yes).0; means = calls_getter c new P K f F.0 F.1 })
-  calls_one n k e j (op.PutStatic f) t =
-      let F = some_at P.fields f (source_op n k e j (op.PutStatic f) t) in
-      let x = each_at (λ Z n f x. AreCalls P (own_name c) n f Z x) new.pool 0 P.fields names.accessors f F.0 N.accessors F.1 in
-      let zero_is : f ≡ 0 + f = omega arith in
-      let yes : some_op (puts (0 + f)) P ≡ true = subst (λ (i : ℕ). some_op (puts i) P ≡ true) zero_is (used (puts f) n j k (op.PutStatic f) e t (eq-eqb f f refl)) in
-      let index : x.0.setter ≡ setter_in (slice_get names.accessors f) = ap setter_in (sym x.1) in
-      subst (λ (i : ℕ). IsCalled (symbols_of new P.fields (rewritten_methods P new)) i (setter P f)) index
-      (record { name = wanted (own_name c) (setter_name F.0) (setter_type F.0.type); few = (x.2.setter yes).1; is = (x.2.setter yes).0; means = calls_setter c new P K f F.0 F.1 })
-  calls_one n k e j (op.InvokeStatic m) t =
-      let M = some_at P.methods m (source_op n k e j (op.InvokeStatic m) t) in
-      let x = each_at (λ Z n k i. some_op (calls n) P ≡ true → IsMethodAt k.name.class (duplicate_name k.name.name) (with_context k.name.descriptor) Z i) new.pool 0 P.methods names.duplicates m M.0 N.duplicates M.1 in
-      let zero_is : m ≡ 0 + m = omega arith in
-      let yes : some_op (calls (0 + m)) P ≡ true = subst (λ (i : ℕ). some_op (calls i) P ≡ true) zero_is (used (calls m) n j k (op.InvokeStatic m) e t (eq-eqb m m refl)) in
-      let index : x.0 ≡ slice_index names.duplicates m = sym (get_or_from_slice_get names.duplicates m x.0 0 x.1) in
-      let there = x.2 yes in
-      let owner = in_class m M.0 M.1 in
-      let is : method_name new.pool x.0 ≡ Some (wanted (own_name c) (duplicate_name M.0.name.name) (with_context M.0.name.descriptor)) = there.0 ∙ ap (λ (t : List ℕ). Some (wanted t (duplicate_name M.0.name.name) (with_context M.0.name.descriptor))) owner in
-      subst (λ (i : ℕ). IsCalled (symbols_of new P.fields (rewritten_methods P new)) i (duplicate P m)) index
-      (record { name = wanted (own_name c) (duplicate_name M.0.name.name) (with_context M.0.name.descriptor); few = there.1; is = is; means = calls_copy c new P K m M.0 M.1 })
-  calls_one n k e j (op.Constant v) t = tt
-  calls_one n k e j (op.Load i) t = tt
-  calls_one n k e j (op.Store i) t = tt
-  calls_one n k e j (op.Rearrange r) t = tt
-  calls_one n k e j (op.Binary b) t = tt
-  calls_one n k e j (op.Divide d) t = tt
-  calls_one n k e j (op.Unary u) t = tt
-  calls_one n k e j (op.Increment i x) t = tt
-  calls_one n k e j (op.Branch q to) t = tt
-  calls_one n k e j (op.BranchInts q to) t = tt
-  calls_one n k e j (op.Goto to) t = tt
-  calls_one n k e j (op.Switch other cases) t = tt
-  calls_one n k e j o t = tt
-
-  pub all_called : (n : ℕ) (k : Method) → slice_get P.methods n ≡ Some k → AllByRecursion (Calls (symbols_of new P.fields (rewritten_methods P new)) P names) k.ops
-  all_called n k e = all_from (Calls (symbols_of new P.fields (rewritten_methods P new)) P names) k.ops (λ j o t. calls_one n k e j o t)
+    pub all_called : AllByRecursion (Calls s P names) k.ops
+    all_called = all_from (Calls s P names) k.ops calls_one
 
   -- the same, where the class's methods hold bytes
-  module _ (n : ℕ) (m x : Member) (k : Method) (t : List ℕ) (named : utf8 c.pool m.name ≡ Some t) (at : slice_get P.methods n ≡ Some k) (h : IsOld c P.fields m k) (held : HasBytes m)
+  module _ (n i : ℕ) (m x : Member) (k : Method) (t : List ℕ) (named : utf8 c.pool m.name ≡ Some t) (at : slice_get P.methods n ≡ Some k) (mine : slice_get part.methods i ≡ Some k) (h : IsOld s0 m k) (held : HasBytes m)
       (w : IsCopyOf c names new.pool (k, m) x) (d : List ℕ) (described : utf8 c.pool m.descriptor ≡ Some d) where
-    abbrev s0 : Symbols
-    s0 = symbols_of c P.fields (program_methods c)
-
-    abbrev s : Symbols
-    s = symbols_of new P.fields (rewritten_methods P new)
-
     abbrev G : Grown c.pool new.pool
     G = K.rewritten.grown
 
@@ -193,17 +187,17 @@ module _ (c new : ClassFile) (P : Program) (K : Known c new P) (L : linked c ≡
     code_filed : IsFiled c.pool h.coded.code
     code_filed = filed c.pool m h.coded.code held read.code
 
-    parts : AreParts (symbols_of c P.fields (program_methods c)) h.coded.instrs k.locals k.gives k.ops h.coded.instrs
-    parts = parts_of (symbols_of c P.fields (program_methods c)) h.coded.instrs k.locals k.gives k.ops h.coded.instrs h.ops (spelled c.pool m h.coded c refl held read).instrs.each h.fits
+    parts : AreParts s0 h.coded.instrs k.locals k.gives k.ops h.coded.instrs
+    parts = parts_of s0 h.coded.instrs k.locals k.gives k.ops h.coded.instrs h.ops (spelled c.pool m h.coded c refl held read).instrs.each h.fits
 
-    called : AllByRecursion (Calls (symbols_of new P.fields (rewritten_methods P new)) P names) k.ops
-    called = all_called n k at
+    called : AllByRecursion (Calls s P names) k.ops
+    called = all_called n i k at mine
 
     abbrev zipped : List Block
-    zipped = zip_blocks (symbols_of c P.fields (program_methods c)) (symbols_of new P.fields (rewritten_methods P new)) K.rewritten.grown P names k.params few h.coded.instrs k.locals room k.gives k.ops h.coded.instrs
+    zipped = zip_blocks s0 s K.rewritten.grown P names k.params few h.coded.instrs k.locals room k.gives k.ops h.coded.instrs
 
     zipped_are : blocks_from names k.params k.ops 0 h.coded.instrs ≡ zipped
-    zipped_are = blocks_are (symbols_of c P.fields (program_methods c)) (symbols_of new P.fields (rewritten_methods P new)) K.rewritten.grown P names k.params few h.coded.instrs k.locals room k.gives k.ops 0 k.ops h.coded.instrs parts (λ j. let z : 0 + j ≡ j = omega arith in ap (slice_get k.ops) z)
+    zipped_are = blocks_are s0 s K.rewritten.grown P names k.params few h.coded.instrs k.locals room k.gives k.ops 0 k.ops h.coded.instrs parts (λ j. let z : 0 + j ≡ j = omega arith in ap (slice_get k.ops) z)
 
     pub copy : IsCopy names k m h.coded new.pool x
     copy = let same : w.coded ≡ h.coded = ok_is w.coded h.coded (sym w.decodes ∙ h.decodes) in subst (λ (y : Coded). IsCopy names k m y new.pool x) same w.copy
@@ -217,10 +211,10 @@ module _ (c new : ClassFile) (P : Program) (K : Known c new P) (L : linked c ≡
         laid_is (h.coded.code.max_stack + 1) (h.coded.code.max_locals + 1) zipped [] (Some copy.body.conflict) (plain 191 ∷ []) copy.body.code told
 
     solid_all : AllByRecursion IsSolid zipped
-    solid_all = all_solid (symbols_of c P.fields (program_methods c)) (symbols_of new P.fields (rewritten_methods P new)) K.rewritten.grown P names k.params few h.coded.instrs k.locals room k.gives k.ops h.coded.instrs parts called
+    solid_all = all_solid s0 s K.rewritten.grown P names k.params few h.coded.instrs k.locals room k.gives k.ops h.coded.instrs parts called
 
     laid_blocks : AllByRecursion (IsLaid new.pool) (all_instrs zipped)
-    laid_blocks = all_laid (symbols_of c P.fields (program_methods c)) (symbols_of new P.fields (rewritten_methods P new)) K.rewritten.grown P names k.params few h.coded.instrs k.locals room k.gives k.ops h.coded.instrs parts called
+    laid_blocks = all_laid s0 s K.rewritten.grown P names k.params few h.coded.instrs k.locals room k.gives k.ops h.coded.instrs parts called
 
     stub_laid : IsLaid new.pool (plain 191)
     stub_laid = plain_laid new.pool 191 (omega arith) tt tt
@@ -230,20 +224,20 @@ module _ (c new : ClassFile) (P : Program) (K : Known c new P) (L : linked c ≡
 
     leads : AllByRecursion (λ (i : Instr). LeadsIn zipped i.operands) (all_instrs zipped ++ plain 191 ∷ [])
     leads = all_append (λ (i : Instr). LeadsIn zipped i.operands) (all_instrs zipped) (plain 191 ∷ [])
-        (all_lead (symbols_of c P.fields (program_methods c)) (symbols_of new P.fields (rewritten_methods P new)) K.rewritten.grown P names k.params few h.coded.instrs k.locals room k.gives k.ops parts called (plain 191 ∷ []) k.ops h.coded.instrs parts called) (tt, tt)
+        (all_lead s0 s K.rewritten.grown P names k.params few h.coded.instrs k.locals room k.gives k.ops parts called (plain 191 ∷ []) k.ops h.coded.instrs parts called) (tt, tt)
 
     -- what the blocks mean
-    mean : each (op_of (symbols_of new P.fields (rewritten_methods P new)) (relocated zipped (plain 191 ∷ []))) (laid_to (place_of zipped) 0 (all_instrs zipped)) ≡ Some (blocks P k.params k.ops)
-    mean = all_mean (symbols_of c P.fields (program_methods c)) (symbols_of new P.fields (rewritten_methods P new)) K.rewritten.grown P names k.params few h.coded.instrs k.locals room k.gives k.ops parts called (plain 191 ∷ []) 0 k.ops h.coded.instrs parts called
+    mean : each (op_of s (relocated zipped (plain 191 ∷ []))) (laid_to (place_of zipped) 0 (all_instrs zipped)) ≡ Some (blocks P k.params k.ops)
+    mean = all_mean s0 s K.rewritten.grown P names k.params few h.coded.instrs k.locals room k.gives k.ops parts called (plain 191 ∷ []) 0 k.ops h.coded.instrs parts called
 
-    means : ops_of (symbols_of new P.fields (rewritten_methods P new)) (relocated zipped (plain 191 ∷ [])) ≡ Some (blocks P k.params k.ops ++ op.Throw ∷ [])
+    means : ops_of s (relocated zipped (plain 191 ∷ [])) ≡ Some (blocks P k.params k.ops ++ op.Throw ∷ [])
     means =
-        ap (each (op_of (symbols_of new P.fields (rewritten_methods P new)) (relocated zipped (plain 191 ∷ [])))) (laid_to_append (place_of zipped) 0 (all_instrs zipped) (plain 191 ∷ []))
-        ∙ each_append (op_of (symbols_of new P.fields (rewritten_methods P new)) (relocated zipped (plain 191 ∷ []))) (laid_to (place_of zipped) 0 (all_instrs zipped)) (laid_to (place_of zipped) (behind 0 (all_instrs zipped)) (plain 191 ∷ [])) (blocks P k.params k.ops) (op.Throw ∷ []) mean refl
+        ap (each (op_of s (relocated zipped (plain 191 ∷ [])))) (laid_to_append (place_of zipped) 0 (all_instrs zipped) (plain 191 ∷ []))
+        ∙ each_append (op_of s (relocated zipped (plain 191 ∷ []))) (laid_to (place_of zipped) 0 (all_instrs zipped)) (laid_to (place_of zipped) (behind 0 (all_instrs zipped)) (plain 191 ∷ [])) (blocks P k.params k.ops) (op.Throw ∷ []) mean refl
 
     many : length (all_instrs zipped) ≡ block_at k.ops (length k.ops)
     many = sym (laid_length (place_of zipped) 0 (all_instrs zipped))
-        ∙ each_length (op_of (symbols_of new P.fields (rewritten_methods P new)) (relocated zipped (plain 191 ∷ []))) (laid_to (place_of zipped) 0 (all_instrs zipped)) (blocks P k.params k.ops) mean
+        ∙ each_length (op_of s (relocated zipped (plain 191 ∷ []))) (laid_to (place_of zipped) 0 (all_instrs zipped)) (blocks P k.params k.ops) mean
         ∙ blocks_end P k.params (block_at k.ops) k.ops
 
     some_ops : 0 < length (all_instrs zipped)
@@ -251,15 +245,15 @@ module _ (c new : ClassFile) (P : Program) (K : Known c new P) (L : linked c ≡
         let first = some_instr c.pool h.coded.code h.coded.instrs code_filed.rules (spelled c.pool m h.coded c refl held read).holds in
         some_of k.ops h.coded.instrs parts called first
       where
-        some_of : (os : List Op) (is : List Instr) → AreParts (symbols_of c P.fields (program_methods c)) h.coded.instrs k.locals k.gives os is → AllByRecursion (Calls (symbols_of new P.fields (rewritten_methods P new)) P names) os → 0 < length is
-            → 0 < length (all_instrs (zip_blocks (symbols_of c P.fields (program_methods c)) (symbols_of new P.fields (rewritten_methods P new)) K.rewritten.grown P names k.params few h.coded.instrs k.locals room k.gives os is))
+        some_of : (os : List Op) (is : List Instr) → AreParts s0 h.coded.instrs k.locals k.gives os is → AllByRecursion (Calls s P names) os → 0 < length is
+            → 0 < length (all_instrs (zip_blocks s0 s K.rewritten.grown P names k.params few h.coded.instrs k.locals room k.gives os is))
         some_of [] [] a b l = absurd (omega arith)
         some_of [] (i ∷ is) a b l = absurd a
         some_of (o ∷ os) [] a b l = absurd a
         some_of (o ∷ os) (i ∷ is) a b l =
-            let g = sound (symbols_of c P.fields (program_methods c)) (symbols_of new P.fields (rewritten_methods P new)) K.rewritten.grown P names k.params few h.coded.instrs k.locals room k.gives o i a.0 b.0 in
+            let g = sound s0 s K.rewritten.grown P names k.params few h.coded.instrs k.locals room k.gives o i a.0 b.0 in
             let some = g.some in
-            let rest = zip_blocks (symbols_of c P.fields (program_methods c)) (symbols_of new P.fields (rewritten_methods P new)) K.rewritten.grown P names k.params few h.coded.instrs k.locals room k.gives os is in
+            let rest = zip_blocks s0 s K.rewritten.grown P names k.params few h.coded.instrs k.locals room k.gives os is in
             let list = ap length (all_cons (block i.pc (block_instrs names k.params (Some o) i)) rest) in
             let both = length-append (block_instrs names k.params (Some o) i) (all_instrs rest) in
             omega (arith, some, list, both)
@@ -290,11 +284,11 @@ module _ (c new : ClassFile) (P : Program) (K : Known c new P) (L : linked c ≡
     k_type = ap (λ (y : MethodName). y.descriptor) h.name ∙ ap text_or_none described
 
     shape : shape_of (with_context k.name.descriptor) ≡ Some (wider h.shape)
-    shape = ap (λ (y : List ℕ). shape_of (with_context y)) (ap (λ (y : MethodName). y.descriptor) h.name) ∙ wider_shape (descriptor_of c.pool m) h.shape h.shaped (few_params c new P K m k h)
+    shape = ap (λ (y : List ℕ). shape_of (with_context y)) (ap (λ (y : MethodName). y.descriptor) h.name) ∙ wider_shape (descriptor_of c.pool m) h.shape h.shaped (few_params s0 m k h)
 
-    pub copy_is : method_of (symbols_of new P.fields (rewritten_methods P new)) true x ≡ Some (duplicate_method P k)
+    pub copy_is : method_of s true x ≡ Some (duplicate_method P k)
     copy_is =
-        let facts : CodedFacts (symbols_of new P.fields (rewritten_methods P new)) (added_method (duplicate_flags m.flags) copy.n copy.t copy.c (code_spelling copy.body.code)) copy.body.code (relocated zipped (plain 191 ∷ [])) (duplicate_name k.name.name) (with_context k.name.descriptor) (wider h.shape)
+        let facts : CodedFacts s (added_method (duplicate_flags m.flags) copy.n copy.t copy.c (code_spelling copy.body.code)) copy.body.code (relocated zipped (plain 191 ∷ [])) (duplicate_name k.name.name) (with_context k.name.descriptor) (wider h.shape)
         (blocks P k.params k.ops ++ op.Throw ∷ []) (catch 0 (length (all_instrs zipped)) (length (all_instrs zipped)) Conflict ∷ []) None = record {
           code = added_code new.pool (duplicate_flags m.flags) copy.n copy.t copy.c copy.body.code copy.coded_is code_rules;
           read = code_read;
@@ -305,9 +299,9 @@ module _ (c new : ClassFile) (P : Program) (K : Known c new P) (L : linked c ≡
           catches_are = code_catches;
           retries_are = added_retries new.pool (duplicate_flags m.flags) copy.n copy.t copy.c (code_spelling copy.body.code) (with_context k.name.descriptor) copy.typed (context_other k.name.descriptor) copy.coded_is;
         } in
-        let it = coded_means (symbols_of new P.fields (rewritten_methods P new)) true (added_method (duplicate_flags m.flags) copy.n copy.t copy.c (code_spelling copy.body.code)) copy.body.code (relocated zipped (plain 191 ∷ [])) (duplicate_name k.name.name) (with_context k.name.descriptor) (wider h.shape)
+        let it = coded_means s true (added_method (duplicate_flags m.flags) copy.n copy.t copy.c (code_spelling copy.body.code)) copy.body.code (relocated zipped (plain 191 ∷ [])) (duplicate_name k.name.name) (with_context k.name.descriptor) (wider h.shape)
         (blocks P k.params k.ops ++ op.Throw ∷ []) (catch 0 (length (all_instrs zipped)) (length (all_instrs zipped)) Conflict ∷ []) None facts in
-        let owner : own_name new ≡ k.name.class = own_same c new P K ∙ sym (in_class n k at) in
+        let owner : own_name new ≡ k.name.class = own_same s0 s P part K ∙ sym (ap (λ (y : MethodName). y.class) h.name) in
         let name_is : record { class = own_name new; name = duplicate_name k.name.name; descriptor = with_context k.name.descriptor } ≡ record { class = k.name.class; name = duplicate_name k.name.name; descriptor = with_context k.name.descriptor } =
         ap (λ (y : List ℕ). name_of_parts y (duplicate_name k.name.name) (with_context k.name.descriptor)) owner in
         let catches_are : catch 0 (length (all_instrs zipped)) (length (all_instrs zipped)) Conflict ∷ [] ≡ catch 0 (block_at k.ops (length k.ops)) (block_at k.ops (length k.ops)) Conflict ∷ map (moved_catch (block_at k.ops)) k.catches =
@@ -318,4 +312,4 @@ module _ (c new : ClassFile) (P : Program) (K : Known c new P) (L : linked c ≡
         (h.shape.takes ++ Ref context_class ∷ []) (k.takes ++ Ref context_class ∷ []) (h.shape.params + 1) (k.params + 1) copy.body.code.max_locals (k.locals + 1) copy.body.code.max_stack (k.max_stack + 1) h.shape.gives k.gives None (blocks P k.params k.ops ++ op.Throw ∷ []) (blocks P k.params k.ops ++ op.Throw ∷ [])
         (catch 0 (length (all_instrs zipped)) (length (all_instrs zipped)) Conflict ∷ []) (catch 0 (block_at k.ops (length k.ops)) (block_at k.ops (length k.ops)) Conflict ∷ map (moved_catch (block_at k.ops)) k.catches)
         name_is (ap (λ (y : List VType). y ++ Ref context_class ∷ []) (sym h.takes)) (ap (λ (y : ℕ). y + 1) (sym h.params)) (laid.locals ∙ ap (λ (y : ℕ). y + 1) (sym h.locals)) (laid.stack ∙ ap (λ (y : ℕ). y + 1) (sym h.max_stack)) (sym h.gives) refl catches_are in
-        ap (method_of (symbols_of new P.fields (rewritten_methods P new)) true) (copy.is ∙ ap (added_method (duplicate_flags m.flags) copy.n copy.t copy.c) copy.body.is) ∙ it ∙ ap (λ (y : Method). Some y) same
+        ap (method_of s true) (copy.is ∙ ap (added_method (duplicate_flags m.flags) copy.n copy.t copy.c) copy.body.is) ∙ it ∙ ap (λ (y : Method). Some y) same

@@ -2,12 +2,14 @@
 use Rattle.std.proofs.Common.{◌≡◌, ℕ, ◌+◌, List, [], ◌∷◌, Some, refl, sym, subst, arith}
 use Rattle.std.specs.Prelude.{codes}
 use Rattle.std.specs.List.{AllByRecursion}
-use Rattle.jmodel.specs.ClassFile.{Member, Pool, ClassFile}
+use Rattle.jmodel.specs.ClassFile.{Member, Pool}
 use Rattle.jmodel.specs.Pool.{utf8}
 use Rattle.jmodel.specs.Descriptor.{IsFieldDescriptor}
 use Rattle.jmodel.specs.DescriptorReading.{element_rest, type_rest, is_field_descriptor}
 use Rattle.jmodel.specs.ClassRules.{IsPool, AreAttributes, IsField}
 use Rattle.jmodel.specs.Program.{Field, Program}
+use Rattle.jmodel.specs.Decoding.{Symbols}
+use Rattle.rewriter.specs.Part.{Part}
 use Rattle.const_pool.proofs.Signatures.{is_field}
 use Rattle.rewriter.specs.Members.{address_name}
 use Rattle.rewriter.proofs.Coded.{no_attributes}
@@ -63,11 +65,11 @@ module _ (Z : Pool) (p : IsPool Z) where
   bases_forms (m ∷ x ∷ ms) h = absurd h
 
 -- the old fields over the new pool, and those that are added
-pub fields_forms : (c new : ClassFile) (P : Program) → Known c new P → IsPool new.pool → AllByRecursion (IsField new.pool) new.fields
-fields_forms c new P K p =
+pub fields_forms : (s0 s : Symbols) (P : Program) (part : Part) → Known s0 s P part → IsPool s.class.pool → AllByRecursion (IsField s.class.pool) s.class.fields
+fields_forms s0 s P part K p =
     let R = K.rewritten in
     let F = R.fields in
-    let olds = all_as (IsField c.pool) (IsField new.pool) (member_still c.pool new.pool R.grown IsFieldDescriptor) c.fields K.rules.fields in
-    let added = all_append (IsField new.pool) F.addresses F.base (addresses_forms new.pool p 0 P.fields F.addresses F.each) (bases_forms new.pool p F.base F.bases) in
-    let more = subst (AllByRecursion (IsField new.pool)) (sym F.are) added in
-    subst (AllByRecursion (IsField new.pool)) (sym R.fields_are) (all_append (IsField new.pool) c.fields R.more olds more)
+    let olds = all_as (IsField s0.class.pool) (IsField s.class.pool) (member_still s0.class.pool s.class.pool R.grown IsFieldDescriptor) s0.class.fields K.rules.fields in
+    let added = all_append (IsField s.class.pool) F.addresses F.base (addresses_forms s.class.pool p 0 part.fields F.addresses F.each) (bases_forms s.class.pool p F.base F.bases) in
+    let more = subst (AllByRecursion (IsField s.class.pool)) (sym F.are) added in
+    subst (AllByRecursion (IsField s.class.pool)) (sym R.fields_are) (all_append (IsField s.class.pool) s0.class.fields R.more olds more)

@@ -1,56 +1,56 @@
 -- A rewritten class keeps the rules of class files.
-use Rattle.std.proofs.Common.{◌≡◌, ℕ, ◌<◌, List, length, Some, Ok, sym, subst, ◌∙◌}
+use Rattle.std.proofs.Common.{ℕ, ◌<◌, List, length, sym, subst, ◌∙◌}
 use Rattle.std.specs.Prelude.{◌^◌, IsSome, IsSomeAnd}
 use Rattle.std.specs.List.{AllByRecursion}
 use Rattle.jmodel.specs.ClassFile.{ClassFile}
 use Rattle.jmodel.specs.Pool.{class_name}
 use Rattle.jmodel.specs.Descriptor.{IsClassName}
 use Rattle.jmodel.specs.ClassRules.{IsTwoBytes, IsPool, AreAttributes, IsClassFile}
+use Rattle.jmodel.specs.Decoding.{Symbols}
 use Rattle.jmodel.specs.Program.{Program}
-use Rattle.jmodel.specs.Linking.{linked}
+use Rattle.jmodel.specs.Source.{IsSource}
 use Rattle.rewriter.specs.Meaning.{AreFiled, HasFewMembers}
-use Rattle.rewriter.specs.Rewritten.{rewritten_class, Keeps}
+use Rattle.rewriter.specs.Part.{Part}
+use Rattle.rewriter.specs.Rewritten.{Keeps}
 use Rattle.rewriter.proofs.DistinctFields.{fields_distinct}
 use Rattle.rewriter.proofs.DistinctMethods.{methods_distinct}
 use Rattle.rewriter.proofs.FieldForms.{fields_forms}
-use Rattle.rewriter.proofs.Front.{gives_keeps}
 use Rattle.rewriter.proofs.MethodForms.{methods_forms}
-use Rattle.rewriter.proofs.Old.{original}
-use Rattle.rewriter.proofs.Pools.{pool_kept}
 use Rattle.rewriter.proofs.Rests.{all_as}
 use Rattle.rewriter.proofs.StillForms.{class_still, class_still_fits, attributes_still}
 use Rattle.rewriter.proofs.Tables.{Known}
-use Rattle.rewriter.proofs.Whole.{rewrites}
+use Rattle.rewriter.proofs.Tied.{Tied}
 
--- a class over a pool that keeps the rules
-pub class_kept : (c new : ClassFile) (P : Program) → Known c new P → linked c ≡ Some P → AreFiled c → Keeps c new → HasFewMembers new → IsPool new.pool → IsClassFile new
-class_kept c new P K L F kept few p =
-    let G = K.rewritten.grown in
-    let old = K.rules in
-    let named = all_as (λ (i : ℕ). IsTwoBytes i × IsSome (class_name c.pool i)) (λ (i : ℕ). IsTwoBytes i × IsSome (class_name new.pool i))
-    (λ i h. (h.0, class_still c.pool new.pool G i h.1)) c.interfaces old.interfaces in
-    record {
-      minor = subst IsTwoBytes (sym kept.minor) old.minor;
-      major = kept.major ∙ old.major;
-      pool = p;
-      flags = subst IsTwoBytes (sym kept.flags) old.flags;
-      this_class = subst IsTwoBytes (sym kept.this_class) old.this_class;
-      this_name = subst (λ (i : ℕ). IsSomeAnd (class_name new.pool i) IsClassName) (sym kept.this_class) (class_still_fits c.pool new.pool G IsClassName c.this_class old.this_name);
-      super_class = subst IsTwoBytes (sym kept.super_class) old.super_class;
-      super_name = subst (λ (i : ℕ). IsSome (class_name new.pool i)) (sym kept.super_class) (class_still c.pool new.pool G c.super_class old.super_name);
-      few_interfaces = subst (λ (is : List ℕ). length is < 2 ^ 16) (sym kept.interfaces) old.few_interfaces;
-      interfaces = subst (AllByRecursion (λ (i : ℕ). IsTwoBytes i × IsSome (class_name new.pool i))) (sym kept.interfaces) named;
-      few_fields = few.fields;
-      fields = fields_forms c new P K p;
-      few_methods = few.methods;
-      methods = methods_forms c new P K p L F;
-      attributes = subst (AreAttributes new.pool) (sym kept.attributes) (attributes_still c.pool new.pool G c.attributes old.attributes);
-      distinct_fields = fields_distinct c new P K;
-      distinct_methods = methods_distinct c new P K;
-    }
+module _ (s0 s : Symbols) (P : Program) (part : Part) where
+  abbrev c : ClassFile
+  c = s0.class
 
--- the rewriting of a class that keeps the rules, and is linked to the program, keeps them too
-pub form : (c new : ClassFile) (P : Program) → IsClassFile c → AreFiled c → linked c ≡ Some P → rewritten_class P c ≡ Ok new → HasFewMembers new → IsClassFile new
-form c new P rules F L e few =
-    let K : Known c new P = record { rules = rules; original = original c P L; rewritten = rewrites P c new e } in
-    class_kept c new P K L F (gives_keeps P c (Ok new) e) few (pool_kept c new P K e)
+  abbrev new : ClassFile
+  new = s.class
+
+  -- a class over a pool that keeps the rules
+  pub class_kept : Known s0 s P part → Tied s0 s P → IsSource P → AreFiled c → Keeps c new → HasFewMembers new → IsPool new.pool → IsClassFile new
+  class_kept K T O F kept few p =
+      let G = K.rewritten.grown in
+      let old = K.rules in
+      let named = all_as (λ (i : ℕ). IsTwoBytes i × IsSome (class_name c.pool i)) (λ (i : ℕ). IsTwoBytes i × IsSome (class_name new.pool i))
+      (λ i h. (h.0, class_still c.pool new.pool G i h.1)) c.interfaces old.interfaces in
+      record {
+        minor = subst IsTwoBytes (sym kept.minor) old.minor;
+        major = kept.major ∙ old.major;
+        pool = p;
+        flags = subst IsTwoBytes (sym kept.flags) old.flags;
+        this_class = subst IsTwoBytes (sym kept.this_class) old.this_class;
+        this_name = subst (λ (i : ℕ). IsSomeAnd (class_name new.pool i) IsClassName) (sym kept.this_class) (class_still_fits c.pool new.pool G IsClassName c.this_class old.this_name);
+        super_class = subst IsTwoBytes (sym kept.super_class) old.super_class;
+        super_name = subst (λ (i : ℕ). IsSome (class_name new.pool i)) (sym kept.super_class) (class_still c.pool new.pool G c.super_class old.super_name);
+        few_interfaces = subst (λ (is : List ℕ). length is < 2 ^ 16) (sym kept.interfaces) old.few_interfaces;
+        interfaces = subst (AllByRecursion (λ (i : ℕ). IsTwoBytes i × IsSome (class_name new.pool i))) (sym kept.interfaces) named;
+        few_fields = few.fields;
+        fields = fields_forms s0 s P part K p;
+        few_methods = few.methods;
+        methods = methods_forms s0 s P part K T p O F;
+        attributes = subst (AreAttributes new.pool) (sym kept.attributes) (attributes_still c.pool new.pool G c.attributes old.attributes);
+        distinct_fields = fields_distinct s0 s P part K;
+        distinct_methods = methods_distinct s0 s P part K;
+      }

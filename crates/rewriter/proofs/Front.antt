@@ -11,15 +11,16 @@ use Rattle.jmodel.specs.declared.refusal.Halt.{Halt}
 use Rattle.jmodel.specs.ClassFile.{Pool, Member, ClassFile, Code}
 use Rattle.jmodel.specs.Program.{Field, Method, Program}
 use Rattle.jmodel.specs.Reading.{◌>>=◌, Gives}
-use Rattle.jmodel.specs.Linking.{Coded, decoded, is_root, program_methods, retries_of}
+use Rattle.jmodel.specs.Linking.{Coded, decoded, retries_of}
 use Rattle.jmodel.specs.Relocation.{Block}
 use Rattle.jmodel.specs.Rewriting.{with_context, duplicate_name}
 use Rattle.jmodel.specs.Name.{printed}
 use Rattle.jmodel.specs.Decoding.{own_name}
 use Rattle.rewriter.specs.Adding.{index_of, put, put_wide, is_utf8, put_utf8, utf8_if, add_utf8, is_integer, integer_if, add_integer, is_long, long_if, add_long, is_class, put_class, class_if, add_class, is_pair, put_pair, pair_if, add_pair, is_field, put_field, field_if, add_field, is_method, put_method, method_if, add_method}
 use Rattle.jmodel.specs.WordTypes.{type_descriptor, read_descriptor, write_descriptor}
-use Rattle.rewriter.specs.Members.{context_class, getter_type, setter_type, getter_name, setter_name, address_name, typed_name, constant_value, address_member, base_member, place_refs, look_refs, read_refs, getter_body, setter_body, accessor, getter_of, setter_of, accessors_of, Names, getter_code, setter_code, straight_bytes, gets, puts, calls, some_op, method_if_needed, getter_call, setter_call, calls_of, duplicate_call, blocks_from, duplicate_body, laid_bytes, of_method, stub, coded_duplicate, duplicate_of, opening_of, ending_of, wrapper_bytes, wrapper_of, with_code}
-use Rattle.rewriter.specs.Rewritten.{grow_from, wrapper_if, replaced, number_behind, id_behind, old_from, bases, added_fields, names_of, duplicates, added_methods, new_methods, rewritten_class, Keeps}
+use Rattle.rewriter.specs.Members.{uses_of, context_class, getter_type, setter_type, getter_name, setter_name, address_name, typed_name, constant_value, address_member, base_member, place_refs, look_refs, read_refs, getter_body, setter_body, accessor, getter_of, setter_of, accessors_of, Names, getter_code, setter_code, straight_bytes, gets, puts, calls, some_op, method_if_needed, getter_call, setter_call, calls_of, duplicate_call, blocks_from, duplicate_body, laid_bytes, of_method, stub, coded_duplicate, duplicate_of, opening_of, ending_of, wrapper_bytes, wrapper_of, with_code}
+use Rattle.rewriter.specs.Rewritten.{grow_from, wrapper_if, replaced, number_behind, id_behind, old_from, bases, added_fields, names_of, duplicates, added_methods, new_methods, rewritten_share, Keeps}
+use Rattle.rewriter.specs.Part.{Share}
 
 -- one pool is a front of another
 abbrev pub Extends : Pool → Pool → Type 0
@@ -259,24 +260,24 @@ method_if_needed_grows : (needed : Bool) (class name descriptor : List ℕ) (poo
 unfolding method_if_needed
 method_if_needed_grows needed class name descriptor pool = either pool needed _ _ (add_method_grows class name descriptor pool) (given 0 pool)
 
-getter_call_grows : (P : Program) (own : List ℕ) (n : ℕ) (f : Field) (pool : Pool) → Grown pool (getter_call P own n f pool)
+getter_call_grows : (own : List Method) (n : ℕ) (f : Field) (pool : Pool) → Grown pool (getter_call (uses_of own) n f pool)
 unfolding getter_call
-getter_call_grows P own n f pool = method_if_needed_grows (some_op (gets n) P) own (getter_name f) (getter_type f.type) pool
+getter_call_grows own n f pool = method_if_needed_grows (some_op (gets n) own) f.class (getter_name f) (getter_type f.type) pool
 
-setter_call_grows : (P : Program) (own : List ℕ) (n : ℕ) (f : Field) (pool : Pool) → Grown pool (setter_call P own n f pool)
+setter_call_grows : (own : List Method) (n : ℕ) (f : Field) (pool : Pool) → Grown pool (setter_call (uses_of own) n f pool)
 unfolding setter_call
-setter_call_grows P own n f pool = method_if_needed_grows (some_op (puts n) P) own (setter_name f) (setter_type f.type) pool
+setter_call_grows own n f pool = method_if_needed_grows (some_op (puts n) own) f.class (setter_name f) (setter_type f.type) pool
 
-calls_of_grows : (P : Program) (own : List ℕ) (n : ℕ) (f : Field) (pool : Pool) → Grown pool (calls_of P own n f pool)
+calls_of_grows : (own : List Method) (n : ℕ) (f : Field) (pool : Pool) → Grown pool (calls_of (uses_of own) n f pool)
 unfolding calls_of
-calls_of_grows P own n f pool =
-    after pool (getter_call P own n f pool) _ (getter_call_grows P own n f pool) (λ a.
-    after a.1 (setter_call P own n f a.1) _ (setter_call_grows P own n f a.1) (λ b.
+calls_of_grows own n f pool =
+    after pool (getter_call (uses_of own) n f pool) _ (getter_call_grows own n f pool) (λ a.
+    after a.1 (setter_call (uses_of own) n f a.1) _ (setter_call_grows own n f a.1) (λ b.
     given _ b.1))
 
-duplicate_call_grows : (P : Program) (n : ℕ) (k : Method) (pool : Pool) → Grown pool (duplicate_call P n k pool)
+duplicate_call_grows : (own : List Method) (n : ℕ) (k : Method) (pool : Pool) → Grown pool (duplicate_call (uses_of own) n k pool)
 unfolding duplicate_call
-duplicate_call_grows P n k pool = method_if_needed_grows (some_op (calls n) P) k.name.class (duplicate_name k.name.name) (with_context k.name.descriptor) pool
+duplicate_call_grows own n k pool = method_if_needed_grows (some_op (calls n) own) k.name.class (duplicate_name k.name.name) (with_context k.name.descriptor) pool
 
 duplicate_body_grows : (name : List ℕ) (k : Code) (blocks : List Block) (pool : Pool) → Grown pool (duplicate_body name k blocks pool)
 unfolding duplicate_body
@@ -333,29 +334,29 @@ bases_grow : (fs : List Field) (pool : Pool) → Grown pool (bases fs pool)
 bases_grow [] pool = given [] pool
 bases_grow (f ∷ fs) pool = after pool (base_member pool) _ (base_member_grows pool) (λ a. given _ a.1)
 
-added_fields_grow : (P : Program) (pool : Pool) → Grown pool (added_fields P pool)
+added_fields_grow : (fs : List Field) (pool : Pool) → Grown pool (added_fields fs pool)
 unfolding added_fields
-added_fields_grow P pool =
-    after pool (grow_from (λ n f. address_member f) 0 P.fields pool) _ (grow_from_grows (λ n f. address_member f) (λ n f q. address_member_grows f q) 0 P.fields pool) (λ a.
-    after a.1 (bases P.fields a.1) _ (bases_grow P.fields a.1) (λ b. given _ b.1))
+added_fields_grow fs pool =
+    after pool (grow_from (λ n f. address_member f) 0 fs pool) _ (grow_from_grows (λ n f. address_member f) (λ n f q. address_member_grows f q) 0 fs pool) (λ a.
+    after a.1 (bases fs a.1) _ (bases_grow fs a.1) (λ b. given _ b.1))
 
-names_of_grows : (P : Program) (c : ClassFile) (pool : Pool) → Grown pool (names_of P c pool)
+names_of_grows : (P : Program) (own : List Method) (pool : Pool) → Grown pool (names_of P own pool)
 unfolding names_of
-names_of_grows P c pool =
-    after pool (grow_from (calls_of P (own_name c)) 0 P.fields pool) _ (grow_from_grows (calls_of P (own_name c)) (λ n f q. calls_of_grows P (own_name c) n f q) 0 P.fields pool) (λ a.
-    after a.1 (grow_from (duplicate_call P) 0 P.methods a.1) _ (grow_from_grows (duplicate_call P) (λ n k q. duplicate_call_grows P n k q) 0 P.methods a.1) (λ b. given _ b.1))
+names_of_grows P own pool =
+    after pool (grow_from (calls_of (uses_of own)) 0 P.fields pool) _ (grow_from_grows (calls_of (uses_of own)) (λ n f q. calls_of_grows own n f q) 0 P.fields pool) (λ a.
+    after a.1 (grow_from (duplicate_call (uses_of own)) 0 P.methods a.1) _ (grow_from_grows (duplicate_call (uses_of own)) (λ n k q. duplicate_call_grows own n k q) 0 P.methods a.1) (λ b. given _ b.1))
 
-duplicates_grow : (P : Program) (c : ClassFile) (pool : Pool) → Grown pool (duplicates P c pool)
+duplicates_grow : (P : Program) (c : ClassFile) (share : Share) (pool : Pool) → Grown pool (duplicates P c share pool)
 unfolding duplicates
-duplicates_grow P c pool =
-    after pool (names_of P c pool) _ (names_of_grows P c pool) (λ a.
-    grow_from_grows (λ n (p : Method × Member). duplicate_of c a.0 p.0 p.1) (λ n p q. duplicate_of_grows c a.0 p.0 p.1 q) 0 (zip P.methods (program_methods c)) a.1)
+duplicates_grow P c share pool =
+    after pool (names_of P share.methods pool) _ (names_of_grows P share.methods pool) (λ a.
+    grow_from_grows (λ n (p : Method × Member). duplicate_of c a.0 p.0 p.1) (λ n p q. duplicate_of_grows c a.0 p.0 p.1 q) 0 (zip share.methods share.members) a.1)
 
-added_methods_grow : (P : Program) (c : ClassFile) (pool : Pool) → Grown pool (added_methods P c pool)
+added_methods_grow : (P : Program) (c : ClassFile) (share : Share) (pool : Pool) → Grown pool (added_methods P c share pool)
 unfolding added_methods
-added_methods_grow P c pool =
-    after pool (grow_from (λ n f. accessors_of (own_name c) f) 0 P.fields pool) _ (grow_from_grows (λ n f. accessors_of (own_name c) f) (λ n f q. accessors_of_grows (own_name c) f q) 0 P.fields pool) (λ a.
-    after a.1 (duplicates P c a.1) _ (duplicates_grow P c a.1) (λ b. given _ b.1))
+added_methods_grow P c share pool =
+    after pool (grow_from (λ n f. accessors_of (own_name c) f) 0 share.fields pool) _ (grow_from_grows (λ n f. accessors_of (own_name c) f) (λ n f q. accessors_of_grows (own_name c) f q) 0 share.fields pool) (λ a.
+    after a.1 (duplicates P c share a.1) _ (duplicates_grow P c share a.1) (λ b. given _ b.1))
 
 wrapper_if_grows : (c : ClassFile) (n : ℕ) (a : Option ℤ) (o : Option Method) (m : Member) (pool : Pool) → Grown pool (wrapper_if c n a o m pool)
 wrapper_if_grows c n None o m pool = given m pool
@@ -365,17 +366,17 @@ wrapper_if_grows c n (Some attempts) (Some k) m pool = wrapper_of_grows c n atte
 replaced_grows : (P : Program) (c : ClassFile) (n id : ℕ) (m : Member) (pool : Pool) → Grown pool (replaced P c n id m pool)
 replaced_grows P c n id m pool = wrapper_if_grows c id (retries_of c.pool m) (slice_get P.methods n) m pool
 
-old_from_grows : (P : Program) (c : ClassFile) (n id : ℕ) (ms : List Member) (pool : Pool) → Grown pool (old_from P c n id ms pool)
+old_from_grows : (P : Program) (c : ClassFile) (n id : ℕ) (ms : List (Member × Bool)) (pool : Pool) → Grown pool (old_from P c n id ms pool)
 old_from_grows P c n id [] pool = given [] pool
 old_from_grows P c n id (m ∷ ms) pool =
-    after pool (replaced P c n id m pool) _ (replaced_grows P c n id m pool) (λ a.
-    after a.1 (old_from P c (number_behind c n m) (id_behind c.pool id m) ms a.1) _ (old_from_grows P c (number_behind c n m) (id_behind c.pool id m) ms a.1) (λ b. given _ b.1))
+    after pool (replaced P c n id m.0 pool) _ (replaced_grows P c n id m.0 pool) (λ a.
+    after a.1 (old_from P c (number_behind m.1 n) (id_behind c.pool id m.0) ms a.1) _ (old_from_grows P c (number_behind m.1 n) (id_behind c.pool id m.0) ms a.1) (λ b. given _ b.1))
 
-new_methods_grow : (P : Program) (c : ClassFile) (pool : Pool) → Grown pool (new_methods P c pool)
+new_methods_grow : (P : Program) (c : ClassFile) (share : Share) (pool : Pool) → Grown pool (new_methods P c share pool)
 unfolding new_methods
-new_methods_grow P c pool =
-    after pool (added_methods P c pool) _ (added_methods_grow P c pool) (λ a.
-    after a.1 (old_from P c 0 0 c.methods a.1) _ (old_from_grows P c 0 0 c.methods a.1) (λ b. given _ b.1))
+new_methods_grow P c share pool =
+    after pool (added_methods P c share pool) _ (added_methods_grow P c share pool) (λ a.
+    after a.1 (old_from P c share.first share.wrapper (zip c.methods share.flags) a.1) _ (old_from_grows P c share.first share.wrapper (zip c.methods share.flags) a.1) (λ b. given _ b.1))
 
 abbrev KeepsIn : ClassFile → Result ClassFile Refusal → Type 0
 KeepsIn c (Ok d) = Keeps c d
@@ -400,15 +401,15 @@ with_parts c fields methods = Ok (record {
   attributes = c.attributes;
 })
 
-abbrev with_fields : Program → ClassFile → List Member × Pool → Result ClassFile Refusal
-with_fields P c fields = new_methods P c fields.1 >>= with_parts c fields.0
+abbrev with_fields : Program → ClassFile → Share → List Member × Pool → Result ClassFile Refusal
+with_fields P c share fields = new_methods P c share fields.1 >>= with_parts c fields.0
 
 -- the rewritten class keeps what the class has
-rewritten_keeps : (P : Program) (c : ClassFile) → KeepsIn c (rewritten_class P c)
-unfolding rewritten_class
-rewritten_keeps P c =
-    keeps_after c c.pool (added_fields P c.pool) (with_fields P c) (added_fields_grow P c.pool) (λ x h.
-    keeps_after c x.1 (new_methods P c x.1) (with_parts c x.0) (new_methods_grow P c x.1) (λ y k.
+rewritten_keeps : (P : Program) (c : ClassFile) (share : Share) → KeepsIn c (rewritten_share P c share)
+unfolding rewritten_share
+rewritten_keeps P c share =
+    keeps_after c c.pool (added_fields share.fields c.pool) (with_fields P c share) (added_fields_grow share.fields c.pool) (λ x h.
+    keeps_after c x.1 (new_methods P c share x.1) (with_parts c x.0) (new_methods_grow P c share x.1) (λ y k.
     record {
       pool = further c.pool x.1 y.1 h k;
       fields = (x.0, refl);
@@ -421,6 +422,6 @@ rewritten_keeps P c =
       attributes = refl;
     }))
 
-pub gives_keeps : (P : Program) (c : ClassFile) (r : Result ClassFile Halt) → Gives (λ d. d) r (rewritten_class P c) → IfOk r (Keeps c)
-gives_keeps P c (Ok d) h = subst (λ (x : Result ClassFile Refusal). KeepsIn c x) h (rewritten_keeps P c)
-gives_keeps P c (Err e) h = tt
+pub gives_keeps : (P : Program) (c : ClassFile) (share : Share) (r : Result ClassFile Halt) → Gives (λ d. d) r (rewritten_share P c share) → IfOk r (Keeps c)
+gives_keeps P c share (Ok d) h = subst (λ (x : Result ClassFile Refusal). KeepsIn c x) h (rewritten_keeps P c share)
+gives_keeps P c share (Err e) h = tt

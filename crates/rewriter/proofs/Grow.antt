@@ -1,5 +1,5 @@
 -- What is put for each item, as a loop collects it.
-use Rattle.std.proofs.Common.{◌≡◌, ℕ, suc, ◌+◌, ◌≤◌, ◌<◌, List, [], ◌∷◌, ◌++◌, length, map, drop, get_or, Result, Ok, Err, Bor, refl, sym, ap, ◌∙◌, append_assoc, add-one, drop-cons}
+use Rattle.std.proofs.Common.{◌≡◌, ℕ, suc, ◌+◌, ◌≤◌, ◌<◌, List, [], ◌∷◌, ◌++◌, length, drop, get_or, Result, Ok, Err, refl, sym, ap, ◌∙◌, append_assoc, add-one, drop-cons}
 use Rattle.std.proofs.lemmas.List.{append-nil, drop_all}
 use Rattle.jmodel.specs.declared.refusal.Refusal.{Refusal}
 use Rattle.jmodel.specs.declared.refusal.Halt.{Halt}
@@ -12,7 +12,7 @@ use Rattle.rewriter.specs.Rewritten.{grow_from}
 abbrev pub with_front : {A : Type 0} → List A → Result (List A × Pool) Refusal → Result (List A × Pool) Refusal
 with_front front read = read >>= λ x. Ok (front ++ x.0, x.1)
 
-regroup : {A : Type 0} (front : List A) (y : A) (read : Result (List A × Pool) Refusal) → with_front front (read >>= λ x. Ok (y ∷ x.0, x.1)) ≡ with_front (front ++ y ∷ []) read
+pub regroup : {A : Type 0} (front : List A) (y : A) (read : Result (List A × Pool) Refusal) → with_front front (read >>= λ x. Ok (y ∷ x.0, x.1)) ≡ with_front (front ++ y ∷ []) read
 regroup {A} front y (Ok x) = ap (λ (ys : List A). Ok (ys, x.1)) (simp append_assoc)
 regroup front y (Err f) = refl
 
@@ -41,17 +41,3 @@ module _ {A B : Type 0} (f : ℕ → A → Pool → Result (B × Pool) Refusal) 
   is_done front xs i pool total le so_far =
       let one : with_front front (grow_from f i (drop i xs) pool) ≡ Ok (front ++ [], pool) = rw (drop_all i xs le) refl in
       sym so_far ∙ one ∙ ap (λ (ys : List B). Ok (ys, pool)) (append-nil front)
-
--- an item in front of what was put behind it
-abbrev with_item : {B : Type 0} → B → List B × Pool → Result (List B × Pool) Refusal
-with_item y others = Ok (y ∷ others.0, others.1)
-
--- what is put for what is seen behind references
-pub grow_seen : {A B : Type 0} (f : ℕ → A → Pool → Result (B × Pool) Refusal) (n : ℕ) (xs : List (Bor A)) (pool : Pool) → grow_from (λ n x. f n x.now) n xs pool ≡ grow_from f n (map (λ x. x.now) xs) pool
-grow_seen f n [] pool = refl
-grow_seen {A} {B} f n (x ∷ xs) pool = go (f n x.now pool) (λ p. grow_seen f (n + 1) xs p)
-  where
-    go : (r : Result (B × Pool) Refusal) → ((p : Pool) → grow_from (λ n x. f n x.now) (n + 1) xs p ≡ grow_from f (n + 1) (map (λ x. x.now) xs) p) → (r >>= λ first. grow_from (λ n x. f n x.now) (n + 1) xs first.1 >>= with_item first.0)
-        ≡ (r >>= λ first. grow_from f (n + 1) (map (λ x. x.now) xs) first.1 >>= with_item first.0)
-    go (Ok a) rest = ap (λ (t : Result (List B × Pool) Refusal). t >>= with_item a.0) (rest a.1)
-    go (Err e) rest = refl

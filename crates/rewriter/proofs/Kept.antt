@@ -34,8 +34,6 @@ use Rattle.jmodel.specs.Superclasses.{declared_field, declared_method}
 use Rattle.jmodel.specs.Decoding.{number_at, Symbols, field_number, method_number, long_field, simple_op, number_op, local_op, wide_op, test_of, jump_to, jump_op, in_front, each, table_cases, numbered_case, ascending_op, switch_op, get_op, put_op, static_call_op, context_op, virtual_call_op, pool_op, meaning, op_of}
 use Rattle.rewriter.proofs.Grown.{Grown, entry_grown, integer_grown}
 use Rattle.jmodel.specs.Relocation.{Block}
-use Rattle.rewriter.proofs.Positions.{At}
-use Rattle.rewriter.proofs.Lay.{is_block}
 use Rattle.rewriter.proofs.Read.{IsLaid, LeadsIn}
 use Rattle.rewriter.proofs.Single.{Means}
 

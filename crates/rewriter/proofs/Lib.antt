@@ -13,6 +13,7 @@ pub mod Old
 pub mod Renamed
 pub mod Numbers
 pub mod Tables
+pub mod Tied
 pub mod Single
 pub mod Kept
 pub mod Pairs
@@ -44,3 +45,15 @@ pub mod Lawful
 pub mod Texts
 pub mod Pools
 pub mod Forms
+pub mod Grouped
+pub mod Lookups
+pub mod Declares
+pub mod ClassesOld
+pub mod ClassesKnown
+pub mod ClassesTied
+pub mod ClassesMeant
+pub mod ClassesForms
+pub mod Splits
+pub mod Shares
+pub mod Gathered
+pub mod Olds

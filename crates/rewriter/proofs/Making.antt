@@ -9,15 +9,15 @@ use Rattle.jmodel.specs.declared.instruction.Instr.{Instr}
 use Rattle.jmodel.specs.declared.refusal.Refusal.{Refusal}
 use Rattle.jmodel.specs.declared.op.Op.{Op}
 use Rattle.jmodel.specs.declared.op.Op.TheVariants as op
-use Rattle.jmodel.specs.ClassFile.{Pool, Member, ClassFile}
+use Rattle.jmodel.specs.ClassFile.{Pool, Member}
 use Rattle.jmodel.specs.Program.{Field, Method, Program}
 use Rattle.jmodel.specs.Rewriting.{moved}
 use Rattle.jmodel.specs.Instruction.{form_of, targets_of, AreStarts, SpellsInstrs}
 use Rattle.jmodel.specs.Relocation.{Block, IsShapedAs, IsShaped, EachInstr, ArePcs, AreBlocks}
-use Rattle.jmodel.specs.Decoding.{Symbols, own_name, ops_of}
+use Rattle.jmodel.specs.Decoding.{Symbols, ops_of}
 use Rattle.jmodel.specs.Reading.{◌>>=◌}
 use Rattle.std.proofs.lemmas.Bool.Decides.{nat_tests}
-use Rattle.jmodel.specs.Linking.{Coded, symbols_of, original_fields, program_methods, linked}
+use Rattle.jmodel.specs.Linking.{Coded}
 use Rattle.bytecode.specs.Relocated.{StandFor}
 use Rattle.bytecode.proofs.OriginLaws.{origin_is}
 use Rattle.const_pool.proofs.Takes.{bind_ok, ok_is}
@@ -26,18 +26,15 @@ use Rattle.rewriter.proofs.Added.{method_added}
 use Rattle.rewriter.specs.declared.names.Calls.{Calls}
 use Rattle.rewriter.specs.declared.wrappers.Opening.{Opening}
 use Rattle.rewriter.specs.declared.wrappers.Ending.{Ending}
-use Rattle.rewriter.specs.Made.{IsSmallOp, IsSmallMethod, CanBeMade}
-use Rattle.rewriter.specs.Members.{method_if_needed, getter_call, setter_call, calls_of, duplicate_call, Names, stub, plain, naming, jump, local_instr, load_int, store_int, load_reference, store_reference, increment, call_static, call_virtual, getter_in, setter_in, block, block_instrs, blocks_from, int_loads, keeps, answers, wrapper_blocks, wrapper_handlers}
+use Rattle.rewriter.specs.Made.{AreSmallNames, IsSmallOp, IsSmallMethod, CanBeMade}
+use Rattle.rewriter.specs.Members.{uses_of, method_if_needed, getter_call, setter_call, calls_of, duplicate_call, Names, stub, plain, naming, jump, local_instr, load_int, store_int, load_reference, store_reference, increment, call_static, call_virtual, getter_in, setter_in, block_instrs, blocks_from, int_loads, keeps, answers, wrapper_blocks, wrapper_handlers}
 use Rattle.rewriter.proofs.Single.{local_cases, increment_cases, load_laid, store_laid, load_reference_laid, store_reference_laid, increment_laid}
 use Rattle.rewriter.proofs.Kept.{adds_little}
 use Rattle.rewriter.proofs.Pairs.{all_append, IsPart, AreParts}
 use Rattle.rewriter.proofs.Filed.{parts_of}
-use Rattle.rewriter.proofs.Old.{original, IsOld, AllOld, all_old}
+use Rattle.rewriter.proofs.Old.{IsOld, AllOld}
 
 -- ---- one instruction
-
-entry_shaped : (c i : ℕ) → c < 256 → IsShapedAs (form_of c) (operands.Pool i) → IsShaped (naming c i)
-entry_shaped c i h s = record { op = h; operands = s }
 
 -- an instruction that is laid somewhere, and leads nowhere
 pub record IsFree (i : Instr) : Type 0 where
@@ -75,12 +72,6 @@ constant_free : (i : ℕ) → i < 65536 → IsFree (naming 19 i)
 constant_free i h = record { shaped = record { op = omega arith; operands = h }; nowhere = refl }
 
 -- ---- blocks of a duplicate
-
--- what duplicates name has two bytes
-pub record AreSmallNames (names : Names) : Type 0 where
-  pub getters : (f : ℕ) → getter_in (slice_get names.accessors f) < 65536
-  pub setters : (f : ℕ) → setter_in (slice_get names.accessors f) < 65536
-  pub duplicates : (m : ℕ) → slice_index names.duplicates m < 65536
 
 less_of : (a b : ℕ) → nat_lt a b ≡ true → a < b
 less_of a b t = grind (arith, nat_tests)
@@ -202,46 +193,41 @@ small_ops s0 is0 locals gives [] is few h = tt
 small_ops s0 is0 locals gives (o ∷ os) [] few h = absurd h
 small_ops s0 is0 locals gives (o ∷ os) (i ∷ is) few h = (small_op s0 is0 locals gives o i few h.0, small_ops s0 is0 locals gives os is few h.1)
 
-small_method : (c : ClassFile) (fields : List Field) (m : Member) (k : Method) → IsOld c fields m k → IsSmallMethod k
-small_method c fields m k h = let r = h.room in let l = h.locals in let f = h.few in omega (arith, r, l, f)
+small_method : (s0 : Symbols) (m : Member) (k : Method) → IsOld s0 m k → IsSmallMethod k
+small_method s0 m k h = let r = h.room in let l = h.locals in let f = h.few in omega (arith, r, l, f)
 
-can_be_made : (c : ClassFile) (fields : List Field) (names : Names) → AreSmallNames names → (m : Member) (k : Method) → IsOld c fields m k → CanBeMade c names (k, m)
-can_be_made c fields names small m k h = (
-  small_method c fields m k h,
+can_be_made : (s0 : Symbols) (names : Names) → AreSmallNames names → (m : Member) (k : Method) → IsOld s0 m k → CanBeMade s0.class names (k, m)
+can_be_made s0 names small m k h = (
+  small_method s0 m k h,
   λ coded e spelled.
       let same : h.coded ≡ coded = ok_is h.coded coded (sym h.decodes ∙ e) in
       let few : k.locals < 60000 = (let l = h.locals in let f = h.few in omega (arith, l, f)) in
       let ops_are = h.ops ∙ refl in
       let there = ap (λ (y : Coded). y.instrs) same in
-      let meant : ops_of (symbols_of c fields (program_methods c)) coded.instrs ≡ Some k.ops = subst (λ (is : List Instr). ops_of (symbols_of c fields (program_methods c)) is ≡ Some k.ops) there h.ops in
-      let parts = parts_of (symbols_of c fields (program_methods c)) coded.instrs k.locals k.gives k.ops coded.instrs meant spelled.instrs.each h.fits in
-      let each = small_ops (symbols_of c fields (program_methods c)) coded.instrs k.locals k.gives k.ops coded.instrs few parts in
+      let meant : ops_of s0 coded.instrs ≡ Some k.ops = subst (λ (is : List Instr). ops_of s0 is ≡ Some k.ops) there h.ops in
+      let parts = parts_of s0 coded.instrs k.locals k.gives k.ops coded.instrs meant spelled.instrs.each h.fits in
+      let each = small_ops s0 coded.instrs k.locals k.gives k.ops coded.instrs few parts in
       let none : coded.code.handlers ≡ [] = ap (λ (y : Coded). y.code.handlers) (sym same) ∙ h.no_entries in
-      let spelled2 = subst (λ (hs : List Handler). SpellsInstrs c.pool hs coded.code.code coded.instrs) none spelled in
+      let spelled2 = subst (λ (hs : List Handler). SpellsInstrs s0.class.pool hs coded.code.code coded.instrs) none spelled in
       record {
         ops = each;
         blocks = λ conflict. subst (λ (hs : List Handler). AreBlocks (blocks_from names k.params k.ops 0 coded.instrs) hs (Some conflict) stub) (sym none)
-            (duplicate_laid names small k.params (small_method c fields m k h) k.ops each c.pool coded.code.code coded.instrs spelled2 conflict);
+            (duplicate_laid names small k.params (small_method s0 m k h) k.ops each s0.class.pool coded.code.code coded.instrs spelled2 conflict);
       },
 )
 
-all_made : (c : ClassFile) (fields : List Field) (names : Names) → AreSmallNames names → (ms : List Member) (ks : List Method) → AllOld c fields ms ks → AllByRecursion (CanBeMade c names) (zip ks ms)
-all_made c fields names small [] [] h = tt
-all_made c fields names small [] (k ∷ ks) h = absurd h
-all_made c fields names small (m ∷ ms) [] h = absurd h
-all_made c fields names small (m ∷ ms) (k ∷ ks) h = (can_be_made c fields names small m k h.0, all_made c fields names small ms ks h.1)
+-- what is made of a class's methods
+pub all_made : (s0 : Symbols) (names : Names) → AreSmallNames names → (ms : List Member) (ks : List Method) → AllOld s0 ms ks → AllByRecursion (CanBeMade s0.class names) (zip ks ms)
+all_made s0 names small [] [] h = tt
+all_made s0 names small [] (k ∷ ks) h = absurd h
+all_made s0 names small (m ∷ ms) [] h = absurd h
+all_made s0 names small (m ∷ ms) (k ∷ ks) h = (can_be_made s0 names small m k h.0, all_made s0 names small ms ks h.1)
 
-all_small : (c : ClassFile) (fields : List Field) (ms : List Member) (ks : List Method) → AllOld c fields ms ks → AllByRecursion IsSmallMethod ks
-all_small c fields [] [] h = tt
-all_small c fields [] (k ∷ ks) h = absurd h
-all_small c fields (m ∷ ms) [] h = absurd h
-all_small c fields (m ∷ ms) (k ∷ ks) h = (small_method c fields m k h.0, all_small c fields ms ks h.1)
-
-old_of : (c : ClassFile) (P : Program) → linked c ≡ Some P → AllOld c (original_fields c) (program_methods c) P.methods
-old_of c P h = let o = original c P h in all_old c (original_fields c) (program_methods c) o.form.code P.methods o.form.decodes o.methods
-
-pub methods_small : (c : ClassFile) (P : Program) → linked c ≡ Some P → AllByRecursion IsSmallMethod P.methods
-methods_small c P h = all_small c (original_fields c) (program_methods c) P.methods (old_of c P h)
+pub all_small : (s0 : Symbols) (ms : List Member) (ks : List Method) → AllOld s0 ms ks → AllByRecursion IsSmallMethod ks
+all_small s0 [] [] h = tt
+all_small s0 [] (k ∷ ks) h = absurd h
+all_small s0 (m ∷ ms) [] h = absurd h
+all_small s0 (m ∷ ms) (k ∷ ks) h = (small_method s0 m k h.0, all_small s0 ms ks h.1)
 
 -- ---- what duplicates name
 
@@ -254,11 +240,11 @@ needed_small false class name descriptor pool r e = let is = ok_is (0, pool) r e
 abbrev IsSmallCalls : Calls → Type 0
 IsSmallCalls x = (x.getter < 65536) × (x.setter < 65536)
 
-calls_small : (P : Program) (own : List ℕ) (n : ℕ) (f : Field) (pool : Pool) (r : Calls × Pool) → calls_of P own n f pool ≡ Ok r → IsSmallCalls r.0
+calls_small : (own : List Method) (n : ℕ) (f : Field) (pool : Pool) (r : Calls × Pool) → calls_of (uses_of own) n f pool ≡ Ok r → IsSmallCalls r.0
 unfolding calls_of getter_call setter_call
-calls_small P own n f pool r e =
-    let a = bind_ok (getter_call P own n f pool) (λ getter. setter_call P own n f getter.1 >>= λ setter. Ok (record { getter = getter.0; setter = setter.0 }, setter.1)) r e in
-    let b = bind_ok (setter_call P own n f a.0.1) (λ setter. Ok (record { getter = a.0.0; setter = setter.0 }, setter.1)) r a.2 in
+calls_small own n f pool r e =
+    let a = bind_ok (getter_call (uses_of own) n f pool) (λ getter. setter_call (uses_of own) n f getter.1 >>= λ setter. Ok (record { getter = getter.0; setter = setter.0 }, setter.1)) r e in
+    let b = bind_ok (setter_call (uses_of own) n f a.0.1) (λ setter. Ok (record { getter = a.0.0; setter = setter.0 }, setter.1)) r a.2 in
     let is = ok_is (record { getter = a.0.0; setter = b.0.0 }, b.0.1) r b.2 in
     subst (λ (x : Calls × Pool). IsSmallCalls x.0) is (needed_small _ _ _ _ pool a.0 a.1, needed_small _ _ _ _ a.0.1 b.0 b.1)
 
@@ -286,23 +272,19 @@ indexes_small [] h m = omega arith
 indexes_small (i ∷ is) h zero = h.0
 indexes_small (i ∷ is) h (suc m) = indexes_small is h.1 m
 
-duplicates_small : (P : Program) (n : ℕ) (k : Method) (pool : Pool) (r : ℕ × Pool) → duplicate_call P n k pool ≡ Ok r → r.0 < 65536
+duplicates_small : (own : List Method) (n : ℕ) (k : Method) (pool : Pool) (r : ℕ × Pool) → duplicate_call (uses_of own) n k pool ≡ Ok r → r.0 < 65536
 unfolding duplicate_call
-duplicates_small P n k pool r e = needed_small _ _ _ _ pool r e
+duplicates_small own n k pool r e = needed_small _ _ _ _ pool r e
 
-pub names_small : (P : Program) (c : ClassFile) (pool : Pool) (r : Names × Pool) → names_of P c pool ≡ Ok r → AreSmallNames r.0
+pub names_small : (P : Program) (own : List Method) (pool : Pool) (r : Names × Pool) → names_of P own pool ≡ Ok r → AreSmallNames r.0
 unfolding names_of
-names_small P c pool r e =
-    let a = bind_ok (grow_from (calls_of P (own_name c)) 0 P.fields pool) (λ calls. grow_from (duplicate_call P) 0 P.methods calls.1 >>= λ copies. Ok (record { accessors = calls.0; duplicates = copies.0 }, copies.1)) r e in
-    let b = bind_ok (grow_from (duplicate_call P) 0 P.methods a.0.1) (λ copies. Ok (record { accessors = a.0.0; duplicates = copies.0 }, copies.1)) r a.2 in
+names_small P own pool r e =
+    let a = bind_ok (grow_from (calls_of (uses_of own)) 0 P.fields pool) (λ calls. grow_from (duplicate_call (uses_of own)) 0 P.methods calls.1 >>= λ copies. Ok (record { accessors = calls.0; duplicates = copies.0 }, copies.1)) r e in
+    let b = bind_ok (grow_from (duplicate_call (uses_of own)) 0 P.methods a.0.1) (λ copies. Ok (record { accessors = a.0.0; duplicates = copies.0 }, copies.1)) r a.2 in
     let is = ok_is (record { accessors = a.0.0; duplicates = b.0.0 }, b.0.1) r b.2 in
-    let cs = grown_small IsSmallCalls (calls_of P (own_name c)) (λ n f q s h. calls_small P (own_name c) n f q s h) 0 P.fields pool a.0 a.1 in
-    let ds = grown_small (λ i. i < 65536) (duplicate_call P) (λ n k q s h. duplicates_small P n k q s h) 0 P.methods a.0.1 b.0 b.1 in
+    let cs = grown_small IsSmallCalls (calls_of (uses_of own)) (λ n f q s h. calls_small own n f q s h) 0 P.fields pool a.0 a.1 in
+    let ds = grown_small (λ i. i < 65536) (duplicate_call (uses_of own)) (λ n k q s h. duplicates_small own n k q s h) 0 P.methods a.0.1 b.0 b.1 in
     subst (λ (x : Names × Pool). AreSmallNames x.0) is (record { getters = getters_small a.0.0 cs; setters = setters_small a.0.0 cs; duplicates = indexes_small b.0.0 ds })
-
--- the duplicates of a linked class can be made
-pub duplicates_made : (c : ClassFile) (P : Program) (pool : Pool) (names : Names × Pool) → linked c ≡ Some P → names_of P c pool ≡ Ok names → AllByRecursion (CanBeMade c names.0) (zip P.methods (program_methods c))
-duplicates_made c P pool names h e = all_made c (original_fields c) names.0 (names_small P c pool names e) (program_methods c) P.methods (old_of c P h)
 
 -- ---- wrappers
 
@@ -377,12 +359,3 @@ module _ (p : ℕ) (few : p < 60000) (gives : Bool) (a : Opening) (e : Ending) (
         entries = (record { start = refl; end = inl refl; handler = refl }, (record { start = refl; end = inl refl; handler = refl }, tt));
         room = tt;
       }
-
--- ---- runs
-
-pub run_laid : (is : List Instr) → AllByRecursion IsShaped is → AllByRecursion (λ (i : Instr). targets_of i.operands ≡ []) is → AreBlocks (block 0 is ∷ []) [] None []
-run_laid is h n = record { ascend = (omega arith, tt); each = (h, tt); targets = (lead is n, tt); each_last = tt; last_leads_nowhere = tt; entries = tt; room = tt }
-  where
-    lead : (js : List Instr) → AllByRecursion (λ (i : Instr). targets_of i.operands ≡ []) js → AllByRecursion (λ (i : Instr). ArePcs (block 0 is ∷ []) (targets_of i.operands)) js
-    lead [] n = tt
-    lead (i ∷ js) n = (subst (ArePcs (block 0 is ∷ [])) (sym n.0) tt, lead js n.1)

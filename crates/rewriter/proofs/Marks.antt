@@ -1,7 +1,7 @@
 -- The marks of methods in a pool that has grown, also beside another Code.
-use Rattle.std.proofs.Common.{◌≡◌, ℕ, Bool, true, false, not, ◌&&◌, ◌||◌, List, [], ◌∷◌, map, Some, refl, ◌∙◌, ℤ, zero, suc, ◌++◌, Option, None, Result, Ok, Err, sym, ap, subst, arith}
-use Rattle.std.specs.Prelude.{codes, find, option_and_then, nat_eq, bit_and, filter, pos, int_lt, ◌==◌, if◌then◌else◌, is_some, option_map, unwrap_or, slice_get, FitsSigned}
-use Rattle.std.specs.List.{list_any, list_all, AllByRecursion}
+use Rattle.std.proofs.Common.{◌≡◌, ℕ, Bool, true, false, ◌||◌, List, [], ◌∷◌, map, Some, refl, ◌∙◌, ℤ, zero, suc, ◌++◌, Option, None, Result, Ok, Err, sym, ap, subst, arith}
+use Rattle.std.specs.Prelude.{codes, find, option_and_then, filter, pos, int_lt, ◌==◌, if◌then◌else◌, is_some, option_map, unwrap_or, slice_get, FitsSigned}
+use Rattle.std.specs.List.{AllByRecursion}
 use Rattle.std.specs.Int.{w32}
 use Rattle.std.proofs.lemmas.Int.{ints}
 use Rattle.jmodel.specs.declared.class_file.Constant.{Constant}
@@ -21,7 +21,7 @@ use Rattle.jmodel.specs.Linking.{mark_retries, is_initialiser, retries_of, takes
 use Rattle.annotations.proofs.Kept.{mark_kept}
 use Rattle.rewriter.specs.Members.{with_bytes, with_code}
 use Rattle.rewriter.proofs.Grown.{the_some, Grown, read_grown, utf8_grown}
-use Rattle.rewriter.proofs.Added.{two_true, same_text_is}
+use Rattle.rewriter.proofs.Added.{same_text_is}
 
 pub or_first : (u v : Bool) → u ≡ true → (u || v) ≡ true
 or_first true v t = refl

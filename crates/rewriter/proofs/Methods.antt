@@ -14,8 +14,8 @@ use Rattle.jmodel.specs.ClassFile.{Member, Pool, ClassFile, code_spelling}
 use Rattle.jmodel.specs.Program.{Field, Program}
 use Rattle.jmodel.specs.ClassRules.{IsCode}
 use Rattle.jmodel.specs.Rewriting.{base, offset, getter_method, setter_method}
-use Rattle.jmodel.specs.Decoding.{own_name, each, virtual_call_op}
-use Rattle.jmodel.specs.Linking.{Shape, catch_of, shape_of, rewritten_methods, symbols_of, method_of}
+use Rattle.jmodel.specs.Decoding.{Symbols, own_name, each, get_op, virtual_call_op}
+use Rattle.jmodel.specs.Linking.{Shape, catch_of, shape_of, method_of}
 use Rattle.jmodel.specs.Relocation.{place_of, relocated}
 use Rattle.rewriter.specs.Members.{added_method, getter_code, setter_code, getter_name, setter_name, getter_type, setter_type, address_name, context_class}
 use Rattle.rewriter.proofs.Read.{IsLaid, LeadsIn}
@@ -25,7 +25,9 @@ use Rattle.rewriter.proofs.Coded.{CodedFacts, coded_means, added_code, added_ret
 use Rattle.rewriter.proofs.Contexts.{getter_signature, setter_signature}
 use Rattle.rewriter.proofs.Puts.{IsGetter, IsSetter}
 use Rattle.rewriter.proofs.Numbers.{wanted}
-use Rattle.rewriter.proofs.Tables.{Known, own_same, gets_base, gets_address, gets_field}
+use Rattle.rewriter.proofs.Tables.{Known, own_same, gets_base, gets_address}
+use Rattle.rewriter.proofs.Tied.{Tied}
+use Rattle.rewriter.specs.Part.{Part}
 
 -- what accessors take and give
 abbrev one_context : Shape
@@ -162,10 +164,16 @@ module _ (own : List ℕ) (f : Field) (Z : Pool) (m : Member) (g : IsSetter own 
 
 -- ---- what they mean
 
-module _ (c new : ClassFile) (P : Program) (K : Known c new P) where
-  pub getter_is : (i : ℕ) (f : Field) (m : Member) → slice_get P.fields i ≡ Some f → f.class ≡ own_name c → f.place.object ≡ 2 → IsGetter (own_name c) f new.pool m
-      → method_of (symbols_of new P.fields (rewritten_methods P new)) false m ≡ Some (getter_method i f)
-  getter_is i f m e class object g =
+module _ (s0 s : Symbols) (P : Program) (part : Part) (K : Known s0 s P part) (T : Tied s0 s P) where
+  abbrev c : ClassFile
+  c = s0.class
+
+  abbrev new : ClassFile
+  new = s.class
+
+  pub getter_is : (i j : ℕ) (f : Field) (m : Member) → slice_get P.fields i ≡ Some f → slice_get part.fields j ≡ Some f → f.class ≡ own_name c → f.place.object ≡ s.base → IsGetter (own_name c) f new.pool m
+      → method_of s false m ≡ Some (getter_method i f)
+  getter_is i j f m e at class object g =
       let B = g.body in
       let A = g.method in
       let R = getter_run (own_name c) f new.pool m g in
@@ -174,13 +182,12 @@ module _ (c new : ClassFile) (P : Program) (K : Known c new P) where
       let field = wanted (own_name c) f.name (type_descriptor f.type) in
       let before = wanted context_class (codes "beforeReadAccess") (codes "(Ljava/lang/Object;J)V") in
       let after = wanted context_class (codes "onReadAccess") (read_descriptor f.type) in
-      let s = symbols_of new P.fields (rewritten_methods P new) in
       let place = place_of (run (getter_code B.look.0 B.look.1 B.read.0 B.read.1)) in
       let L = relocated (run (getter_code B.look.0 B.look.1 B.read.0 B.read.1)) [] in
       let laid = getter_laid (own_name c) f new.pool m g in
       let leads = getter_leads (own_name c) f new.pool m g in
-      let base_means = get_static_means s place L B.look.0.0 base_name (base f) B.looks.0.0.0 (gets_base c new P K f object) in
-      let address_means = get_static_means s place L B.look.0.1 address (offset f) B.looks.0.1.0 (gets_address c new P K i f e) in
+      let base_means = get_static_means s place L B.look.0.0 base_name (base f) B.looks.0.0.0 (gets_base s0 s P part K f object) in
+      let address_means = get_static_means s place L B.look.0.1 address (offset f) B.looks.0.1.0 (gets_address s0 s P part K j f at) in
       let meant : AreMeant s place L (getter_code B.look.0 B.look.1 B.read.0 B.read.1)
       (op.Load 0 ∷ base f ∷ offset f ∷ op.Context context.BeforeRead ∷ op.Load 0 ∷ base f ∷ op.GetStatic i ∷ offset f ∷ op.Context (context.OnRead f.type) ∷ op.ReturnValue ∷ []) = (
         load_reference_means s place L 0,
@@ -195,10 +202,10 @@ module _ (c new : ClassFile) (P : Program) (K : Known c new P) where
                 (
                   base_means,
                   (
-                    get_static_means s place L B.read.0 field (op.GetStatic i) B.reads.0.0 (gets_field c new P K i f e),
+                    get_static_means s place L B.read.0 field (op.GetStatic i) B.reads.0.0 (ap (λ (t : List ℕ). get_op s (wanted t f.name (type_descriptor f.type))) (sym class) ∙ T.fields i f e),
                     (
                       address_means,
-                      (call_virtual_means s place L B.read.1 after (op.Context (context.OnRead f.type)) B.reads.1.0 (read_call f.type), (λ at. refl, tt)),
+                      (call_virtual_means s place L B.read.1 after (op.Context (context.OnRead f.type)) B.reads.1.0 (read_call f.type), (λ a. refl, tt)),
                     ),
                   ),
                 ),
@@ -221,21 +228,20 @@ module _ (c new : ClassFile) (P : Program) (K : Known c new P) where
         retries_are = added_retries new.pool 0x1009 A.n A.t A.c (code_spelling R.code) (getter_type f.type) A.typed (getter_other f.type) A.coded;
       } in
       let it = coded_means s false (added_method 0x1009 A.n A.t A.c (code_spelling R.code)) R.code L (getter_name f) (getter_type f.type) one_context ops [] None facts in
-      let o = own_same c new P K ∙ sym class in
+      let o = own_same s0 s P part K ∙ sym class in
       let lo = R.laid.locals in
       let st = R.laid.stack in
       ap (method_of s false) (A.is ∙ ap (added_method 0x1009 A.n A.t A.c) R.bytes_are) ∙ it ∙ rw (o, lo, st) refl
 
-  pub setter_is : (i : ℕ) (f : Field) (m : Member) → slice_get P.fields i ≡ Some f → f.class ≡ own_name c → f.place.object ≡ 2 → IsSetter (own_name c) f new.pool m
-      → method_of (symbols_of new P.fields (rewritten_methods P new)) false m ≡ Some (setter_method i f)
-  setter_is i f m e class object g =
+  pub setter_is : (i j : ℕ) (f : Field) (m : Member) → slice_get P.fields i ≡ Some f → slice_get part.fields j ≡ Some f → f.class ≡ own_name c → f.place.object ≡ s.base → IsSetter (own_name c) f new.pool m
+      → method_of s false m ≡ Some (setter_method i f)
+  setter_is i j f m e at class object g =
       let B = g.body in
       let A = g.method in
       let R = setter_run (own_name c) f new.pool m g in
       let base_name = wanted (own_name c) (codes "__CLASS_BASE__") (codes "Ljava/lang/Object;") in
       let address = wanted (own_name c) (address_name f) (codes "J") in
       let write = wanted context_class (codes "onWriteAccess") (write_descriptor f.type) in
-      let s = symbols_of new P.fields (rewritten_methods P new) in
       let place = place_of (run (setter_code B.places B.write)) in
       let L = relocated (run (setter_code B.places B.write)) [] in
       let laid = setter_laid (own_name c) f new.pool m g in
@@ -243,10 +249,10 @@ module _ (c new : ClassFile) (P : Program) (K : Known c new P) where
       let meant : AreMeant s place L (setter_code B.places B.write) (op.Load 1 ∷ base f ∷ op.Load 0 ∷ offset f ∷ op.Context (context.OnWrite f.type) ∷ op.Return ∷ []) = (
         load_reference_means s place L 1,
         (
-          get_static_means s place L B.places.0 base_name (base f) B.are.0.0 (gets_base c new P K f object),
+          get_static_means s place L B.places.0 base_name (base f) B.are.0.0 (gets_base s0 s P part K f object),
           (
             load_means s place L 0,
-            (get_static_means s place L B.places.1 address (offset f) B.are.1.0 (gets_address c new P K i f e), (call_virtual_means s place L B.write write (op.Context (context.OnWrite f.type)) B.writes.0 (write_call f.type), (λ at. refl, tt))),
+            (get_static_means s place L B.places.1 address (offset f) B.are.1.0 (gets_address s0 s P part K j f at), (call_virtual_means s place L B.write write (op.Context (context.OnWrite f.type)) B.writes.0 (write_call f.type), (λ a. refl, tt))),
           ),
         ),
       ) in
@@ -264,7 +270,7 @@ module _ (c new : ClassFile) (P : Program) (K : Known c new P) where
         retries_are = added_retries new.pool 0x1009 A.n A.t A.c (code_spelling R.code) (setter_type f.type) A.typed (setter_other f.type) A.coded;
       } in
       let it = coded_means s false (added_method 0x1009 A.n A.t A.c (code_spelling R.code)) R.code L (setter_name f) (setter_type f.type) int_and_context ops [] None facts in
-      let o = own_same c new P K ∙ sym class in
+      let o = own_same s0 s P part K ∙ sym class in
       let lo = R.laid.locals in
       let st = R.laid.stack in
       ap (method_of s false) (A.is ∙ ap (added_method 0x1009 A.n A.t A.c) R.bytes_are) ∙ it ∙ rw (o, lo, st) refl

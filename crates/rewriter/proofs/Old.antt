@@ -1,24 +1,21 @@
 -- What a linked class has: its fields, and of each method its code and its mark.
-use Rattle.std.proofs.Common.{◌≡◌, ℕ, zero, suc, ◌<◌, ◌≤◌, Bool, true, false, not, ◌&&◌, ◌||◌, List, [], ◌∷◌, length, map, Option, Some, None, Result, Ok, Err, refl, sym, ap, ◌∙◌, subst, arith, eqb-true}
-use Rattle.std.specs.Prelude.{if◌then◌else◌, option_map, option_and_then, nat_le, slice_get, slice_index_or, bytes_eq, zip}
+use Rattle.std.proofs.Common.{◌≡◌, ℕ, zero, suc, ◌<◌, ◌≤◌, Bool, true, false, not, ◌&&◌, ◌||◌, List, [], ◌∷◌, length, Option, Some, None, Ok, refl, sym, ap, ◌∙◌, subst, arith, eqb-true}
+use Rattle.std.specs.Prelude.{if◌then◌else◌, option_and_then, nat_le, slice_get, slice_index_or, bytes_eq}
 use Rattle.std.specs.List.{AllByRecursion, list_all, list_any}
 use Rattle.std.proofs.lemmas.Bool.Decides.{nat_tests}
-use Rattle.jmodel.specs.declared.refusal.Refusal.{Refusal}
 use Rattle.jmodel.specs.declared.op.Op.{Op}
 use Rattle.jmodel.specs.declared.op.Catch.{Catch}
 use Rattle.jmodel.specs.declared.class_file.Constant.{Constant}
 use Rattle.jmodel.specs.declared.class_file.Constant.TheVariants as constants
 use Rattle.jmodel.specs.ClassFile.{Member, Pool, ClassFile}
 use Rattle.jmodel.specs.Pool.{utf8, text_in}
-use Rattle.jmodel.specs.Program.{Field, Method, Program}
-use Rattle.jmodel.specs.Reading.{◌>>=◌}
-use Rattle.jmodel.specs.Layout.{text_or_none, statics}
+use Rattle.jmodel.specs.Program.{Method}
+use Rattle.jmodel.specs.Layout.{text_or_none}
 use Rattle.jmodel.specs.ClassRules.{IsSameMember, AreDistinct}
-use Rattle.jmodel.specs.Decoding.{name_of, in_front, each, ops_of}
-use Rattle.jmodel.specs.Linking.{Shape, shape_of, catch_of, descriptor_of, Coded, decoded, all_decoded, make_method, coded_method, are_distinct, field_name_of, is_form_constant, is_form_method, is_reserved, retries_of, program_methods, is_empty, is_form_instr, is_form_op, is_form_method_of, if_form, form_method, symbols_of, original_fields, form_methods, form_program, program_in, linked, is_name, is_form_field}
+use Rattle.jmodel.specs.Decoding.{Symbols, own_name, name_of, each, ops_of}
+use Rattle.jmodel.specs.Linking.{Shape, shape_of, catch_of, descriptor_of, Coded, decoded, make_method, coded_method, are_distinct, is_form_constant, is_reserved, retries_of, is_empty, is_form_instr, is_form_op, is_form_method_of, if_form, form_method, is_name}
 use Rattle.std.proofs.lemmas.Slice.Eq.{bytes_eq-Decides}
 use Rattle.jmodel.specs.declared.name.MethodName.{MethodName}
-use Rattle.jmodel.proofs.Formed.{Formed, formed}
 use Rattle.rewriter.proofs.Added.{two_true}
 use Rattle.rewriter.proofs.Positions.{differ, apart}
 
@@ -32,37 +29,10 @@ chosen : {A : Type 0} (b : Bool) (x : Option A) (y : A) → (if b then x else No
 chosen true x y h = (refl, h)
 chosen false x y h = cc
 
-pub record Original (c : ClassFile) (P : Program) : Type 0 where
-  pub form : Formed c P
-  pub methods : form_methods c form.code ≡ Some P.methods
-  pub fields : P.fields ≡ original_fields c
-
-pub original : (c : ClassFile) (P : Program) → linked c ≡ Some P → Original c P
-original c P h = let f = formed c P h in made f (form_methods c f.code) refl f.program
-  where
-    made : (f : Formed c P) (o : Option (List Method)) → form_methods c f.code ≡ o → option_map (λ ms. record { fields = original_fields c; methods = ms }) o ≡ Some P → Original c P
-    made f None e h = absurd cc
-    made f (Some ms) e h =
-        let same : record { fields = original_fields c; methods = ms } ≡ P = some_is _ P h in
-        record { form = f; methods = e ∙ ap (λ (p : Program). Some p.methods) same; fields = sym (ap (λ (p : Program). p.fields) same) }
-
 -- ---- the parts of the form
 
-at_most : (n m : ℕ) → nat_le n m ≡ true → n ≤ m
+pub at_most : (n m : ℕ) → nat_le n m ≡ true → n ≤ m
 at_most n m t = grind (arith, nat_tests)
-
-pub record Form (c : ClassFile) : Type 0 where
-  pub pool : list_all is_form_constant c.pool ≡ true
-  pub own_names : are_distinct (map (field_name_of c.pool) (statics c)) ≡ true
-  pub few : length (program_methods c) ≤ 100
-  pub methods : list_all (is_form_method c) c.methods ≡ true
-
-pub form_of : (c : ClassFile) (P : Program) → Formed c P → Form c
-form_of c P h =
-    let d = two_true _ _ h.outside in
-    let b = two_true _ _ d.0 in
-    let m = two_true (nat_le (length (program_methods c)) 100) (list_all (is_form_method c) c.methods) h.methods in
-    record { pool = b.0; own_names = (two_true _ _ d.1).1; few = at_most (length (program_methods c)) 100 m.0; methods = m.1 }
 
 -- ---- texts of the pool
 
@@ -85,36 +55,40 @@ free_text pool (suc i) text h e = free_at pool i text h e
 
 -- ---- methods
 
-pub record IsOld (c : ClassFile) (fields : List Field) (m : Member) (k : Method) : Type 0 where
+pub record IsOld (s0 : Symbols) (m : Member) (k : Method) : Type 0 where
   pub coded : Coded
-  pub decodes : decoded c m ≡ Ok coded
+  pub decodes : decoded s0.class m ≡ Ok coded
   pub shape : Shape
-  pub shaped : shape_of (descriptor_of c.pool m) ≡ Some shape
-  pub ops : ops_of (symbols_of c fields (program_methods c)) coded.instrs ≡ Some k.ops
-  pub name : k.name ≡ name_of c m
+  pub shaped : shape_of (descriptor_of s0.class.pool m) ≡ Some shape
+  pub ops : ops_of s0 coded.instrs ≡ Some k.ops
+  pub name : k.name ≡ name_of s0.class m
   pub takes : k.takes ≡ shape.takes
   pub params : k.params ≡ shape.params
   pub locals : k.locals ≡ coded.code.max_locals
   pub max_stack : k.max_stack ≡ coded.code.max_stack
   pub gives : k.gives ≡ shape.gives
   pub counted : k.counted ≡ true
-  pub retries : k.retries ≡ retries_of c.pool m
+  pub retries : k.retries ≡ retries_of s0.class.pool m
   pub no_entries : coded.code.handlers ≡ []
   pub no_catches : k.catches ≡ []
   pub few : coded.code.max_locals ≤ 200
   pub room : k.params ≤ k.locals
-  pub instrs : list_all (is_form_instr c.pool) coded.instrs ≡ true
+  pub instrs : list_all (is_form_instr s0.class.pool) coded.instrs ≡ true
   pub fits : list_all (is_form_op k.locals k.gives) k.ops ≡ true
+
+-- a method of the form has few parameters
+pub few_params : (s0 : Symbols) (m : Member) (k : Method) (h : IsOld s0 m k) → h.shape.params ≤ 254
+few_params s0 m k h = let p = h.params in let r = h.room in let l = h.locals in let f = h.few in omega (arith, p, r, l, f)
 
 none_left : {A : Type 0} (xs : List A) → is_empty xs ≡ true → xs ≡ []
 none_left [] h = refl
 none_left (x ∷ xs) h = absurd (omega (arith, eqb-true (length (x ∷ xs)) 0 h))
 
-old_of : (c : ClassFile) (fields : List Field) (m : Member) (k : Method) (coded : Coded) → decoded c m ≡ Ok coded → form_method (symbols_of c fields (program_methods c)) m coded ≡ Some k → IsOld c fields m k
-old_of c fields m k coded d h = go (coded_method (symbols_of c fields (program_methods c)) true m coded) refl h
+pub old_of : (s0 : Symbols) (m : Member) (k : Method) (coded : Coded) → decoded s0.class m ≡ Ok coded → form_method s0 m coded ≡ Some k → IsOld s0 m k
+old_of s0 m k coded d h = go (coded_method s0 true m coded) refl h
   where
-    parts : (s : Option Shape) (os : Option (List Op)) (cs : Option (List Catch)) → shape_of (descriptor_of c.pool m) ≡ s → ops_of (symbols_of c fields (program_methods c)) coded.instrs ≡ os
-        → each (catch_of c.pool coded.instrs (length coded.code.code)) coded.code.handlers ≡ cs → make_method (symbols_of c fields (program_methods c)) true m coded.code s os cs ≡ Some k → is_form_method_of c.pool coded k ≡ true → IsOld c fields m k
+    parts : (s : Option Shape) (os : Option (List Op)) (cs : Option (List Catch)) → shape_of (descriptor_of s0.class.pool m) ≡ s → ops_of s0 coded.instrs ≡ os
+        → each (catch_of s0.class.pool coded.instrs (length coded.code.code)) coded.code.handlers ≡ cs → make_method s0 true m coded.code s os cs ≡ Some k → is_form_method_of s0.class.pool coded k ≡ true → IsOld s0 m k
     parts None os cs es eo ec h f = cc
     parts (Some s) None cs es eo ec h f = cc
     parts (Some s) (Some os) None es eo ec h f = cc
@@ -125,7 +99,7 @@ old_of c fields m k coded d h = go (coded_method (symbols_of c fields (program_m
         let z = two_true _ _ y.0 in
         let w = two_true (nat_le coded.code.max_locals 200) (is_empty coded.code.handlers) z.0 in
         let none = none_left coded.code.handlers w.1 in
-        let no_cs : cs ≡ [] = some_is cs [] (sym ec ∙ ap (each (catch_of c.pool coded.instrs (length coded.code.code))) none) in
+        let no_cs : cs ≡ [] = some_is cs [] (sym ec ∙ ap (each (catch_of s0.class.pool coded.instrs (length coded.code.code))) none) in
         record {
           coded = coded;
           decodes = d;
@@ -148,45 +122,26 @@ old_of c fields m k coded d h = go (coded_method (symbols_of c fields (program_m
           fits = x.1;
         }
 
-    go : (o : Option Method) → coded_method (symbols_of c fields (program_methods c)) true m coded ≡ o → if_form c.pool coded o ≡ Some k → IsOld c fields m k
+    go : (o : Option Method) → coded_method s0 true m coded ≡ o → if_form s0.class.pool coded o ≡ Some k → IsOld s0 m k
     go None e h = cc
     go (Some p) e h =
-        let t = chosen (is_form_method_of c.pool coded p) (Some p) k h in
+        let t = chosen (is_form_method_of s0.class.pool coded p) (Some p) k h in
         let same : p ≡ k = some_is p k t.1 in
-        parts (shape_of (descriptor_of c.pool m)) (ops_of (symbols_of c fields (program_methods c)) coded.instrs) (each (catch_of c.pool coded.instrs (length coded.code.code)) coded.code.handlers) refl refl refl (e ∙ ap some same)
-        (subst (λ (y : Method). is_form_method_of c.pool coded y ≡ true) same t.0)
+        parts (shape_of (descriptor_of s0.class.pool m)) (ops_of s0 coded.instrs) (each (catch_of s0.class.pool coded.instrs (length coded.code.code)) coded.code.handlers) refl refl refl (e ∙ ap some same)
+        (subst (λ (y : Method). is_form_method_of s0.class.pool coded y ≡ true) same t.0)
 
-abbrev pub AllOld : ClassFile → List Field → List Member → List Method → Type 0
-AllOld c fields [] [] = Unit {0}
-AllOld c fields [] (k ∷ ks) = ⊥
-AllOld c fields (m ∷ ms) [] = ⊥
-AllOld c fields (m ∷ ms) (k ∷ ks) = IsOld c fields m k × AllOld c fields ms ks
+abbrev pub AllOld : Symbols → List Member → List Method → Type 0
+AllOld s0 [] [] = Unit {0}
+AllOld s0 [] (k ∷ ks) = ⊥
+AllOld s0 (m ∷ ms) [] = ⊥
+AllOld s0 (m ∷ ms) (k ∷ ks) = IsOld s0 m k × AllOld s0 ms ks
 
-pub all_old : (c : ClassFile) (fields : List Field) (ms : List Member) (cs : List Coded) (ks : List Method) → all_decoded c ms ≡ Ok cs
-    → each (λ (p : Member × Coded). form_method (symbols_of c fields (program_methods c)) p.0 p.1) (zip ms cs) ≡ Some ks → AllOld c fields ms ks
-all_old c fields [] cs [] d e = tt
-all_old c fields [] cs (k ∷ ks) d e = absurd cc
-all_old c fields (m ∷ ms) cs ks d e = decode (decoded c m) refl (all_decoded c ms) refl d e (λ us zs f t. all_old c fields ms us zs f t)
-  where
-    go : (k : Coded) (us : List Coded) → decoded c m ≡ Ok k → all_decoded c ms ≡ Ok us → (o : Option Method) → form_method (symbols_of c fields (program_methods c)) m k ≡ o → (os : Option (List Method))
-        → ((us : List Coded) (zs : List Method) → all_decoded c ms ≡ Ok us → each (λ (p : Member × Coded). form_method (symbols_of c fields (program_methods c)) p.0 p.1) (zip ms us) ≡ Some zs → AllOld c fields ms zs)
-        → each (λ (p : Member × Coded). form_method (symbols_of c fields (program_methods c)) p.0 p.1) (zip ms us) ≡ os → in_front o os ≡ Some ks → AllOld c fields (m ∷ ms) ks
-    go k us dk du None p os r q h = absurd cc
-    go k us dk du (Some y) p None r q h = absurd cc
-    go k us dk du (Some y) p (Some zs) r q h =
-        let list : y ∷ zs ≡ ks = cc in
-        subst (λ (l : List Method). AllOld c fields (m ∷ ms) l) list (old_of c fields m y k dk p, r us zs du q)
-
-    decode : (a : Result Coded Refusal) → decoded c m ≡ a → (b : Result (List Coded) Refusal) → all_decoded c ms ≡ b → (a >>= λ k. b >>= λ ks. Ok (k ∷ ks)) ≡ Ok cs
-        → each (λ (p : Member × Coded). form_method (symbols_of c fields (program_methods c)) p.0 p.1) (zip (m ∷ ms) cs) ≡ Some ks
-        → ((us : List Coded) (zs : List Method) → all_decoded c ms ≡ Ok us → each (λ (p : Member × Coded). form_method (symbols_of c fields (program_methods c)) p.0 p.1) (zip ms us) ≡ Some zs → AllOld c fields ms zs)
-        → AllOld c fields (m ∷ ms) ks
-    decode (Err x) ea b eb d e r = absurd cc
-    decode (Ok k) ea (Err x) eb d e r = absurd cc
-    decode (Ok k) ea (Ok us) eb d e r =
-        let list : k ∷ us ≡ cs = cc in
-        let told = subst (λ (l : List Coded). each (λ (p : Member × Coded). form_method (symbols_of c fields (program_methods c)) p.0 p.1) (zip (m ∷ ms) l) ≡ Some ks) (sym list) e in
-        go k us ea eb (form_method (symbols_of c fields (program_methods c)) m k) refl (each (λ (p : Member × Coded). form_method (symbols_of c fields (program_methods c)) p.0 p.1) (zip ms us)) r refl told
+-- the methods of a class have its name
+pub classed : (s0 : Symbols) (ms : List Member) (ks : List Method) → AllOld s0 ms ks → AllByRecursion (λ (k : Method). k.name.class ≡ own_name s0.class) ks
+classed s0 [] [] h = tt
+classed s0 [] (k ∷ ks) h = absurd h
+classed s0 (m ∷ ms) [] h = absurd h
+classed s0 (m ∷ ms) (k ∷ ks) h = (ap (λ (n : MethodName). n.class) h.0.name, classed s0 ms ks h.1)
 
 -- ---- names that are apart
 
@@ -234,7 +189,10 @@ abbrev pub AreBoth : Pool → List Member → Type 0
 AreBoth pool [] = Unit {0}
 AreBoth pool (m ∷ ms) = ((t : List ℕ) × (d : List ℕ) × (utf8 pool m.name ≡ Some t) × (utf8 pool m.descriptor ≡ Some d)) × AreBoth pool ms
 
-module _ (c : ClassFile) (fields : List Field) where
+module _ (s0 : Symbols) where
+  abbrev c : ClassFile
+  c = s0.class
+
   same_texts : (m x : Member) (k j : Method) (n d n' d' : List ℕ) → utf8 c.pool m.name ≡ Some n → utf8 c.pool m.descriptor ≡ Some d → utf8 c.pool x.name ≡ Some n' → utf8 c.pool x.descriptor ≡ Some d'
       → k.name ≡ name_of c m → j.name ≡ name_of c x → same_method j k ≡ true → IsSameMember c.pool m x
   same_texts m x k j n d n' d' mn md xn xd kn jn h =
@@ -246,7 +204,7 @@ module _ (c : ClassFile) (fields : List Field) where
       (mn ∙ ap Some (sym p1) ∙ sym xn, md ∙ ap Some (sym p2) ∙ sym xd)
 
   none_same : (m : Member) (k : Method) (n d : List ℕ) → utf8 c.pool m.name ≡ Some n → utf8 c.pool m.descriptor ≡ Some d → k.name ≡ name_of c m → (ms : List Member) (ks : List Method)
-      → ((j : ℕ) (e : Member) → j < length ms → IsSameMember c.pool m (slice_index_or ms j e) → ⊥) → AreBoth c.pool ms → AllOld c fields ms ks → list_any (λ (j : Method). same_method j k) ks ≡ false
+      → ((j : ℕ) (e : Member) → j < length ms → IsSameMember c.pool m (slice_index_or ms j e) → ⊥) → AreBoth c.pool ms → AllOld s0 ms ks → list_any (λ (j : Method). same_method j k) ks ≡ false
   none_same m k n d mn md kn [] [] D B h = refl
   none_same m k n d mn md kn [] (j ∷ ks) D B h = absurd h
   none_same m k n d mn md kn (x ∷ ms) [] D B h = absurd h
@@ -257,7 +215,7 @@ module _ (c : ClassFile) (fields : List Field) where
       differs false e = refl
 
   -- distinct members are methods that are apart
-  pub methods_apart : (ms : List Member) (ks : List Method) → AreDistinct c.pool ms → AreBoth c.pool ms → AllOld c fields ms ks → AreApartMethods ks
+  pub methods_apart : (ms : List Member) (ks : List Method) → AreDistinct c.pool ms → AreBoth c.pool ms → AllOld s0 ms ks → AreApartMethods ks
   methods_apart [] [] D B h = tt
   methods_apart [] (k ∷ ks) D B h = absurd h
   methods_apart (m ∷ ms) [] D B h = absurd h
@@ -285,7 +243,7 @@ module _ (c : ClassFile) (fields : List Field) where
 
   -- no method has the name and the descriptor of a member that is none of theirs
   pub none_called : (m : Member) (n d : List ℕ) → utf8 c.pool m.name ≡ Some n → utf8 c.pool m.descriptor ≡ Some d → (ms : List Member) (ks : List Method)
-      → AllByRecursion (λ (x : Member). IsSameMember c.pool m x → ⊥) ms → AreBoth c.pool ms → AllOld c fields ms ks → list_any (λ (j : Method). is_name (name_of c m) j.name) ks ≡ false
+      → AllByRecursion (λ (x : Member). IsSameMember c.pool m x → ⊥) ms → AreBoth c.pool ms → AllOld s0 ms ks → list_any (λ (j : Method). is_name (name_of c m) j.name) ks ≡ false
   none_called m n d mn md [] [] D B h = refl
   none_called m n d mn md [] (j ∷ ks) D B h = absurd h
   none_called m n d mn md (x ∷ ms) [] D B h = absurd h

@@ -1,6 +1,6 @@
 -- The pool of a rewritten class keeps the rules of every pool.
 use Rattle.std.proofs.Common.{◌≡◌, ℕ, zero, suc, ◌+◌, ◌<◌, ◌≤◌, Bool, true, false, List, [], ◌∷◌, ◌++◌, Option, Some, None, Result, Ok, refl, subst, arith, length, sym}
-use Rattle.std.specs.Prelude.{codes, pos, nat_lt, nat_eq, slice_get, zip, bytes_eq, if◌then◌else◌, ℤ, FitsSigned}
+use Rattle.std.specs.Prelude.{codes, pos, nat_lt, nat_eq, map, slice_get, zip, bytes_eq, if◌then◌else◌, ℤ, FitsSigned}
 use Rattle.std.specs.Int.{w64, cast_signed, w32}
 use Rattle.std.specs.List.{flat_map, AllByRecursion}
 use Rattle.std.proofs.lemmas.Bool.Decides.{nat_tests}
@@ -8,11 +8,11 @@ use Rattle.jmodel.specs.declared.refusal.Refusal.{Refusal}
 use Rattle.jmodel.specs.ClassFile.{Pool, Attribute, Member, ClassFile, Code}
 use Rattle.jmodel.specs.ClassRules.{IsPool}
 use Rattle.jmodel.specs.Program.{Field, Method, Program}
-use Rattle.jmodel.specs.Decoding.{own_name}
+use Rattle.jmodel.specs.Decoding.{Symbols, own_name}
 use Rattle.jmodel.specs.Name.{printed}
 use Rattle.jmodel.specs.Relocation.{Block}
 use Rattle.jmodel.specs.Rewriting.{with_context, duplicate_name}
-use Rattle.jmodel.specs.Linking.{Coded, decoded, is_root, program_methods, descriptor_of, retries_of}
+use Rattle.jmodel.specs.Linking.{Coded, decoded, descriptor_of, retries_of}
 use Rattle.jmodel.specs.declared.name.MethodName.{MethodName}
 use Rattle.jmodel.specs.Pool.{utf8, class_name}
 use Rattle.jmodel.specs.Layout.{text_or_none, is_static, statics, fields_from}
@@ -23,13 +23,13 @@ use Rattle.rewriter.specs.declared.names.Calls.{Calls}
 use Rattle.rewriter.specs.declared.wrappers.Opening.{Opening}
 use Rattle.rewriter.specs.declared.wrappers.Ending.{Ending}
 use Rattle.jmodel.specs.WordTypes.{type_descriptor, read_descriptor, write_descriptor}
-use Rattle.rewriter.specs.Members.{high, low, typed_name, constant_value, address_name, address_member, base_member, place_refs, look_refs, read_refs, getter_code, getter_body, setter_code, setter_body, straight_bytes, accessor, added_method, getter_of, setter_of, accessors_of, getter_name, setter_name, getter_type, setter_type, context_class, Names, gets, puts, calls, some_op, method_if_needed, getter_call, setter_call, calls_of, duplicate_call, blocks_from, stub, laid_bytes, of_method, duplicate_body, duplicate_flags, coded_duplicate, duplicate_of, opening_of, ending_of, wrapper_bytes, with_code, wrapper_of}
-use Rattle.rewriter.specs.Rewritten.{grow_from, wrapper_if, replaced, number_behind, id_behind, old_from, bases, both_of, added_fields, names_of, duplicates, added_methods, new_methods, rewritten_class}
+use Rattle.rewriter.specs.Members.{uses_of, high, low, typed_name, constant_value, address_name, address_member, base_member, place_refs, look_refs, read_refs, getter_code, getter_body, setter_code, setter_body, straight_bytes, accessor, added_method, getter_of, setter_of, accessors_of, getter_name, setter_name, getter_type, setter_type, context_class, Names, gets, puts, calls, some_op, method_if_needed, getter_call, setter_call, calls_of, duplicate_call, blocks_from, stub, laid_bytes, of_method, duplicate_body, duplicate_flags, coded_duplicate, duplicate_of, opening_of, ending_of, wrapper_bytes, with_code, wrapper_of}
+use Rattle.rewriter.specs.Rewritten.{grow_from, wrapper_if, replaced, number_behind, id_behind, old_from, bases, both_of, added_fields, names_of, duplicates, added_methods, new_methods, rewritten_share, rewritten_part}
+use Rattle.rewriter.specs.Part.{Part, own_members, share_of}
 use Rattle.rewriter.proofs.Lawful.{IsText, pool_is, utf8_pool, integer_pool, long_pool, IsClassText, class_pool, IsMethodText, field_pool, method_pool}
 use Rattle.rewriter.proofs.Texts.{text_good, text_append, conflict_lawful, long_field, word_field, object_field, before_method, read_method, write_method, instance_method, init_method, commit_method, rollback_method, getter_method, setter_method, place_fits, number_fits, pool_text, pool_class, context_text, context_method}
 use Rattle.rewriter.proofs.Marks.{attempts_fit}
-use Rattle.rewriter.proofs.Old.{IsOld, AllOld}
-use Rattle.rewriter.proofs.Tables.{Known, olds, few_params}
+use Rattle.rewriter.proofs.Old.{IsOld, AllOld, few_params}
 
 -- ---- fields
 
@@ -41,7 +41,8 @@ typed_pool name type pool r n t e p =
     pool_is (a.0.0, b.0.0) b.0.1 r b.2 (utf8_pool type a.0.1 b.0 t b.1 (utf8_pool name pool a.0 n a.1 p))
 
 -- what is known of a field of the program
-record IsLawfulField (f : Field) : Type 0 where
+pub record IsLawfulField (f : Field) : Type 0 where
+  pub owner : IsClassText f.class
   pub name : IsText f.name
   pub place : f.place.index < 65536
 
@@ -157,14 +158,14 @@ unfolding method_if_needed
 needed_pool true class name descriptor pool r m e p = method_pool class name descriptor pool r m e p
 needed_pool false class name descriptor pool r m e p = pool_is 0 pool r e p
 
-calls_pool : (P : Program) (own : List ℕ) (n : ℕ) (f : Field) (pool : Pool) (r : Calls × Pool) → IsClassText own → IsLawfulField f → calls_of P own n f pool ≡ Ok r → IsPool pool → IsPool r.1
+calls_pool : (own : List Method) (n : ℕ) (f : Field) (pool : Pool) (r : Calls × Pool) → IsLawfulField f → calls_of (uses_of own) n f pool ≡ Ok r → IsPool pool → IsPool r.1
 unfolding calls_of getter_call setter_call
-calls_pool P own n f pool r O F e p =
+calls_pool own n f pool r F e p =
     let a = bind_ok _ _ r e in
     let b = bind_ok _ _ r a.2 in
     pool_is (record { getter = a.0.0; setter = b.0.0 }) b.0.1 r b.2
-    (needed_pool (some_op (puts n) P) own (setter_name f) (setter_type f.type) a.0.1 b.0 (setter_method f.type own (setter_name f) O (setter_text f F)) b.1
-    (needed_pool (some_op (gets n) P) own (getter_name f) (getter_type f.type) pool a.0 (getter_method f.type own (getter_name f) O (getter_text f F)) a.1 p))
+    (needed_pool (some_op (puts n) own) f.class (setter_name f) (setter_type f.type) a.0.1 b.0 (setter_method f.type f.class (setter_name f) F.owner (setter_text f F)) b.1
+    (needed_pool (some_op (gets n) own) f.class (getter_name f) (getter_type f.type) pool a.0 (getter_method f.type f.class (getter_name f) F.owner (getter_text f F)) a.1 p))
 
 -- the name of a duplicate is a text
 renamed_text : (n : List ℕ) → IsText n → IsText (duplicate_name n)
@@ -175,12 +176,12 @@ renamed_text n own = go (bytes_eq n (codes "<clinit>"))
     go false = own
 
 -- what is known of a method of the program: the texts of its duplicate
-abbrev IsLawfulMethod : Method → Type 0
+abbrev pub IsLawfulMethod : Method → Type 0
 IsLawfulMethod k = IsMethodText k.name.class (duplicate_name k.name.name) (with_context k.name.descriptor)
 
-duplicate_call_pool : (P : Program) (n : ℕ) (k : Method) (pool : Pool) (r : ℕ × Pool) → IsLawfulMethod k → duplicate_call P n k pool ≡ Ok r → IsPool pool → IsPool r.1
+duplicate_call_pool : (own : List Method) (n : ℕ) (k : Method) (pool : Pool) (r : ℕ × Pool) → IsLawfulMethod k → duplicate_call (uses_of own) n k pool ≡ Ok r → IsPool pool → IsPool r.1
 unfolding duplicate_call
-duplicate_call_pool P n k pool r K e p = needed_pool (some_op (calls n) P) k.name.class (duplicate_name k.name.name) (with_context k.name.descriptor) pool r K e p
+duplicate_call_pool own n k pool r K e p = needed_pool (some_op (calls n) own) k.name.class (duplicate_name k.name.name) (with_context k.name.descriptor) pool r K e p
 
 -- ---- duplicates
 
@@ -278,44 +279,46 @@ bases_pool : (fs : List Field) (pool : Pool) (r : List Member × Pool) → bases
 bases_pool [] pool r e p = pool_is [] pool r e p
 bases_pool (f ∷ fs) pool r e p = let a = bind_ok _ _ r e in pool_is (a.0.0 ∷ []) a.0.1 r a.2 (base_pool pool a.0 a.1 p)
 
-fields_pool : (P : Program) (pool : Pool) (r : List Member × Pool) → AllByRecursion IsLawfulField P.fields → added_fields P pool ≡ Ok r → IsPool pool → IsPool r.1
+fields_pool : (fs : List Field) (pool : Pool) (r : List Member × Pool) → AllByRecursion IsLawfulField fs → added_fields fs pool ≡ Ok r → IsPool pool → IsPool r.1
 unfolding added_fields
-fields_pool P pool r F e p =
+fields_pool fs pool r F e p =
     let a = bind_ok _ _ r e in
     let b = bind_ok _ _ r a.2 in
-    pool_is (a.0.0 ++ b.0.0) b.0.1 r b.2 (bases_pool P.fields a.0.1 b.0 b.1 (grow_pool IsLawfulField (λ n f. address_member f) (λ n f pool r g. address_pool f g pool r) 0 P.fields pool a.0 F a.1 p))
+    pool_is (a.0.0 ++ b.0.0) b.0.1 r b.2 (bases_pool fs a.0.1 b.0 b.1 (grow_pool IsLawfulField (λ n f. address_member f) (λ n f pool r g. address_pool f g pool r) 0 fs pool a.0 F a.1 p))
 
--- what is known of the texts of a program and its class
-record AreLawful (P : Program) (c : ClassFile) : Type 0 where
+-- what is known of the texts of a class and its part of a program
+pub record AreLawful (P : Program) (c : ClassFile) (part : Part) : Type 0 where
   pub pool : IsPool c.pool
   pub own : IsClassText (own_name c)
+  pub own_fields : AllByRecursion IsLawfulField part.fields
+  pub own_methods : AllByRecursion IsLawfulMethod part.methods
   pub fields : AllByRecursion IsLawfulField P.fields
   pub methods : AllByRecursion IsLawfulMethod P.methods
 
-module _ (P : Program) (c : ClassFile) (L : AreLawful P c) where
-  names_pool : (pool : Pool) (r : Names × Pool) → names_of P c pool ≡ Ok r → IsPool pool → IsPool r.1
+module _ (P : Program) (c : ClassFile) (part : Part) (L : AreLawful P c part) where
+  names_pool : (pool : Pool) (r : Names × Pool) → names_of P part.methods pool ≡ Ok r → IsPool pool → IsPool r.1
   unfolding names_of
   names_pool pool r e p =
       let a = bind_ok _ _ r e in
       let b = bind_ok _ _ r a.2 in
       pool_is (record { accessors = a.0.0; duplicates = b.0.0 }) b.0.1 r b.2
-      (grow_pool IsLawfulMethod (duplicate_call P) (λ n k pool r g. duplicate_call_pool P n k pool r g) 0 P.methods a.0.1 b.0 L.methods b.1
-      (grow_pool IsLawfulField (calls_of P (own_name c)) (λ n f pool r g. calls_pool P (own_name c) n f pool r L.own g) 0 P.fields pool a.0 L.fields a.1 p))
+      (grow_pool IsLawfulMethod (duplicate_call (uses_of part.methods)) (λ n k pool r g. duplicate_call_pool part.methods n k pool r g) 0 P.methods a.0.1 b.0 L.methods b.1
+      (grow_pool IsLawfulField (calls_of (uses_of part.methods)) (λ n f pool r g. calls_pool part.methods n f pool r g) 0 P.fields pool a.0 L.fields a.1 p))
 
-  copies_pool : (pool : Pool) (r : List Member × Pool) → duplicates P c pool ≡ Ok r → IsPool pool → IsPool r.1
+  copies_pool : (pool : Pool) (r : List Member × Pool) → duplicates P c (share_of c part) pool ≡ Ok r → IsPool pool → IsPool r.1
   unfolding duplicates
   copies_pool pool r e p =
       let a = bind_ok _ _ r e in
       grow_pool (λ (x : Method × Member). IsLawfulMethod x.0) (λ n (x : Method × Member). duplicate_of c a.0.0 x.0 x.1) (λ n x pool r g. copy_of_pool c a.0.0 x.0 x.1 pool r g)
-      0 (zip P.methods (program_methods c)) a.0.1 r (all_first IsLawfulMethod P.methods (program_methods c) L.methods) a.2 (names_pool pool a.0 a.1 p)
+      0 (zip part.methods (own_members c part)) a.0.1 r (all_first IsLawfulMethod part.methods (own_members c part) L.own_methods) a.2 (names_pool pool a.0 a.1 p)
 
-  added_pool : (pool : Pool) (r : List Member × Pool) → added_methods P c pool ≡ Ok r → IsPool pool → IsPool r.1
+  added_pool : (pool : Pool) (r : List Member × Pool) → added_methods P c (share_of c part) pool ≡ Ok r → IsPool pool → IsPool r.1
   unfolding added_methods
   added_pool pool r e p =
       let a = bind_ok _ _ r e in
       let b = bind_ok _ _ r a.2 in
       pool_is (flat_map both_of a.0.0 ++ b.0.0) b.0.1 r b.2
-      (copies_pool a.0.1 b.0 b.1 (grow_pool IsLawfulField (λ n f. accessors_of (own_name c) f) (λ n f pool r g. accessors_pool (own_name c) L.own f g pool r) 0 P.fields pool a.0 L.fields a.1 p))
+      (copies_pool a.0.1 b.0 b.1 (grow_pool IsLawfulField (λ n f. accessors_of (own_name c) f) (λ n f pool r g. accessors_pool (own_name c) L.own f g pool r) 0 part.fields pool a.0 L.own_fields a.1 p))
 
   replaced_pool : (n id : ℕ) (m : Member) (pool : Pool) (r : Member × Pool) → replaced P c n id m pool ≡ Ok r → IsPool pool → IsPool r.1
   replaced_pool n id m pool r e p = go (retries_of c.pool m) refl (slice_get P.methods n) refl e
@@ -325,21 +328,32 @@ module _ (P : Program) (c : ClassFile) (L : AreLawful P c) where
       go (Some attempts) s None q h = pool_is m pool r h p
       go (Some attempts) s (Some k) q h = wrapper_pool c id attempts k m pool r (all_at IsLawfulMethod P.methods n k L.methods q) (attempts_fit c.pool L.pool.entries m attempts s) h p
 
-  olds_pool : (n id : ℕ) (ms : List Member) (pool : Pool) (r : List Member × Pool) → old_from P c n id ms pool ≡ Ok r → IsPool pool → IsPool r.1
+  olds_pool : (n id : ℕ) (ms : List Member) (pool : Pool) (r : List Member × Pool) → old_from P c n id (zip ms (map part.is_taken ms)) pool ≡ Ok r → IsPool pool → IsPool r.1
   olds_pool n id [] pool r e p = pool_is [] pool r e p
   olds_pool n id (m ∷ ms) pool r e p =
       let a = bind_ok _ _ r e in
       let b = bind_ok _ _ r a.2 in
-      pool_is (a.0.0 ∷ b.0.0) b.0.1 r b.2 (olds_pool (number_behind c n m) (id_behind c.pool id m) ms a.0.1 b.0 b.1 (replaced_pool n id m pool a.0 a.1 p))
+      pool_is (a.0.0 ∷ b.0.0) b.0.1 r b.2 (olds_pool (number_behind (part.is_taken m) n) (id_behind c.pool id m) ms a.0.1 b.0 b.1 (replaced_pool n id m pool a.0 a.1 p))
 
-  methods_pool : (pool : Pool) (r : List Member × Pool) → new_methods P c pool ≡ Ok r → IsPool pool → IsPool r.1
+  methods_pool : (pool : Pool) (r : List Member × Pool) → new_methods P c (share_of c part) pool ≡ Ok r → IsPool pool → IsPool r.1
   unfolding new_methods
   methods_pool pool r e p =
       let a = bind_ok _ _ r e in
       let b = bind_ok _ _ r a.2 in
-      pool_is (b.0.0 ++ a.0.0) b.0.1 r b.2 (olds_pool 0 0 c.methods a.0.1 b.0 b.1 (added_pool pool a.0 a.1 p))
+      pool_is (b.0.0 ++ a.0.0) b.0.1 r b.2 (olds_pool part.first part.wrapper c.methods a.0.1 b.0 b.1 (added_pool pool a.0 a.1 p))
 
--- ---- the program of a lawful class
+  -- a rewritten class's constant pool keeps the rules of every pool
+  pub pool_kept : (new : ClassFile) → rewritten_part P c part ≡ Ok new → IsPool new.pool
+  unfolding rewritten_share
+  pool_kept new e =
+      let a = bind_ok _ _ new e in
+      let b = bind_ok _ _ new a.2 in
+      subst (λ (x : ClassFile). IsPool x.pool) (ok_new _ new b.2) (methods_pool a.0.1 b.0 b.1 (fields_pool part.fields c.pool a.0 L.own_fields a.1 L.pool))
+    where
+      ok_new : (x y : ClassFile) → fine x ≡ fine y → x ≡ y
+      ok_new x y e = cc
+
+-- ---- the texts of a lawful class
 
 -- a text, or none in its place
 some_text : (o : Option (List ℕ)) → ((t : List ℕ) → o ≡ Some t → IsText t) → IsText (text_or_none o)
@@ -352,43 +366,36 @@ some_class None h = record { text = tt; named = tt }
 some_class (Some t) h = h t refl
 
 module _ (c : ClassFile) (p : IsPool c.pool) where
-  own_lawful : IsClassText (own_name c)
+  pub own_lawful : IsClassText (own_name c)
   own_lawful = some_class (class_name c.pool c.this_class) (pool_class c.pool p c.this_class)
 
-  fields_lawful : (j : ℕ) (ms : List Member) → j + length ms ≤ 65536 → AllByRecursion IsLawfulField (fields_from (c ∷ []) 0 c j ms ++ [])
-  fields_lawful j [] few = tt
-  fields_lawful j (m ∷ ms) few = (record { name = some_text (utf8 c.pool m.name) (pool_text c.pool p m.name); place = omega (arith, few) }, fields_lawful (suc j) ms (omega (arith, few)))
+  -- the fields of one of some classes, and others behind them
+  pub fields_lawful : (cs : List ClassFile) (n j : ℕ) (ms : List Member) (others : List Field) → j + length ms ≤ 65536 → AllByRecursion IsLawfulField others → AllByRecursion IsLawfulField (fields_from cs n c j ms ++ others)
+  fields_lawful cs n j [] others few rest = rest
+  fields_lawful cs n j (m ∷ ms) others few rest = (
+    record { owner = own_lawful; name = some_text (utf8 c.pool m.name) (pool_text c.pool p m.name); place = omega (arith, few) },
+    fields_lawful cs n (suc j) ms others (omega (arith, few)) rest,
+  )
 
-module _ (c new : ClassFile) (P : Program) (K : Known c new P) where
-  method_lawful : (m : Member) (k : Method) → IsOld c P.fields m k → IsLawfulMethod k
+  -- a class has few static fields
+  pub few_statics : length c.fields < 65536 → 1 + length (statics c) ≤ 65536
+  few_statics few = omega (arith, filter_few is_static c.fields, few)
+
+module _ (s0 : Symbols) (p : IsPool s0.class.pool) where
+  abbrev c : ClassFile
+  c = s0.class
+
+  method_lawful : (m : Member) (k : Method) → IsOld s0 m k → IsLawfulMethod k
   method_lawful m k h =
-      let p = K.rules.pool in
       subst (λ (n : MethodName). IsMethodText n.class (duplicate_name n.name) (with_context n.descriptor)) (sym h.name) (record {
         owner = own_lawful c p;
         named = renamed_text (text_or_none (utf8 c.pool m.name)) (some_text (utf8 c.pool m.name) (pool_text c.pool p m.name));
         text = context_text (descriptor_of c.pool m) (some_text (utf8 c.pool m.descriptor) (pool_text c.pool p m.descriptor));
-        typed = context_method (descriptor_of c.pool m) h.shape h.shaped (few_params c new P K m k h);
+        typed = context_method (descriptor_of c.pool m) h.shape h.shaped (few_params s0 m k h);
       })
 
-  methods_lawful : (ms : List Member) (ks : List Method) → AllOld c P.fields ms ks → AllByRecursion IsLawfulMethod ks
+  pub methods_lawful : (ms : List Member) (ks : List Method) → AllOld s0 ms ks → AllByRecursion IsLawfulMethod ks
   methods_lawful [] [] h = tt
   methods_lawful [] (k ∷ ks) h = absurd h
   methods_lawful (m ∷ ms) [] h = absurd h
   methods_lawful (m ∷ ms) (k ∷ ks) h = (method_lawful m k h.0, methods_lawful ms ks h.1)
-
-  all_lawful : AreLawful P c
-  all_lawful =
-      let fields = fields_lawful c K.rules.pool 1 (statics c) (omega (arith, filter_few is_static c.fields, K.rules.few_fields)) in
-      record { pool = K.rules.pool; own = own_lawful c K.rules.pool; fields = subst (AllByRecursion IsLawfulField) (sym K.original.fields) fields; methods = methods_lawful (program_methods c) P.methods (olds c new P K) }
-
--- a rewritten class's constant pool keeps the rules of every pool
-pub pool_kept : (c new : ClassFile) (P : Program) → Known c new P → rewritten_class P c ≡ Ok new → IsPool new.pool
-unfolding rewritten_class
-pool_kept c new P K e =
-    let L = all_lawful c new P K in
-    let a = bind_ok _ _ new e in
-    let b = bind_ok _ _ new a.2 in
-    subst (λ (x : ClassFile). IsPool x.pool) (ok_new _ new b.2) (methods_pool P c L a.0.1 b.0 b.1 (fields_pool P c.pool a.0 L.fields a.1 K.rules.pool))
-  where
-    ok_new : (x y : ClassFile) → fine x ≡ fine y → x ≡ y
-    ok_new x y e = cc

@@ -1,9 +1,8 @@
 -- Laid code is read again as the instructions that were laid.
-use Rattle.std.proofs.Common.{◌≡◌, ℕ, zero, suc, ◌+◌, ◌<◌, ◌≤◌, ◌^◌, ℤ, Bool, true, false, ◌&&◌, List, [], ◌∷◌, ◌++◌, length, Option, Some, None, Result, Ok, refl, sym, ap, ◌∙◌, subst, arith, length-append}
-use Rattle.std.specs.Prelude.{if◌then◌else◌, nat_lt, map, replicate}
+use Rattle.std.proofs.Common.{◌≡◌, ℕ, zero, suc, ◌+◌, ◌<◌, ◌≤◌, ◌^◌, ℤ, Bool, true, false, List, [], ◌∷◌, ◌++◌, length, Option, Some, None, Result, Ok, refl, sym, ap, ◌∙◌, subst, arith}
+use Rattle.std.specs.Prelude.{nat_lt, map, replicate}
 use Rattle.std.specs.Int.{w8, w16, w32, to_be_bytes}
 use Rattle.std.specs.List.{flat_map, list_any, list_all, AllByRecursion}
-use Rattle.std.proofs.lemmas.Int.{ints}
 use Rattle.std.proofs.lemmas.Bool.Decides.{nat_tests}
 use Rattle.std.proofs.lemmas.List.Concat.{flat_map-cons}
 use Rattle.jmodel.specs.declared.refusal.Refusal.{Refusal}
@@ -15,16 +14,16 @@ use Rattle.jmodel.specs.declared.instruction.Operands.{Operands}
 use Rattle.jmodel.specs.declared.instruction.Operands.TheVariants as operands
 use Rattle.jmodel.specs.declared.instruction.Instr.{Instr}
 use Rattle.jmodel.specs.ClassFile.{Pool, u4}
-use Rattle.jmodel.specs.Instruction.{Holds, number_text, local_text, increment_text, index_text, interface_text, dimensions_text, target_text, added, wide_text, table_text, lookup_text, pair_text, highest, padding, jump, form_of, signed, operands_text, text_as, text, code_text, zeros, targets_of, IsSizedAs, FitPoolAs, IsInstrOver, is_start, AreStarts, AreInOrder, AreInstrs, places_of_handler}
+use Rattle.jmodel.specs.Instruction.{Holds, number_text, local_text, increment_text, index_text, interface_text, dimensions_text, target_text, added, wide_text, table_text, lookup_text, pair_text, highest, padding, jump, form_of, signed, operands_text, text_as, text, code_text, zeros, targets_of, FitPoolAs, is_start, AreStarts, AreInstrs, places_of_handler}
 use Rattle.jmodel.specs.InstructionReading.{instrs_of}
-use Rattle.jmodel.specs.Relocation.{Block, all_instrs, put_at, size_at, behind, place_of, end_of, retarget, retargeted, laid_to, relocated, is_near, reaches_as, reaches, far_block, moved_handlers, laid_out, relocate, IsShaped, IsShapedAs}
+use Rattle.jmodel.specs.Relocation.{Block, all_instrs, put_at, size_at, behind, place_of, end_of, retargeted, laid_to, relocated, reaches, far_block, moved_handlers, laid_out, relocate, IsShaped}
 use Rattle.std.proofs.lemmas.List.Folds.{list_all-append}
 use Rattle.const_pool.proofs.Takes.{IsBytes, guard_ok, ok_is}
 use Rattle.bytecode.proofs.CodeLaws.{text_holds, code_again}
 use Rattle.bytecode.proofs.MovedLaws.{code_long}
 use Rattle.bytecode.proofs.LaidLaws.{in_order, instrs_are, all_reach, all_over, all_lead}
 use Rattle.rewriter.proofs.Positions.{At}
-use Rattle.rewriter.proofs.Lay.{is_at, is_block, behind_append, behind_over, laid_to_append, IsSolid, all_cons, place_within, many_before, block_begins, at_no, at_found}
+use Rattle.rewriter.proofs.Lay.{is_at, is_block, behind_append, behind_over, laid_to_append, IsSolid, place_within, many_before, block_begins, at_no, at_found}
 
 -- ---- bytes
 

@@ -1,6 +1,6 @@
 -- Loops over instructions, methods and parameters: one step more.
-use Rattle.std.proofs.Common.{◌≡◌, ℕ, zero, suc, ◌+◌, ◌<◌, ◌≤◌, List, [], ◌∷◌, ◌++◌, length, map, drop, get_or, None, Bor, sym, ap, subst, ◌∙◌, append_assoc, arith}
-use Rattle.std.specs.Prelude.{slice_get, zip, min}
+use Rattle.std.proofs.Common.{◌≡◌, ℕ, zero, suc, ◌+◌, ◌<◌, ◌≤◌, List, [], ◌∷◌, ◌++◌, length, map, drop, get_or, None, Bor, sym, ap, subst, ◌∙◌, arith}
+use Rattle.std.specs.Prelude.{zip, min}
 use Rattle.std.specs.List.{AllByRecursion}
 use Rattle.std.proofs.Math.ListN.{get_or-map}
 use Rattle.std.proofs.lemmas.List.{length-map, length-append}
@@ -8,22 +8,12 @@ use Rattle.std.proofs.lemmas.Slice.Zip.{length-zip, get_or-zip}
 use Rattle.jmodel.specs.declared.class_file.Handler.{Handler}
 use Rattle.jmodel.specs.declared.instruction.Instr.{Instr}
 use Rattle.jmodel.specs.declared.name.MethodName.{MethodName}
-use Rattle.jmodel.specs.declared.op.Op.{Op}
 use Rattle.jmodel.specs.ClassFile.{Member}
 use Rattle.jmodel.specs.Name.{printed}
 use Rattle.jmodel.specs.Program.{Method}
 use Rattle.jmodel.specs.Relocation.{Block}
-use Rattle.rewriter.specs.Members.{Names, load_int, int_loads, block, block_instrs, blocks_from, of_method, laid_bytes}
+use Rattle.rewriter.specs.Members.{load_int, int_loads, of_method, laid_bytes}
 use Rattle.rewriter.proofs.Grow.{item_is}
-
--- one more block
-pub block_step : (front : List Block) (instrs : List Instr) (total : List Block) (names : Names) (p : ℕ) (ops : List Op) (n : ℕ) (list : List Instr) (i : Instr) → n < length list → i ≡ get_or list n i
-    → instrs ≡ block_instrs names p (slice_get ops n) i → front ++ blocks_from names p ops n (drop n list) ≡ total → (front ++ block i.pc instrs ∷ []) ++ blocks_from names p ops (n + 1) (drop (n + 1) list) ≡ total
-block_step front instrs total names p ops n list i h is b so_far =
-    let rest = blocks_from names p ops (n + 1) (drop (n + 1) list) in
-    let one : blocks_from names p ops n (drop n list) ≡ block i.pc instrs ∷ blocks_from names p ops (n + 1) (drop (n + 1) list) =
-    ap (blocks_from names p ops n) (item_is list n i h is) ∙ ap (λ (js : List Instr). block i.pc js ∷ blocks_from names p ops (n + 1) (drop (n + 1) list)) (sym b) in
-    append_assoc front (block i.pc instrs ∷ []) rest ∙ sym (ap (λ (bs : List Block). front ++ bs) one) ∙ so_far
 
 -- one more load
 pub load_step : (i n : ℕ) → int_loads i n ++ load_int (i + n) ∷ [] ≡ int_loads i (n + 1)
@@ -39,6 +29,24 @@ load_step i n = go n i
 -- the loads of the first ints, and one more
 pub more_loads : (n : ℕ) → int_loads 0 n ++ load_int n ∷ [] ≡ int_loads 0 (n + 1)
 more_loads n = let e : 0 + n ≡ n = omega arith in ap (λ (k : ℕ). int_loads 0 n ++ load_int k ∷ []) (sym e) ∙ load_step 0 n
+
+-- ---- lists side by side
+
+pub zip_item : {A B : Type 0} (xs : List A) (ys : List B) (n : ℕ) (x : A) (y : B) → n < length xs → n < length ys → x ≡ get_or xs n x → y ≡ get_or ys n y → drop n (zip xs ys) ≡ (x, y) ∷ drop (n + 1) (zip xs ys)
+zip_item {A} {B} xs ys n x y left right told is =
+    let pair : get_or (zip xs ys) n (x, y) ≡ (get_or xs n x, get_or ys n y) = get_or-zip xs ys n (x, y) left right in
+    let whole : get_or (zip xs ys) n (x, y) ≡ (x, y) = pair ∙ ap (λ (b : B). (get_or xs n x, b)) (sym is) ∙ ap (λ (a : A). (a, y)) (sym told) in
+    item_is (zip xs ys) n (x, y) (omega (arith, length-zip xs ys, left, right)) (sym whole)
+
+pub zip_done : {A B : Type 0} (xs : List A) (ys : List B) (n : ℕ) → n ≡ min (length xs) (length ys) → length (zip xs ys) ≤ n
+zip_done xs ys n e = omega (arith, length-zip xs ys, e)
+
+-- an item behind a reference
+pub seen_item : {A : Type 0} (xs : List (Bor A)) (i : ℕ) (x : Bor A) → i < length xs → x ≡ get_or xs i x → drop i (map (λ m. m.now) xs) ≡ x.now ∷ drop (i + 1) (map (λ m. m.now) xs)
+seen_item {A} xs i x h is =
+    let same : length (map (λ (m : Bor A). m.now) xs) ≡ length xs = length-map _ _ in
+    let at : get_or (map (λ (m : Bor A). m.now) xs) i x.now ≡ x.now = get_or-map (λ (m : Bor A). m.now) xs i x ∙ ap (λ (m : Bor A). m.now) (sym is) in
+    item_is (map (λ (m : Bor A). m.now) xs) i x.now (omega (arith, h, same)) (sym at)
 
 -- ---- methods side by side with their members
 

@@ -1,7 +1,6 @@
 -- What the taken methods without a mark mean in a rewritten class: what they meant.
-use Rattle.std.proofs.Common.{◌≡◌, ℕ, Bool, true, false, ℤ, Option, List, [], length, Some, None, Ok, refl, sym, ap, ◌∙◌}
-use Rattle.std.specs.Prelude.{pos, if◌then◌else◌}
-use Rattle.std.specs.List.{AllByRecursion, list_all}
+use Rattle.std.proofs.Common.{◌≡◌, ℕ, Bool, true, ℤ, Option, List, [], length, Some, None, Ok, refl, sym, ap, ◌∙◌}
+use Rattle.std.specs.List.{AllByRecursion}
 use Rattle.jmodel.specs.declared.name.MethodName.{MethodName}
 use Rattle.jmodel.specs.ClassFile.{Member, ClassFile}
 use Rattle.jmodel.specs.Pool.{utf8}
@@ -10,8 +9,8 @@ use Rattle.jmodel.specs.Layout.{text_or_none}
 use Rattle.jmodel.specs.ClassRules.{IsAttribute}
 use Rattle.jmodel.specs.Instruction.{IsInstrOver}
 use Rattle.jmodel.specs.InstructionReading.{instrs_of}
-use Rattle.jmodel.specs.Decoding.{own_name, each, ops_of}
-use Rattle.jmodel.specs.Linking.{catch_of, code_in, shape_of, is_root, program_methods, rewritten_methods, symbols_of, method_of, retries_of}
+use Rattle.jmodel.specs.Decoding.{Symbols, own_name, each, ops_of}
+use Rattle.jmodel.specs.Linking.{catch_of, code_in, shape_of, method_of, retries_of}
 use Rattle.rewriter.specs.Meaning.{HasBytes}
 use Rattle.rewriter.proofs.Grown.{utf8_grown}
 use Rattle.rewriter.proofs.Marks.{HasMark, retries_stay}
@@ -20,27 +19,35 @@ use Rattle.rewriter.proofs.Stays.{code_found, ops_stay, over_stays, read_stays}
 use Rattle.rewriter.proofs.Coded.{method_as, CodedFacts, coded_means, same_methods}
 use Rattle.rewriter.proofs.Filed.{IsRead, decoded_is, IsFiled, filed, spelled, parts_of}
 use Rattle.rewriter.proofs.Old.{IsOld}
-use Rattle.rewriter.proofs.Tables.{Known, own_same, number_kept}
+use Rattle.rewriter.proofs.Tables.{Known, own_same}
+use Rattle.rewriter.proofs.Tied.{Tied}
+use Rattle.rewriter.specs.Part.{Part}
 
 abbrev name_of_parts : List ℕ → List ℕ → List ℕ → MethodName
 name_of_parts class name descriptor = record { class = class; name = name; descriptor = descriptor }
 
-module _ (c new : ClassFile) (P : Program) (K : Known c new P) (m : Member) (k : Method) (t d : List ℕ) (named : utf8 c.pool m.name ≡ Some t) (described : utf8 c.pool m.descriptor ≡ Some d) (h : IsOld c P.fields m k)
-    (lawful : AllByRecursion (IsAttribute c.pool) m.attributes) (sound : HasMark c.pool m) (held : HasBytes m) (unmarked : retries_of c.pool m ≡ None) where
+module _ (s0 s : Symbols) (P : Program) (part : Part) (K : Known s0 s P part) (T : Tied s0 s P) (m : Member) (k : Method) (t d : List ℕ) (named : utf8 s0.class.pool m.name ≡ Some t) (described : utf8 s0.class.pool m.descriptor ≡ Some d) (h : IsOld s0 m k)
+    (lawful : AllByRecursion (IsAttribute s0.class.pool) m.attributes) (sound : HasMark s0.class.pool m) (held : HasBytes m) (unmarked : retries_of s0.class.pool m ≡ None) where
+  abbrev c : ClassFile
+  c = s0.class
+
+  abbrev new : ClassFile
+  new = s.class
+
   read : IsRead c m h.coded
   read = decoded_is c m h.coded h.decodes
 
   code_filed : IsFiled c.pool h.coded.code
   code_filed = filed c.pool m h.coded.code held read.code
 
-  parts : AreParts (symbols_of c P.fields (program_methods c)) h.coded.instrs k.locals k.gives k.ops h.coded.instrs
-  parts = parts_of (symbols_of c P.fields (program_methods c)) h.coded.instrs k.locals k.gives k.ops h.coded.instrs h.ops (spelled c.pool m h.coded c refl held read).instrs.each h.fits
+  parts : AreParts s0 h.coded.instrs k.locals k.gives k.ops h.coded.instrs
+  parts = parts_of s0 h.coded.instrs k.locals k.gives k.ops h.coded.instrs h.ops (spelled c.pool m h.coded c refl held read).instrs.each h.fits
 
   over : AllByRecursion (IsInstrOver new.pool) h.coded.instrs
-  over = over_stays k.locals k.gives (symbols_of c P.fields (program_methods c)) (symbols_of new P.fields (rewritten_methods P new)) K.rewritten.grown (λ w i e. e) (number_kept c new P K) h.coded.instrs h.coded.instrs k.ops parts
+  over = over_stays k.locals k.gives s0 s K.rewritten.grown T.fields_stay T.methods_stay h.coded.instrs h.coded.instrs k.ops parts
 
-  mean : ops_of (symbols_of new P.fields (rewritten_methods P new)) h.coded.instrs ≡ Some k.ops
-  mean = ops_stay k.locals k.gives (symbols_of c P.fields (program_methods c)) (symbols_of new P.fields (rewritten_methods P new)) K.rewritten.grown (λ w i e. e) (number_kept c new P K) h.coded.instrs h.coded.instrs k.ops parts
+  mean : ops_of s h.coded.instrs ≡ Some k.ops
+  mean = ops_stay k.locals k.gives s0 s K.rewritten.grown T.fields_stay T.methods_stay h.coded.instrs h.coded.instrs k.ops parts
 
   code_there : code_in new.pool m ≡ Some h.coded.code
   code_there = code_found c.pool new.pool K.rewritten.grown m.attributes h.coded.code lawful held read.code
@@ -55,16 +62,15 @@ module _ (c new : ClassFile) (P : Program) (K : Known c new P) (m : Member) (k :
   own_text = ap (λ (y : MethodName). y.name) h.name ∙ ap text_or_none named
 
   owner : k.name.class ≡ own_name new
-  owner = ap (λ (y : MethodName). y.class) h.name ∙ sym (own_same c new P K)
+  owner = ap (λ (y : MethodName). y.class) h.name ∙ sym (own_same s0 s P part K)
 
   catches_none : each (catch_of new.pool h.coded.instrs (length h.coded.code.code)) h.coded.code.handlers ≡ Some []
   catches_none = ap (each (catch_of new.pool h.coded.instrs (length h.coded.code.code))) h.no_entries
 
-  pub untouched_is : method_of (symbols_of new P.fields (rewritten_methods P new)) true m ≡ Some k
+  pub untouched_is : method_of s true m ≡ Some k
   untouched_is =
-      let s = symbols_of new P.fields (rewritten_methods P new) in
       let mark = retries_stay c.pool new.pool K.rewritten.grown m t d named described lawful sound in
-      let facts : CodedFacts (symbols_of new P.fields (rewritten_methods P new)) m h.coded.code h.coded.instrs t d h.shape k.ops [] None = record {
+      let facts : CodedFacts s m h.coded.code h.coded.instrs t d h.shape k.ops [] None = record {
         code = code_there;
         read = read_there;
         named = utf8_grown c.pool new.pool K.rewritten.grown m.name t named;
@@ -74,7 +80,7 @@ module _ (c new : ClassFile) (P : Program) (K : Known c new P) (m : Member) (k :
         catches_are = catches_none;
         retries_are = mark ∙ unmarked;
       } in
-      let it = coded_means (symbols_of new P.fields (rewritten_methods P new)) true m h.coded.code h.coded.instrs t d h.shape k.ops [] None facts in
+      let it = coded_means s true m h.coded.code h.coded.instrs t d h.shape k.ops [] None facts in
       let retries : k.retries ≡ None = h.retries ∙ unmarked in
       let name_is : name_of_parts (own_name new) t d ≡ k.name =
       ap (λ (y : List ℕ). name_of_parts y t d) (sym owner) ∙ ap (λ (y : List ℕ). name_of_parts k.name.class y d) (sym own_text) ∙ ap (λ (y : List ℕ). name_of_parts k.name.class k.name.name y) (sym descriptor_is) in

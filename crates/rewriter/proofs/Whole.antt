@@ -1,6 +1,6 @@
 -- What the members of a rewritten class name in its pool.
 use Rattle.std.proofs.Common.{◌≡◌, ℕ, ℤ, ◌+◌, ◌≤◌, Bool, true, false, List, [], ◌∷◌, ◌++◌, Option, Some, None, Result, Ok, Err, ◌≢◌, refl, sym, ◌∙◌, subst, arith, eq-eqb}
-use Rattle.std.specs.Prelude.{codes, nat_lt, nat_eq, slice_get, zip, if◌then◌else◌}
+use Rattle.std.specs.Prelude.{codes, nat_lt, nat_eq, map, slice_get, zip}
 use Rattle.std.specs.List.{flat_map}
 use Rattle.std.proofs.lemmas.Bool.Decides.{nat_tests}
 use Rattle.jmodel.specs.declared.refusal.Refusal.{Refusal}
@@ -12,14 +12,15 @@ use Rattle.jmodel.specs.Decoding.{own_name}
 use Rattle.jmodel.specs.Name.{printed}
 use Rattle.jmodel.specs.Relocation.{Block}
 use Rattle.jmodel.specs.Rewriting.{with_context, duplicate_name}
-use Rattle.jmodel.specs.Linking.{Coded, decoded, is_root, program_methods, retries_of}
+use Rattle.jmodel.specs.Linking.{Coded, decoded, retries_of}
 use Rattle.const_pool.proofs.Takes.{bind_ok, guard_ok, ok_is, fine}
 use Rattle.rewriter.specs.declared.accessors.Accessors.{Accessors}
 use Rattle.rewriter.specs.declared.names.Calls.{Calls}
 use Rattle.rewriter.specs.declared.wrappers.Opening.{Opening}
 use Rattle.rewriter.specs.declared.wrappers.Ending.{Ending}
-use Rattle.rewriter.specs.Members.{added_method, address_member, accessors_of, getter_name, setter_name, getter_type, setter_type, Names, gets, puts, calls, some_op, method_if_needed, getter_call, setter_call, calls_of, duplicate_call, blocks_from, plain, stub, laid_code, laid_bytes, of_method, duplicate_body, duplicate_flags, coded_duplicate, duplicate_of, wrapper_bytes, with_code, wrapper_of}
-use Rattle.rewriter.specs.Rewritten.{grow_from, wrapper_if, replaced, number_behind, id_behind, old_from, bases, both_of, added_fields, names_of, duplicates, added_methods, new_methods, rewritten_class}
+use Rattle.rewriter.specs.Members.{uses_of, added_method, address_member, accessors_of, getter_name, setter_name, getter_type, setter_type, Names, gets, puts, calls, some_op, method_if_needed, getter_call, setter_call, calls_of, duplicate_call, blocks_from, plain, stub, laid_code, laid_bytes, of_method, duplicate_body, duplicate_flags, coded_duplicate, duplicate_of, wrapper_bytes, with_code, wrapper_of}
+use Rattle.rewriter.specs.Rewritten.{grow_from, wrapper_if, replaced, number_behind, id_behind, old_from, bases, both_of, added_fields, names_of, duplicates, added_methods, new_methods, rewritten_share, rewritten_part}
+use Rattle.rewriter.specs.Part.{Part, own_members, share_of}
 use Rattle.rewriter.proofs.Grown.{Grown, grown_refl}
 use Rattle.rewriter.proofs.Added.{Says}
 use Rattle.rewriter.proofs.Puts.{Puts, puts_more, puts_end, utf8_puts, class_puts, method_puts, IsClassAt, IsMethodAt, IsAddress, address_puts, IsBase, base_puts, AreAccessors, accessors_put, IsOpening, opening_puts, IsEnding, ending_puts}
@@ -50,23 +51,23 @@ needed_puts true class name descriptor pool r e = let p = method_puts class name
 needed_puts false class name descriptor pool r e =
     subst (Puts (λ Z i. false ≡ true → IsMethodAt class name descriptor Z i) pool) (ok_is (0, pool) r e) (record { grown = grown_refl pool; facts = λ Z g t. absurd cc })
 
-pub record AreCalls (P : Program) (own : List ℕ) (n : ℕ) (f : Field) (Z : Pool) (c : Calls) : Type 0 where
-  pub getter : some_op (gets n) P ≡ true → IsMethodAt own (getter_name f) (getter_type f.type) Z c.getter
-  pub setter : some_op (puts n) P ≡ true → IsMethodAt own (setter_name f) (setter_type f.type) Z c.setter
+pub record AreCalls (own : List Method) (n : ℕ) (f : Field) (Z : Pool) (c : Calls) : Type 0 where
+  pub getter : some_op (gets n) own ≡ true → IsMethodAt f.class (getter_name f) (getter_type f.type) Z c.getter
+  pub setter : some_op (puts n) own ≡ true → IsMethodAt f.class (setter_name f) (setter_type f.type) Z c.setter
 
-calls_put : (P : Program) (own : List ℕ) (n : ℕ) (f : Field) (pool : Pool) (r : Calls × Pool) → calls_of P own n f pool ≡ Ok r → Puts (λ Z c. AreCalls P own n f Z c) pool r
+calls_put : (own : List Method) (n : ℕ) (f : Field) (pool : Pool) (r : Calls × Pool) → calls_of (uses_of own) n f pool ≡ Ok r → Puts (λ Z c. AreCalls own n f Z c) pool r
 unfolding calls_of getter_call setter_call
-calls_put P own n f pool r e =
+calls_put own n f pool r e =
     let a = bind_ok _ _ r e in
     let b = bind_ok _ _ r a.2 in
-    puts_end _ (λ Z c. AreCalls P own n f Z c) pool b.0 (record { getter = a.0.0; setter = b.0.0 }) r (λ Z h. record { getter = h.0; setter = h.1 })
-    (puts_more (λ Z i. some_op (gets n) P ≡ true → IsMethodAt own (getter_name f) (getter_type f.type) Z i) (λ Z i. some_op (puts n) P ≡ true → IsMethodAt own (setter_name f) (setter_type f.type) Z i) pool a.0 b.0
-    (needed_puts (some_op (gets n) P) _ _ _ pool a.0 a.1) (needed_puts (some_op (puts n) P) _ _ _ a.0.1 b.0 b.1)) b.2
+    puts_end _ (λ Z c. AreCalls own n f Z c) pool b.0 (record { getter = a.0.0; setter = b.0.0 }) r (λ Z h. record { getter = h.0; setter = h.1 })
+    (puts_more (λ Z i. some_op (gets n) own ≡ true → IsMethodAt f.class (getter_name f) (getter_type f.type) Z i) (λ Z i. some_op (puts n) own ≡ true → IsMethodAt f.class (setter_name f) (setter_type f.type) Z i) pool a.0 b.0
+    (needed_puts (some_op (gets n) own) _ _ _ pool a.0 a.1) (needed_puts (some_op (puts n) own) _ _ _ a.0.1 b.0 b.1)) b.2
 
-duplicate_call_puts : (P : Program) (n : ℕ) (k : Method) (pool : Pool) (r : ℕ × Pool) → duplicate_call P n k pool ≡ Ok r
-    → Puts (λ Z i. some_op (calls n) P ≡ true → IsMethodAt k.name.class (duplicate_name k.name.name) (with_context k.name.descriptor) Z i) pool r
+duplicate_call_puts : (own : List Method) (n : ℕ) (k : Method) (pool : Pool) (r : ℕ × Pool) → duplicate_call (uses_of own) n k pool ≡ Ok r
+    → Puts (λ Z i. some_op (calls n) own ≡ true → IsMethodAt k.name.class (duplicate_name k.name.name) (with_context k.name.descriptor) Z i) pool r
 unfolding duplicate_call
-duplicate_call_puts P n k pool r e = needed_puts (some_op (calls n) P) k.name.class (duplicate_name k.name.name) (with_context k.name.descriptor) pool r e
+duplicate_call_puts own n k pool r e = needed_puts (some_op (calls n) own) k.name.class (duplicate_name k.name.name) (with_context k.name.descriptor) pool r e
 
 -- ---- duplicates
 
@@ -173,11 +174,11 @@ pub record IsReplaced (P : Program) (c : ClassFile) (Z : Pool) (n id : ℕ) (m x
   pub wrapped : (attempts : ℤ) → retries_of c.pool m ≡ Some attempts → (k : Method) → slice_get P.methods n ≡ Some k → IsWrapped c Z id attempts k m x
   pub kept : retries_of c.pool m ≡ None → x ≡ m
 
-abbrev pub EachReplaced : Program → ClassFile → Pool → ℕ → ℕ → List Member → List Member → Type 0
-EachReplaced P c Z n id [] [] = Unit {0}
-EachReplaced P c Z n id [] (x ∷ xs) = ⊥
-EachReplaced P c Z n id (m ∷ ms) [] = ⊥
-EachReplaced P c Z n id (m ∷ ms) (x ∷ xs) = IsReplaced P c Z n id m x × EachReplaced P c Z (number_behind c n m) (id_behind c.pool id m) ms xs
+abbrev pub EachReplaced : Program → ClassFile → Part → Pool → ℕ → ℕ → List Member → List Member → Type 0
+EachReplaced P c part Z n id [] [] = Unit {0}
+EachReplaced P c part Z n id [] (x ∷ xs) = ⊥
+EachReplaced P c part Z n id (m ∷ ms) [] = ⊥
+EachReplaced P c part Z n id (m ∷ ms) (x ∷ xs) = IsReplaced P c Z n id m x × EachReplaced P c part Z (number_behind (part.is_taken m) n) (id_behind c.pool id m) ms xs
 
 replaced_puts : (P : Program) (c : ClassFile) (n id : ℕ) (m : Member) (pool : Pool) (r : Member × Pool) → replaced P c n id m pool ≡ Ok r → Puts (λ Z x. IsReplaced P c Z n id m x) pool r
 replaced_puts P c n id m pool r e = go (retries_of c.pool m) refl (slice_get P.methods n) refl e
@@ -201,14 +202,14 @@ replaced_puts P c n id m pool r e = go (retries_of c.pool m) refl (slice_get P.m
           };
         }
 
-olds_put : (P : Program) (c : ClassFile) (n id : ℕ) (ms : List Member) (pool : Pool) (r : List Member × Pool) → old_from P c n id ms pool ≡ Ok r → Puts (λ Z xs. EachReplaced P c Z n id ms xs) pool r
-olds_put P c n id [] pool r e = subst (Puts (λ Z xs. EachReplaced P c Z n id [] xs) pool) (ok_is ([], pool) r e) (record { grown = grown_refl pool; facts = λ Z g. tt })
-olds_put P c n id (m ∷ ms) pool r e =
+olds_put : (P : Program) (c : ClassFile) (part : Part) (n id : ℕ) (ms : List Member) (pool : Pool) (r : List Member × Pool) → old_from P c n id (zip ms (map part.is_taken ms)) pool ≡ Ok r → Puts (λ Z xs. EachReplaced P c part Z n id ms xs) pool r
+olds_put P c part n id [] pool r e = subst (Puts (λ Z xs. EachReplaced P c part Z n id [] xs) pool) (ok_is ([], pool) r e) (record { grown = grown_refl pool; facts = λ Z g. tt })
+olds_put P c part n id (m ∷ ms) pool r e =
     let a = bind_ok _ _ r e in
     let b = bind_ok _ _ r a.2 in
-    puts_end _ (λ Z xs. EachReplaced P c Z n id (m ∷ ms) xs) pool b.0 (a.0.0 ∷ b.0.0) r (λ Z h. h)
-    (puts_more (λ Z x. IsReplaced P c Z n id m x) (λ Z xs. EachReplaced P c Z (number_behind c n m) (id_behind c.pool id m) ms xs) pool a.0 b.0 (replaced_puts P c n id m pool a.0 a.1)
-    (olds_put P c (number_behind c n m) (id_behind c.pool id m) ms a.0.1 b.0 b.1)) b.2
+    puts_end _ (λ Z xs. EachReplaced P c part Z n id (m ∷ ms) xs) pool b.0 (a.0.0 ∷ b.0.0) r (λ Z h. h)
+    (puts_more (λ Z x. IsReplaced P c Z n id m x) (λ Z xs. EachReplaced P c part Z (number_behind (part.is_taken m) n) (id_behind c.pool id m) ms xs) pool a.0 b.0 (replaced_puts P c n id m pool a.0 a.1)
+    (olds_put P c part (number_behind (part.is_taken m) n) (id_behind c.pool id m) ms a.0.1 b.0 b.1)) b.2
 
 -- ---- all of them
 
@@ -218,11 +219,11 @@ AreBases Z [] = Unit {0}
 AreBases Z (m ∷ []) = IsBase Z m
 AreBases Z (m ∷ x ∷ ms) = ⊥
 
-pub record AreNewFields (P : Program) (Z : Pool) (ms : List Member) : Type 0 where
+pub record AreNewFields (fs : List Field) (Z : Pool) (ms : List Member) : Type 0 where
   pub addresses : List Member
   pub base : List Member
   pub are : ms ≡ addresses ++ base
-  pub each : Each (λ Z n f m. IsAddress f Z m) Z 0 P.fields addresses
+  pub each : Each (λ Z n f m. IsAddress f Z m) Z 0 fs addresses
   pub bases : AreBases Z base
 
 -- the field for the static base, where there is one, names what it must
@@ -232,94 +233,95 @@ bases_put (f ∷ fs) pool r e =
     let a = bind_ok _ _ r e in
     puts_end IsBase (λ Z ms. AreBases Z ms) pool a.0 (a.0.0 ∷ []) r (λ Z h. h) (base_puts pool a.0 a.1) a.2
 
-fields_put : (P : Program) (pool : Pool) (r : List Member × Pool) → added_fields P pool ≡ Ok r → Puts (λ Z ms. AreNewFields P Z ms) pool r
+fields_put : (fs : List Field) (pool : Pool) (r : List Member × Pool) → added_fields fs pool ≡ Ok r → Puts (λ Z ms. AreNewFields fs Z ms) pool r
 unfolding added_fields
-fields_put P pool r e =
+fields_put fs pool r e =
     let a = bind_ok _ _ r e in
     let b = bind_ok _ _ r a.2 in
-    puts_end _ (λ Z ms. AreNewFields P Z ms) pool b.0 (a.0.0 ++ b.0.0) r (λ Z h. record { addresses = a.0.0; base = b.0.0; are = refl; each = h.0; bases = h.1 })
-    (puts_more (λ Z ys. Each (λ Z n f m. IsAddress f Z m) Z 0 P.fields ys) (λ Z ms. AreBases Z ms) pool a.0 b.0
-    (grow_puts (λ Z n f m. IsAddress f Z m) (λ n f. address_member f) (λ n f pool r. address_puts f pool r) 0 P.fields pool a.0 a.1) (bases_put P.fields a.0.1 b.0 b.1)) b.2
+    puts_end _ (λ Z ms. AreNewFields fs Z ms) pool b.0 (a.0.0 ++ b.0.0) r (λ Z h. record { addresses = a.0.0; base = b.0.0; are = refl; each = h.0; bases = h.1 })
+    (puts_more (λ Z ys. Each (λ Z n f m. IsAddress f Z m) Z 0 fs ys) (λ Z ms. AreBases Z ms) pool a.0 b.0
+    (grow_puts (λ Z n f m. IsAddress f Z m) (λ n f. address_member f) (λ n f pool r. address_puts f pool r) 0 fs pool a.0 a.1) (bases_put fs a.0.1 b.0 b.1)) b.2
 
--- what duplicates name
-pub record AreNames (P : Program) (c : ClassFile) (Z : Pool) (names : Names) : Type 0 where
-  pub accessors : Each (λ Z n f x. AreCalls P (own_name c) n f Z x) Z 0 P.fields names.accessors
-  pub duplicates : Each (λ Z n k i. some_op (calls n) P ≡ true → IsMethodAt k.name.class (duplicate_name k.name.name) (with_context k.name.descriptor) Z i) Z 0 P.methods names.duplicates
+-- what the duplicates of a class with these methods of the program name
+pub record AreNames (P : Program) (own : List Method) (Z : Pool) (names : Names) : Type 0 where
+  pub accessors : Each (λ Z n f x. AreCalls own n f Z x) Z 0 P.fields names.accessors
+  pub duplicates : Each (λ Z n k i. some_op (calls n) own ≡ true → IsMethodAt k.name.class (duplicate_name k.name.name) (with_context k.name.descriptor) Z i) Z 0 P.methods names.duplicates
 
-names_put : (P : Program) (c : ClassFile) (pool : Pool) (r : Names × Pool) → names_of P c pool ≡ Ok r → Puts (λ Z names. AreNames P c Z names) pool r
+names_put : (P : Program) (own : List Method) (pool : Pool) (r : Names × Pool) → names_of P own pool ≡ Ok r → Puts (λ Z names. AreNames P own Z names) pool r
 unfolding names_of
-names_put P c pool r e =
+names_put P own pool r e =
     let a = bind_ok _ _ r e in
     let b = bind_ok _ _ r a.2 in
-    puts_end _ (λ Z names. AreNames P c Z names) pool b.0 (record { accessors = a.0.0; duplicates = b.0.0 }) r (λ Z h. record { accessors = h.0; duplicates = h.1 })
-    (puts_more (λ Z ys. Each (λ Z n f x. AreCalls P (own_name c) n f Z x) Z 0 P.fields ys) (λ Z ys. Each (λ Z n k i. some_op (calls n) P ≡ true → IsMethodAt k.name.class (duplicate_name k.name.name) (with_context k.name.descriptor) Z i) Z 0 P.methods ys) pool a.0 b.0
-    (grow_puts (λ Z n f x. AreCalls P (own_name c) n f Z x) (calls_of P (own_name c)) (λ n f pool r. calls_put P (own_name c) n f pool r) 0 P.fields pool a.0 a.1)
-    (grow_puts (λ Z n k i. some_op (calls n) P ≡ true → IsMethodAt k.name.class (duplicate_name k.name.name) (with_context k.name.descriptor) Z i) (duplicate_call P) (λ n k pool r. duplicate_call_puts P n k pool r) 0 P.methods a.0.1 b.0 b.1)) b.2
+    puts_end _ (λ Z names. AreNames P own Z names) pool b.0 (record { accessors = a.0.0; duplicates = b.0.0 }) r (λ Z h. record { accessors = h.0; duplicates = h.1 })
+    (puts_more (λ Z ys. Each (λ Z n f x. AreCalls own n f Z x) Z 0 P.fields ys) (λ Z ys. Each (λ Z n k i. some_op (calls n) own ≡ true → IsMethodAt k.name.class (duplicate_name k.name.name) (with_context k.name.descriptor) Z i) Z 0 P.methods ys) pool a.0 b.0
+    (grow_puts (λ Z n f x. AreCalls own n f Z x) (calls_of (uses_of own)) (λ n f pool r. calls_put own n f pool r) 0 P.fields pool a.0 a.1)
+    (grow_puts (λ Z n k i. some_op (calls n) own ≡ true → IsMethodAt k.name.class (duplicate_name k.name.name) (with_context k.name.descriptor) Z i) (duplicate_call (uses_of own)) (λ n k pool r. duplicate_call_puts own n k pool r) 0 P.methods a.0.1 b.0 b.1)) b.2
 
-pub record AreCopies (P : Program) (c : ClassFile) (Z : Pool) (ms : List Member) : Type 0 where
+pub record AreCopies (P : Program) (c : ClassFile) (part : Part) (Z : Pool) (ms : List Member) : Type 0 where
   pub names : Names
-  pub are_names : AreNames P c Z names
-  pub each : Each (λ Z n p x. IsCopyOf c names Z p x) Z 0 (zip P.methods (program_methods c)) ms
+  pub are_names : AreNames P part.methods Z names
+  pub each : Each (λ Z n p x. IsCopyOf c names Z p x) Z 0 (zip part.methods (own_members c part)) ms
 
-copies_put : (P : Program) (c : ClassFile) (pool : Pool) (r : List Member × Pool) → duplicates P c pool ≡ Ok r → Puts (λ Z ms. AreCopies P c Z ms) pool r
+copies_put : (P : Program) (c : ClassFile) (part : Part) (pool : Pool) (r : List Member × Pool) → duplicates P c (share_of c part) pool ≡ Ok r → Puts (λ Z ms. AreCopies P c part Z ms) pool r
 unfolding duplicates
-copies_put P c pool r e =
+copies_put P c part pool r e =
     let a = bind_ok _ _ r e in
-    let p = puts_more (λ Z names. AreNames P c Z names) (λ Z ys. Each (λ Z n p x. IsCopyOf c a.0.0 Z p x) Z 0 (zip P.methods (program_methods c)) ys) pool a.0 r
-    (names_put P c pool a.0 a.1)
-    (grow_puts (λ Z n p x. IsCopyOf c a.0.0 Z p x) (λ n (p : Method × Member). duplicate_of c a.0.0 p.0 p.1) (λ n p pool r. copy_of_puts c a.0.0 p pool r) 0 (zip P.methods (program_methods c)) a.0.1 r a.2) in
+    let p = puts_more (λ Z names. AreNames P part.methods Z names) (λ Z ys. Each (λ Z n p x. IsCopyOf c a.0.0 Z p x) Z 0 (zip part.methods (own_members c part)) ys) pool a.0 r
+    (names_put P part.methods pool a.0 a.1)
+    (grow_puts (λ Z n p x. IsCopyOf c a.0.0 Z p x) (λ n (p : Method × Member). duplicate_of c a.0.0 p.0 p.1) (λ n p pool r. copy_of_puts c a.0.0 p pool r) 0 (zip part.methods (own_members c part)) a.0.1 r a.2) in
     record { grown = p.grown; facts = λ Z g. let h = p.facts Z g in record { names = a.0.0; are_names = h.0; each = h.1 } }
 
-pub record AreNewMethods (P : Program) (c : ClassFile) (Z : Pool) (ms : List Member) : Type 0 where
+pub record AreNewMethods (P : Program) (c : ClassFile) (part : Part) (Z : Pool) (ms : List Member) : Type 0 where
   pub accessors : List Accessors
   pub copies : List Member
   pub are : ms ≡ flat_map both_of accessors ++ copies
-  pub each : Each (λ Z n f a. AreAccessors (own_name c) f Z a) Z 0 P.fields accessors
-  pub copied : AreCopies P c Z copies
+  pub each : Each (λ Z n f a. AreAccessors (own_name c) f Z a) Z 0 part.fields accessors
+  pub copied : AreCopies P c part Z copies
 
-added_put : (P : Program) (c : ClassFile) (pool : Pool) (r : List Member × Pool) → added_methods P c pool ≡ Ok r → Puts (λ Z ms. AreNewMethods P c Z ms) pool r
+added_put : (P : Program) (c : ClassFile) (part : Part) (pool : Pool) (r : List Member × Pool) → added_methods P c (share_of c part) pool ≡ Ok r → Puts (λ Z ms. AreNewMethods P c part Z ms) pool r
 unfolding added_methods
-added_put P c pool r e =
+added_put P c part pool r e =
     let a = bind_ok _ _ r e in
     let b = bind_ok _ _ r a.2 in
-    puts_end _ (λ Z ms. AreNewMethods P c Z ms) pool b.0 (flat_map both_of a.0.0 ++ b.0.0) r (λ Z h. record { accessors = a.0.0; copies = b.0.0; are = refl; each = h.0; copied = h.1 })
-    (puts_more (λ Z ys. Each (λ Z n f a. AreAccessors (own_name c) f Z a) Z 0 P.fields ys) (λ Z ms. AreCopies P c Z ms) pool a.0 b.0
-    (grow_puts (λ Z n f a. AreAccessors (own_name c) f Z a) (λ n f. accessors_of (own_name c) f) (λ n f pool r. accessors_put (own_name c) f pool r) 0 P.fields pool a.0 a.1) (copies_put P c a.0.1 b.0 b.1)) b.2
+    puts_end _ (λ Z ms. AreNewMethods P c part Z ms) pool b.0 (flat_map both_of a.0.0 ++ b.0.0) r (λ Z h. record { accessors = a.0.0; copies = b.0.0; are = refl; each = h.0; copied = h.1 })
+    (puts_more (λ Z ys. Each (λ Z n f a. AreAccessors (own_name c) f Z a) Z 0 part.fields ys) (λ Z ms. AreCopies P c part Z ms) pool a.0 b.0
+    (grow_puts (λ Z n f a. AreAccessors (own_name c) f Z a) (λ n f. accessors_of (own_name c) f) (λ n f pool r. accessors_put (own_name c) f pool r) 0 part.fields pool a.0 a.1) (copies_put P c part a.0.1 b.0 b.1)) b.2
 
-pub record AreMethods (P : Program) (c : ClassFile) (Z : Pool) (ms : List Member) : Type 0 where
+pub record AreMethods (P : Program) (c : ClassFile) (part : Part) (Z : Pool) (ms : List Member) : Type 0 where
   pub olds : List Member
   pub added : List Member
   pub are : ms ≡ olds ++ added
-  pub each : EachReplaced P c Z 0 0 c.methods olds
-  pub new : AreNewMethods P c Z added
+  pub each : EachReplaced P c part Z part.first part.wrapper c.methods olds
+  pub new : AreNewMethods P c part Z added
 
-methods_put : (P : Program) (c : ClassFile) (pool : Pool) (r : List Member × Pool) → new_methods P c pool ≡ Ok r → Puts (λ Z ms. AreMethods P c Z ms) pool r
+methods_put : (P : Program) (c : ClassFile) (part : Part) (pool : Pool) (r : List Member × Pool) → new_methods P c (share_of c part) pool ≡ Ok r → Puts (λ Z ms. AreMethods P c part Z ms) pool r
 unfolding new_methods
-methods_put P c pool r e =
+methods_put P c part pool r e =
     let a = bind_ok _ _ r e in
     let b = bind_ok _ _ r a.2 in
-    puts_end _ (λ Z ms. AreMethods P c Z ms) pool b.0 (b.0.0 ++ a.0.0) r (λ Z h. record { olds = b.0.0; added = a.0.0; are = refl; each = h.1; new = h.0 })
-    (puts_more (λ Z ms. AreNewMethods P c Z ms) (λ Z ys. EachReplaced P c Z 0 0 c.methods ys) pool a.0 b.0 (added_put P c pool a.0 a.1) (olds_put P c 0 0 c.methods a.0.1 b.0 b.1)) b.2
+    puts_end _ (λ Z ms. AreMethods P c part Z ms) pool b.0 (b.0.0 ++ a.0.0) r (λ Z h. record { olds = b.0.0; added = a.0.0; are = refl; each = h.1; new = h.0 })
+    (puts_more (λ Z ms. AreNewMethods P c part Z ms) (λ Z ys. EachReplaced P c part Z part.first part.wrapper c.methods ys) pool a.0 b.0 (added_put P c part pool a.0 a.1) (olds_put P c part part.first part.wrapper c.methods a.0.1 b.0 b.1)) b.2
 
--- what a rewritten class has
-pub record Rewrites (P : Program) (c new : ClassFile) : Type 0 where
+-- what a class that was rewritten with its part of the program has
+pub record Rewrites (P : Program) (c : ClassFile) (part : Part) (new : ClassFile) : Type 0 where
   pub grown : Grown c.pool new.pool
   pub this_class : new.this_class ≡ c.this_class
   pub more : List Member
   pub fields_are : new.fields ≡ c.fields ++ more
-  pub fields : AreNewFields P new.pool more
-  pub methods : AreMethods P c new.pool new.methods
+  pub super_class : new.super_class ≡ c.super_class
+  pub fields : AreNewFields part.fields new.pool more
+  pub methods : AreMethods P c part new.pool new.methods
 
-pub rewrites : (P : Program) (c new : ClassFile) → rewritten_class P c ≡ Ok new → Rewrites P c new
-unfolding rewritten_class
-rewrites P c new e =
+pub rewrites : (P : Program) (c : ClassFile) (part : Part) (new : ClassFile) → rewritten_part P c part ≡ Ok new → Rewrites P c part new
+unfolding rewritten_share
+rewrites P c part new e =
     let a = bind_ok _ _ new e in
     let b = bind_ok _ _ new a.2 in
-    let f = fields_put P c.pool a.0 a.1 in
-    let m = methods_put P c a.0.1 b.0 b.1 in
-    let p = puts_more (λ Z ms. AreNewFields P Z ms) (λ Z ms. AreMethods P c Z ms) c.pool a.0 b.0 f m in
+    let f = fields_put part.fields c.pool a.0 a.1 in
+    let m = methods_put P c part a.0.1 b.0 b.1 in
+    let p = puts_more (λ Z ms. AreNewFields part.fields Z ms) (λ Z ms. AreMethods P c part Z ms) c.pool a.0 b.0 f m in
     let h = p.facts b.0.1 (grown_refl b.0.1) in
-    subst (Rewrites P c) (ok_new _ new b.2) (record { grown = p.grown; this_class = refl; more = a.0.0; fields_are = refl; fields = h.0; methods = h.1 })
+    subst (Rewrites P c part) (ok_new _ new b.2) (record { grown = p.grown; this_class = refl; super_class = refl; more = a.0.0; fields_are = refl; fields = h.0; methods = h.1 })
   where
     ok_new : (x y : ClassFile) → fine x ≡ fine y → x ≡ y
     ok_new x y e = cc

@@ -1,6 +1,6 @@
 -- What the wrappers of a rewritten class mean.
-use Rattle.std.proofs.Common.{◌≡◌, ℕ, ◌+◌, ◌<◌, ◌≤◌, max, Bool, true, false, ℤ, Option, List, [], ◌∷◌, Some, None, Ok, refl, sym, ap, ◌∙◌, arith}
-use Rattle.std.specs.Prelude.{pos, slice_get, if◌then◌else◌}
+use Rattle.std.proofs.Common.{◌≡◌, ℕ, ◌+◌, ◌<◌, ◌≤◌, max, false, ℤ, Option, List, [], ◌∷◌, Some, None, Ok, refl, sym, ap, ◌∙◌, arith}
+use Rattle.std.specs.Prelude.{slice_get}
 use Rattle.std.specs.List.{AllByRecursion}
 use Rattle.std.proofs.lemmas.Bool.Decides.{nat_tests}
 use Rattle.jmodel.specs.declared.name.MethodName.{MethodName}
@@ -14,9 +14,9 @@ use Rattle.jmodel.specs.Program.{Method, Program}
 use Rattle.jmodel.specs.Layout.{text_or_none}
 use Rattle.jmodel.specs.ClassRules.{IsAttribute, IsCode}
 use Rattle.jmodel.specs.ClassReading.{code_of}
-use Rattle.jmodel.specs.Rewriting.{duplicate, with_context, wrapper_method, body_end, conflict_at, catch, duplicate_name}
-use Rattle.jmodel.specs.Decoding.{own_name}
-use Rattle.jmodel.specs.Linking.{shape_of, is_root, rewritten_methods, symbols_of, method_of, retries_of}
+use Rattle.jmodel.specs.Rewriting.{duplicate, wrapper_method, body_end, conflict_at, catch}
+use Rattle.jmodel.specs.Decoding.{Symbols, own_name}
+use Rattle.jmodel.specs.Linking.{shape_of, method_of, retries_of}
 use Rattle.jmodel.specs.Constants.{as_int}
 use Rattle.jmodel.proofs.Moved.{narrow}
 use Rattle.jmodel.specs.Relocation.{relocated}
@@ -32,8 +32,10 @@ use Rattle.rewriter.proofs.Laid.{IsLaidCode, laid_is}
 use Rattle.rewriter.proofs.Attempts.{Named, wrapper_ops, wrapper_means, wrapper_read, wrapper_rules, wrapper_catches}
 use Rattle.rewriter.proofs.Whole.{of_method_ok, IsWrapped}
 use Rattle.rewriter.proofs.Old.{IsOld}
-use Rattle.rewriter.proofs.Numbers.{wanted}
-use Rattle.rewriter.proofs.Tables.{Known, own_same, calls_copy, method_class}
+use Rattle.rewriter.proofs.Numbers.{copy_wanted}
+use Rattle.rewriter.proofs.Tables.{Known, own_same}
+use Rattle.rewriter.proofs.Tied.{Tied}
+use Rattle.rewriter.specs.Part.{Part}
 
 -- the code of a wrapper
 pub record IsLoop (k : Method) (a : Opening) (e : Ending) (bytes : List ℕ) : Type 0 where
@@ -54,9 +56,15 @@ name_of_parts class name descriptor = record { class = class; name = name; descr
 greater : (n : ℕ) → n ≤ 1000 → max (n + 1) 3 < 65536
 greater n h = grind (arith, nat_tests)
 
-module _ (c new : ClassFile) (P : Program) (K : Known c new P) (n id : ℕ) (m x : Member) (k : Method) (t d : List ℕ) (named : utf8 c.pool m.name ≡ Some t) (described : utf8 c.pool m.descriptor ≡ Some d)
-    (at : slice_get P.methods n ≡ Some k) (h : IsOld c P.fields m k) (lawful : AllByRecursion (IsAttribute c.pool) m.attributes)
-    (attempts : ℤ) (marked : retries_of c.pool m ≡ Some attempts) (w : IsWrapped c new.pool id attempts k m x) where
+module _ (s0 s : Symbols) (P : Program) (part : Part) (K : Known s0 s P part) (T : Tied s0 s P) (n id : ℕ) (m x : Member) (k : Method) (t d : List ℕ) (named : utf8 s0.class.pool m.name ≡ Some t) (described : utf8 s0.class.pool m.descriptor ≡ Some d)
+    (at : slice_get P.methods n ≡ Some k) (h : IsOld s0 m k) (lawful : AllByRecursion (IsAttribute s0.class.pool) m.attributes)
+    (attempts : ℤ) (marked : retries_of s0.class.pool m ≡ Some attempts) (w : IsWrapped s0.class s.class.pool id attempts k m x) where
+  abbrev c : ClassFile
+  c = s0.class
+
+  abbrev new : ClassFile
+  new = s.class
+
   few : k.params ≤ 1000
   few = let r = h.room in let l = h.locals in let f = h.few in omega (arith, r, l, f)
 
@@ -64,16 +72,16 @@ module _ (c new : ClassFile) (P : Program) (K : Known c new P) (n id : ℕ) (m x
   loop = loop_is k w.opening w.ending w.bytes w.laid
 
   owner : k.name.class ≡ own_name c
-  owner = method_class c new P K n k at
+  owner = ap (λ (y : MethodName). y.class) h.name
 
-  names : Named (symbols_of new P.fields (rewritten_methods P new)) id (duplicate P n) (as_int attempts) w.opening w.ending
+  names : Named s id (duplicate P n) (as_int attempts) w.opening w.ending
   names = record {
     opens = w.opens;
     duplicate = record {
-      name = wanted (own_name c) (duplicate_name k.name.name) (with_context k.name.descriptor);
+      name = copy_wanted k;
       few = w.ends.duplicate_is.1;
-      is = w.ends.duplicate_is.0 ∙ ap (λ (y : List ℕ). Some (wanted y (duplicate_name k.name.name) (with_context k.name.descriptor))) owner;
-      means = calls_copy c new P K n k at;
+      is = w.ends.duplicate_is.0;
+      means = T.copies n k at;
     };
     commit_is = w.ends.commit_is.0;
     commit_few = w.ends.commit_is.1;
@@ -95,12 +103,11 @@ module _ (c new : ClassFile) (P : Program) (K : Known c new P) (n id : ℕ) (m x
 
   -- the code of a wrapper keeps the rules of code
   pub loop_rules : IsCode new.pool loop.code
-  loop_rules = wrapper_rules k.params k.gives w.opening w.ending (symbols_of new P.fields (rewritten_methods P new)) small id (duplicate P n) (as_int attempts) names
+  loop_rules = wrapper_rules k.params k.gives w.opening w.ending s small id (duplicate P n) (as_int attempts) names
       (max (k.params + 1) 3) (k.params + 2) loop.code loop.laid (greater k.params few) (omega (arith, few))
 
-  pub wrapper_is : HasMark c.pool m → method_of (symbols_of new P.fields (rewritten_methods P new)) false x ≡ Some (wrapper_method P id n attempts k)
+  pub wrapper_is : HasMark c.pool m → method_of s false x ≡ Some (wrapper_method P id n attempts k)
   wrapper_is sound =
-      let s = symbols_of new P.fields (rewritten_methods P new) in
       let L = relocated (wrapper_blocks k.params k.gives w.opening w.ending) [] in
       let swapped = code_swapped c.pool new.pool K.rewritten.grown w.bytes m.attributes h.coded.code lawful (decoded_is c m h.coded h.decodes).code in
       let mark = retries_swapped c.pool new.pool K.rewritten.grown w.bytes m t d named described lawful sound in
@@ -120,7 +127,7 @@ module _ (c new : ClassFile) (P : Program) (K : Known c new P) (n id : ℕ) (m x
       let it = coded_means s false (with_code c.pool w.bytes m) loop.code L t d h.shape (wrapper_ops k.params k.gives w.opening w.ending s small id (duplicate P n) (as_int attempts) names)
       (catch 6 (body_end k.params) (conflict_at k.gives k.params) Conflict ∷ catch 6 (body_end k.params) (conflict_at k.gives k.params + 4) Any ∷ []) (Some attempts) facts in
       let own_text : t ≡ k.name.name = sym (ap (λ (y : MethodName). y.name) h.name ∙ ap text_or_none named) in
-      let own_class : own_name new ≡ k.name.class = own_same c new P K ∙ sym owner in
+      let own_class : own_name new ≡ k.name.class = own_same s0 s P part K ∙ sym owner in
       let name_is : record { class = own_name new; name = t; descriptor = d } ≡ record { class = k.name.class; name = k.name.name; descriptor = k.name.descriptor } =
       ap (λ (y : List ℕ). name_of_parts y t d) own_class ∙ ap (λ (y : List ℕ). name_of_parts k.name.class y d) own_text ∙ ap (λ (y : List ℕ). name_of_parts k.name.class k.name.name y) (sym descriptor_is) in
       let retries : k.retries ≡ Some attempts = h.retries ∙ marked in

@@ -1,5 +1,9 @@
 pub mod Adding
+pub mod Members
+pub mod Gathered
+pub mod Part
+pub mod Rewritten
+pub mod RewrittenClasses
 pub mod Made
 pub mod Meaning
-pub mod Members
-pub mod Rewritten
+pub mod ClassesMeaning

@@ -1,6 +1,6 @@
 -- The members that rewriting adds to a class and replaces in it (Korland, Shavit, Felber, MULTIPROG 2010, in this project's
 -- form), with the entries that they name. Methods are static, take values of one word and give one or nothing.
-use Rattle.std.specs.Prelude.{ℕ, ℤ, zero, suc, pos, negsuc, ◌+◌, ◌/◌, ◌%◌, max, List, [], ◌∷◌, ◌++◌, map, Option, Some, None, Result, Ok, Err, Bool, true, false, ◌&&◌, nat_eq, nat_lt, int_le, if◌then◌else◌, codes, bit_and, bit_or, slice_get, slice_index}
+use Rattle.std.specs.Prelude.{ℕ, ℤ, zero, suc, pos, negsuc, ◌+◌, ◌/◌, ◌%◌, max, List, [], ◌∷◌, ◌++◌, map, Option, Some, None, Result, Ok, Err, Bool, true, false, ◌&&◌, ◌||◌, nat_eq, nat_lt, int_le, if◌then◌else◌, codes, bit_and, bit_or, slice_get, slice_index}
 use Rattle.std.specs.List.{list_any}
 use Rattle.std.specs.Int.{w64, cast_signed}
 use Rattle.jmodel.specs.declared.class_file.Handler.{Handler}
@@ -15,7 +15,7 @@ use Rattle.jmodel.specs.declared.op.Op.TheVariants.{Load, Store, Increment, GetS
 use Rattle.jmodel.specs.ClassFile.{Attribute, Member, Pool, ClassFile, Code, code_spelling}
 use Rattle.jmodel.specs.ClassRules.{is_named}
 use Rattle.jmodel.specs.Name.{printed}
-use Rattle.jmodel.specs.Program.{Field, Method, Program}
+use Rattle.jmodel.specs.Program.{Field, Method}
 use Rattle.jmodel.specs.Linking.{Coded, decoded}
 use Rattle.jmodel.specs.Reading.{◌>>=◌}
 use Rattle.jmodel.specs.Relocation.{Block, relocate}
@@ -233,29 +233,50 @@ abbrev pub calls : ℕ → Op → Bool
 calls n (InvokeStatic m) = nat_eq m n
 calls n o = false
 
+-- which fields of a program code reads and writes, and which of its methods it calls, by their numbers
+pub record Uses : Type 0 where
+  pub read : ℕ → Bool
+  pub written : ℕ → Bool
+  pub called : ℕ → Bool
+
 -- whether some method has an instruction of a kind
-abbrev pub some_op : (Op → Bool) → Program → Bool
-some_op p P = list_any (λ (k : Method). list_any p k.ops) P.methods
+abbrev pub some_op : (Op → Bool) → List Method → Bool
+some_op p ks = list_any (λ (k : Method). list_any p k.ops) ks
+
+-- what an instruction uses, what instructions use, and what those of methods do
+abbrev pub op_uses : Op → Uses
+op_uses o = record { read = λ n. gets n o; written = λ n. puts n o; called = λ n. calls n o }
+
+abbrev pub ops_use : List Op → Uses
+ops_use os = record { read = λ n. list_any (gets n) os; written = λ n. list_any (puts n) os; called = λ n. list_any (calls n) os }
+
+abbrev pub uses_of : List Method → Uses
+uses_of ks = record { read = λ n. some_op (gets n) ks; written = λ n. some_op (puts n) ks; called = λ n. some_op (calls n) ks }
+
+-- what either of two uses
+abbrev pub both_use : Uses → Uses → Uses
+both_use a b = record { read = λ n. a.read n || b.read n; written = λ n. a.written n || b.written n; called = λ n. a.called n || b.called n }
 
 -- an entry is added where it is needed, else 0 stands for it
 unfoldable pub method_if_needed : Bool → List ℕ → List ℕ → List ℕ → Pool → Result (ℕ × Pool) Refusal
 method_if_needed needed class name descriptor pool = if needed then add_method class name descriptor pool else Ok (0, pool)
 
-unfoldable pub getter_call : Program → List ℕ → ℕ → Field → Pool → Result (ℕ × Pool) Refusal
-getter_call P own n f pool = method_if_needed (some_op (gets n) P) own (getter_name f) (getter_type f.type) pool
+-- the accessors of a field of a number that duplicates call, which use these, in the class that declares the field
+unfoldable pub getter_call : Uses → ℕ → Field → Pool → Result (ℕ × Pool) Refusal
+getter_call uses n f pool = method_if_needed (uses.read n) f.class (getter_name f) (getter_type f.type) pool
 
-unfoldable pub setter_call : Program → List ℕ → ℕ → Field → Pool → Result (ℕ × Pool) Refusal
-setter_call P own n f pool = method_if_needed (some_op (puts n) P) own (setter_name f) (setter_type f.type) pool
+unfoldable pub setter_call : Uses → ℕ → Field → Pool → Result (ℕ × Pool) Refusal
+setter_call uses n f pool = method_if_needed (uses.written n) f.class (setter_name f) (setter_type f.type) pool
 
-unfoldable pub calls_of : Program → List ℕ → ℕ → Field → Pool → Result (Calls × Pool) Refusal
-calls_of P own n f pool = do
-  getter ← getter_call P own n f pool
-  setter ← setter_call P own n f getter.1
+unfoldable pub calls_of : Uses → ℕ → Field → Pool → Result (Calls × Pool) Refusal
+calls_of uses n f pool = do
+  getter ← getter_call uses n f pool
+  setter ← setter_call uses n f getter.1
   Ok (record { getter = getter.0; setter = setter.0 }, setter.1)
 
--- the duplicate of a method, where some duplicate calls it
-unfoldable pub duplicate_call : Program → ℕ → Method → Pool → Result (ℕ × Pool) Refusal
-duplicate_call P n k pool = method_if_needed (some_op (calls n) P) k.name.class (duplicate_name k.name.name) (with_context k.name.descriptor) pool
+-- the duplicate of a method of a number, where duplicates call it
+unfoldable pub duplicate_call : Uses → ℕ → Method → Pool → Result (ℕ × Pool) Refusal
+duplicate_call uses n k pool = method_if_needed (uses.called n) k.name.class (duplicate_name k.name.name) (with_context k.name.descriptor) pool
 
 -- ---- duplicates
 
@@ -267,7 +288,7 @@ abbrev pub setter_in : Option Calls → ℕ
 setter_in None = 0
 setter_in (Some c) = c.setter
 
--- what the duplicates of a class name: accessors by fields, and duplicates by methods
+-- what the duplicates of a class name: accessors by the fields of the program, and duplicates by its methods
 pub record Names : Type 0 where
   pub accessors : List Calls
   pub duplicates : List ℕ

@@ -1,14 +1,14 @@
--- The rewriting of a class, part after part.
-use Rattle.std.specs.Prelude.{◌≡◌, ℕ, ℤ, ◌+◌, List, [], ◌∷◌, ◌++◌, zip, Option, Some, None, Result, Ok, slice_get, if◌then◌else◌}
+-- The rewriting of a class with its part of a program, step after step.
+use Rattle.std.specs.Prelude.{◌≡◌, ℕ, ℤ, ◌+◌, Bool, List, [], ◌∷◌, ◌++◌, zip, Option, Some, None, Result, Ok, slice_get, if◌then◌else◌}
 use Rattle.std.specs.List.{flat_map}
 use Rattle.jmodel.specs.declared.refusal.Refusal.{Refusal}
 use Rattle.jmodel.specs.ClassFile.{Member, Pool, ClassFile}
 use Rattle.jmodel.specs.Program.{Field, Method, Program}
 use Rattle.jmodel.specs.Decoding.{own_name}
-use Rattle.jmodel.specs.Taken.{is_taken}
-use Rattle.jmodel.specs.Linking.{is_root, program_methods, retries_of, is_marked}
+use Rattle.jmodel.specs.Linking.{is_root, retries_of}
 use Rattle.jmodel.specs.Reading.{◌>>=◌}
-use Rattle.rewriter.specs.Members.{Names, address_member, base_member, accessors_of, calls_of, duplicate_call, duplicate_of, wrapper_of}
+use Rattle.rewriter.specs.Members.{Names, uses_of, address_member, base_member, accessors_of, calls_of, duplicate_call, duplicate_of, wrapper_of}
+use Rattle.rewriter.specs.Part.{Part, Share, share_of}
 use Rattle.rewriter.specs.declared.accessors.Accessors.{Accessors}
 
 -- what each item gives, the first with number n, one after another
@@ -27,31 +27,31 @@ bases (f ∷ fs) pool = base_member pool >>= λ base. Ok (base.0 ∷ [], base.1)
 abbrev pub both_of : Accessors → List Member
 both_of a = a.getter ∷ a.setter ∷ []
 
--- the fields that are added
-unfoldable pub added_fields : Program → Pool → Result (List Member × Pool) Refusal
-added_fields P pool = do
-  addresses ← grow_from (λ n f. address_member f) 0 P.fields pool
-  base ← bases P.fields addresses.1
+-- the fields that are added for those of a class
+unfoldable pub added_fields : List Field → Pool → Result (List Member × Pool) Refusal
+added_fields fs pool = do
+  addresses ← grow_from (λ n f. address_member f) 0 fs pool
+  base ← bases fs addresses.1
   Ok (addresses.0 ++ base.0, base.1)
 
--- what duplicates name
-unfoldable pub names_of : Program → ClassFile → Pool → Result (Names × Pool) Refusal
-names_of P c pool = do
-  calls ← grow_from (calls_of P (own_name c)) 0 P.fields pool
-  copies ← grow_from (duplicate_call P) 0 P.methods calls.1
+-- what the duplicates of a class with these methods of the program name
+unfoldable pub names_of : Program → List Method → Pool → Result (Names × Pool) Refusal
+names_of P own pool = do
+  calls ← grow_from (calls_of (uses_of own)) 0 P.fields pool
+  copies ← grow_from (duplicate_call (uses_of own)) 0 P.methods calls.1
   Ok (record { accessors = calls.0; duplicates = copies.0 }, copies.1)
 
 -- the duplicates, with the methods that they call
-unfoldable pub duplicates : Program → ClassFile → Pool → Result (List Member × Pool) Refusal
-duplicates P c pool = do
-  names ← names_of P c pool
-  grow_from (λ n (p : Method × Member). duplicate_of c names.0 p.0 p.1) 0 (zip P.methods (program_methods c)) names.1
+unfoldable pub duplicates : Program → ClassFile → Share → Pool → Result (List Member × Pool) Refusal
+duplicates P c share pool = do
+  names ← names_of P share.methods pool
+  grow_from (λ n (p : Method × Member). duplicate_of c names.0 p.0 p.1) 0 (zip share.methods share.members) names.1
 
 -- the methods that are added: accessors, then duplicates
-unfoldable pub added_methods : Program → ClassFile → Pool → Result (List Member × Pool) Refusal
-added_methods P c pool = do
-  accessors ← grow_from (λ n f. accessors_of (own_name c) f) 0 P.fields pool
-  copies ← duplicates P c accessors.1
+unfoldable pub added_methods : Program → ClassFile → Share → Pool → Result (List Member × Pool) Refusal
+added_methods P c share pool = do
+  accessors ← grow_from (λ n f. accessors_of (own_name c) f) 0 share.fields pool
+  copies ← duplicates P c share accessors.1
   Ok (flat_map both_of accessors.0 ++ copies.0, copies.1)
 
 -- a method of the program that may make so many attempts gets its wrapper, any other stays as it is
@@ -65,33 +65,34 @@ wrapper_if c n None k m pool = Ok (m, pool)
 abbrev pub replaced : Program → ClassFile → ℕ → ℕ → Member → Pool → Result (Member × Pool) Refusal
 replaced P c n id m pool = wrapper_if c id (retries_of c.pool m) (slice_get P.methods n) m pool
 
--- the number of the next taken method
-abbrev pub number_behind : ClassFile → ℕ → Member → ℕ
-number_behind c n m = if is_taken c m then n + 1 else n
+-- the number of the next taken method, behind one that is taken or not
+abbrev pub number_behind : Bool → ℕ → ℕ
+number_behind taken n = if taken then n + 1 else n
 
 -- the number of the next wrapper
 abbrev pub id_behind : Pool → ℕ → Member → ℕ
 id_behind pool id m = if is_root pool m then id + 1 else id
 
-abbrev pub old_from : Program → ClassFile → ℕ → ℕ → List Member → Pool → Result (List Member × Pool) Refusal
+-- methods, each with whether it is taken
+abbrev pub old_from : Program → ClassFile → ℕ → ℕ → List (Member × Bool) → Pool → Result (List Member × Pool) Refusal
 old_from P c n id [] pool = Ok ([], pool)
 old_from P c n id (m ∷ ms) pool = do
-  first ← replaced P c n id m pool
-  others ← old_from P c (number_behind c n m) (id_behind c.pool id m) ms first.1
+  first ← replaced P c n id m.0 pool
+  others ← old_from P c (number_behind m.1 n) (id_behind c.pool id m.0) ms first.1
   Ok (first.0 ∷ others.0, others.1)
 
 -- the old methods with wrappers among them, behind them those that are added, whose entries come first
-unfoldable pub new_methods : Program → ClassFile → Pool → Result (List Member × Pool) Refusal
-new_methods P c pool = do
-  added ← added_methods P c pool
-  olds ← old_from P c 0 0 c.methods added.1
+unfoldable pub new_methods : Program → ClassFile → Share → Pool → Result (List Member × Pool) Refusal
+new_methods P c share pool = do
+  added ← added_methods P c share pool
+  olds ← old_from P c share.first share.wrapper (zip c.methods share.flags) added.1
   Ok (olds.0 ++ added.0, olds.1)
 
--- the rewritten class
-unfoldable pub rewritten_class : Program → ClassFile → Result ClassFile Refusal
-rewritten_class P c = do
-  fields ← added_fields P c.pool
-  methods ← new_methods P c fields.1
+-- the rewriting of a class, whose share of the program this is
+unfoldable pub rewritten_share : Program → ClassFile → Share → Result ClassFile Refusal
+rewritten_share P c share = do
+  fields ← added_fields share.fields c.pool
+  methods ← new_methods P c share fields.1
   Ok (record {
     minor = c.minor;
     major = c.major;
@@ -104,6 +105,10 @@ rewritten_class P c = do
     methods = methods.0;
     attributes = c.attributes;
   })
+
+-- the same of its part
+abbrev pub rewritten_part : Program → ClassFile → Part → Result ClassFile Refusal
+rewritten_part P c part = rewritten_share P c (share_of c part)
 
 -- A class that keeps what another has: its pool and its fields are fronts, and all else but the methods is the same.
 pub record Keeps (old new : ClassFile) : Type 0 where

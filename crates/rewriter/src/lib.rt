@@ -5,6 +5,7 @@
 mod accessors;
 mod adding;
 mod bytes;
+mod classes;
 mod copies;
 mod descriptors;
 mod duplicates;
@@ -15,9 +16,11 @@ mod loops;
 mod meaning;
 mod names;
 mod rewriting;
+mod share;
 mod typed;
+mod uses;
 mod wrappers;
 
+pub use classes::rewrite_classes;
 pub use meaning::{form_law, rewriting_law};
-pub use rewriting::rewrite_class;
 pub use typed::{Rewriting, rewrite};

@@ -1,26 +1,24 @@
 //! The rewriting of a class, part after part.
-ghost use Rattle.std.specs.Prelude.{◌≡◌, Some, map, zip, option_copied, IfOk, IfSome};
+ghost use Rattle.std.specs.Prelude.{◌≡◌, ◌<◌, ◌^◌, map, zip, option_copied, IfOk, IfSome};
 ghost use Rattle.std.specs.List.{flat_map, AllByRecursion};
 ghost use Rattle.jmodel.specs.ClassFile.{Member as MemberForm};
 ghost use Rattle.jmodel.specs.Program.{Method as MethodForm};
 ghost use Rattle.jmodel.specs.Reading.{Gives};
-ghost use Rattle.jmodel.specs.Decoding.{own_name as own_name_of};
-ghost use Rattle.jmodel.specs.Taken.{is_taken};
-ghost use Rattle.jmodel.specs.Linking.{linked};
 ghost use Rattle.rewriter.specs.Adding.{Grows};
-ghost use Rattle.rewriter.specs.Made.{IsSmallMethod, CanBeMade};
+ghost use Rattle.rewriter.specs.Made.{IsSmallMethod, CanBeMade, AreMade, CanBeRewritten};
 ghost use Rattle.rewriter.specs.Members.{address_member as address, accessors_of as accessors, duplicate_of as duplicate};
-ghost use Rattle.rewriter.specs.Rewritten.{grow_from, wrapper_if as wrapper_of_some, replaced as replaced_method, old_from, bases as base_of, both_of, added_fields as all_fields, duplicates as all_duplicates, added_methods as all_added, new_methods as all_methods, rewritten_class, Keeps};
+ghost use Rattle.rewriter.specs.Rewritten.{grow_from, wrapper_if as wrapper_of_some, replaced as replaced_method, old_from, bases as base_of, both_of, added_fields as all_fields, duplicates as all_duplicates, added_methods as all_added, new_methods as all_methods, rewritten_share};
 
 use crate::accessors::{Accessors, accessors_of};
 use crate::copies::{copy_attributes, copy_member, copy_members, copy_pool};
 use crate::duplicates::duplicate_of;
 use crate::fields::{address_member, base_member};
 use crate::names::{Names, names_of};
+use crate::share::Share;
 use crate::wrappers::wrapper_of;
 use const_pool::{ClassFile, Member, Pool};
 use hierarchy::symbols::own_name;
-use hierarchy::{Field, Method, Program, are_taken, is_root, program_methods, retries_of};
+use hierarchy::{Field, Method, Program, is_root, retries_of};
 use jmodel::Halt;
 use std::alloc::{AllocError, Global};
 
@@ -46,11 +44,11 @@ fn bases(alloc: Global, pool: &mut Pool, fields: &[Field]) -> Result<Vec<Member>
 }
 
 #[tactic(auto, unfolding(crate::specs::Rewritten::added_fields))]
-fn added_fields(alloc: Global, pool: &mut Pool, original: &Program) -> Result<Vec<Member>, Halt>
-    ensures { Grows (λ v. v.items) result pool.new (all_fields original.now pool.old) }
+fn added_fields(alloc: Global, pool: &mut Pool, fields: &[Field]) -> Result<Vec<Member>, Halt>
+    ensures { Grows (λ v. v.items) result pool.new (all_fields fields.now pool.old) }
 {
-    let mut members = addresses(alloc, pool, original.fields())?;
-    let mut base = bases(alloc, pool, original.fields())?;
+    let mut members = addresses(alloc, pool, fields)?;
+    let mut base = bases(alloc, pool, fields)?;
     members.append(&mut base)?;
     Ok(members)
 }
@@ -95,20 +93,13 @@ fn duplicates(
     pool: &mut Pool,
     original: &Program,
     class: &ClassFile,
+    share: &Share<'_>,
 ) -> Result<Vec<Member>, Halt>
-    requires { linked class.now ≡ Some original.now }
-    ensures { Grows (λ v. v.items) result pool.new (all_duplicates original.now class.now pool.old) }
+    requires { AreMade class.now share.now }
+    ensures { Grows (λ v. v.items) result pool.new (all_duplicates original.now class.now share.now pool.old) }
 {
-    let names = names_of(alloc, pool, original, class)?;
-    let members = program_methods(alloc, class)?;
-    duplicate_each(
-        alloc,
-        pool,
-        class,
-        &names,
-        original.methods(),
-        members.as_slice(),
-    )
+    let names = names_of(alloc, pool, original, share.methods())?;
+    duplicate_each(alloc, pool, class, &names, share.methods(), share.members())
 }
 
 // A method of the program that may make so many attempts gets its wrapper, any other stays as it is.
@@ -149,22 +140,23 @@ fn replaced(
     wrapper_if(alloc, pool, class, wrapper, attempts, method, member)
 }
 
-// The old methods, with the wrapper of each marked one and each static initialiser in its place. The flags say which methods are taken.
+// The old methods, with the wrapper of each marked one and each static initialiser in its place.
 fn old_methods(
     alloc: Global,
     pool: &mut Pool,
     original: &Program,
     class: &ClassFile,
-    flags: &[bool],
+    share: &Share<'_>,
 ) -> Result<Vec<Member>, Halt>
     requires small { AllByRecursion IsSmallMethod original.now.methods }
-    requires told { flags.now ≡ map (is_taken class.now) class.now.methods }
-    ensures { Grows (λ v. v.items) result pool.new (old_from original.now class.now 0 0 class.now.methods pool.old) }
+    requires number { share.now.first < 2 ^ 63 }
+    requires wrapper { share.now.wrapper < 2 ^ 63 }
+    ensures { Grows (λ v. v.items) result pool.new (old_from original.now class.now share.now.first share.now.wrapper (zip class.now.methods share.now.flags) pool.old) }
 {
     let mut members = Vec::new(alloc);
-    let mut number = 0;
-    let mut wrapper = 0;
-    for (member, is_taken) in class.methods.iter().zip(flags) {
+    let mut number = share.first();
+    let mut wrapper = share.wrapper();
+    for (member, is_taken) in class.methods.iter().zip(share.flags()) {
         members.push(replaced(alloc, pool, original, class, number, wrapper, member)?)?;
         number += usize::from(*is_taken);
         wrapper += usize::from(is_root(&class.pool, member));
@@ -191,12 +183,13 @@ fn added_methods(
     pool: &mut Pool,
     original: &Program,
     class: &ClassFile,
+    share: &Share<'_>,
 ) -> Result<Vec<Member>, Halt>
-    requires { linked class.now ≡ Some original.now }
-    ensures { Grows (λ v. v.items) result pool.new (all_added original.now class.now pool.old) }
+    requires { AreMade class.now share.now }
+    ensures { Grows (λ v. v.items) result pool.new (all_added original.now class.now share.now pool.old) }
 {
-    let accessors = all_accessors(alloc, pool, own_name(class), original.fields())?;
-    let mut copies = duplicates(alloc, pool, original, class)?;
+    let accessors = all_accessors(alloc, pool, own_name(class), share.fields())?;
+    let mut copies = duplicates(alloc, pool, original, class, share)?;
     let mut members = in_order(alloc, accessors)?;
     members.append(&mut copies)?;
     Ok(members)
@@ -208,26 +201,41 @@ fn new_methods(
     pool: &mut Pool,
     original: &Program,
     class: &ClassFile,
+    share: &Share<'_>,
 ) -> Result<Vec<Member>, Halt>
-    requires { linked class.now ≡ Some original.now }
-    ensures { Grows (λ v. v.items) result pool.new (all_methods original.now class.now pool.old) }
+    requires { CanBeRewritten original.now class.now share.now }
+    ensures { Grows (λ v. v.items) result pool.new (all_methods original.now class.now share.now pool.old) }
 {
-    let mut added = added_methods(alloc, pool, original, class)?;
-    let flags = are_taken(alloc, class)?;
-    let mut members = old_methods(alloc, pool, original, class, flags.as_slice())?;
+    let mut added = added_methods(alloc, pool, original, class, share)?;
+    let mut members = old_methods(alloc, pool, original, class, share)?;
     members.append(&mut added)?;
     Ok(members)
 }
 
-#[tactic(auto, unfolding(crate::specs::Rewritten::rewritten_class))]
-fn rewritten(alloc: Global, class: &ClassFile, original: &Program) -> Result<ClassFile, Halt>
-    requires { linked class.now ≡ Some original.now }
-    ensures { Gives (λ c. c) result (rewritten_class original.now class.now) }
+/// The rewriting of a class with its share of a program: a field for the place of each static field and one for the static base, accessors,
+/// a duplicate of each method of the program, and a wrapper in the place of each marked one and each static initialiser. Every other method
+/// stays as it is. The old pool is a front of the new one, to which only needed entries are added. Refused, at the first member that can't
+/// be made, as
+///
+/// - `TooManyPlaces` with an old method's printed name and `Locals` or `Stack`, where its duplicate would have more than two
+///   bytes count, or `Methods`, where it would get the wrapper of number 65536 or more;
+/// - else `PoolFull`, whose class the caller names, where the pool's count would pass 65535;
+/// - else `CodeTooLarge` or `BranchTooFar` with an old method's printed name, where the code of its duplicate or wrapper
+///   can't be laid; the pc is that of the jump in the old method.
+#[tactic(auto, unfolding(crate::specs::Rewritten::rewritten_share))]
+pub fn rewrite_share(
+    alloc: Global,
+    class: &ClassFile,
+    original: &Program,
+    share: &Share<'_>,
+) -> Result<ClassFile, Halt>
+    requires { CanBeRewritten original.now class.now share.now }
+    ensures { Gives (λ c. c) result (rewritten_share original.now class.now share.now) }
 {
     let mut pool = copy_pool(alloc, &class.pool)?;
     let mut fields = copy_members(alloc, class.fields.as_slice())?;
-    let mut added = added_fields(alloc, &mut pool, original)?;
-    let methods = new_methods(alloc, &mut pool, original, class)?;
+    let mut added = added_fields(alloc, &mut pool, share.fields())?;
+    let methods = new_methods(alloc, &mut pool, original, class, share)?;
     fields.append(&mut added)?;
     Ok(ClassFile {
         minor: class.minor,
@@ -241,27 +249,4 @@ fn rewritten(alloc: Global, class: &ClassFile, original: &Program) -> Result<Cla
         methods,
         attributes: copy_attributes(alloc, class.attributes.as_slice())?,
     })
-}
-
-/// The rewriting of a class over the program that it means: a field for the place of each static field and one for the
-/// static base, accessors, a duplicate of each method of the program, and a wrapper in the place of each marked one and each static
-/// initialiser. Every other method stays as it is. The old pool is a front of the new one, to which only needed entries are added. Refused, at the first member
-/// that can't be made, as
-///
-/// - `TooManyPlaces` with an old method's printed name and `Locals` or `Stack`, where its duplicate would have more than two
-///   bytes count;
-/// - else `PoolFull`, whose class the caller names, where the pool's count would pass 65535;
-/// - else `CodeTooLarge` or `BranchTooFar` with an old method's printed name, where the code of its duplicate or wrapper
-///   can't be laid; the pc is that of the jump in the old method.
-pub fn rewrite_class(
-    alloc: Global,
-    class: &ClassFile,
-    original: &Program,
-) -> Result<ClassFile, Halt>
-    // The program is the one that the class means.
-    requires { linked class.now ≡ Some original.now }
-    ensures exact { Gives (λ c. c) result (rewritten_class original.now class.now) }
-    ensures keeps { IfOk result (Keeps class.now) }
-{
-    rewritten(alloc, class, original)
 }

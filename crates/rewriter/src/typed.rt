@@ -1,26 +1,28 @@
-//! The rewriting of a class, with the program that it means and the types of its code.
-ghost use Rattle.std.specs.Prelude.{◌≡◌, ◌<◌, Some, Ok, IfOk, length};
-ghost use Rattle.std.specs.List.{AllByRecursion};
+//! The rewriting of classes, with the program that they mean and the types of its code.
+ghost use Rattle.std.specs.Prelude.{◌≡◌, ◌<◌, Ok, IfOk, length, map};
+ghost use Rattle.std.specs.List.{AllByRecursion, AllZip};
+ghost use Rattle.jmodel.specs.ClassFile.{ClassFile as ClassForm};
 ghost use Rattle.jmodel.specs.ClassRules.{IsClassFile};
-ghost use Rattle.jmodel.specs.Linking.{linked};
 ghost use Rattle.jmodel.specs.Reading.{Gives};
 ghost use Rattle.jmodel.specs.Rewriting.{rewritten};
 ghost use Rattle.jmodel.specs.Typing.{IsTypable};
 ghost use Rattle.verifier.specs.Answer.{IsInferred};
-ghost use Rattle.rewriter.specs.Meaning.{AreFiled, HasFewMembers};
-ghost use Rattle.rewriter.specs.Rewritten.{rewritten_class, Keeps};
+ghost use Rattle.rewriter.specs.ClassesMeaning.{AreLinked};
+ghost use Rattle.rewriter.specs.Meaning.{HasFewMembers};
+ghost use Rattle.rewriter.specs.Rewritten.{Keeps};
+ghost use Rattle.rewriter.specs.RewrittenClasses.{rewritten_classes};
 
-use crate::rewriting::rewrite_class;
+use crate::classes::rewrite_classes;
 use const_pool::ClassFile;
 use hierarchy::{BuildEnd, Program};
 use jmodel::{Halt, NoMemory, Typing};
-use std::alloc::Global;
+use std::alloc::{AllocError, Global};
 use verifier::{TypeEnd, infer};
 
-/// A rewritten class, and the program that it means.
+/// Rewritten classes, in the order of their originals, and the program that they mean.
 #[derive(Drop)]
 pub struct Rewriting {
-    pub class: ClassFile,
+    pub classes: Vec<ClassFile>,
     pub program: Program,
 }
 
@@ -42,20 +44,29 @@ impl Rewriting {
     }
 }
 
-/// The program of a rewritten class. It has one.
+fn references(alloc: Global, classes: &[ClassFile]) -> Result<Vec<&ClassFile>, AllocError>
+    ensures { IfOk result (λ v. map (λ c. c.now) v.items ≡ classes.now) }
+{
+    let mut all = Vec::new(alloc);
+    for class in classes {
+        all.push(class)?;
+    }
+    Ok(all)
+}
+
+/// The program of rewritten classes. They have one.
 fn rebuilt(
     alloc: Global,
-    class: &ClassFile,
-    instrumented: &ClassFile,
+    classes: &[&ClassFile],
+    instrumented: &[ClassFile],
     original: &Program,
 ) -> Result<Program, NoMemory>
-    requires form { IsClassFile class.now }
-    requires filed { AreFiled class.now }
-    requires links { linked class.now ≡ Some original.now }
-    requires rewrites { rewritten_class original.now class.now ≡ Ok instrumented.now }
+    requires linked { AreLinked (map (λ c. c.now) classes.now) original.now }
+    requires rewrites { rewritten_classes (map (λ c. c.now) classes.now) original.now ≡ Ok instrumented.now }
     ensures { IfOk result (λ p. p ≡ rewritten original.now) }
 {
-    match Program::rebuilt(alloc, instrumented, original) {
+    let list = references(alloc, instrumented)?;
+    match Program::rebuilt(alloc, list.as_slice(), original) {
         Ok(program) => Ok(program),
         Err(BuildEnd::NoMemory) => Err(NoMemory),
         Err(BuildEnd::Refused(_)) => unreachable!(),
@@ -63,26 +74,25 @@ fn rebuilt(
     }
 }
 
-/// The rewriting of a typed class, over the program that it means: the class as `rewrite_class` makes it, with its refusals; the
-/// program that this class means, each method of which has a typing (JVM Specification, Java SE 7, section 4.10). The class keeps
-/// the rules of class files, so it can be written, where it has at most 65535 fields and as many methods.
-pub fn rewrite(alloc: Global, class: &ClassFile, original: &Program) -> Result<Rewriting, Halt>
-    // The class is one that was read, and the program is the one that it means.
-    requires form { IsClassFile class.now }
-    requires filed { AreFiled class.now }
-    requires links { linked class.now ≡ Some original.now }
+/// The rewriting of typed classes, in the byte order of their names, over the program that they mean: the classes as
+/// `rewrite_classes` makes them, with its refusals; the program that they mean, each method of which has a typing (JVM Specification,
+/// Java SE 7, section 4.10). A class keeps the rules of class files, so it can be written, where it has at most 65535 fields and as many
+/// methods.
+pub fn rewrite(alloc: Global, classes: &[&ClassFile], original: &Program) -> Result<Rewriting, Halt>
+    // The classes are ones that were read, no two of one name, and the program is the one that they mean.
+    requires linked { AreLinked (map (λ c. c.now) classes.now) original.now }
     // Each method has a typing.
     requires typed { AllByRecursion (IsTypable original.now) original.now.methods }
-    ensures class { Gives (λ r. r.class) result (rewritten_class original.now class.now) }
-    ensures keeps { IfOk result (λ r. Keeps class.now r.class) }
-    ensures form { IfOk result (λ r. HasFewMembers r.class → IsClassFile r.class) }
+    ensures classes { Gives (λ r. r.classes.items) result (rewritten_classes (map (λ c. c.now) classes.now) original.now) }
+    ensures keeps { IfOk result (λ r. AllZip Keeps (map (λ c. c.now) classes.now) r.classes.items) }
+    ensures form { IfOk result (λ r. AllByRecursion (λ (c : ClassForm). HasFewMembers c → IsClassFile c) r.classes.items) }
     ensures program { IfOk result (λ r. r.program ≡ rewritten original.now) }
     ensures typed { IfOk result (λ r. AllByRecursion (IsTypable r.program) r.program.methods) }
 {
-    let instrumented = rewrite_class(alloc, class, original)?;
-    let program = rebuilt(alloc, class, &instrumented, original)?;
+    let instrumented = rewrite_classes(alloc, classes, original)?;
+    let program = rebuilt(alloc, classes, instrumented.as_slice(), original)?;
     Ok(Rewriting {
-        class: instrumented,
+        classes: instrumented,
         program,
     })
 }

@@ -10,18 +10,27 @@ use std::thread::Threads;
 use std::{fs, io};
 
 fn main(rt: HostRuntime) -> io::Result<()> {
-    let mut names = Vec::new(rt.alloc());
-    for entry in fs::read_dir(&rt, "rows")? {
-        names.push(String::from_str(rt.alloc(), entry?.file_name())?)?;
-    }
-    names.sort()?;
-    for name in &names {
+    for name in &names_in(&rt, rt.alloc(), "rows")? {
         print_row(&rt, rt.alloc(), name.as_str())?;
     }
     Ok(())
 }
 
-/// Makes the top call of a row, and prints its name, its status, what it wrote, and the file that it put into the row's folder `out`.
+/// The names of what a folder has, in order.
+fn names_in<R: Runtime + AllocGlobal>(
+    rt: &R,
+    alloc: Global,
+    path: &str,
+) -> io::Result<Vec<String>> {
+    let mut names = Vec::new(alloc);
+    for entry in fs::read_dir(rt, path)? {
+        names.push(String::from_str(alloc, entry?.file_name())?)?;
+    }
+    names.sort()?;
+    Ok(names)
+}
+
+/// Makes the top call of a row, and prints its name, its status, what it wrote, and the files that it put into the row's folder `out`.
 fn print_row<R: Runtime + AllocGlobal + Threads + Sync>(
     rt: &R,
     alloc: Global,
@@ -34,11 +43,11 @@ fn print_row<R: Runtime + AllocGlobal + Threads + Sync>(
     let text = str::from_utf8(out.written.as_slice()).unwrap_or("no text\n");
     print!(rt; "== {name}\nstatus {status}\n{text}")?;
     let put = format!(in alloc; "rows/{name}/out")?;
-    let Ok(entries) = fs::read_dir(rt, put.as_str()) else {
+    let Ok(files) = names_in(rt, alloc, put.as_str()) else {
         return Ok(());
     };
-    for entry in entries {
-        print_put(rt, alloc, name, entry?.file_name())?;
+    for file in &files {
+        print_put(rt, alloc, name, file.as_str())?;
     }
     Ok(())
 }

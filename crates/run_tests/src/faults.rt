@@ -49,6 +49,27 @@ fn a_read_and_a_put_that_fail_are_named(rt: HostRuntime) -> Result<(), Fail> {
     Ok(())
 }
 
+/// The example's class under the name Bounter.
+fn renamed() -> [u8; 201] {
+    let mut class = COUNTER;
+    class[16] = b'B';
+    class
+}
+
+#[test]
+fn a_put_that_fails_leaves_those_before_it(rt: HostRuntime) -> Result<(), Fail> {
+    let alloc = rt.alloc();
+    let mut folder = folder_of(alloc, COUNTER.as_slice(), THREE_CALLS)?;
+    folder.put("d/Bounter.class", renamed().as_slice())?;
+    folder.fail_puts.push(5)?;
+    let (status, written) = call(&rt, alloc, REWRITE, &mut folder, MemSink::new(alloc, 64))?;
+    assert_eq!(rt; status, 11);
+    assert!(rt; written.as_slice() == b"error 11 o/Counter.class\n".as_slice());
+    assert!(rt; folder.read("o/Bounter.class", 2000).is_ok());
+    assert!(rt; folder.read("o/Counter.class", 2000).is_err());
+    Ok(())
+}
+
 /// Whether a run on this class file and this script ends with this status and text.
 fn ends_as<R: Threads + Sync>(
     rt: &R,

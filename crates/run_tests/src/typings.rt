@@ -13,8 +13,8 @@ use std::alloc::Global;
 fn rewriting_of(alloc: Global, bytes: &[u8]) -> Result<Rewriting, RunEnd>
     ensures { IfOk result (λ r. AllByRecursion (IsTypable r.program) r.program.methods) }
 {
-    let class = class_of(alloc, bytes)?;
-    Ok(prepare(alloc, &class)?.rewriting)
+    let files = [class_of(alloc, bytes)?];
+    Ok(prepare(alloc, files.as_slice())?.rewriting)
 }
 
 /// How many places the stack has before an instruction of a method, and whether a long is topmost.

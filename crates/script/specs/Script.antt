@@ -1,6 +1,6 @@
--- Which JSON is a script for a program: what each lane calls in each phase, and the turns and attempts that each call may take. A script
--- that is none is refused, with the first of the rules below that it breaks, in their order.
-use Rattle.std.specs.Prelude.{◌≡◌, ◌⊎◌, ◌<◌, ◌≤◌, ℕ, ℤ, pos, negsuc, List, [], ◌∷◌, ◌++◌, length, map, sum_by, Option, Some, None, Result, Ok, Err, Bool, not, ◌&&◌, ◌==◌, nat_le, int_le, unsigned_abs, if◌then◌else◌, bytes_eq, codes, position, option_and_then, true, false, option_map, unwrap_or, slice_get, is_some}
+-- Which JSON is a script for classes and their program: what each lane calls in each phase, and the turns and attempts that each call may take.
+-- A script that is none is refused, with the first of the rules below that it breaks, in their order.
+use Rattle.std.specs.Prelude.{◌≡◌, ◌⊎◌, ◌<◌, ◌≤◌, ℕ, ℤ, pos, negsuc, List, [], ◌∷◌, ◌++◌, length, map, sum_by, Option, Some, None, Result, Ok, Err, Bool, not, ◌&&◌, ◌==◌, nat_le, int_le, unsigned_abs, if◌then◌else◌, bytes_eq, codes, position, option_and_then, true, false, option_map, unwrap_or, slice_get}
 use Rattle.std.specs.List.{list_any}
 use Rattle.std.specs.Str.{IsUtf8}
 use Rattle.serde_json.specs.Data.{Data}
@@ -17,7 +17,7 @@ use Rattle.jmodel.specs.Name.{printed}
 use Rattle.jmodel.specs.ClassFile.{ClassFile}
 use Rattle.jmodel.specs.ClassRules.{same_text}
 use Rattle.jmodel.specs.Program.{Method, Program, method_at}
-use Rattle.jmodel.specs.Decoding.{name_of}
+use Rattle.jmodel.specs.Classes.{methods_in, full_name}
 use Rattle.jmodel.specs.Descriptor.{Signature}
 use Rattle.jmodel.specs.DescriptorReading.{signature_of}
 use Rattle.jmodel.specs.WordTypes.{as_word}
@@ -101,9 +101,9 @@ numbers_within h =
     (within (codes "budget") (pos 1) (pos 1000000) h.budget
     (within (codes "attempts") (pos 1) (pos 1000000) h.attempts (Ok h)))
 
-abbrev pub is_within : ClassFile → Head → ℕ → Result Head Refusal
-is_within file head phases = numbers_within head >>= λ h.
-    within (codes "region") (pos (length (opening_words (file ∷ [])))) (pos 1048576) h.region
+abbrev pub is_within : List ClassFile → Head → ℕ → Result Head Refusal
+is_within cs head phases = numbers_within head >>= λ h.
+    within (codes "region") (pos (length (opening_words cs))) (pos 1048576) h.region
     (within (codes "phases") (pos 0) (pos 10000) (pos phases) (Ok h))
 
 -- ---- calls
@@ -124,12 +124,12 @@ call_text k = if is_marked k && can_be_named k.name then Some (printed k.name) e
 abbrev pub number_named : Program → List ℕ → Option ℕ
 number_named P text = position (λ o. same_text o text) (map call_text P.methods)
 
--- whether a text names a method of a class, marked or not
-abbrev pub names_method : ClassFile → List ℕ → Bool
-names_method file text = list_any (λ m. is_called text (name_of file m)) file.methods
+-- whether a text names a method of some class, marked or not
+abbrev pub names_method : List ClassFile → List ℕ → Bool
+names_method cs text = list_any (λ k. is_called text (full_name k)) (methods_in cs)
 
-abbrev pub not_callable : ClassFile → List ℕ → List ℕ → Refusal
-not_callable file path text = if names_method file text then NotAtomic path else UnknownMethod path
+abbrev pub not_callable : List ClassFile → List ℕ → List ℕ → Refusal
+not_callable cs path text = if names_method cs text then NotAtomic path else UnknownMethod path
 
 -- the least and the greatest number of a type
 abbrev pub least : WordType → ℤ
@@ -179,33 +179,33 @@ abbrev pub values_of : List WordType → List ℕ → List Data → Result (List
 values_of types path args = each_from (value_in types path) 0 args
 
 -- the call that stands at a path: a method of the program, with as many values as it takes, of their types
-abbrev pub known_at : ClassFile → Program → List ℕ → Data → Result Known Refusal
-known_at file P path d = must (is_object_of (codes "call" ∷ codes "args" ∷ []) d) (bad_shape path) (do
+abbrev pub known_at : List ClassFile → Program → List ℕ → Data → Result Known Refusal
+known_at cs P path d = must (is_object_of (codes "call" ∷ codes "args" ∷ []) d) (bad_shape path) (do
   text ← wanted as_str path (codes "call") d
   args ← wanted as_list path (codes "args") d
-  m ← or_refused (not_callable file (under path (codes "call")) text) (number_named P text)
+  m ← or_refused (not_callable cs (under path (codes "call")) text) (number_named P text)
   must (takes (method_at P m) (length args)) (BadArgs (under path (codes "args"))) (do
     values ← values_of (types_of (method_at P m)) (under path (codes "args")) args
     Ok (record { method = m; args = values })))
 
 -- a call of the lane at a path
-abbrev pub call_in : ClassFile → Program → List ℕ → ℕ → Data → Result Known Refusal
-call_in file P path i d = known_at file P (at path i) d
+abbrev pub call_in : List ClassFile → Program → List ℕ → ℕ → Data → Result Known Refusal
+call_in cs P path i d = known_at cs P (at path i) d
 
 -- a lane of the phase whose lanes stand at a path
-abbrev pub lane_in : ClassFile → Program → List ℕ → ℕ → List Data → Result (List Known) Refusal
-lane_in file P path l calls = each_from (call_in file P (at path l)) 0 calls
+abbrev pub lane_in : List ClassFile → Program → List ℕ → ℕ → List Data → Result (List Known) Refusal
+lane_in cs P path l calls = each_from (call_in cs P (at path l)) 0 calls
 
-abbrev pub lanes_of : ClassFile → Program → ℕ → List (List Data) → Result Phase Refusal
-lanes_of file P p lists = each_from (lane_in file P (lanes_path p)) 0 lists
+abbrev pub lanes_of : List ClassFile → Program → ℕ → List (List Data) → Result Phase Refusal
+lanes_of cs P p lists = each_from (lane_in cs P (lanes_path p)) 0 lists
 
-abbrev pub bag_of : ClassFile → Program → ℕ → List Data → Result (List Known) Refusal
-bag_of file P p calls = each_from (call_in file P (bag_path p)) 0 calls
+abbrev pub bag_of : List ClassFile → Program → ℕ → List Data → Result (List Known) Refusal
+bag_of cs P p calls = each_from (call_in cs P (bag_path p)) 0 calls
 
 -- a phase of a script of so many lanes
-abbrev pub phase_of : ClassFile → Program → ℕ → ℕ → Listed → Result ScriptPhase Refusal
-phase_of file P lanes p (InLanes lists) = lanes_of file P p lists >>= λ ls. Ok (Lanes ls)
-phase_of file P lanes p (InBag calls) = bag_of file P p calls >>= λ cs. Ok (Bag lanes cs)
+abbrev pub phase_of : List ClassFile → Program → ℕ → ℕ → Listed → Result ScriptPhase Refusal
+phase_of cs P lanes p (InLanes lists) = lanes_of cs P p lists >>= λ ls. Ok (Lanes ls)
+phase_of cs P lanes p (InBag calls) = bag_of cs P p calls >>= λ known. Ok (Bag lanes known)
 
 -- ---- scripts
 
@@ -228,30 +228,30 @@ script_with h phases =
     (Ok (record { budget = unsigned_abs h.budget; attempts = unsigned_abs h.attempts; lanes = unsigned_abs h.lanes; region = unsigned_abs h.region; phases = phases }))
 
 -- the script of a head and of the lists of its calls
-abbrev pub script_of : ClassFile → Program → Head → List Listed → Result Script Refusal
-script_of file P head lists = do
-  h ← is_within file head (length lists)
-  phases ← each_from (phase_of file P (unsigned_abs head.lanes)) 0 lists
+abbrev pub script_of : List ClassFile → Program → Head → List Listed → Result Script Refusal
+script_of cs P head lists = do
+  h ← is_within cs head (length lists)
+  phases ← each_from (phase_of cs P (unsigned_abs head.lanes)) 0 lists
   script_with h phases
 
--- the script that data are for a program and its class file
-abbrev pub script_in : ClassFile → Program → Data → Result Script Refusal
-script_in file P d = must (is_object_of script_keys d) (bad_shape []) (do
+-- the script that data are for classes and their program
+abbrev pub script_in : List ClassFile → Program → Data → Result Script Refusal
+script_in cs P d = must (is_object_of script_keys d) (bad_shape []) (do
   head ← head_of d
   lists ← lists_of head.lanes d
-  script_of file P head lists)
+  script_of cs P head lists)
 
--- The bytes are a script for a program and its class file.
-pub record IsScript (file : ClassFile) (P : Program) (bytes : List ℕ) (s : Script) : Type 0 where
+-- The bytes are a script for classes and their program.
+pub record IsScript (cs : List ClassFile) (P : Program) (bytes : List ℕ) (s : Script) : Type 0 where
   pub fits : length bytes ≤ 16777216
   pub text : IsUtf8 bytes
   pub value : Data
   pub value_is : read bytes ≡ Some value
-  pub script : script_in file P value ≡ Ok s
+  pub script : script_in cs P value ≡ Ok s
 
 -- Why they are none: there are too many, or they are no JSON, or a rule is broken, of which this is the first.
-abbrev pub IsFault : ClassFile → Program → List ℕ → Refusal → Type 0
-IsFault file P bytes r =
+abbrev pub IsFault : List ClassFile → Program → List ℕ → Refusal → Type 0
+IsFault cs P bytes r =
     ((16777216 < length bytes) × (r ≡ OverLimit (codes "script") (pos (length bytes))))
     ⊎ ((length bytes ≤ 16777216) × (((IsUtf8 bytes → read bytes ≡ None) × (r ≡ NotJson))
-    ⊎ ((d : Data) × (read bytes ≡ Some d) × (script_in file P d ≡ Err r))))
+    ⊎ ((d : Data) × (read bytes ≡ Some d) × (script_in cs P d ≡ Err r))))

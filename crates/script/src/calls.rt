@@ -1,24 +1,23 @@
 //! What the phases of a script call.
-ghost use Rattle.std.specs.Prelude.{◌≡◌, map, position, IfOk};
+ghost use Rattle.std.specs.Prelude.{◌≡◌, map, IfOk};
 ghost use Rattle.serde_json.specs.View.{view};
-ghost use Rattle.jmodel.specs.ClassRules.{same_text};
 ghost use Rattle.jmodel.specs.Reading.{Gives};
 ghost use Rattle.jmodel.specs.Program.{method_at};
 ghost use Rattle.jmodel.specs.Schedule.{takes as takes_them};
 ghost use Rattle.script.specs.Json.{or_refused, each_from, IsRefused};
-ghost use Rattle.script.specs.Script.{can_be_named as can_be_named_by, call_text as call_text_of, number_named, names_method as names_method_of, not_callable as not_callable_at, known_at, call_in, lane_in, lanes_of as lanes_in, bag_of as bag_in, phase_of as phase_in, values_of as values_in, types_of as types_of_method};
+ghost use Rattle.script.specs.Script.{number_named, not_callable as not_callable_at, known_at, call_in, lane_in, lanes_of as lanes_in, bag_of as bag_in, phase_of as phase_in, values_of as values_in, types_of as types_of_method};
 ghost use Rattle.script.specs.Seen.{values, lists as seen_lists};
 
 use crate::arguments::{parameter_types, values_of};
 use crate::json::{list_at, object_at, text_at};
 use crate::lists::{PhaseLists, bag_path, lanes_path};
+use crate::names::{Numbers, names_method, number_of, numbers_of};
 use crate::phases::{Calls, PhaseCalls};
 use crate::refusals::{at, under};
 use const_pool::ClassFile;
-use hierarchy::symbols::name_of;
-use hierarchy::{Method, Program};
+use hierarchy::Program;
 use jmodel::op::WordType;
-use jmodel::{Bytes, Halt, MethodName, Refusal, Value};
+use jmodel::{Bytes, Halt, Refusal, Value};
 use std::alloc::{AllocError, Global};
 use std::marker::Model;
 
@@ -52,80 +51,32 @@ impl Model for LaneCalls {
     ghost view = { λ l. l.calls.items };
 }
 
-/// The methods that a script may call, and those that it may not: a program and its class, and the texts that name the marked methods
-/// of the program, in order of their numbers.
-#[derive(Clone, Copy)]
+/// The methods that a script may call, and those that it may not: classes and their program.
+#[derive(Drop)]
 pub struct Methods<'a> {
-    pub class: &'a ClassFile,
-    pub program: &'a Program,
-    pub names: &'a [Option<Bytes>],
+    classes: &'a [&'a ClassFile],
+    program: &'a Program,
+    numbers: Numbers,
 }
 
-/// Whether a text can name a method: neither its class nor its name has a parenthesis, and its name has no dot.
-fn can_be_named(name: &MethodName) -> bool
-    ensures { result ≡ can_be_named_by name.now }
-{
-    !name.class.as_slice().contains(&b'(')
-        && !name.name.as_slice().contains(&b'(')
-        && !name.name.as_slice().contains(&b'.')
+impl<'a> Model for Methods<'a> {
+    ghost use Rattle.std.specs.Prelude.{◌≡◌, ℕ, List, map};
+    ghost use Rattle.const_pool.specs.Firsts.{text_known};
+    ghost use Rattle.script.specs.Script.{number_named};
+    ghost use Rattle.script.specs.Scope.{Scope};
+
+    ghost Value = { Scope };
+
+    ghost view = { λ m. record { classes = map (λ c. c.now) m.classes.now; program = m.program.now } };
+
+    ghost invariant = { λ m. (text : List ℕ) → text_known m.numbers text ≡ number_named m.program.now text };
 }
 
-/// The text that names a method which a script may call: a marked one.
-fn call_text(alloc: Global, method: &Method) -> Result<Option<Bytes>, AllocError>
-    ensures { IfOk result (λ text. text ≡ call_text_of method.now) }
+/// The text at a path names no method that a script may call: none of the classes, or one that isn't marked.
+fn not_callable(alloc: Global, classes: &[&ClassFile], path: Bytes, text: &[u8]) -> Halt
+    ensures { IsRefused (not_callable_at (map (λ c. c.now) classes.now) path text.now) result }
 {
-    if method.is_marked() && can_be_named(method.name()) {
-        Ok(Some(method.name().printed(alloc)?))
-    } else {
-        Ok(None)
-    }
-}
-
-/// The texts that name the methods of a program which a script may call, in order of their numbers.
-pub fn call_texts(alloc: Global, program: &Program) -> Result<Vec<Option<Bytes>>, AllocError>
-    ensures { IfOk result (λ v. v.items ≡ map call_text_of program.now.methods) }
-{
-    let mut texts = Vec::new(alloc);
-    for method in program.methods() {
-        texts.push(call_text(alloc, method)?)?;
-    }
-    Ok(texts)
-}
-
-fn is_text(name: &Option<Bytes>, text: &[u8]) -> bool
-    ensures { result ≡ same_text name.now text.now }
-{
-    match name {
-        Some(name) => name.as_slice() == text,
-        None => false,
-    }
-}
-
-/// The first place of a name.
-fn place_of(names: &[Option<Bytes>], text: &[u8]) -> Option<usize>
-    ensures { result ≡ position (λ name. same_text name text.now) names.now }
-{
-    names.iter().position(|name| is_text(name, text))
-}
-
-/// Whether a text names a method of a class, marked or not.
-fn names_method(alloc: Global, class: &ClassFile, text: &[u8]) -> Result<bool, AllocError>
-    ensures { IfOk result (λ b. b ≡ names_method_of class.now text.now) }
-{
-    for member in &class.methods {
-        let name = name_of(alloc, class, member)?;
-        if can_be_named(&name) && name.printed(alloc)?.as_slice() == text {
-            return Ok(true);
-        }
-    }
-    Ok(false)
-}
-
-/// The text at a path names no method that a script may call: none of the class, or one that isn't marked.
-fn not_callable(alloc: Global, class: &ClassFile, path: Bytes, text: &[u8]) -> Halt
-    ensures { IsRefused (not_callable_at class.now path text.now) result }
-{
-    match names_method(alloc, class, text) {
+    match names_method(alloc, classes, text) {
         Ok(true) => Halt::Refused(Refusal::NotAtomic(path)),
         Ok(false) => Halt::Refused(Refusal::UnknownMethod(path)),
         Err(_) => Halt::NoMemory,
@@ -133,20 +84,35 @@ fn not_callable(alloc: Global, class: &ClassFile, path: Bytes, text: &[u8]) -> H
 }
 
 impl<'a> Methods<'a> {
+    /// The methods of classes and their program.
+    pub fn new(
+        alloc: Global,
+        classes: &'a [&'a ClassFile],
+        program: &'a Program,
+    ) -> Result<Self, AllocError>
+        ensures { IfOk result (λ m. m ≡ record { classes = map (λ c. c.now) classes.now; program = program.now }) }
+    {
+        let numbers = numbers_of(alloc, program)?;
+        Ok(Methods {
+            classes,
+            program,
+            numbers,
+        })
+    }
+
     /// The number of the method that the text at a path names.
     fn number_of(&self, alloc: Global, path: Bytes, text: &[u8]) -> Result<usize, Halt>
-        requires { self.now.names.now ≡ map call_text_of self.now.program.now.methods }
-        ensures { Gives (λ m. m) result (or_refused (not_callable_at self.now.class.now path text.now) (number_named self.now.program.now text.now)) }
+        ensures { Gives (λ m. m) result (or_refused (not_callable_at self.now.classes path text.now) (number_named self.now.program text.now)) }
     {
-        match place_of(self.names, text) {
+        match number_of(&self.numbers, text) {
             Some(number) => Ok(number),
-            None => Err(not_callable(alloc, self.class, path, text)),
+            None => Err(not_callable(alloc, self.classes, path, text)),
         }
     }
 
     /// Whether the method of a number takes so many arguments.
     fn takes(&self, number: usize, count: usize) -> bool
-        ensures { result ≡ takes_them (method_at self.now.program.now number) count }
+        ensures { result ≡ takes_them (method_at self.now.program number) count }
     {
         match self.program.method(number) {
             Some(method) => method.retries().is_some() && count == method.entry().params,
@@ -156,7 +122,7 @@ impl<'a> Methods<'a> {
 
     /// The types of the parameters of the method of a number.
     fn types_of(&self, alloc: Global, number: usize) -> Result<Vec<WordType>, AllocError>
-        ensures { IfOk result (λ v. v.items ≡ types_of_method (method_at self.now.program.now number)) }
+        ensures { IfOk result (λ v. v.items ≡ types_of_method (method_at self.now.program number)) }
     {
         match self.program.method(number) {
             Some(method) => parameter_types(alloc, method.name().descriptor.as_slice()),
@@ -172,7 +138,7 @@ impl<'a> Methods<'a> {
         path: &[u8],
         values: &[serde_json::Value],
     ) -> Result<Vec<Value>, Halt>
-        ensures { Gives (λ v. v.items) result (values_in (types_of_method (method_at self.now.program.now number)) path.now (map view values.now)) }
+        ensures { Gives (λ v. v.items) result (values_in (types_of_method (method_at self.now.program number)) path.now (map view values.now)) }
     {
         let types = self.types_of(alloc, number)?;
         values_of(alloc, types.as_slice(), path, values)
@@ -180,8 +146,7 @@ impl<'a> Methods<'a> {
 
     /// The call that the value at a path is.
     fn call_at(&self, alloc: Global, path: &[u8], value: &serde_json::Value) -> Result<Known, Halt>
-        requires { self.now.names.now ≡ map call_text_of self.now.program.now.methods }
-        ensures { Gives (λ c. c) result (known_at self.now.class.now self.now.program.now path.now (view value.now)) }
+        ensures { Gives (λ c. c) result (known_at self.now.classes self.now.program path.now (view value.now)) }
     {
         object_at(alloc, path, value, &["call", "args"])?;
         let text = text_at(alloc, path, "call", value)?;
@@ -204,8 +169,7 @@ impl<'a> Methods<'a> {
         index: usize,
         value: &serde_json::Value,
     ) -> Result<Known, Halt>
-        requires { self.now.names.now ≡ map call_text_of self.now.program.now.methods }
-        ensures { Gives (λ c. c) result (call_in self.now.class.now self.now.program.now path.now index (view value.now)) }
+        ensures { Gives (λ c. c) result (call_in self.now.classes self.now.program path.now index (view value.now)) }
     {
         let place = at(alloc, path, index)?;
         self.call_at(alloc, place.as_slice(), value)
@@ -218,8 +182,7 @@ impl<'a> Methods<'a> {
         path: &[u8],
         values: &[serde_json::Value],
     ) -> Result<LaneCalls, Halt>
-        requires { self.now.names.now ≡ map call_text_of self.now.program.now.methods }
-        ensures { Gives (λ l. l) result (each_from (call_in self.now.class.now self.now.program.now path.now) 0 (map view values.now)) }
+        ensures { Gives (λ l. l) result (each_from (call_in self.now.classes self.now.program path.now) 0 (map view values.now)) }
     {
         let mut calls = Vec::new(alloc);
         for (index, value) in values.iter().enumerate() {
@@ -236,8 +199,7 @@ impl<'a> Methods<'a> {
         lane: usize,
         values: &[serde_json::Value],
     ) -> Result<LaneCalls, Halt>
-        requires { self.now.names.now ≡ map call_text_of self.now.program.now.methods }
-        ensures { Gives (λ l. l) result (lane_in self.now.class.now self.now.program.now path.now lane (map view values.now)) }
+        ensures { Gives (λ l. l) result (lane_in self.now.classes self.now.program path.now lane (map view values.now)) }
     {
         let place = at(alloc, path, lane)?;
         self.lane_at(alloc, place.as_slice(), values)
@@ -250,8 +212,7 @@ impl<'a> Methods<'a> {
         path: &[u8],
         lists: &[&[serde_json::Value]],
     ) -> Result<Vec<LaneCalls>, Halt>
-        requires { self.now.names.now ≡ map call_text_of self.now.program.now.methods }
-        ensures { Gives (λ v. v.items) result (each_from (lane_in self.now.class.now self.now.program.now path.now) 0 (map values lists.now)) }
+        ensures { Gives (λ v. v.items) result (each_from (lane_in self.now.classes self.now.program path.now) 0 (map values lists.now)) }
     {
         let mut lanes = Vec::new(alloc);
         for (lane, values) in lists.iter().enumerate() {
@@ -267,8 +228,7 @@ impl<'a> Methods<'a> {
         phase: usize,
         lists: &[&[serde_json::Value]],
     ) -> Result<Vec<LaneCalls>, Halt>
-        requires { self.now.names.now ≡ map call_text_of self.now.program.now.methods }
-        ensures { Gives (λ v. v.items) result (lanes_in self.now.class.now self.now.program.now phase (map values lists.now)) }
+        ensures { Gives (λ v. v.items) result (lanes_in self.now.classes self.now.program phase (map values lists.now)) }
     {
         let path = lanes_path(alloc, phase)?;
         self.lanes_at(alloc, path.as_slice(), lists)
@@ -281,8 +241,7 @@ impl<'a> Methods<'a> {
         phase: usize,
         calls: &[serde_json::Value],
     ) -> Result<LaneCalls, Halt>
-        requires { self.now.names.now ≡ map call_text_of self.now.program.now.methods }
-        ensures { Gives (λ l. l) result (bag_in self.now.class.now self.now.program.now phase (map view calls.now)) }
+        ensures { Gives (λ l. l) result (bag_in self.now.classes self.now.program phase (map view calls.now)) }
     {
         let path = bag_path(alloc, phase)?;
         self.lane_at(alloc, path.as_slice(), calls)
@@ -296,8 +255,7 @@ impl<'a> Methods<'a> {
         phase: usize,
         lists: &PhaseLists<'_>,
     ) -> Result<PhaseCalls, Halt>
-        requires { self.now.names.now ≡ map call_text_of self.now.program.now.methods }
-        ensures { Gives (λ p. p) result (phase_in self.now.class.now self.now.program.now lanes phase (seen_lists lists.now)) }
+        ensures { Gives (λ p. p) result (phase_in self.now.classes self.now.program lanes phase (seen_lists lists.now)) }
     {
         let calls = match lists {
             PhaseLists::Lanes(lists) => {
@@ -318,8 +276,7 @@ impl<'a> Methods<'a> {
         lanes: u64,
         lists: &[PhaseLists<'_>],
     ) -> Result<Vec<PhaseCalls>, Halt>
-        requires { self.now.names.now ≡ map call_text_of self.now.program.now.methods }
-        ensures { Gives (λ v. v.items) result (each_from (phase_in self.now.class.now self.now.program.now lanes) 0 (map seen_lists lists.now)) }
+        ensures { Gives (λ v. v.items) result (each_from (phase_in self.now.classes self.now.program lanes) 0 (map seen_lists lists.now)) }
     {
         let mut phases = Vec::new(alloc);
         for (index, lists) in lists.iter().enumerate() {

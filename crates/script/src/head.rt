@@ -1,5 +1,5 @@
 //! What a script says beside its phases.
-ghost use Rattle.std.specs.Prelude.{◌≡◌, ◌<◌, ◌^◌, ◌&&◌, [], ◌∷◌, length, pos, int_le, codes, IfOk};
+ghost use Rattle.std.specs.Prelude.{◌≡◌, ◌<◌, ◌^◌, ◌&&◌, [], length, map, pos, int_le, codes, IfOk};
 ghost use Rattle.serde_json.specs.View.{view};
 ghost use Rattle.jmodel.specs.declared.refusal.Refusal.TheVariants.{OverLimit};
 ghost use Rattle.jmodel.specs.Layout.{opening_words as first_words};
@@ -98,18 +98,18 @@ fn numbers_within(alloc: Global, head: Head) -> Result<(), Halt>
 }
 
 /// How many words a run begins with.
-fn fixed_words(alloc: Global, class: &ClassFile) -> Result<i64, AllocError>
-    ensures { IfOk result (λ n. n ≡ pos (length (first_words (class.now ∷ [])))) }
+fn fixed_words(alloc: Global, classes: &[&ClassFile]) -> Result<i64, AllocError>
+    ensures { IfOk result (λ n. n ≡ pos (length (first_words (map (λ c. c.now) classes.now)))) }
 {
-    let words = opening_words(alloc, class)?;
+    let words = opening_words(alloc, classes)?;
     i64::try_from(words.len()).map_err(|_| AllocError)
 }
 
 /// A region has from the words that a run begins with to 1,048,576.
-fn region_within(alloc: Global, class: &ClassFile, head: Head) -> Result<(), Halt>
-    ensures { Tests result (int_le (pos (length (first_words (class.now ∷ [])))) head.region && int_le head.region (pos 1048576)) (OverLimit (codes "region") head.region) }
+fn region_within(alloc: Global, classes: &[&ClassFile], head: Head) -> Result<(), Halt>
+    ensures { Tests result (int_le (pos (length (first_words (map (λ c. c.now) classes.now)))) head.region && int_le head.region (pos 1048576)) (OverLimit (codes "region") head.region) }
 {
-    let fixed = fixed_words(alloc, class)?;
+    let fixed = fixed_words(alloc, classes)?;
     within(alloc, "region", fixed, 1_048_576, head.region)
 }
 
@@ -122,11 +122,16 @@ fn phases_within(alloc: Global, phases: usize) -> Result<(), Halt>
 }
 
 /// The numbers of a script are to lie within their limits.
-pub fn limits_of(alloc: Global, class: &ClassFile, head: Head, phases: usize) -> Result<(), Halt>
+pub fn limits_of(
+    alloc: Global,
+    classes: &[&ClassFile],
+    head: Head,
+    phases: usize,
+) -> Result<(), Halt>
     requires { phases < 2 ^ 63 }
-    ensures { Gives (λ _. head) result (is_within class.now head phases) }
+    ensures { Gives (λ _. head) result (is_within (map (λ c. c.now) classes.now) head phases) }
 {
     numbers_within(alloc, head)?;
-    region_within(alloc, class, head)?;
+    region_within(alloc, classes, head)?;
     phases_within(alloc, phases)
 }

@@ -6,6 +6,7 @@ mod calls;
 mod head;
 mod json;
 mod lists;
+mod names;
 mod phases;
 mod reading;
 mod refusals;

@@ -7,7 +7,7 @@ ghost use Rattle.jmodel.specs.Reading.{Gives};
 ghost use Rattle.script.specs.Script.{Script as Form, calls_of as calls_in, script_in, script_of as script_made_of, script_with as script_made_with, IsScript, IsFault};
 ghost use Rattle.script.specs.Seen.{lists as seen_lists};
 
-use crate::calls::{LaneCalls, Methods, call_texts};
+use crate::calls::{LaneCalls, Methods};
 use crate::head::{Head, head_of, limits_of};
 use crate::json::object_at;
 use crate::lists::{PhaseLists, lists_of};
@@ -101,60 +101,55 @@ fn script_with(alloc: Global, head: Head, phases: Vec<PhaseCalls>) -> Result<Scr
     })
 }
 
-/// The script of a head and of the lists of its calls, for a program and its class file.
+/// The script of a head and of the lists of its calls, for classes and their program.
 fn script_of(
     alloc: Global,
-    class: &ClassFile,
+    classes: &[&ClassFile],
     program: &Program,
     head: Head,
     lists: &[PhaseLists<'_>],
 ) -> Result<Script, Halt>
-    ensures { Gives (λ s. s) result (script_made_of class.now program.now head (map seen_lists lists.now)) }
+    ensures { Gives (λ s. s) result (script_made_of (map (λ c. c.now) classes.now) program.now head (map seen_lists lists.now)) }
 {
-    limits_of(alloc, class, head, lists.len())?;
-    let names = call_texts(alloc, program)?;
-    let methods = Methods {
-        class,
-        program,
-        names: names.as_slice(),
-    };
+    limits_of(alloc, classes, head, lists.len())?;
+    let methods = Methods::new(alloc, classes, program)?;
     let phases = methods.phases_of(alloc, head.lanes.unsigned_abs(), lists)?;
     script_with(alloc, head, phases)
 }
 
-/// The script that a value is for a program and its class file.
+/// The script that a value is for classes and their program.
 fn script_from(
     alloc: Global,
-    class: &ClassFile,
+    classes: &[&ClassFile],
     program: &Program,
     value: &Value,
 ) -> Result<Script, Halt>
-    ensures { Gives (λ s. s) result (script_in class.now program.now (view value.now)) }
+    ensures { Gives (λ s. s) result (script_in (map (λ c. c.now) classes.now) program.now (view value.now)) }
 {
     object_at(alloc, b"", value, &KEYS)?;
     let head = head_of(alloc, value)?;
     let lists = lists_of(alloc, head, value)?;
-    script_of(alloc, class, program, head, lists.as_slice())
+    script_of(alloc, classes, program, head, lists.as_slice())
 }
 
-/// The script that bytes are for a program and its class file. Refusals, the first in this order: `OverLimit` with `script` for more than
+/// The script that bytes are for classes and their program. Refusals, the first in this order: `OverLimit` with `script` for more than
 /// 16,777,216 bytes; `NotJson`; `BadShape` with the path of what isn't as a script has it; `OverLimit` with what passes its limit; then, call by
 /// call, `BadShape`, `UnknownMethod`, `NotAtomic` for a method without the mark, and `BadArgs`; and `OverLimit` with `calls`.
 pub fn read_script(
     alloc: Global,
-    class: &ClassFile,
+    classes: &[&ClassFile],
     program: &Program,
     bytes: &[u8],
 ) -> Result<Script, Halt>
-    ensures script { IfOk result (IsScript class.now program.now bytes.now) }
-    ensures fault { (r : Why) → result ≡ Err (halts.Refused r) → IsFault class.now program.now bytes.now r }
-    ensures refused { (r : Why) (s : Form) → result ≡ Err (halts.Refused r) → IsScript class.now program.now bytes.now s → ⊥ }
+    ensures script { IfOk result (IsScript (map (λ c. c.now) classes.now) program.now bytes.now) }
+    ensures fault { (r : Why) → result ≡ Err (halts.Refused r) → IsFault (map (λ c. c.now) classes.now) program.now bytes.now r }
+    ensures refused { (r : Why) (s : Form) → result ≡ Err (halts.Refused r) → IsScript (map (λ c. c.now) classes.now) program.now bytes.now s → ⊥ }
 {
     if bytes.len() > MOST_BYTES {
         return Err(over_limit(alloc, "script", bytes.len() as i64));
     }
     match Value::from_slice(alloc, bytes) {
-        Ok(value) => script_from(alloc, class, program, &value),
+        Ok(value) => script_from(alloc, classes, program, &value),
         Err(error) if error.is_memory() => Err(Halt::NoMemory),
         Err(_) => Err(Halt::Refused(Refusal::NotJson)),
     }

@@ -1,16 +1,16 @@
-use Rattle.std.proofs.Common.{◌∙◌, Some, ap, inr, Err}
-use Rattle.std.specs.Prelude.{string_bytes, option_map}
-use Rattle.deuce_io.specs.Fault.{rose_since}
-use Rattle.deuce_io.specs.Files.{with_content}
-use Rattle.deuce.specs.Ending.{IsCallOfFolder, NoScript, NoOpening, IsNotRewritten}
-use Rattle.deuce.specs.Outcomes.{seen, IsUnreadAs, IsRefusedAs}
+use Rattle.std.proofs.Common.{◌∙◌, Option, ap, inl, inr, subst}
+use Rattle.std.specs.Prelude.{option_map}
+use Rattle.deuce_io.specs.Files.{Files}
+use Rattle.deuce.specs.Folder.{with_files}
+use Rattle.deuce.specs.Ending.{IsCallOfFolder, NoScript, NoOpening, IsNotRewritten, EndsPuts, seen_files}
+use Rattle.deuce.specs.Outcomes.{seen, IsUnreadAs, IsRefusedAs, IsNotPutAs}
 use Rattle.deuce.proofs.Lists.{on_ok}
-use Rattle.deuce.proofs.Outcomes.{unread, not_alone, refused}
-use Rattle.deuce.proofs.Reading.{lone_form, first_file, rewriting_of, one_put}
+use Rattle.deuce.proofs.Outcomes.{unread, not_good, refused, not_put, stopped}
+use Rattle.deuce.proofs.Reading.{all_form, rewritten_of, rewriting_of}
 use Rattle.deuce.proofs.commands.rewrite_command.Goals as goal
 
 pub write_rewriting-requires-clause-form : goal.write_rewriting-requires-clause-form
-write_rewriting-requires-clause-form g c = lone_form c.as_slice.result.now c.in-Ok-lone_class.class c.in-Ok-lone_class.ensures.class
+write_rewriting-requires-clause-form g c = rw c.as_slice-2.ensures.value (all_form c.as_slice.result.now c.in-Ok-classes_of.files.items c.in-Ok-classes_of.ensures.classes)
 
 pub returns-in-Err-clause-outcome : goal.returns-in-Err-clause-outcome
 returns-in-Err-clause-outcome g c =
@@ -20,13 +20,13 @@ returns-in-Err-clause-outcome g c =
     (λ o is words w. unread words old new c.args.dir.now c.read_classes.ensures.files_kept (c.args.out.now, inr w) IsNotRewritten (λ h. inr (c.args.dir.now, c.args.out.now, w, h))
     (IsCallOfFolder c.args.dir.now) c.in-Err.end o (λ path failed. (c.args.dir.now, c.args.out.now, inr (w, failed))) c.in-Err.ensures.cause is) c.unread.ensures
 
-pub returns-in-Err-lone_class-clause-outcome : goal.returns-in-Err-lone_class-clause-outcome
-returns-in-Err-lone_class-clause-outcome g c =
+pub returns-in-Err-classes_of-clause-outcome : goal.returns-in-Err-classes_of-clause-outcome
+returns-in-Err-classes_of-clause-outcome g c =
     let old = seen (g.F.Folder.files c.args.folder.now) (g.F.Folder.faults c.args.folder.now) (g.F.Folder.put_faults c.args.folder.now) (g.F.Folder.failed c.args.folder.now) in
     let new = seen (g.F.Folder.files c.read_classes.new.folder) (g.F.Folder.faults c.read_classes.new.folder) (g.F.Folder.put_faults c.read_classes.new.folder) (g.F.Folder.failed c.read_classes.new.folder) in
-    on_ok c.unread-in-Err-lone_class.result (IsUnreadAs c.in-Err-lone_class.end) _
-    (λ o is words w. not_alone words old new c.args.dir.now c.read_classes.ensures.files_kept (c.args.out.now, inr w) IsNotRewritten (λ h. inr (c.args.dir.now, c.args.out.now, w, h))
-    c.in-Ok.inputs.items c.in-Ok.ensures.inputs c.in-Err-lone_class.end o (rw c.as_slice.ensures.value at c.in-Err-lone_class.ensures.cause) is) c.unread-in-Err-lone_class.ensures
+    on_ok c.unread-in-Err-classes_of.result (IsUnreadAs c.in-Err-classes_of.end) _
+    (λ o is words w. not_good words old new c.args.dir.now c.read_classes.ensures.files_kept (c.args.out.now, inr w) IsNotRewritten (λ h. inr (c.args.dir.now, c.args.out.now, w, h))
+    c.in-Ok.inputs.items c.in-Ok.ensures.inputs c.in-Err-classes_of.end o (rw c.as_slice.ensures.value at c.in-Err-classes_of.ensures.cause) is) c.unread-in-Err-classes_of.ensures
 
 pub returns-in-Err-write_rewriting-clause-outcome : goal.returns-in-Err-write_rewriting-clause-outcome
 returns-in-Err-write_rewriting-clause-outcome g c =
@@ -34,76 +34,79 @@ returns-in-Err-write_rewriting-clause-outcome g c =
     let new = seen (g.F.Folder.files c.read_classes.new.folder) (g.F.Folder.faults c.read_classes.new.folder) (g.F.Folder.put_faults c.read_classes.new.folder) (g.F.Folder.failed c.read_classes.new.folder) in
     on_ok c.refused.result (IsRefusedAs c.in-Err-write_rewriting.end) _
     (λ o is words w. refused words old new c.args.dir.now c.read_classes.ensures.files_kept (c.args.out.now, inr w) IsNotRewritten (λ h. inr (c.args.dir.now, c.args.out.now, w, h))
-    c.in-Ok.inputs.items c.in-Ok.ensures.inputs c.in-Ok-lone_class.class NoScript NoOpening c.in-Err-write_rewriting.end o
-    (rw c.as_slice.ensures.value at c.in-Ok-lone_class.ensures.class) c.in-Ok-lone_class.ensures.no_fault (λ r h has. absurd h) (λ name x h has. absurd h) c.in-Err-write_rewriting.ensures.cause is) c.refused.ensures
+    c.in-Ok.inputs.items c.in-Ok.ensures.inputs c.in-Ok-classes_of.files.items NoScript NoOpening c.in-Err-write_rewriting.end o
+    (rw c.as_slice.ensures.value at c.in-Ok-classes_of.ensures.classes) (λ r h has. absurd h) (λ name x h has. absurd h) (rw c.as_slice-2.ensures.value at c.in-Err-write_rewriting.ensures.cause) is) c.refused.ensures
 
-pub returns-in-Ok-put-clause-outcome : goal.returns-in-Ok-put-clause-outcome
-returns-in-Ok-put-clause-outcome g c = λ words w.
-    let lone = first_file (g.F.Folder.files c.args.folder.now) c.args.dir.now c.in-Ok.inputs.items c.in-Ok-lone_class.class c.index.result.now c.index.ensures c.in-Ok.ensures.inputs
-    (rw c.as_slice.ensures.value at c.in-Ok-lone_class.ensures.class) in (
+pub returns-in-Ok-put_each-clause-outcome : goal.returns-in-Ok-put_each-clause-outcome
+returns-in-Ok-put_each-clause-outcome g c = λ words w.
+    let files = g.F.Folder.files c.args.folder.now in
+    let now = g.F.Folder.files c.put_each.new.folder in
+    let inputs = c.in-Ok.inputs.items in
+    let written = c.in-Ok-write_rewriting.written in
+    let puts = seen_files c.in_ok-news.news.items in
+    let made = rewritten_of files c.args.dir.now inputs c.in-Ok-classes_of.files.items written.files.items written.taken written.marked c.in-Ok.ensures.inputs
+    (rw c.as_slice.ensures.value at c.in-Ok-classes_of.ensures.classes) (rw c.as_slice-2.ensures.value at c.in-Ok-write_rewriting.ensures.rewriting) in
+    let put = c.in-Ok-put_each.ensures.put ∙ ap (option_map (with_files puts)) c.read_classes.ensures.files_kept in (
       tt,
       (
         c.args.dir.now,
         c.args.out.now,
         w,
-        rewriting_of (g.F.Folder.files c.args.folder.now) _ c.args.dir.now c.args.out.now c.as_str.result.now c.in-Ok-lone_class.class c.index.result.now lone (c.as_str.ensures.value ∙ c.in-Ok-format.ensures.ok)
-            c.as_slice-2.result.now c.in-Ok-write_rewriting.new.taken c.in-Ok-write_rewriting.new.marked (λ bytes spells. rw c.as_slice-2.ensures (c.in-Ok-write_rewriting.ensures.rewriting bytes spells))
-            (c.in-Ok-put.ensures.content ∙ ap (option_map (with_content c.as_str.result.now (Some c.as_slice-2.result.now))) c.read_classes.ensures.files_kept),
+        rewriting_of files now c.args.dir.now c.args.out.now inputs written.files.items written.taken written.marked made puts (rw c.as_slice-3.ensures.value at c.in_ok-news.ensures)
+            c.len.result (c.len.ensures ∙ c.in-Ok.inputs.ok.0) put,
       ),
     )
 
-pub returns-in-Ok-put-clause-put : goal.returns-in-Ok-put-clause-put
-returns-in-Ok-put-clause-put g c = λ words w.
-    let lone = first_file (g.F.Folder.files c.args.folder.now) c.args.dir.now c.in-Ok.inputs.items c.in-Ok-lone_class.class c.index.result.now c.index.ensures c.in-Ok.ensures.inputs
-    (rw c.as_slice.ensures.value at c.in-Ok-lone_class.ensures.class) in
+pub returns-in-Ok-put_each-clause-put : goal.returns-in-Ok-put_each-clause-put
+returns-in-Ok-put_each-clause-put g c = λ words w.
+    let files = g.F.Folder.files c.args.folder.now in
+    let now = g.F.Folder.files c.put_each.new.folder in
+    let inputs = c.in-Ok.inputs.items in
+    let written = c.in-Ok-write_rewriting.written in
+    let puts = seen_files c.in_ok-news.news.items in
+    let made = rewritten_of files c.args.dir.now inputs c.in-Ok-classes_of.files.items written.files.items written.taken written.marked c.in-Ok.ensures.inputs
+    (rw c.as_slice.ensures.value at c.in-Ok-classes_of.ensures.classes) (rw c.as_slice-2.ensures.value at c.in-Ok-write_rewriting.ensures.rewriting) in
+    let put = c.in-Ok-put_each.ensures.put ∙ ap (option_map (with_files puts)) c.read_classes.ensures.files_kept in
     inr (
       c.args.dir.now,
       c.args.out.now,
       w,
-      one_put (g.F.Folder.files c.args.folder.now) _ c.args.dir.now c.args.out.now c.as_str.result.now c.in-Ok-lone_class.class c.index.result.now lone (c.as_str.ensures.value ∙ c.in-Ok-format.ensures.ok)
-          c.put.ensures.others.0 (c.put.ensures.others.1 ∙ ap (option_map (with_content c.as_str.result.now c.put.ensures.others.0)) c.read_classes.ensures.files_kept),
-    )
-
-pub returns-in-Err-Failed-clause-outcome : goal.returns-in-Err-Failed-clause-outcome
-returns-in-Err-Failed-clause-outcome g c = λ words w.
-    let lone = first_file (g.F.Folder.files c.args.folder.now) c.args.dir.now c.in-Ok.inputs.items c.in-Ok-lone_class.class c.index.result.now c.index.ensures c.in-Ok.ensures.inputs
-    (rw c.as_slice.ensures.value at c.in-Ok-lone_class.ensures.class) in
-    let failed = c.in-Err-Failed.ensures.cause (ap Err c.in-Err-Failed.field-0-is) in (
-      tt,
-      (
-        c.args.dir.now,
-        c.args.out.now,
-        w,
-        record {
-          name = string_bytes c.index.result.now.name;
-          class_file = lone.class_file;
-          is_path = c.in-Ok-format.ensures.ok;
-          rose = rose_since _ _ _ c.read_classes.ensures.put_counts failed.rose;
-          is_last = rw c.as_str.ensures.value at failed.is_last;
-        },
+      inl (
+        c.len.result,
+        written.taken,
+        written.marked,
+        rewriting_of files now c.args.dir.now c.args.out.now inputs written.files.items written.taken written.marked made puts (rw c.as_slice-3.ensures.value at c.in_ok-news.ensures)
+            c.len.result (c.len.ensures ∙ c.in-Ok.inputs.ok.0) put,
       ),
     )
 
-pub returns-in-Err-Failed-clause-put : goal.returns-in-Err-Failed-clause-put
-returns-in-Err-Failed-clause-put g c = λ words w.
-    let lone = first_file (g.F.Folder.files c.args.folder.now) c.args.dir.now c.in-Ok.inputs.items c.in-Ok-lone_class.class c.index.result.now c.index.ensures c.in-Ok.ensures.inputs
-    (rw c.as_slice.ensures.value at c.in-Ok-lone_class.ensures.class) in
-    inr (
-      c.args.dir.now,
-      c.args.out.now,
-      w,
-      one_put (g.F.Folder.files c.args.folder.now) _ c.args.dir.now c.args.out.now c.as_str.result.now c.in-Ok-lone_class.class c.index.result.now lone (c.as_str.ensures.value ∙ c.in-Ok-format.ensures.ok)
-          c.put.ensures.others.0 (c.put.ensures.others.1 ∙ ap (option_map (with_content c.as_str.result.now c.put.ensures.others.0)) c.read_classes.ensures.files_kept),
-    )
+pub returns-clause-outcome : goal.returns-clause-outcome
+returns-clause-outcome g c =
+    let files = g.F.Folder.files c.args.folder.now in
+    let old = seen files (g.F.Folder.faults c.args.folder.now) (g.F.Folder.put_faults c.args.folder.now) (g.F.Folder.failed c.args.folder.now) in
+    let new = seen (g.F.Folder.files c.put_each.new.folder) (g.F.Folder.faults c.put_each.new.folder) (g.F.Folder.put_faults c.put_each.new.folder) (g.F.Folder.failed c.put_each.new.folder) in
+    let inputs = c.in-Ok.inputs.items in
+    let written = c.in-Ok-write_rewriting.written in
+    let puts = seen_files c.in_ok-news.news.items in
+    let made = rewritten_of files c.args.dir.now inputs c.in-Ok-classes_of.files.items written.files.items written.taken written.marked c.in-Ok.ensures.inputs
+    (rw c.as_slice.ensures.value at c.in-Ok-classes_of.ensures.classes) (rw c.as_slice-2.ensures.value at c.in-Ok-write_rewriting.ensures.rewriting) in
+    let end = c.in-Err-put_each.end in
+    let Ends : Option Files → Type 0 = λ f. EndsPuts puts f new.files (g.F.Folder.put_faults c.read_classes.new.folder) new.put_faults new.failed end in
+    on_ok c.not_put.result (IsNotPutAs end) _
+    (λ o is words w. not_put words old new c.args.dir.now c.args.out.now w inputs written.files.items written.taken written.marked made puts (rw c.as_slice-3.ensures.value at c.in_ok-news.ensures)
+    (g.F.Folder.put_faults c.read_classes.new.folder) c.read_classes.ensures.put_counts end o (subst Ends c.read_classes.ensures.files_kept c.in-Err-put_each.ensures.cause) is) c.not_put.ensures
 
 pub returns-clause-put : goal.returns-clause-put
 returns-clause-put g c = λ words w.
-    let lone = first_file (g.F.Folder.files c.args.folder.now) c.args.dir.now c.in-Ok.inputs.items c.in-Ok-lone_class.class c.index.result.now c.index.ensures c.in-Ok.ensures.inputs
-    (rw c.as_slice.ensures.value at c.in-Ok-lone_class.ensures.class) in
-    inr (
-      c.args.dir.now,
-      c.args.out.now,
-      w,
-      one_put (g.F.Folder.files c.args.folder.now) _ c.args.dir.now c.args.out.now c.as_str.result.now c.in-Ok-lone_class.class c.index.result.now lone (c.as_str.ensures.value ∙ c.in-Ok-format.ensures.ok)
-          c.put.ensures.others.0 (c.put.ensures.others.1 ∙ ap (option_map (with_content c.as_str.result.now c.put.ensures.others.0)) c.read_classes.ensures.files_kept),
-    )
+    let files = g.F.Folder.files c.args.folder.now in
+    let old = seen files (g.F.Folder.faults c.args.folder.now) (g.F.Folder.put_faults c.args.folder.now) (g.F.Folder.failed c.args.folder.now) in
+    let new = seen (g.F.Folder.files c.put_each.new.folder) (g.F.Folder.faults c.put_each.new.folder) (g.F.Folder.put_faults c.put_each.new.folder) (g.F.Folder.failed c.put_each.new.folder) in
+    let inputs = c.in-Ok.inputs.items in
+    let written = c.in-Ok-write_rewriting.written in
+    let puts = seen_files c.in_ok-news.news.items in
+    let made = rewritten_of files c.args.dir.now inputs c.in-Ok-classes_of.files.items written.files.items written.taken written.marked c.in-Ok.ensures.inputs
+    (rw c.as_slice.ensures.value at c.in-Ok-classes_of.ensures.classes) (rw c.as_slice-2.ensures.value at c.in-Ok-write_rewriting.ensures.rewriting) in
+    let end = c.in-Err-put_each.end in
+    let Ends : Option Files → Type 0 = λ f. EndsPuts puts f new.files (g.F.Folder.put_faults c.read_classes.new.folder) new.put_faults new.failed end in
+    stopped words old new c.args.dir.now c.args.out.now w inputs written.files.items written.taken written.marked made puts (rw c.as_slice-3.ensures.value at c.in_ok-news.ensures)
+    (g.F.Folder.put_faults c.read_classes.new.folder) c.read_classes.ensures.put_counts end (subst Ends c.read_classes.ensures.files_kept c.in-Err-put_each.ensures.cause)

@@ -2,12 +2,12 @@ use Rattle.std.proofs.Common.{inl}
 use Rattle.deuce.specs.Ending.{IsCallOfRun, IsBadScript, IsUnopened, IsOutsideForm}
 use Rattle.deuce.specs.Outcomes.{seen, IsUnreadAs, IsRefusedAs}
 use Rattle.deuce.proofs.Lists.{on_ok}
-use Rattle.deuce.proofs.Outcomes.{unread, not_alone, refused}
-use Rattle.deuce.proofs.Reading.{lone_form, journal_of, unopened_of}
+use Rattle.deuce.proofs.Outcomes.{unread, not_good, refused}
+use Rattle.deuce.proofs.Reading.{all_form, journal_of, unopened_of}
 use Rattle.deuce.proofs.commands.run_command.Goals as goal
 
-pub run_class-requires-clause-form : goal.run_class-requires-clause-form
-run_class-requires-clause-form g c = λ κs lives. lone_form c.as_slice.result.now c.in-Ok-lone_class.class c.in-Ok-lone_class.ensures.class
+pub run_files-requires-clause-form : goal.run_files-requires-clause-form
+run_files-requires-clause-form g c = λ κs lives. rw c.as_slice-2.ensures.value (all_form c.as_slice.result.now c.in-Ok-classes_of.files.items c.in-Ok-classes_of.ensures.classes)
 
 pub returns-in-Err-clause-outcome : goal.returns-in-Err-clause-outcome
 returns-in-Err-clause-outcome g c =
@@ -17,23 +17,23 @@ returns-in-Err-clause-outcome g c =
     (λ o is words w. unread words old new c.args.dir.now c.read_inputs.ensures.files_kept (c.args.script.now, inl w) IsOutsideForm (λ h. inl (c.args.dir.now, c.args.script.now, w, h))
     (IsCallOfRun c.args.dir.now c.args.script.now) c.in-Err.end o (λ path failed. (c.args.dir.now, c.args.script.now, inl (w, failed))) c.in-Err.ensures.cause is) c.unread.ensures
 
-pub returns-in-Err-lone_class-clause-outcome : goal.returns-in-Err-lone_class-clause-outcome
-returns-in-Err-lone_class-clause-outcome g c =
+pub returns-in-Err-classes_of-clause-outcome : goal.returns-in-Err-classes_of-clause-outcome
+returns-in-Err-classes_of-clause-outcome g c =
     let old = seen (g.F.Folder.files c.args.folder.now) (g.F.Folder.faults c.args.folder.now) (g.F.Folder.put_faults c.args.folder.now) (g.F.Folder.failed c.args.folder.now) in
     let new = seen (g.F.Folder.files c.read_inputs.new.folder) (g.F.Folder.faults c.read_inputs.new.folder) (g.F.Folder.put_faults c.read_inputs.new.folder) (g.F.Folder.failed c.read_inputs.new.folder) in
-    on_ok c.unread-in-Err-lone_class.result (IsUnreadAs c.in-Err-lone_class.end) _
-    (λ o is words w. not_alone words old new c.args.dir.now c.read_inputs.ensures.files_kept (c.args.script.now, inl w) IsOutsideForm (λ h. inl (c.args.dir.now, c.args.script.now, w, h))
-    c.in-Ok.inputs.classes.items c.in-Ok.ensures.inputs.of_classes c.in-Err-lone_class.end o (rw c.as_slice.ensures.value at c.in-Err-lone_class.ensures.cause) is) c.unread-in-Err-lone_class.ensures
+    on_ok c.unread-in-Err-classes_of.result (IsUnreadAs c.in-Err-classes_of.end) _
+    (λ o is words w. not_good words old new c.args.dir.now c.read_inputs.ensures.files_kept (c.args.script.now, inl w) IsOutsideForm (λ h. inl (c.args.dir.now, c.args.script.now, w, h))
+    c.in-Ok.inputs.classes.items c.in-Ok.ensures.inputs.of_classes c.in-Err-classes_of.end o (rw c.as_slice.ensures.value at c.in-Err-classes_of.ensures.cause) is) c.unread-in-Err-classes_of.ensures
 
-pub returns-in-Ok-run_class-clause-outcome : goal.returns-in-Ok-run_class-clause-outcome
-returns-in-Ok-run_class-clause-outcome g c = λ words w. (
+pub returns-in-Ok-run_files-clause-outcome : goal.returns-in-Ok-run_files-clause-outcome
+returns-in-Ok-run_files-clause-outcome g c = λ words w. (
   c.read_inputs.ensures.files_kept,
   (
     c.args.dir.now,
     c.args.script.now,
     w,
-    journal_of (g.F.Folder.files c.args.folder.now) c.args.dir.now c.args.script.now c.in-Ok.inputs c.in-Ok-lone_class.class c.in-Ok-run_class.text c.in-Ok.ensures.inputs
-        (rw c.as_slice.ensures.value at c.in-Ok-lone_class.ensures.class) (rw c.as_slice-2.ensures at c.in-Ok-run_class.ensures.run),
+    journal_of (g.F.Folder.files c.args.folder.now) c.args.dir.now c.args.script.now c.in-Ok.inputs c.in-Ok-classes_of.files.items c.in-Ok-run_files.text c.in-Ok.ensures.inputs
+        (rw c.as_slice.ensures.value at c.in-Ok-classes_of.ensures.classes) (rw (c.as_slice-2.ensures.value, c.as_slice-3.ensures) at c.in-Ok-run_files.ensures.run),
   ),
 )
 
@@ -45,10 +45,10 @@ returns-clause-outcome g c =
     let dir = c.args.dir.now in
     let a = c.in-Ok.ensures.inputs in
     let bytes = c.in-Ok.inputs.script in
-    on_ok c.refused.result (IsRefusedAs c.in-Err-run_class.end) _
+    on_ok c.refused.result (IsRefusedAs c.in-Err-run_files.end) _
     (λ o is words w. refused words old new dir c.read_inputs.ensures.files_kept (c.args.script.now, inl w) IsOutsideForm (λ h. inl (dir, c.args.script.now, w, h))
-    c.in-Ok.inputs.classes.items a.of_classes c.in-Ok-lone_class.class (IsBadScript bytes) (IsUnopened bytes) c.in-Err-run_class.end o
-    (rw c.as_slice.ensures.value at c.in-Ok-lone_class.ensures.class) c.in-Ok-lone_class.ensures.no_fault
-    (λ r h has. (dir, c.args.script.now, w, record { script_bytes = bytes; script_front = a.script_bytes; of_class = has }))
+    c.in-Ok.inputs.classes.items a.of_classes c.in-Ok-classes_of.files.items (IsBadScript bytes) (IsUnopened bytes) c.in-Err-run_files.end o
+    (rw c.as_slice.ensures.value at c.in-Ok-classes_of.ensures.classes)
+    (λ r h has. (dir, c.args.script.now, w, record { script_bytes = bytes; script_front = a.script_bytes; of_classes = has }))
     (λ name x h has. (dir, c.args.script.now, w, unopened_of files dir c.args.script.now bytes name x a.script_bytes h.is_script.fits has))
-    (rw c.as_slice-2.ensures at c.in-Err-run_class.ensures.cause) is) c.refused.ensures
+    (rw (c.as_slice-2.ensures.value, c.as_slice-3.ensures) at c.in-Err-run_files.ensures.cause) is) c.refused.ensures

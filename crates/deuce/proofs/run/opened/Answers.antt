@@ -1,20 +1,47 @@
-use Rattle.std.proofs.Common.{[], ◌∷◌}
+use Rattle.std.proofs.Common.{◌≡◌, ◌∙◌, ℕ, List, map, true, sym, subst}
+use Rattle.std.specs.List.{AllByRecursion}
+use Rattle.jmodel.specs.Program.{method_at}
+use Rattle.jmodel.specs.Schedule.{takes}
 use Rattle.jmodel.specs.Layout.{opening_state}
-use Rattle.jmodel.proofs.Linked.{links}
-use Rattle.deuce.proofs.Running.{of_failing}
+use Rattle.jmodel.specs.ClassesLinking.{initialisers_in}
+use Rattle.driver.specs.SetUp.{OpensTo, EndsSetUp}
+use Rattle.deuce.proofs.Initialisers.{none_taken}
+use Rattle.deuce.proofs.Running.{of_failing, numbered}
 use Rattle.deuce.proofs.run.opened.Goals as goal
 
-pub set_up-requires-clause-initialisers : goal.set_up-requires-clause-initialisers
-set_up-requires-clause-initialisers c = (links c.args.class.now c.args.original.now c.requires.links).initialisers
+pub set_up-requires-clause-callable : goal.set_up-requires-clause-callable
+set_up-requires-clause-callable c =
+    let cs = map (λ k. k.now) c.args.classes.now in
+    let P = c.args.original.now in
+    let order : c.as_slice.result.now ≡ initialisers_in cs P = c.as_slice.ensures.value ∙ c.in_ok-order.ensures in
+    subst (AllByRecursion (λ (m : ℕ). takes (method_at P m) 0 ≡ true)) (sym order) (none_taken cs P c.requires.links)
 
 pub returns-in-Ok-clause-opens : goal.returns-in-Ok-clause-opens
 returns-in-Ok-clause-opens c =
-    c.in-Ok.ensures.opens (opening_state (c.args.class.now ∷ [])) (c.in_ok-memory.ensures.holds c.args.original.now c.requires.links)
+    let cs = map (λ k. k.now) c.args.classes.now in
+    let P = c.args.original.now in
+    let order : c.as_slice.result.now ≡ initialisers_in cs P = c.as_slice.ensures.value ∙ c.in_ok-order.ensures in
+    let Opens : List ℕ → Type 0 = λ ms. OpensTo P c.args.limits.size c.args.limits.budget c.in_ok-memory.memory ms c.in-Ok.memory in
+    subst Opens order c.in-Ok.ensures.opens (opening_state cs) (c.in_ok-memory.ensures.holds P c.requires.links)
 
 pub returns-in-Ok-clause-size : goal.returns-in-Ok-clause-size
 returns-in-Ok-clause-size c = rw c.in-Ok.ensures.size c.in_ok-memory.ensures.size
 
-pub returns-in-Err-clause-cause : goal.returns-in-Err-clause-cause
-returns-in-Err-clause-cause c =
-    of_failing c.args.class.now c.args.original.now c.args.limits.size c.args.limits.budget c.in_ok-memory.memory c.in-Err.end c.unopened.result c.in-Err.ensures.cause
-    (c.in_ok-memory.ensures.holds c.args.original.now c.requires.links) c.unopened.ensures
+pub unopened-requires : goal.unopened-requires
+unopened-requires c =
+    let cs = map (λ k. k.now) c.args.classes.now in
+    let P = c.args.original.now in
+    let order : c.as_slice.result.now ≡ initialisers_in cs P = c.as_slice.ensures.value ∙ c.in_ok-order.ensures in
+    let Ends : List ℕ → Type 0 = λ ms. EndsSetUp P c.args.limits.size c.args.limits.budget c.in_ok-memory.memory ms c.in-Err.end in
+    numbered cs P c.args.limits.size c.args.limits.budget c.in_ok-memory.memory c.in-Err.end c.requires.links (subst Ends order c.in-Err.ensures.cause) (c.in_ok-memory.ensures.holds P c.requires.links)
+
+pub returns-clause-cause : goal.returns-clause-cause
+returns-clause-cause c =
+    let cs = map (λ k. k.now) c.args.classes.now in
+    let P = c.args.original.now in
+    let order : c.as_slice.result.now ≡ initialisers_in cs P = c.as_slice.ensures.value ∙ c.in_ok-order.ensures in
+    let stands = c.in_ok-memory.ensures.holds P c.requires.links in
+    let Ends : List ℕ → Type 0 = λ ms. EndsSetUp P c.args.limits.size c.args.limits.budget c.in_ok-memory.memory ms c.in-Err.end in
+    let cause = subst Ends order c.in-Err.ensures.cause in
+    of_failing cs P c.args.limits.size c.args.limits.budget c.in_ok-memory.memory c.in-Err.end c.unopened.result
+    (numbered cs P c.args.limits.size c.args.limits.budget c.in_ok-memory.memory c.in-Err.end c.requires.links cause stands) cause stands c.unopened.ensures

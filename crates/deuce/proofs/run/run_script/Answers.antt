@@ -1,11 +1,13 @@
-use Rattle.std.proofs.Common.{◌≡◌, ◌∙◌, ap, sym, subst, ℕ, List, [], ◌∷◌}
+use Rattle.std.proofs.Common.{◌≡◌, ◌∙◌, ap, sym, subst, ℕ, List}
 use Rattle.std.specs.Prelude.{map}
 use Rattle.jmodel.specs.Layout.{opening_state}
-use Rattle.jmodel.specs.Opening.{initialisers, Opening}
+use Rattle.jmodel.specs.ClassFile.{ClassFile}
+use Rattle.jmodel.specs.Opening.{Opening}
+use Rattle.jmodel.specs.ClassesLinking.{initialisers_in}
 use Rattle.jmodel.specs.Output.{journal_text}
 use Rattle.jmodel.specs.Schedule.{ScriptPhase}
 use Rattle.session.specs.declared.record.Record.{Record}
-use Rattle.script.specs.Script.{Script}
+use Rattle.script.specs.Script.{Script, IsScript}
 use Rattle.driver.specs.Runs.{AreScripted}
 use Rattle.deuce.specs.Headline.{AreCalls}
 use Rattle.deuce.specs.Lines.{line_in}
@@ -19,7 +21,7 @@ pub run_phases-requires-clause-scripted : goal.run_phases-requires-clause-script
 run_phases-requires-clause-scripted g c = λ κs lives.
     let phases : c.as_slice.result.now ≡ c.in_ok-wanted.wanted.phases = c.as_slice.ensures.value ∙ ap (λ (s : Script). s.phases) c.wanted.view_is in
     subst (λ (ks : List ScriptPhase). AreScripted c.args.original.now ks) (sym phases)
-    (scripted c.args.class.now c.args.original.now c.in_ok-wanted.wanted c.args.script.now c.in_ok-wanted.ensures.script)
+    (scripted (map (λ k. k.now) c.args.classes.now) c.args.original.now c.in_ok-wanted.wanted c.args.script.now c.in_ok-wanted.ensures.script)
 
 pub run_phases-requires-clause-size : goal.run_phases-requires-clause-size
 run_phases-requires-clause-size g c = λ κs lives. c.in_ok-memory.ensures.size
@@ -27,50 +29,54 @@ run_phases-requires-clause-size g c = λ κs lives. c.in_ok-memory.ensures.size
 pub run_phases-requires-clause-attempts : goal.run_phases-requires-clause-attempts
 run_phases-requires-clause-attempts g c = λ κs lives.
     let attempts : c.wanted.inside.attempts ≡ c.in_ok-wanted.wanted.attempts = ap (λ (s : Script). s.attempts) c.wanted.view_is in
-    rw attempts (few_attempts c.args.class.now c.args.original.now c.in_ok-wanted.wanted c.args.script.now c.in_ok-wanted.ensures.script)
+    rw attempts (few_attempts (map (λ k. k.now) c.args.classes.now) c.args.original.now c.in_ok-wanted.wanted c.args.script.now c.in_ok-wanted.ensures.script)
 
 pub run_phases-requires-clause-room_size : goal.run_phases-requires-clause-room_size
 run_phases-requires-clause-room_size g c = λ κs lives.
     let size : c.wanted.inside.region ≡ c.in_ok-wanted.wanted.region = ap (λ (s : Script). s.region) c.wanted.view_is in
-    rw size (region_fits c.args.class.now c.args.original.now c.in_ok-wanted.wanted c.args.script.now c.in_ok-wanted.ensures.script).1
+    rw size (region_fits (map (λ k. k.now) c.args.classes.now) c.args.original.now c.in_ok-wanted.wanted c.args.script.now c.in_ok-wanted.ensures.script).1
 
 pub opened-requires-clause-room : goal.opened-requires-clause-room
 opened-requires-clause-room g c =
     let size : c.wanted.inside.region ≡ c.in_ok-wanted.wanted.region = ap (λ (s : Script). s.region) c.wanted.view_is in
-    rw size (region_fits c.args.class.now c.args.original.now c.in_ok-wanted.wanted c.args.script.now c.in_ok-wanted.ensures.script)
+    rw size (region_fits (map (λ k. k.now) c.args.classes.now) c.args.original.now c.in_ok-wanted.wanted c.args.script.now c.in_ok-wanted.ensures.script)
 
 pub opened-requires-clause-lanes : goal.opened-requires-clause-lanes
 opened-requires-clause-lanes g c =
     let lanes : c.wanted.inside.lanes ≡ c.in_ok-wanted.wanted.lanes = ap (λ (s : Script). s.lanes) c.wanted.view_is in
-    rw lanes (lanes_fit c.args.class.now c.args.original.now c.in_ok-wanted.wanted c.args.script.now c.in_ok-wanted.ensures.script)
+    rw lanes (lanes_fit (map (λ k. k.now) c.args.classes.now) c.args.original.now c.in_ok-wanted.wanted c.args.script.now c.in_ok-wanted.ensures.script)
 
 pub opened-requires-clause-attempts : goal.opened-requires-clause-attempts
 opened-requires-clause-attempts g c =
     let attempts : c.wanted.inside.attempts ≡ c.in_ok-wanted.wanted.attempts = ap (λ (s : Script). s.attempts) c.wanted.view_is in
-    rw attempts (few_attempts c.args.class.now c.args.original.now c.in_ok-wanted.wanted c.args.script.now c.in_ok-wanted.ensures.script)
+    rw attempts (few_attempts (map (λ k. k.now) c.args.classes.now) c.args.original.now c.in_ok-wanted.wanted c.args.script.now c.in_ok-wanted.ensures.script)
 
 pub returns-in_err-memory-clause-cause : goal.returns-in_err-memory-clause-cause
 returns-in_err-memory-clause-cause g c =
     let size : c.wanted.inside.region ≡ c.in_ok-wanted.wanted.region = ap (λ (s : Script). s.region) c.wanted.view_is in
     let budget : c.wanted.inside.budget ≡ c.in_ok-wanted.wanted.budget = ap (λ (s : Script). s.budget) c.wanted.view_is in
-    err_is c.from_residual-in_err-memory.result c.in_err-memory.field-0.0 (EndsScript c.args.class.now c.args.original.now c.args.script.now) c.from_residual-in_err-memory.ensures.1
-    (of_opening c.args.class.now c.args.original.now c.args.script.now c.in_ok-wanted.wanted c.wanted.inside.region c.wanted.inside.budget c.in_err-memory.field-0.0 c.in_ok-wanted.ensures.script size budget c.in_err-memory.ensures.cause)
+    err_is c.from_residual-in_err-memory.result c.in_err-memory.field-0.0 (EndsScript c.args.original.now (map (λ k. k.now) c.args.classes.now) c.args.script.now) c.from_residual-in_err-memory.ensures.1
+    (of_opening (map (λ k. k.now) c.args.classes.now) c.args.original.now c.args.script.now c.in_ok-wanted.wanted c.wanted.inside.region c.wanted.inside.budget c.in_err-memory.field-0.0 c.in_ok-wanted.ensures.script size budget c.in_err-memory.ensures.cause)
 
 pub returns-clause-run : goal.returns-clause-run
-returns-clause-run g c = λ bytes spells.
+returns-clause-run g c = λ files contents order links spell.
     let P = c.args.original.now in
-    let phases : c.as_slice.result.now ≡ c.in_ok-wanted.wanted.phases = c.as_slice.ensures.value ∙ ap (λ (s : Script). s.phases) c.wanted.view_is in
-    let size : c.wanted.inside.region ≡ c.in_ok-wanted.wanted.region = ap (λ (s : Script). s.region) c.wanted.view_is in
-    let budget : c.wanted.inside.budget ≡ c.in_ok-wanted.wanted.budget = ap (λ (s : Script). s.budget) c.wanted.view_is in
+    let cs = map (λ k. k.now) c.args.classes.now in
+    let wanted = c.in_ok-wanted.wanted in
+    let phases : c.as_slice.result.now ≡ wanted.phases = c.as_slice.ensures.value ∙ ap (λ (s : Script). s.phases) c.wanted.view_is in
+    let size : c.wanted.inside.region ≡ wanted.region = ap (λ (s : Script). s.region) c.wanted.view_is in
+    let budget : c.wanted.inside.budget ≡ wanted.budget = ap (λ (s : Script). s.budget) c.wanted.view_is in
     let seen = c.as_slice.result.now in
     let opened = c.in_ok-memory.ensures.opens in
     let state = opened.0 in
-    let Sizes : ℕ → Type 0 = λ n. Opening P n c.wanted.inside.budget (opening_state (c.args.class.now ∷ [])) (initialisers P) state in
-    let Opens : ℕ → Type 0 = λ b. Opening P c.in_ok-wanted.wanted.region b (opening_state (c.args.class.now ∷ [])) (initialisers P) state in
+    let Sizes : ℕ → Type 0 = λ n. Opening P n c.wanted.inside.budget (opening_state cs) (initialisers_in cs P) state in
+    let Opens : ℕ → Type 0 = λ b. Opening P wanted.region b (opening_state cs) (initialisers_in cs P) state in
+    let Ordered : List ClassFile → Type 0 = λ ds. Opening P wanted.region wanted.budget (opening_state ds) (initialisers_in ds P) state in
+    let Scripts : List ClassFile → Type 0 = λ ds. IsScript ds P c.args.script.now wanted in
     let text = c.in_ok-journal.field-0 in
-    is_run bytes c.args.script.now c.args.class.now P c.in_ok-wanted.wanted seen text
-    spells c.requires.links c.requires.ready.typed.typed c.in_ok-wanted.ensures.script phases state (subst Opens budget (subst Sizes size opened.1))
-    (subst (λ (b : ℕ). AreCalls P c.in_ok-wanted.wanted.region b state seen text) budget
+    is_run contents c.args.script.now files P wanted seen text
+    spell links c.requires.ready.typed.typed (subst Scripts (sym order) c.in_ok-wanted.ensures.script) phases state (subst Ordered (sym order) (subst Opens budget (subst Sizes size opened.1)))
+    (subst (λ (b : ℕ). AreCalls P wanted.region b state seen text) budget
     (subst (λ (n : ℕ). AreCalls P n c.wanted.inside.budget state seen text) size
     (are_calls P c.wanted.inside.region c.wanted.inside.budget seen c.in_ok-memory.memory c.in_ok-made.made state text c.in_ok-made.ensures
     opened.2

@@ -1,6 +1,6 @@
 use Rattle.std.proofs.Common.{Err, ap}
 use Rattle.deuce.specs.Outcomes.{seen}
-use Rattle.deuce.proofs.Printed.{journal_printed, rewriting_printed, fault_printed, program_printed, untyped_printed, script_printed, unopened_printed}
+use Rattle.deuce.proofs.Printed.{journal_printed, rewriting_printed, fault_printed, program_printed, untyped_printed, script_printed, unopened_printed, refusal_keeps}
 use Rattle.deuce.proofs.Complete.{complete, complete_rewriting}
 use Rattle.deuce.proofs.top.deuce.Goals as goal
 
@@ -47,3 +47,8 @@ returns-in-Ok-print-clause-complete_rewriting g c = complete_rewriting c.args.wo
 
 pub returns-in-Err-Failed-clause-sink : goal.returns-in-Err-Failed-clause-sink
 returns-in-Err-Failed-clause-sink g c = λ nine. c.in-Err-Failed.ensures.failed (ap Err c.in-Err-Failed.field-0-is)
+
+pub returns-in-Ok-print-clause-refused_keeps : goal.returns-in-Ok-print-clause-refused_keeps
+returns-in-Ok-print-clause-refused_keeps g c = λ refused.
+    refusal_keeps c.in-Ok.outcome (seen (g.F.Folder.files c.args.folder.now) (g.F.Folder.faults c.args.folder.now) (g.F.Folder.put_faults c.args.folder.now) (g.F.Folder.failed c.args.folder.now)) (seen (g.F.Folder.files c.outcome_of.new.folder) (g.F.Folder.faults c.outcome_of.new.folder) (g.F.Folder.put_faults c.outcome_of.new.folder) (g.F.Folder.failed c.outcome_of.new.folder)) c.status-status.result
+    c.in-Ok.ensures.outcome.0 c.status-status.ensures refused

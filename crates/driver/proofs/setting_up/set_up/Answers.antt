@@ -1,11 +1,10 @@
 use Rattle.std.proofs.Common.{◌≡◌, ℕ, suc, List, ◌∷◌, ◌++◌, take, drop, slice_index_or, refl, sym, ap, ◌∙◌, subst, drop-cons}
-use Rattle.std.specs.List.{AllByRecursion}
 use Rattle.std.proofs.lemmas.List.{take_all, take_more, take-append-drop}
 use Rattle.jmodel.specs.State.{State}
 use Rattle.driver.specs.Memory.{Holds}
-use Rattle.jmodel.specs.Opening.{initialisers, Fails}
+use Rattle.jmodel.specs.Opening.{Fails}
 use Rattle.driver.specs.SetUp.{OpensTo}
-use Rattle.driver.proofs.SettingUp.{IsCallable, callable, opens_none, opens_after, fails_at, at_index}
+use Rattle.driver.proofs.SettingUp.{IsCallable, opens_none, opens_after, fails_at, at_index}
 use Rattle.driver.proofs.setting_up.set_up.Goals as goal
 
 pub loop-number-init : goal.loop-number-init
@@ -14,23 +13,19 @@ loop-number-init c = record { opens = opens_none c.args.original.now c.args.limi
 pub call_alone-requires-clause-callable : goal.call_alone-requires-clause-callable
 call_alone-requires-clause-callable c =
     let P = c.args.original.now in
-    let numbers : c.deref-number-items.result.now ≡ initialisers P = c.deref-number-items.ensures.value ∙ c.in_ok-numbers.ensures in
-    let i : ℕ = c.loop-number.number-index in
-    let all = subst (λ (ms : List ℕ). AllByRecursion (IsCallable P) ms) (sym numbers) (callable P c.requires.initialisers) in
-    at_index (IsCallable P) c.deref-number-items.result.now i 0 all c.loop-number-test.true
+    at_index (IsCallable P) c.args.initialisers.now c.loop-number.number-index 0 c.requires.callable c.loop-number-test.true
 
 pub returns-then-not-is_return-clause-cause : goal.returns-then-not-is_return-clause-cause
 returns-then-not-is_return-clause-cause c =
     let P = c.args.original.now in
     let z = c.args.limits.size in
     let b = c.args.limits.budget in
-    let ns = c.deref-number-items.result.now in
+    let ns = c.args.initialisers.now in
     let i : ℕ = c.loop-number.number-index in
     let m = slice_index_or ns i 0 in
-    let numbers : ns ≡ initialisers P = c.deref-number-items.ensures.value ∙ c.in_ok-numbers.ensures in
     let split : take i ns ++ (m ∷ drop (suc i) ns) ≡ ns = ap (λ (l : List ℕ). take i ns ++ l) (sym (drop-cons ns i 0 c.loop-number-test.true)) ∙ take-append-drop i ns in
     let Failing : List ℕ → Type 0 = λ ms. (σ : State) → Holds P z c.args.memory σ → Fails P z b σ ms m c.in_ok-answer.answer in
-    subst Failing (split ∙ numbers)
+    subst Failing split
     (fails_at P z b c.args.memory c.loop-number.memory c.in_ok-answer.left (take i ns) (drop (suc i) ns) m c.in_ok-answer.answer (sym c.if-not-is_return.ensures)
     c.loop-number.invariant.opens c.in_ok-answer.ensures.answers)
 
@@ -39,7 +34,7 @@ loop-number-preserved c =
     let P = c.args.original.now in
     let z = c.args.limits.size in
     let b = c.args.limits.budget in
-    let ns = c.deref-number-items.result.now in
+    let ns = c.args.initialisers.now in
     let i : ℕ = c.loop-number.number-index in
     let m = slice_index_or ns i 0 in
     let left = c.in_ok-answer.left in
@@ -53,9 +48,8 @@ loop-number-preserved c =
 pub returns-clause-opens : goal.returns-clause-opens
 returns-clause-opens c =
     let P = c.args.original.now in
-    let numbers : c.deref-number-items.result.now ≡ initialisers P = c.deref-number-items.ensures.value ∙ c.in_ok-numbers.ensures in
-    let all : take c.loop-number.number-index c.deref-number-items.result.now ≡ c.deref-number-items.result.now = take_all c.loop-number.number-index c.deref-number-items.result.now c.loop-number-test.false in
-    subst (λ (ms : List ℕ). OpensTo P c.args.limits.size c.args.limits.budget c.args.memory ms c.loop-number.memory) (all ∙ numbers) c.loop-number.invariant.opens
+    let all : take c.loop-number.number-index c.args.initialisers.now ≡ c.args.initialisers.now = take_all c.loop-number.number-index c.args.initialisers.now c.loop-number-test.false in
+    subst (λ (ms : List ℕ). OpensTo P c.args.limits.size c.args.limits.budget c.args.memory ms c.loop-number.memory) all c.loop-number.invariant.opens
 
 pub returns-clause-size : goal.returns-clause-size
 returns-clause-size c = c.loop-number.invariant.size

@@ -3,42 +3,44 @@ use Rattle.std.proofs.lemmas.Result.{err_from_is_err_and}
 use Rattle.std.proofs.lemmas.Slice.Zip.{zip_turn, zip_end}
 use Rattle.std.specs.Iterator.Adapters.{zip_first, zip_second}
 use Rattle.std.specs.Slice.Iter.{iter_rest}
-use Rattle.jmodel.specs.ClassFile.{Member}
 use Rattle.jmodel.specs.Decoding.{each}
-use Rattle.jmodel.specs.Linking.{Coded, form_method}
+use Rattle.jmodel.specs.Coded.{Coded}
+use Rattle.jmodel.specs.Linking.{form_method}
+use Rattle.jmodel.specs.Classes.{Declared}
+use Rattle.hierarchy.specs.Members.{symbols_for}
 use Rattle.hierarchy.proofs.Each.{with_front, goes_on, ends, is_done}
 use Rattle.hierarchy.proofs.Zipped.{side_by_side, length_more, pair_is, no_more}
 use Rattle.hierarchy.proofs.build.form_methods.Goals as goal
 
-pub returns-in_err-form_method : goal.returns-in_err-form_method
-returns-in_err-form_method c =
-    let f = λ (p : Member × Coded). form_method c.args.symbols.now p.0 p.1 in
+pub returns-in_err-form_method_among : goal.returns-in_err-form_method_among
+returns-in_err-form_method_among c =
+    let f = λ (p : Declared × Coded). form_method (symbols_for c.args.members.now p.0.class) p.0.member p.1 in
     let p = err_from_is_err_and c.from_residual.result c.from_residual.ensures.1 in
     let first : iter_rest (zip_first c.into_iter-method-iterator.result) ≡ c.args.methods.now = first_of (cc, search rules) in
     let second : iter_rest (zip_second c.into_iter-method-iterator.result) ≡ c.args.coded.now = first_of (cc, search rules) in
     let t = zip_turn c.args.methods.now c.args.coded.now c.loop-method.yielded c.into_iter-method-iterator.result c.loop-method.method-iterator c.next.new.self c.next.result first second c.loop-method.yielded_by
     (c.in-Some.method, c.in-Some.code) c.in-Some.is c.next.ensures.steps in
-    rw (p.1, p.2) (ends f c.in_err-form_method.field-0.0 c.loop-method.built.items (side_by_side c.args.methods.now c.args.coded.now) (length c.loop-method.yielded) (c.in-Some.method.now.now, c.in-Some.code.now) _
-    (pair_is c.args.methods.now c.args.coded.now (length c.loop-method.yielded) c.in-Some.method.now c.in-Some.code.now t.0 t.1 (t.2 _) (t.3 _)) c.in_err-form_method.ensures c.loop-method.invariant)
+    rw (p.1, p.2) (ends f c.in_err-form_method_among.field-0.0 c.loop-method.built.items (side_by_side c.args.methods.now c.args.coded.now) (length c.loop-method.yielded) (c.in-Some.method.now.now, c.in-Some.code.now) _
+    (pair_is c.args.methods.now c.args.coded.now (length c.loop-method.yielded) c.in-Some.method.now c.in-Some.code.now t.0 t.1 (t.2 _) (t.3 _)) c.in_err-form_method_among.ensures c.loop-method.invariant)
 
 pub loop-method-preserved : goal.loop-method-preserved
 loop-method-preserved c =
-    let f = λ (p : Member × Coded). form_method c.args.symbols.now p.0 p.1 in
+    let f = λ (p : Declared × Coded). form_method (symbols_for c.args.members.now p.0.class) p.0.member p.1 in
     let first : iter_rest (zip_first c.into_iter-method-iterator.result) ≡ c.args.methods.now = first_of (cc, search rules) in
     let second : iter_rest (zip_second c.into_iter-method-iterator.result) ≡ c.args.coded.now = first_of (cc, search rules) in
     let t = zip_turn c.args.methods.now c.args.coded.now c.loop-method.yielded c.into_iter-method-iterator.result c.loop-method.method-iterator c.next.new.self c.next.result first second c.loop-method.yielded_by
     (c.in-Some.method, c.in-Some.code) c.in-Some.is c.next.ensures.steps in
     let all = side_by_side c.args.methods.now c.args.coded.now in
     let step =
-    goes_on f c.loop-method.built.items all (length c.loop-method.yielded) (c.in-Some.method.now.now, c.in-Some.code.now) c.in_ok-form_method.field-0 (each f all)
-    (pair_is c.args.methods.now c.args.coded.now (length c.loop-method.yielded) c.in-Some.method.now c.in-Some.code.now t.0 t.1 (t.2 _) (t.3 _)) c.in_ok-form_method.ensures c.loop-method.invariant in
-    let counted = subst (λ (n : ℕ). with_front (c.loop-method.built.items ++ c.in_ok-form_method.field-0 ∷ []) (each f (drop n all)) ≡ each f all)
+    goes_on f c.loop-method.built.items all (length c.loop-method.yielded) (c.in-Some.method.now.now, c.in-Some.code.now) c.in_ok-form_method_among.field-0 (each f all)
+    (pair_is c.args.methods.now c.args.coded.now (length c.loop-method.yielded) c.in-Some.method.now c.in-Some.code.now t.0 t.1 (t.2 _) (t.3 _)) c.in_ok-form_method_among.ensures c.loop-method.invariant in
+    let counted = subst (λ (n : ℕ). with_front (c.loop-method.built.items ++ c.in_ok-form_method_among.field-0 ∷ []) (each f (drop n all)) ≡ each f all)
     (sym (length_more c.loop-method.yielded (c.in-Some.method, c.in-Some.code))) step in
     rw c.in_ok-push.ensures.items counted
 
 pub returns : goal.returns
 returns c =
-    let f = λ (p : Member × Coded). form_method c.args.symbols.now p.0 p.1 in
+    let f = λ (p : Declared × Coded). form_method (symbols_for c.args.members.now p.0.class) p.0.member p.1 in
     let first : iter_rest (zip_first c.into_iter-method-iterator.result) ≡ c.args.methods.now = first_of (cc, search rules) in
     let second : iter_rest (zip_second c.into_iter-method-iterator.result) ≡ c.args.coded.now = first_of (cc, search rules) in
     let t = zip_end c.args.methods.now c.args.coded.now c.loop-method.yielded c.into_iter-method-iterator.result c.loop-method.method-iterator c.next.new.self c.next.result first second c.loop-method.yielded_by

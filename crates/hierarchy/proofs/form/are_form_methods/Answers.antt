@@ -1,24 +1,19 @@
-use Rattle.std.proofs.Common.{◌≡◌, ◌<◌, ◌≤◌, List, length, Bool, true, false, ◌&&◌, IfOk, sym, ap, ◌∙◌, subst, arith}
-use Rattle.std.specs.Prelude.{filter, nat_le}
+use Rattle.std.proofs.Common.{◌≡◌, Bool, true, ◌&&◌, map, Bor, sym, ap, ◌∙◌}
 use Rattle.std.specs.List.{list_all}
-use Rattle.std.proofs.lemmas.Bool.Decides.{nat_tests}
-use Rattle.jmodel.specs.Taken.{is_taken}
-use Rattle.jmodel.specs.Linking.{program_methods, is_form_method}
-use Rattle.hierarchy.proofs.SearchLaws.{count_flags}
+use Rattle.std.proofs.lemmas.Result.{IfOk-weaker}
+use Rattle.jmodel.specs.Linking.{is_form_atomic}
+use Rattle.jmodel.specs.Classes.{Declared, methods_in}
+use Rattle.jmodel.specs.ClassesTaken.{is_taken}
+use Rattle.jmodel.specs.ClassesLinking.{has_few_methods, is_form_method, are_form_methods}
+use Rattle.hierarchy.proofs.InOrder.{seen}
+use Rattle.hierarchy.proofs.Tests.{all_chosen}
 use Rattle.hierarchy.proofs.form.are_form_methods.Goals as goal
-
-pub returns-then-count_taken-gt100 : goal.returns-then-count_taken-gt100
-returns-then-count_taken-gt100 c =
-    let class = c.args.class.now in
-    let counted = c.count_taken.ensures ∙ ap (λ (bs : List Bool). length (filter (λ b. b) bs)) c.requires ∙ count_flags (is_taken class) class.methods in
-    let many : 100 < length (program_methods class) = omega (arith, counted, c.if-count_taken-gt100.true) in
-    let no : nat_le (length (program_methods class)) 100 ≡ false = grind (arith, nat_tests) in
-    sym (ap (λ (b : Bool). b && list_all (is_form_method class) class.methods) no)
 
 pub returns : goal.returns
 returns c =
-    let class = c.args.class.now in
-    let counted = c.count_taken.ensures ∙ ap (λ (bs : List Bool). length (filter (λ b. b) bs)) c.requires ∙ count_flags (is_taken class) class.methods in
-    let few : length (program_methods class) ≤ 100 = omega (arith, counted, c.if-count_taken-gt100.false) in
-    let yes : nat_le (length (program_methods class)) 100 ≡ true = grind (arith, nat_tests) in
-    subst (λ (b : Bool). IfOk c.each_is_method.result (λ x. x ≡ (b && list_all (is_form_method class) class.methods))) (sym yes) c.each_is_method.ensures
+    let cs = seen c.args.classes.now in
+    let atomic = λ (k : Declared). is_form_atomic k.class.pool k.member in
+    let few : list_all (has_few_methods cs) cs ≡ true = sym c.have_few_methods.ensures ∙ c.if-not-have_few_methods.false in
+    let forms = all_chosen (is_taken cs) atomic (methods_in cs) in
+    IfOk-weaker c.each_is_atomic.result (λ b. b ≡ list_all atomic (map (λ (m : Bor Declared). m.now) c.args.methods.now)) (λ b. b ≡ are_form_methods cs)
+    (λ b is. is ∙ ap (list_all atomic) c.requires.are ∙ sym forms ∙ sym (ap (λ (t : Bool). t && list_all (is_form_method cs) (methods_in cs)) few)) c.each_is_atomic.ensures

@@ -1,15 +1,15 @@
-use Rattle.std.proofs.Common.{◌≡◌, ◌+◌, drop, Option, Some, sym, ap, ◌∙◌}
-use Rattle.std.specs.Option.{option_or}
-use Rattle.jmodel.specs.declared.refusal.Refusal.{Refusal}
-use Rattle.jmodel.specs.Linking.{mark_fault, marks_fault}
+use Rattle.std.proofs.Common.{◌≡◌, Some, drop, ◌+◌, sym, ap, ◌∙◌}
+use Rattle.jmodel.specs.Linking.{mark_fault}
+use Rattle.jmodel.specs.Classes.{Declared}
 use Rattle.hierarchy.proofs.Each.{item_is}
+use Rattle.hierarchy.proofs.FirstFault.{found}
 use Rattle.hierarchy.proofs.marks.marks_fault.Goals as goal
 
 pub returns-in-Some : goal.returns-in-Some
 returns-in-Some c =
-    let class = c.args.class.now in
-    let items = c.deref-method-items.result.now in
-    let item = item_is items c.loop-method.method-index c.method-item.result c.loop-method-test.true c.method-item.is in
-    let found : mark_fault class c.method-item.result ≡ Some c.in-Some.fault = sym c.in_ok-fault.ensures ∙ c.in-Some.is in
-    let here = ap (marks_fault class) item ∙ ap (λ (o : Option Refusal). option_or o (marks_fault class (drop (c.loop-method.method-index + 1) items))) found in
-    sym here ∙ c.loop-method.invariant
+    let methods = c.args.methods.now in
+    let at = c.loop-method.method-index in
+    let method = c.method-item.result in
+    let item = item_is methods at method c.loop-method-test.true c.method-item.is in
+    let is : mark_fault method.class method.member ≡ Some c.in-Some.fault = sym (ap (λ (k : Declared). mark_fault k.class k.member) c.method.view_is) ∙ sym c.in_ok-fault.ensures ∙ c.in-Some.is in
+    found (λ (k : Declared). mark_fault k.class k.member) (drop at methods) method (drop (at + 1) methods) c.in-Some.fault _ item is c.loop-method.invariant

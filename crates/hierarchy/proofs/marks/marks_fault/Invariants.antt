@@ -1,7 +1,9 @@
 use Rattle.std.proofs.Common.{◌≡◌, drop}
-use Rattle.jmodel.specs.Linking.{marks_fault}
+use Rattle.jmodel.specs.Linking.{mark_fault}
+use Rattle.jmodel.specs.Classes.{Declared}
+use Rattle.jmodel.specs.ClassesLinking.{first_fault}
 use Rattle.hierarchy.proofs.marks.marks_fault.Given as goal
 
 -- the methods before have no fault
 abbrev pub invariant-loop-method : goal.invariant-loop-method
-invariant-loop-method l = marks_fault l.class (drop l.method-index l.method-items) ≡ marks_fault l.class l.class.methods
+invariant-loop-method l = first_fault (λ (k : Declared). mark_fault k.class k.member) (drop l.method-index l.methods) ≡ first_fault (λ (k : Declared). mark_fault k.class k.member) l.methods

@@ -1,10 +1,7 @@
-use Rattle.std.proofs.Common.{◌≡◌, rules, ap, ◌∙◌}
-use Rattle.std.specs.Map.{values_of}
-use Rattle.hierarchy.proofs.InOrder.{seen, values_in_order}
+use Rattle.std.proofs.Common.{sym, ap, ◌∙◌}
+use Rattle.jmodel.specs.Classes.{doubled_class}
+use Rattle.hierarchy.proofs.Single.{single_in_order}
 use Rattle.hierarchy.proofs.ordering.in_order.Goals as goal
 
-pub returns : goal.returns
-returns c =
-    let entries = c.in_ok-classes.classes.entries in
-    let values : c.in_ok-collect.field-0.items ≡ values_of entries = search rules in
-    ap seen values ∙ values_in_order entries c.args.files.now c.in_ok-classes.ensures
+pub returns-clause-single : goal.returns-clause-single
+returns-clause-single c = ap doubled_class c.in_ok-sorted.ensures ∙ single_in_order c.args.files.now (sym c.in_ok-fault.ensures ∙ c.in_default.is)

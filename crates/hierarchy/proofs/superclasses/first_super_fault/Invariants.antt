@@ -4,4 +4,4 @@ use Rattle.hierarchy.proofs.superclasses.first_super_fault.Given as goal
 
 -- the classes before have no fault
 abbrev pub invariant-loop-class : goal.invariant-loop-class
-invariant-loop-class l = first_fault (super_fault (map (λ c. c.now) l.classes)) (map (λ c. c.now) (drop l.class-index l.classes)) ≡ first_fault (super_fault (map (λ c. c.now) l.classes)) (map (λ c. c.now) l.classes)
+invariant-loop-class l = first_fault (super_fault l.places) (map (λ c. c.now) (drop l.class-index l.class-items)) ≡ first_fault (super_fault l.places) (map (λ c. c.now) l.class-items)

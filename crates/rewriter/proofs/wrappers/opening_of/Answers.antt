@@ -5,7 +5,6 @@ use Rattle.std.proofs.lemmas.Result.{err_from_is_err_and}
 use Rattle.jmodel.specs.declared.refusal.Refusal.{Refusal}
 use Rattle.jmodel.specs.declared.refusal.Halt.{Halt}
 use Rattle.jmodel.specs.declared.refusal.Halt.TheVariants as halts
-use Rattle.jmodel.specs.ClassFile.{Pool}
 use Rattle.jmodel.specs.Reading.{◌>>=◌, Fails}
 use Rattle.rewriter.specs.Adding.{add_integer}
 use Rattle.rewriter.specs.Members.{opening_of}

@@ -7,4 +7,4 @@ use Rattle.script.proofs.calls.Methods.lanes_at.Given as goal
 
 -- what was collected, and what is still collected
 abbrev pub invariant-loop-lane : goal.invariant-loop-lane
-invariant-loop-lane l = with_front l.lanes.items (each_from (lane_in l.self.class.now l.self.program.now l.path) l.lane (drop l.lane (map values l.lists))) ≡ each_from (lane_in l.self.class.now l.self.program.now l.path) 0 (map values l.lists)
+invariant-loop-lane l = with_front l.lanes.items (each_from (lane_in l.self.classes l.self.program l.path) l.lane (drop l.lane (map values l.lists))) ≡ each_from (lane_in l.self.classes l.self.program l.path) 0 (map values l.lists)

@@ -7,4 +7,4 @@ use Rattle.script.proofs.calls.Methods.phases_of.Given as goal
 
 -- what was collected, and what is still collected
 abbrev pub invariant-loop-index : goal.invariant-loop-index
-invariant-loop-index l = with_front l.phases.items (each_from (phase_of l.self.class.now l.self.program.now l.lanes) l.index (drop l.index (map lists l.lists))) ≡ each_from (phase_of l.self.class.now l.self.program.now l.lanes) 0 (map lists l.lists)
+invariant-loop-index l = with_front l.phases.items (each_from (phase_of l.self.classes l.self.program l.lanes) l.index (drop l.index (map lists l.lists))) ≡ each_from (phase_of l.self.classes l.self.program l.lanes) 0 (map lists l.lists)

@@ -1,0 +1,213 @@
+-- Classes by their names, and how rewriting keeps these.
+use Rattle.std.proofs.Common.{◌≡◌, ◌++◌, ◌∙◌, ℕ, zero, suc, Bor, Bool, true, false, cond, List, [], ◌∷◌, length, map, reverse, slice_get, Option, Some, None, refl, sym, ap, subst, arith}
+use Rattle.std.specs.Prelude.{option_map, option_and_then, bytes_eq, if◌then◌else◌, IsSome, IsSomeAnd, Contains, nat_lt}
+use Rattle.std.specs.List.{AllByRecursion, AllZip}
+use Rattle.std.specs.Map.{lookup}
+use Rattle.std.specs.BTreeMap.{is_at}
+use Rattle.std.specs.declared.cmp.Ordering.{Ordering}
+use Rattle.std.specs.Ordering.{nat_cmp}
+use Rattle.std.specs.Cmp.Lexicographic.{slice_cmp}
+use Rattle.std.proofs.lemmas.List.{map-append, reverse-append}
+use Rattle.std.proofs.lemmas.Bool.Decides.{nat_tests}
+use Rattle.std.proofs.lemmas.Slice.Eq.{bytes_eq-Decides}
+use Rattle.std.proofs.lemmas.Map.Text.{is_eq-slice_cmp}
+use Rattle.jmodel.specs.declared.class_file.Constant.{Constant}
+use Rattle.jmodel.specs.declared.class_file.Constant.TheVariants as constants
+use Rattle.jmodel.specs.ClassFile.{Pool, ClassFile}
+use Rattle.jmodel.specs.ClassRules.{IsClassFile}
+use Rattle.jmodel.specs.Descriptor.{IsClassName}
+use Rattle.jmodel.specs.Pool.{entry, text_in, utf8, name_in, class_name}
+use Rattle.jmodel.specs.Layout.{text_or_none}
+use Rattle.jmodel.specs.Superclasses.{own_name, class_named}
+use Rattle.jmodel.specs.Classes.{is_before, placed, in_order}
+use Rattle.rewriter.specs.Meaning.{HasFewMembers}
+use Rattle.rewriter.specs.Rewritten.{Keeps}
+use Rattle.deuce.specs.Ending.{AreUnderNames}
+use Rattle.deuce.proofs.Lists.{all_as}
+
+-- ---- in a tree
+
+abbrev pub by_bytes : Bor (List ℕ) → Bor (List ℕ) → Ordering
+by_bytes x y = slice_cmp nat_cmp x.now y.now
+
+abbrev Entry : Type 0
+Entry = Bor (List ℕ) × Bor ClassFile
+
+-- what a tree finds goes by the bytes of the name
+pub found : (k : Bor (List ℕ)) (es : List Entry) → lookup (is_at (by_bytes k)) es ≡ lookup (λ x. bytes_eq k.now x.now) es
+found k [] = refl
+found k (e ∷ es) =
+    ap (λ (b : Bool). cond b (Some e.1) (lookup (is_at (by_bytes k)) es)) (is_eq-slice_cmp k.now e.0.now) ∙ ap (λ (o : Option (Bor ClassFile)). cond (bytes_eq k.now e.0.now) (Some e.1) o) (found k es)
+
+-- a tree with one class more
+pub under_more : (old new : List Entry) (cs : List ClassFile) (k : Bor (List ℕ)) (v : Bor ClassFile) → k.now ≡ own_name v.now
+    → ((q : Bor (List ℕ)) → lookup (is_at (by_bytes q)) new ≡ cond (is_at (by_bytes k) q) (Some v) (lookup (is_at (by_bytes q)) old)) → AreUnderNames old cs → AreUnderNames new (v.now ∷ cs)
+under_more old new cs k v named updates so_far name =
+    let q : Bor (List ℕ) = record { ref_ptr = (0, 0); now = name } in
+    let now : Option (Bor ClassFile) → Option ClassFile = option_map (λ c. c.now) in
+    ap now (sym (found q new) ∙ updates q ∙ ap (λ (b : Bool). cond b (Some v) (lookup (is_at (by_bytes q)) old)) (is_eq-slice_cmp k.now name) ∙ ap (cond (bytes_eq k.now name) (Some v)) (found q old))
+    ∙ go (bytes_eq k.now name) (lookup (λ x. bytes_eq name x.now) old) (class_named cs name) (so_far name) ∙ ap (λ (n : List ℕ). cond (bytes_eq n name) (Some v.now) (class_named cs name)) named
+  where
+    go : (b : Bool) (o : Option (Bor ClassFile)) (p : Option ClassFile) → option_map (λ c. c.now) o ≡ p → option_map (λ c. c.now) (cond b (Some v) o) ≡ cond b (Some v.now) p
+    go true o p h = refl
+    go false o p h = h
+
+abbrev pub seen : List (Bor ClassFile) → List ClassFile
+seen cs = map (λ c. c.now) cs
+
+-- the last one comes first
+pub last_first : (cs : List (Bor ClassFile)) (c : Bor ClassFile) → reverse (seen (cs ++ c ∷ [])) ≡ c.now ∷ reverse (seen cs)
+last_first cs c = ap (λ (l : List ClassFile). reverse l) (map-append (λ (k : Bor ClassFile). k.now) cs (c ∷ [])) ∙ reverse-append (seen cs) (c.now ∷ [])
+
+-- a class that a tree finds is the one of the name
+pub is_named : (k : Bor (List ℕ)) (es : List Entry) (cs : List ClassFile) (c : Bor ClassFile) → AreUnderNames es cs → lookup (is_at (by_bytes k)) es ≡ Some c → class_named cs k.now ≡ Some c.now
+is_named k es cs c under is = sym (under k.now) ∙ ap (option_map (λ c. c.now)) (sym (found k es) ∙ is)
+
+pub none_named : (k : Bor (List ℕ)) (es : List Entry) (cs : List ClassFile) → AreUnderNames es cs → lookup (is_at (by_bytes k)) es ≡ None → class_named cs k.now ≡ None
+none_named k es cs under is = sym (under k.now) ∙ ap (option_map (λ c. c.now)) (sym (found k es) ∙ is)
+
+-- ---- which names there are
+
+-- some class has the name
+abbrev pub IsNamed : List ClassFile → List ℕ → Type 0
+IsNamed cs name = IsSome (class_named cs name)
+
+itself : (c : ClassFile) (cs : List ClassFile) → IsNamed (c ∷ cs) (own_name c)
+itself c cs = let same : bytes_eq (own_name c) (own_name c) ≡ true = (bytes_eq-Decides (own_name c) (own_name c)).1 refl in rw same refl
+
+-- what a list has is had with one class more
+with_more : (c : ClassFile) (cs ds : List ClassFile) (name : List ℕ) → (IsNamed cs name → IsNamed ds name) → IsNamed (c ∷ cs) name → IsNamed (c ∷ ds) name
+with_more c cs ds name f = go (bytes_eq (own_name c) name)
+  where
+    go : (b : Bool) → IsSome (cond b (Some c) (class_named cs name)) → IsSome (cond b (Some c) (class_named ds name))
+    go true h = h
+    go false h = f h
+
+behind : (c : ClassFile) (cs : List ClassFile) (name : List ℕ) → IsNamed cs name → IsNamed (c ∷ cs) name
+behind c cs name h = go (bytes_eq (own_name c) name)
+  where
+    go : (b : Bool) → IsSome (cond b (Some c) (class_named cs name))
+    go true = refl
+    go false = h
+
+swapped : (c d : ClassFile) (ds : List ClassFile) (name : List ℕ) → IsNamed (c ∷ d ∷ ds) name → IsNamed (d ∷ c ∷ ds) name
+swapped c d ds name h = go (bytes_eq (own_name c) name) (bytes_eq (own_name d) name) h
+  where
+    go : (b e : Bool) → IsSome (cond b (Some c) (cond e (Some d) (class_named ds name))) → IsSome (cond e (Some d) (cond b (Some c) (class_named ds name)))
+    go b true h = refl
+    go true false h = refl
+    go false false h = h
+
+named_placed : (c : ClassFile) (ds : List ClassFile) (name : List ℕ) → IsNamed (c ∷ ds) name → IsNamed (placed c ds) name
+named_placed c [] name h = h
+named_placed c (d ∷ ds) name h = go (is_before (own_name d) (own_name c)) (with_more d (c ∷ ds) (placed c ds) name (named_placed c ds name) (swapped c d ds name h))
+  where
+    go : (b : Bool) → IsNamed (d ∷ placed c ds) name → IsNamed (if b then d ∷ placed c ds else c ∷ d ∷ ds) name
+    go true k = k
+    go false k = h
+
+-- each class file's class is among those in order
+named_in_order : (files : List ClassFile) → AllByRecursion (λ (f : ClassFile). IsNamed (in_order files) (own_name f)) files
+named_in_order [] = tt
+named_in_order (c ∷ cs) = (
+  named_placed c (in_order cs) (own_name c) (itself c (in_order cs)),
+  all_as (λ (f : ClassFile). IsNamed (in_order cs) (own_name f)) (λ (f : ClassFile). IsNamed (placed c (in_order cs)) (own_name f))
+      (λ f h. named_placed c (in_order cs) (own_name f) (behind c (in_order cs) (own_name f) h)) cs (named_in_order cs),
+)
+
+-- ---- names that are kept
+
+there_in : (pool more : Pool) (i : ℕ) (x : Constant) → slice_get pool i ≡ Some x → slice_get (pool ++ more) i ≡ Some x
+there_in [] more i x h = cc
+there_in (y ∷ pool) more zero x h = h
+there_in (y ∷ pool) more (suc i) x h = there_in pool more i x h
+
+entry_in : (pool more : Pool) (i : ℕ) (x : Constant) → entry pool i ≡ Some x → entry (pool ++ more) i ≡ Some x
+entry_in pool more zero x h = h
+entry_in pool more (suc i) x h = there_in pool more i x h
+
+text_in_more : (pool more : Pool) (i : ℕ) (text : List ℕ) → utf8 pool i ≡ Some text → utf8 (pool ++ more) i ≡ Some text
+text_in_more pool more i text h = go (entry pool i) refl h
+  where
+    go : (o : Option Constant) → entry pool i ≡ o → option_and_then text_in o ≡ Some text → utf8 (pool ++ more) i ≡ Some text
+    go None e h = cc
+    go (Some x) e h = ap (option_and_then text_in) (entry_in pool more i x e) ∙ h
+
+name_in_more : (pool more : Pool) (x : Constant) (name : List ℕ) → name_in pool x ≡ Some name → name_in (pool ++ more) x ≡ Some name
+name_in_more pool more (constants.Class i) name h = text_in_more pool more i name h
+name_in_more pool more (constants.Utf8 b) name h = cc
+name_in_more pool more (constants.Integer n) name h = cc
+name_in_more pool more (constants.Float n) name h = cc
+name_in_more pool more (constants.Long n) name h = cc
+name_in_more pool more (constants.Double n) name h = cc
+name_in_more pool more (constants.Text i) name h = cc
+name_in_more pool more (constants.Field i j) name h = cc
+name_in_more pool more (constants.Method i j) name h = cc
+name_in_more pool more (constants.InterfaceMethod i j) name h = cc
+name_in_more pool more (constants.NameAndType i j) name h = cc
+name_in_more pool more constants.Second name h = cc
+
+class_in_more : (pool more : Pool) (i : ℕ) (name : List ℕ) → class_name pool i ≡ Some name → class_name (pool ++ more) i ≡ Some name
+class_in_more pool more i name h = go (entry pool i) refl h
+  where
+    go : (o : Option Constant) → entry pool i ≡ o → option_and_then (name_in pool) o ≡ Some name → class_name (pool ++ more) i ≡ Some name
+    go None e h = cc
+    go (Some x) e h = ap (option_and_then (name_in (pool ++ more))) (entry_in pool more i x e) ∙ name_in_more pool more x name h
+
+-- a class that keeps another's pool and number has its name
+pub same_name : (c d : ClassFile) → IsClassFile c → Keeps c d → own_name d ≡ own_name c
+same_name c d rules keeps = go (class_name c.pool c.this_class) refl rules.this_name
+  where
+    go : (o : Option (List ℕ)) → class_name c.pool c.this_class ≡ o → IsSomeAnd o IsClassName → own_name d ≡ own_name c
+    go None e h = absurd h
+    go (Some name) e h =
+        let more = keeps.pool.0 in
+        let there : class_name d.pool d.this_class ≡ Some name =
+        ap (λ (p : Pool). class_name p d.this_class) keeps.pool.1 ∙ ap (class_name (c.pool ++ more)) keeps.this_class ∙ class_in_more c.pool more c.this_class name e in
+        ap text_or_none there ∙ sym (ap text_or_none e)
+
+pub named_still : (cs ds : List ClassFile) (name : List ℕ) → AllByRecursion IsClassFile cs → AllZip Keeps cs ds → IsNamed cs name → IsNamed ds name
+named_still [] [] name rules keeps h = h
+named_still [] (d ∷ ds) name rules keeps h = absurd keeps
+named_still (c ∷ cs) [] name rules keeps h = absurd keeps
+named_still (c ∷ cs) (d ∷ ds) name rules keeps h = rw (same_name c d rules.0 keeps.0) (go (bytes_eq (own_name c) name) (named_still cs ds name rules.1 keeps.1) h)
+  where
+    go : (b : Bool) → (IsNamed cs name → IsNamed ds name) → IsSome (cond b (Some c) (class_named cs name)) → IsSome (cond b (Some d) (class_named ds name))
+    go true f k = refl
+    go false f k = f k
+
+-- each class file's class is among the rewritten ones
+pub all_named : (files news : List ClassFile) → AllByRecursion IsClassFile (in_order files) → AllZip Keeps (in_order files) news → AllByRecursion (λ (f : ClassFile). IsNamed news (own_name f)) files
+all_named files news rules keeps =
+    all_as (λ (f : ClassFile). IsNamed (in_order files) (own_name f)) (λ (f : ClassFile). IsNamed news (own_name f)) (λ f h. named_still (in_order files) news (own_name f) rules keeps h) files (named_in_order files)
+
+-- a class that has a name is one of them
+pub holds_of : (Q : ClassFile → Type 0) (cs : List ClassFile) (name : List ℕ) (c : ClassFile) → class_named cs name ≡ Some c → AllByRecursion Q cs → Q c
+holds_of Q [] name c is all = cc
+holds_of Q (d ∷ cs) name c is all = go (bytes_eq (own_name d) name) (λ e. holds_of Q cs name c e all.1) is
+  where
+    go : (b : Bool) → (class_named cs name ≡ Some c → Q c) → cond b (Some d) (class_named cs name) ≡ Some c → Q c
+    go true f e = let same : d ≡ c = cc (e) in subst Q same all.0
+    go false f e = f e
+
+-- ---- what can be written
+
+pub all_ruled : (cs : List ClassFile) → AllByRecursion (λ (c : ClassFile). HasFewMembers c → IsClassFile c) cs → AllByRecursion HasFewMembers cs → AllByRecursion IsClassFile cs
+all_ruled [] rules few = tt
+all_ruled (c ∷ cs) rules few = (rules.0 few.0, all_ruled cs rules.1 few.1)
+
+-- where not each has few members, one has too many
+pub one_many : (cs : List ClassFile) → (AllByRecursion HasFewMembers cs → ⊥) → (c : ClassFile) × Contains cs c × (HasFewMembers c → ⊥)
+one_many [] none = absurd (none tt)
+one_many (c ∷ cs) none = go (one_many cs) (nat_lt (length c.fields) 65536) (nat_lt (length c.methods) 65536) refl refl
+  where
+    here : (HasFewMembers c → ⊥) → (d : ClassFile) × Contains (c ∷ cs) d × (HasFewMembers d → ⊥)
+    here many = (c, (0, omega arith, refl), many)
+
+    later : (d : ClassFile) × Contains cs d × (HasFewMembers d → ⊥) → (d : ClassFile) × Contains (c ∷ cs) d × (HasFewMembers d → ⊥)
+    later rest = let lt = rest.1.1 in (rest.0, (suc rest.1.0, omega (arith, lt), rest.1.2), rest.2)
+
+    go : ((AllByRecursion HasFewMembers cs → ⊥) → (d : ClassFile) × Contains cs d × (HasFewMembers d → ⊥)) → (a b : Bool) → nat_lt (length c.fields) 65536 ≡ a → nat_lt (length c.methods) 65536 ≡ b → (d : ClassFile) × Contains (c ∷ cs) d × (HasFewMembers d → ⊥)
+    go others false b p q = here (λ few. let f = few.fields in grind (arith, nat_tests))
+    go others true false p q = here (λ few. let m = few.methods in grind (arith, nat_tests))
+    go others true true p q = let few : HasFewMembers c = record { fields = grind (arith, nat_tests); methods = grind (arith, nat_tests) } in later (others (λ all. none (few, all)))

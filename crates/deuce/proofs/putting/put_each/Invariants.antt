@@ -1,0 +1,12 @@
+-- The files so far were put.
+use Rattle.std.proofs.Common.{◌≡◌, ◌≤◌, length, take}
+use Rattle.std.specs.Prelude.{option_map}
+use Rattle.deuce.specs.Folder.{with_files}
+use Rattle.deuce.specs.Ending.{seen_files}
+use Rattle.deuce.proofs.putting.put_each.Given as goal
+
+abbrev pub invariant-loop-file : goal.invariant-loop-file
+invariant-loop-file g l = record {
+  put : g.F.Folder.files l.folder ≡ option_map (with_files (take (length l.yielded) (seen_files l.fn.files.items))) (g.F.Folder.files l.fn.folder);
+  put_counts : g.F.Folder.put_faults l.fn.folder ≤ g.F.Folder.put_faults l.folder;
+}

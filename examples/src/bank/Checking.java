@@ -1,0 +1,3 @@
+public class Checking {
+    static int balance = 100;
+}

@@ -1,0 +1,3 @@
+public class Savings {
+    static int balance;
+}

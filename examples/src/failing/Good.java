@@ -1,0 +1,10 @@
+import org.deuce.Atomic;
+
+public class Good {
+    static int n = 3;
+
+    @Atomic
+    public static int get() {
+        return n;
+    }
+}

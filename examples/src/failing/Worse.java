@@ -1,0 +1,4 @@
+public class Worse {
+    static int zero;
+    static int m = Good.n / zero;
+}

@@ -1,0 +1,2 @@
+public class Under extends Sub {
+}

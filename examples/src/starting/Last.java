@@ -1,0 +1,7 @@
+public class Last {
+    static int n = 5;
+
+    static {
+        Times.n++;
+    }
+}
