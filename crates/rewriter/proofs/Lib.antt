@@ -4,6 +4,7 @@ pub mod Read
 pub mod Grow
 pub mod Front
 pub mod Grown
+pub mod Agreed
 pub mod Added
 pub mod Puts
 pub mod Marks

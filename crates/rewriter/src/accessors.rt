@@ -28,21 +28,10 @@ pub struct Accessors {
 }
 
 /// The index of a method of the context.
-pub fn add_context_call(
-    alloc: Global,
-    pool: &mut Pool,
-    name: &[u8],
-    descriptor: &[u8],
-) -> Result<u16, Halt>
+pub fn add_context_call(pool: &mut Pool, name: &[u8], descriptor: &[u8]) -> Result<u16, Halt>
     ensures { Grows (λ n. n) result pool.new (with_method context_class name.now descriptor.now pool.old) }
 {
-    add_method(
-        alloc,
-        pool,
-        b"org/deuce/transaction/Context",
-        name,
-        descriptor,
-    )
+    add_method(pool, b"org/deuce/transaction/Context", name, descriptor)
 }
 
 /// A method that is added, with these indexes of its name, its descriptor and the text Code.
@@ -72,17 +61,16 @@ fn place_refs(alloc: Global, pool: &mut Pool, own: &[u8], field: &Field) -> Resu
     ensures { Grows (λ p. p) result pool.new (places own.now field.now pool.old) }
 {
     let name = address_name(alloc, field)?;
-    let base = add_field(alloc, pool, own, b"__CLASS_BASE__", b"Ljava/lang/Object;")?;
-    let address = add_field(alloc, pool, own, name.as_slice(), b"J")?;
+    let base = add_field(pool, own, b"__CLASS_BASE__", b"Ljava/lang/Object;")?;
+    let address = add_field(pool, own, name.as_slice(), b"J")?;
     Ok((base, address))
 }
 
-fn add_own_field(alloc: Global, pool: &mut Pool, own: &[u8], field: &Field) -> Result<u16, Halt>
+fn add_own_field(pool: &mut Pool, own: &[u8], field: &Field) -> Result<u16, Halt>
     ensures { Grows (λ n. n) result pool.new (with_field own.now field.now.name (descriptor_of field.now.type) pool.old) }
 {
     let (_, word_type) = field.place();
     add_field(
-        alloc,
         pool,
         own,
         field.name().as_slice(),
@@ -127,18 +115,18 @@ fn look_refs(
     ensures { Grows (λ p. p) result pool.new (looks own.now field.now pool.old) }
 {
     let p = place_refs(alloc, pool, own, field)?;
-    let before = add_context_call(alloc, pool, b"beforeReadAccess", b"(Ljava/lang/Object;J)V")?;
+    let before = add_context_call(pool, b"beforeReadAccess", b"(Ljava/lang/Object;J)V")?;
     Ok((p, before))
 }
 
 // The field, and the call after the read.
 #[tactic(auto, unfolding(crate::specs::Members::read_refs))]
-fn read_refs(alloc: Global, pool: &mut Pool, own: &[u8], field: &Field) -> Result<(u16, u16), Halt>
+fn read_refs(pool: &mut Pool, own: &[u8], field: &Field) -> Result<(u16, u16), Halt>
     ensures { Grows (λ p. p) result pool.new (reads own.now field.now pool.old) }
 {
-    let loaded = add_own_field(alloc, pool, own, field)?;
+    let loaded = add_own_field(pool, own, field)?;
     let (_, word_type) = field.place();
-    let after = add_context_call(alloc, pool, b"onReadAccess", read_descriptor(word_type))?;
+    let after = add_context_call(pool, b"onReadAccess", read_descriptor(word_type))?;
     Ok((loaded, after))
 }
 
@@ -147,7 +135,7 @@ fn getter_body(alloc: Global, pool: &mut Pool, own: &[u8], field: &Field) -> Res
     ensures { Grows (λ b. b) result pool.new (getter_bytes own.now field.now pool.old) }
 {
     let (p, before) = look_refs(alloc, pool, own, field)?;
-    let (loaded, after) = read_refs(alloc, pool, own, field)?;
+    let (loaded, after) = read_refs(pool, own, field)?;
     let code = getter_code(alloc, p, before, loaded, after)?;
     straight_bytes(alloc, 5, 1, code)
 }
@@ -174,7 +162,7 @@ fn setter_body(alloc: Global, pool: &mut Pool, own: &[u8], field: &Field) -> Res
 {
     let p = place_refs(alloc, pool, own, field)?;
     let (_, word_type) = field.place();
-    let write = add_context_call(alloc, pool, b"onWriteAccess", write_descriptor(word_type))?;
+    let write = add_context_call(pool, b"onWriteAccess", write_descriptor(word_type))?;
     let code = setter_code(alloc, p, write)?;
     straight_bytes(alloc, 5, 2, code)
 }
@@ -189,8 +177,8 @@ fn accessor(
 ) -> Result<Member, Halt>
     ensures { Grows (λ m. m) result pool.new (added_accessor name.now descriptor.now bytes pool.old) }
 {
-    let (named, typed) = typed_name(alloc, pool, name, descriptor)?;
-    let code = add_utf8(alloc, pool, b"Code")?;
+    let (named, typed) = typed_name(pool, name, descriptor)?;
+    let code = add_utf8(pool, b"Code")?;
     Ok(added_method(alloc, 0x1009, named, typed, code, bytes)?)
 }
 

@@ -151,7 +151,7 @@ fn duplicate_body(
     if code.max_stack == 65535 {
         return Err(too_many(alloc, name, b"Stack")?);
     }
-    let conflict = add_class(alloc, pool, b"org/deuce/transaction/TransactionException")?;
+    let conflict = add_class(pool, b"org/deuce/transaction/TransactionException")?;
     bytes_of_method(
         alloc,
         name,
@@ -188,10 +188,10 @@ fn coded_duplicate(
     let blocks = blocks_of(alloc, names, p, method.ops(), coded.instrs.as_slice())?;
     let bytes = duplicate_body(alloc, pool, method.name(), &coded.code, blocks.as_slice())?;
     let name = duplicate_name(method.name().name.as_slice());
-    let named = add_utf8(alloc, pool, name)?;
+    let named = add_utf8(pool, name)?;
     let descriptor = with_context(alloc, method.name().descriptor.as_slice())?;
-    let typed = add_utf8(alloc, pool, descriptor.as_slice())?;
-    let text = add_utf8(alloc, pool, b"Code")?;
+    let typed = add_utf8(pool, descriptor.as_slice())?;
+    let text = add_utf8(pool, b"Code")?;
     let flags = duplicate_flags(member.flags);
     Ok(added_method(alloc, flags, named, typed, text, bytes)?)
 }

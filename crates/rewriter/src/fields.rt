@@ -62,16 +62,11 @@ pub fn setter_type(field: &Field) -> &'static [u8]
 
 /// The texts of a name and a descriptor.
 #[tactic(auto, unfolding(crate::specs::Members::typed_name))]
-pub fn typed_name(
-    alloc: Global,
-    pool: &mut Pool,
-    name: &[u8],
-    descriptor: &[u8],
-) -> Result<(u16, u16), Halt>
+pub fn typed_name(pool: &mut Pool, name: &[u8], descriptor: &[u8]) -> Result<(u16, u16), Halt>
     ensures { Grows (λ p. p) result pool.new (typed name.now descriptor.now pool.old) }
 {
-    let named = add_utf8(alloc, pool, name)?;
-    let typed = add_utf8(alloc, pool, descriptor)?;
+    let named = add_utf8(pool, name)?;
+    let typed = add_utf8(pool, descriptor)?;
     Ok((named, typed))
 }
 
@@ -80,8 +75,8 @@ pub fn typed_name(
 fn constant_value(alloc: Global, pool: &mut Pool, n: i64) -> Result<Attribute, Halt>
     ensures { Grows (λ a. a) result pool.new (value n pool.old) }
 {
-    let name = add_utf8(alloc, pool, b"ConstantValue")?;
-    let place = add_long(alloc, pool, n)?;
+    let name = add_utf8(pool, b"ConstantValue")?;
+    let place = add_long(pool, n)?;
     let bytes = Bytes::from_slice(alloc, &[high(place), low(place)])?;
     Ok(Attribute { name, bytes })
 }
@@ -102,7 +97,7 @@ pub fn address_member(alloc: Global, pool: &mut Pool, field: &Field) -> Result<M
 {
     let text = address_name(alloc, field)?;
     let (place, _) = field.place();
-    let (name, descriptor) = typed_name(alloc, pool, text.as_slice(), b"J")?;
+    let (name, descriptor) = typed_name(pool, text.as_slice(), b"J")?;
     let value = constant_value(alloc, pool, place.index.cast_signed())?;
     Ok(Member {
         flags: 0x1019,
@@ -117,7 +112,7 @@ pub fn address_member(alloc: Global, pool: &mut Pool, field: &Field) -> Result<M
 pub fn base_member(alloc: Global, pool: &mut Pool) -> Result<Member, Halt>
     ensures { Grows (λ m. m) result pool.new (base pool.old) }
 {
-    let (name, descriptor) = typed_name(alloc, pool, b"__CLASS_BASE__", b"Ljava/lang/Object;")?;
+    let (name, descriptor) = typed_name(pool, b"__CLASS_BASE__", b"Ljava/lang/Object;")?;
     Ok(Member {
         flags: 0x1019,
         name,

@@ -39,7 +39,7 @@ fn getter_call(
     }
     let class = field.class().as_slice();
     let name = getter_name(alloc, field)?;
-    add_method(alloc, pool, class, name.as_slice(), getter_type(field))
+    add_method(pool, class, name.as_slice(), getter_type(field))
 }
 
 #[tactic(auto, unfolding(crate::specs::Members::setter_call, crate::specs::Members::method_if_needed))]
@@ -57,7 +57,7 @@ fn setter_call(
     }
     let class = field.class().as_slice();
     let name = setter_name(alloc, field)?;
-    add_method(alloc, pool, class, name.as_slice(), setter_type(field))
+    add_method(pool, class, name.as_slice(), setter_type(field))
 }
 
 // The accessors of the field of a number that duplicates call.
@@ -105,7 +105,7 @@ fn duplicate_call(
     let class = name.class.as_slice();
     let descriptor = with_context(alloc, name.descriptor.as_slice())?;
     let name = duplicate_name(name.name.as_slice());
-    add_method(alloc, pool, class, name, descriptor.as_slice())
+    add_method(pool, class, name, descriptor.as_slice())
 }
 
 fn all_calls(

@@ -39,15 +39,15 @@ pub struct Ending {
 }
 
 #[tactic(auto, unfolding(crate::specs::Members::opening_of))]
-fn opening_of(alloc: Global, pool: &mut Pool, number: u16, attempts: i32) -> Result<Opening, Halt>
+fn opening_of(pool: &mut Pool, number: u16, attempts: i32) -> Result<Opening, Halt>
     ensures { Grows (λ o. o) result pool.new (opening number attempts pool.old) }
 {
     let class = b"org/deuce/transaction/ContextDelegator";
     let descriptor = b"()Lorg/deuce/transaction/Context;";
-    let get = add_method(alloc, pool, class, b"getInstance", descriptor)?;
-    let number = add_integer(alloc, pool, i32::from(number))?;
-    let retries = add_integer(alloc, pool, attempts)?;
-    let init = add_context_call(alloc, pool, b"init", b"(II)V")?;
+    let get = add_method(pool, class, b"getInstance", descriptor)?;
+    let number = add_integer(pool, i32::from(number))?;
+    let retries = add_integer(pool, attempts)?;
+    let init = add_context_call(pool, b"init", b"(II)V")?;
     Ok(Opening {
         get,
         number,
@@ -64,15 +64,14 @@ fn ending_of(alloc: Global, pool: &mut Pool, method: &Method) -> Result<Ending, 
     let descriptor = with_context(alloc, name.descriptor.as_slice())?;
     let class = name.class.as_slice();
     let duplicate = add_method(
-        alloc,
         pool,
         class,
         duplicate_name(name.name.as_slice()),
         descriptor.as_slice(),
     )?;
-    let commit = add_context_call(alloc, pool, b"commit", b"()Z")?;
-    let rollback = add_context_call(alloc, pool, b"rollback", b"()V")?;
-    let conflict = add_class(alloc, pool, b"org/deuce/transaction/TransactionException")?;
+    let commit = add_context_call(pool, b"commit", b"()Z")?;
+    let rollback = add_context_call(pool, b"rollback", b"()V")?;
+    let conflict = add_class(pool, b"org/deuce/transaction/TransactionException")?;
     Ok(Ending {
         duplicate,
         commit,
@@ -188,7 +187,7 @@ pub fn wrapper_of(
     if number > 65535 {
         return Err(too_many(alloc, method.name(), b"Methods")?);
     }
-    let opening = opening_of(alloc, pool, number as u16, attempts)?;
+    let opening = opening_of(pool, number as u16, attempts)?;
     let ending = ending_of(alloc, pool, method)?;
     let bytes = wrapper_bytes(alloc, method, opening, ending)?;
     Ok(with_code(alloc, &class.pool, &bytes, member)?)
