@@ -1,4 +1,4 @@
--- What several classes are linked to is a program of source code.
+-- What classes are linked to is a program of source code.
 use Rattle.std.proofs.Common.{◌≡◌, List, [], ◌∷◌, length, map, Bool, true, false, Option, Some, None, Result, Ok, Err, sym, ◌∙◌, ap, subst, arith, refl, suc}
 use Rattle.std.specs.Prelude.{not, filter, option_map, zip}
 use Rattle.std.specs.List.{AllByRecursion, list_all}
@@ -11,11 +11,10 @@ use Rattle.jmodel.specs.Program.{Method, Program}
 use Rattle.jmodel.specs.Source.{IsSourceMethod}
 use Rattle.jmodel.specs.Coded.{Coded, code_in, decoded_code, decoded}
 use Rattle.jmodel.specs.Linking.{takes_context, is_form_atomic, is_form_name, form_method}
-use Rattle.jmodel.specs.LinkedLaw.{CanSetUp, MayAttempt}
 use Rattle.jmodel.specs.Classes.{Declared, methods_in, full_name}
 use Rattle.jmodel.specs.ClassesTaken.{is_taken}
 use Rattle.jmodel.specs.ClassesLinking.{all_decoded, program_methods, original_fields, is_form_method, has_few_methods, are_form_outside, are_form_methods, original_symbols, form_methods, form_program, linked}
-use Rattle.jmodel.specs.ClassesLaw.{IsLinked}
+use Rattle.jmodel.specs.ClassesLaw.{CanSetUp, IsLinked, MayAttempt}
 use Rattle.jmodel.proofs.Linked.{both, is_not, each_all, filter_keeps, filter_drops, IsMethodOf, method_of, split_methods, IsSmallCode, small_code, small_named}
 use Rattle.jmodel.proofs.ClassesFields.{shared, fields_source}
 use Rattle.jmodel.proofs.ClassesFormed.{formed}

@@ -12,7 +12,7 @@ use Rattle.jmodel.specs.ClassReading.{code_at, attributes_at, handlers_at, handl
 use Rattle.jmodel.specs.AnnotationReading.{run_at as run_of, u2_at, text_at, items_until, counted_until, top_annotation_at, annotations_of}
 use Rattle.jmodel.specs.Mark.{all_annotations, retries_in}
 use Rattle.jmodel.specs.Rewriting.{rewritten}
-use Rattle.jmodel.specs.Linking.{linked, relinked}
+use Rattle.jmodel.specs.ClassesLinking.{linked, relinked}
 use Rattle.jmodel.proofs.Examples.{counter_program}
 
 abbrev pub counter_pool : Pool
@@ -140,11 +140,11 @@ abbrev pub counter_rewritten : ClassFile
 counter_rewritten = record { minor = 0; major = 49; pool = counter_rewritten_pool; flags = 33; this_class = 1; super_class = 3; interfaces = []; fields = counter_rewritten_field_0 ∷ counter_rewritten_field_1 ∷ counter_rewritten_field_2 ∷ []; methods = counter_rewritten_method_0 ∷ counter_rewritten_method_1 ∷ counter_rewritten_method_2 ∷ counter_rewritten_method_3 ∷ []; attributes = ([]) }
 
 -- the original class means the program that Examples runs
-pub means_counter : linked counter ≡ Some counter_program
+pub means_counter : linked (counter ∷ []) ≡ Some counter_program
 unfolding code_at attributes_at handlers_at body_at number_at run_at items_at element_rest type_rest type_of types_at result_of signature_of is_field_descriptor entry_operand_at parts_at instrs_at targets_fit instrs_of retries_in all_annotations annotations_of counted_until u2_at run_of items_until top_annotation_at text_at
 means_counter = refl
 
 -- the rewritten class means the rewritten program
-pub means_rewritten : relinked counter_program counter_rewritten ≡ Some (rewritten counter_program)
+pub means_rewritten : relinked counter_program (counter_rewritten ∷ []) ≡ Some (rewritten counter_program)
 unfolding code_at attributes_at handlers_at handler_at body_at number_at run_at items_at element_rest type_rest type_of types_at result_of signature_of is_field_descriptor signed_at target_at signed_operand_at local_at entry_operand_at jump_at parts_at instrs_at targets_fit instrs_of retries_in all_annotations annotations_of counted_until u2_at run_of items_until top_annotation_at text_at read_descriptor write_descriptor
 means_rewritten = refl

@@ -35,14 +35,11 @@ pub mod Numbers
 pub mod Linked
 pub mod Counter
 pub mod Untypable
-pub mod Formed
-pub mod Told
-pub mod Taken
 pub mod ClassesTaken
 pub mod ClassesFormed
 pub mod ClassesFields
 pub mod ClassesLinked
-pub mod ClassesLone
+pub mod Told
 pub mod TwoClasses
 pub mod Returns
 pub mod Tables

@@ -1,14 +1,12 @@
--- What is linked is a program of source code.
-use Rattle.std.proofs.Common.{◌≡◌, ℕ, ℤ, zero, suc, ◌+◌, ◌-◌, ◌<◌, ◌≤◌, List, [], ◌∷◌, ◌++◌, length, Bool, true, false, not, ◌&&◌, nat_le, nat_eq, nat_lt, Option, Some, None, Result, Ok, Err, refl, sym, ◌∙◌, ap, subst, arith}
-use Rattle.std.specs.Prelude.{slice_get, if◌then◌else◌, codes, filter, map, replicate, is_some, bytes_eq, ◌||◌, pos, option_map, option_and_then, zip, ◌==◌, ◌-ℤ◌, FitsSigned, IfSome, int_lt, ◌≤ℤ◌}
+-- A method of the form means source code.
+use Rattle.std.proofs.Common.{◌≡◌, ℕ, ℤ, suc, ◌-◌, ◌<◌, ◌≤◌, List, [], ◌∷◌, length, Bool, true, false, not, ◌&&◌, nat_le, nat_eq, nat_lt, Option, Some, None, Result, Ok, Err, refl, sym, ◌∙◌, ap, subst, arith}
+use Rattle.std.specs.Prelude.{if◌then◌else◌, codes, filter, map, replicate, is_some, bytes_eq, ◌||◌, pos, option_map, option_and_then, ◌==◌, ◌-ℤ◌, FitsSigned, IfSome, int_lt, ◌≤ℤ◌}
 use Rattle.std.specs.List.{AllByRecursion, list_all, list_any}
 use Rattle.std.specs.Int.{w32}
 use Rattle.std.proofs.lemmas.Bool.Decides.{nat_tests}
 use Rattle.std.proofs.lemmas.Int.{ints}
-use Rattle.std.proofs.lemmas.List.{length-map}
 use Rattle.std.proofs.lemmas.List.Quantifiers.{position-Some}
 use Rattle.std.proofs.lemmas.Slice.Eq.{bytes_eq-Decides}
-use Rattle.std.proofs.lemmas.Slice.Zip.{length-zip}
 use Rattle.jmodel.specs.declared.name.MethodName.{MethodName}
 use Rattle.jmodel.specs.declared.class_file.FieldType.{FieldType}
 use Rattle.jmodel.specs.declared.class_file.FieldType.TheVariants as types
@@ -29,7 +27,6 @@ use Rattle.jmodel.specs.declared.op.Unary.TheVariants as unary
 use Rattle.jmodel.specs.declared.op.Division.TheVariants as division
 use Rattle.jmodel.specs.declared.op.ContextCall.TheVariants as context
 use Rattle.jmodel.specs.declared.op.Catch.{Catch}
-use Rattle.jmodel.specs.declared.op.Place.{Place}
 use Rattle.jmodel.specs.WordTypes.{read_descriptor, write_descriptor, type_with}
 use Rattle.jmodel.specs.ClassFile.{Member, Pool, ClassFile, Code}
 use Rattle.jmodel.specs.Pool.{utf8, MemberName, field_name, method_name}
@@ -39,18 +36,16 @@ use Rattle.jmodel.specs.Constants.{integer}
 use Rattle.jmodel.specs.Instruction.{ascend}
 use Rattle.jmodel.specs.Reading.{◌>>=◌}
 use Rattle.jmodel.specs.Program.{Field, Method, Program}
-use Rattle.jmodel.specs.Source.{IsSourceOp, IsSourceMethod, IsSourceField}
+use Rattle.jmodel.specs.Source.{IsSourceOp, IsSourceMethod}
 use Rattle.jmodel.specs.Superclasses.{declared_field, declared_method}
 use Rattle.jmodel.specs.Decoding.{context_class, Symbols, number_at, name_of, simple_op, short_local_op, arithmetic_op, rearranging_op, leaving_op, number_op, local_op, wide_op, test_of, jump_to, jump_op, table_cases, numbered_case, ascending_op, switch_op, get_op, put_op, static_call_op, context_op, virtual_call_op, pool_op, meaning, op_of, ops_of, in_front, each, field_number, method_number, is_field_of, is_method_of, long_field}
 use Rattle.jmodel.specs.InstructionReading.{instrs_of}
-use Rattle.jmodel.specs.Linking.{catch_of, Shape, is_context, is_parameter, parameter_type, is_result, shape_in, has_context, takes_context, code_in, retries_of, Coded, make_method, descriptor_of, shape_of, named_fault, decoded_code, decoded, all_decoded, is_marked, program_methods, is_form_atomic, is_form_method, is_form_field, are_form_fields, are_form_methods, is_form_code, is_form_instr, is_form_op, is_form_method_of, if_form, form_method, symbols_of, original_fields, form_methods, form_program, linked, is_form_name, is_initialiser, is_root}
-use Rattle.jmodel.specs.Layout.{fields_from, statics, text_or_none}
-use Rattle.jmodel.specs.LinkedLaw.{CanSetUp, IsLinked, MayAttempt}
+use Rattle.jmodel.specs.Linking.{catch_of, Shape, is_context, is_parameter, parameter_type, is_result, shape_in, has_context, takes_context, retries_of, Coded, make_method, descriptor_of, shape_of, named_fault, decoded_code, is_marked, is_form_atomic, is_form_field, are_form_fields, is_form_code, is_form_instr, is_form_op, is_form_method_of, if_form, form_method, is_form_name, is_initialiser, is_root}
+use Rattle.jmodel.specs.Layout.{statics, text_or_none}
+use Rattle.jmodel.specs.ClassesLaw.{CanSetUp, MayAttempt}
 use Rattle.jmodel.specs.declared.mark.AnnotationFault.TheVariants.{Retries}
 use Rattle.jmodel.specs.Mark.{retries_in, answer}
 use Rattle.jmodel.specs.Coded.{attempts_in, mark_retries}
-use Rattle.jmodel.specs.Taken.{is_taken}
-use Rattle.jmodel.proofs.Formed.{formed}
 use Rattle.jmodel.proofs.Constants.{IsSmall, integer_small}
 use Rattle.jmodel.proofs.Numbers.{Has, IsSmallNumber, IsSmallInstr, read_small}
 
@@ -409,43 +404,13 @@ shape_ints d shape h n = go (signature_of d) h n
     go None h n = cc
     go (Some s) h n = choose s (list_all is_parameter s.parameters && is_result s.result) refl h n
 
--- ---- which methods are of the form
-
--- a method of the program is of the form
-abbrev pub IsFormProgram : ClassFile → Member → Type 0
-IsFormProgram c m = (is_taken c m ≡ true) × (is_form_method c m ≡ true)
+-- ---- filtered items
 
 pub filter_keeps : {A : Type 0} (p : A → Bool) (x : A) (xs : List A) → p x ≡ true → filter p (x ∷ xs) ≡ x ∷ filter p xs
 filter_keeps p x xs e = rw e refl
 
 pub filter_drops : {A : Type 0} (p : A → Bool) (x : A) (xs : List A) → p x ≡ false → filter p (x ∷ xs) ≡ filter p xs
 filter_drops p x xs e = rw e refl
-
-form_where : (c : ClassFile) (ms : List Member) → list_all (is_form_method c) ms ≡ true → AllByRecursion (IsFormProgram c) (filter (is_taken c) ms)
-form_where c [] h = tt
-form_where c (m ∷ ms) h = let a = both (is_form_method c m) (list_all (is_form_method c) ms) h in go (is_taken c m) refl a.0 (form_where c ms a.1)
-  where
-    go : (b : Bool) → is_taken c m ≡ b → is_form_method c m ≡ true → AllByRecursion (IsFormProgram c) (filter (is_taken c) ms)
-        → AllByRecursion (IsFormProgram c) (filter (is_taken c) (m ∷ ms))
-    go true e t r =
-        let Fine : List Member → Type 0 = λ l. AllByRecursion (IsFormProgram c) l in
-        subst Fine (sym (filter_keeps (is_taken c) m ms e)) ((e, t), r)
-    go false e t r =
-        let Fine : List Member → Type 0 = λ l. AllByRecursion (IsFormProgram c) l in
-        subst Fine (sym (filter_drops (is_taken c) m ms e)) r
-
-pub form_each : (c : ClassFile) → are_form_methods c ≡ true → AllByRecursion (IsFormProgram c) (program_methods c)
-form_each c h = form_where c c.methods (both (nat_le (length (program_methods c)) 100) (list_all (is_form_method c) c.methods) h).1
-
--- what the form says of a method of the program
-pub form_atomic : (c : ClassFile) (m : Member) → IsFormProgram c m → is_form_atomic c.pool m ≡ true
-form_atomic c m h =
-    let t = h.1 in
-    let is = h.0 in
-    rw is at t
-
-no_context : (c : ClassFile) (m : Member) → IsFormProgram c m → takes_context c.pool m ≡ false
-no_context c m h = is_not (takes_context c.pool m) (both _ _ (both _ _ (form_atomic c m h)).0).1
 
 -- ---- static initialisers
 
@@ -540,31 +505,10 @@ method_of P s m k p plain formal same many smalls h =
       sets_up = sets_up s m k means.shape means.ops means.catches formal means.shaped;
     })
 
--- ---- programs
-
-fields_source : (c : ClassFile) (j : ℕ) (ms : List Member) → j + length ms ≤ 1000 → AllByRecursion IsSourceField (fields_from (c ∷ []) 0 c (suc j) ms ++ [])
-fields_source c j [] h = tt
-fields_source c j (m ∷ ms) h =
-    (record { object = omega arith; index = omega arith; address = omega (arith, h) }, fields_source c (suc j) ms (omega (arith, h)))
+-- ---- parts of programs
 
 pub same_item : {A : Type 0} (o : Option A) (x y : A) → o ≡ Some x → o ≡ Some y → x ≡ y
 same_item o x y p q = let e : Some x ≡ Some y = sym p ∙ q in cc
-
--- a static field lies at the place of its number
-index_at : (c : ClassFile) (j : ℕ) (ms : List Member) (i : ℕ) (f : Field) → slice_get (fields_from (c ∷ []) 0 c (suc j) ms ++ []) i ≡ Some f → f.place.index ≡ suc j + i
-index_at c j [] i f h = cc
-index_at c j (m ∷ ms) zero f h = let same : suc j ≡ f.place.index = ap (λ (f : Field). f.place.index) (same_item _ _ f refl h) in omega arith
-index_at c j (m ∷ ms) (suc i) f h = let rest = index_at c (suc j) ms i f h in omega arith
-
-fields_shared : (c : ClassFile) (i j : ℕ) (f g : Field) → slice_get (original_fields c) i ≡ Some f → slice_get (original_fields c) j ≡ Some g → f.place ≡ g.place → f.type ≡ g.type
-fields_shared c i j f g is js e =
-    let here = index_at c 0 (statics c) i f is in
-    let there = index_at c 0 (statics c) j g js in
-    let one : f.place.index ≡ g.place.index = ap (λ (p : Place). p.index) e in
-    let same : i ≡ j = omega arith in
-    let both_are : slice_get (original_fields c) i ≡ Some g = rw same js in
-    let field : f ≡ g = same_item _ f g is both_are in
-    ap (λ (f : Field). f.type) field
 
 pub split_methods : (P : Program) (ks : List Method) → AllByRecursion (IsMethodOf P) ks
     → AllByRecursion (IsSourceMethod P) ks × AllByRecursion MayAttempt ks × AllByRecursion CanSetUp ks
@@ -591,67 +535,3 @@ small_code pool (Some code) k h = go (instrs_of pool code.handlers code.code) (r
 pub small_named : (n : MethodName) (r : Result Coded Refusal) (k : Coded) → ((j : Coded) → r ≡ Ok j → IsSmallCode j) → named_fault n r ≡ Ok k → IsSmallCode k
 small_named n (Ok j) k s h = let same : k ≡ j = cc in rw same (s j refl)
 small_named n (Err e) k s h = cc
-
-all_small : (c : ClassFile) (ms : List Member) (ks : List Coded) → all_decoded c ms ≡ Ok ks → AllByRecursion IsSmallCode ks × (length ks ≡ length ms)
-all_small c [] [] h = (tt, refl)
-all_small c [] (k ∷ ks) h = cc
-all_small c (m ∷ ms) ks h = go (decoded c m) refl (all_decoded c ms) (λ js e. all_small c ms js e) refl h
-  where
-    go : (r : Result Coded Refusal) → decoded c m ≡ r → (rs : Result (List Coded) Refusal)
-        → ((js : List Coded) → all_decoded c ms ≡ Ok js → AllByRecursion IsSmallCode js × (length js ≡ length ms)) → all_decoded c ms ≡ rs
-        → (r >>= λ k. rs >>= λ js. Ok (k ∷ js)) ≡ Ok ks → AllByRecursion IsSmallCode ks × (length ks ≡ length (m ∷ ms))
-    go (Ok k) e (Ok js) rest es h2 =
-        let same : ks ≡ k ∷ js = cc in
-        let r = rest js es in
-        let Both : List Coded → Type 0 = λ l. AllByRecursion IsSmallCode l × (length l ≡ length (m ∷ ms)) in
-        subst Both (sym same) ((small_named (name_of c m) (decoded_code c.pool (code_in c.pool m)) k (small_code c.pool (code_in c.pool m)) e, r.0), ap suc r.1)
-    go (Ok k) e (Err f) rest es h2 = cc
-    go (Err f) e rs rest es h2 = cc
-
--- a method of the form with its small code
-abbrev IsGoodPair : ClassFile → Member × Coded → Type 0
-IsGoodPair c p = IsFormProgram c p.0 × IsSmallCode p.1
-
-good_pairs : (c : ClassFile) (ms : List Member) (ks : List Coded) → AllByRecursion (IsFormProgram c) ms → AllByRecursion IsSmallCode ks → AllByRecursion (IsGoodPair c) (zip ms ks)
-good_pairs c [] ks a b = tt
-good_pairs c (m ∷ ms) [] a b = tt
-good_pairs c (m ∷ ms) (k ∷ ks) a b = ((a.0, b.0), good_pairs c ms ks a.1 b.1)
-
--- the program of a class of the form with its code
-module _ (c : ClassFile) (P : Program) (fields_are : are_form_fields c ≡ true) (methods_are : are_form_methods c ≡ true) where
-  abbrev own : Symbols
-  own = symbols_of c (original_fields c) (program_methods c)
-
-  program_of : (ks : List Coded) → AllByRecursion IsSmallCode ks → length ks ≡ length (program_methods c) → form_program c ks ≡ Some P → IsLinked c P
-  program_of ks smalls long h = go (form_methods c ks) refl h
-    where
-      go : (o : Option (List Method)) → form_methods c ks ≡ o → option_map (λ ms. record { fields = original_fields c; methods = ms }) o ≡ Some P → IsLinked c P
-      go None e h2 = cc
-      go (Some ms) e h2 =
-          let same : P ≡ record { fields = original_fields c; methods = ms } = cc in
-          let statics_are : P.fields ≡ original_fields c = ap (λ (p : Program). p.fields) same in
-          let members : P.methods ≡ ms = ap (λ (p : Program). p.methods) same in
-          let pairs = good_pairs c (program_methods c) ks (form_each c methods_are) smalls in
-          let lengths = (each_all (λ (p : Member × Coded). form_method own p.0 p.1) (IsGoodPair c) (λ k. Unit {0}) (λ p k g e. tt) (zip (program_methods c) ks) ms pairs e).1 in
-          let names : length own.methods ≡ length (program_methods c) = length-map _ _ in
-          let zipped : length (zip (program_methods c) ks) ≡ length (program_methods c) = length-zip (program_methods c) ks ∙ omega (arith, long) in
-          let many : length P.methods ≡ length own.methods = ap length members ∙ lengths ∙ zipped ∙ sym names in
-          let all = (each_all (λ (p : Member × Coded). form_method own p.0 p.1) (IsGoodPair c) (IsMethodOf P)
-          (λ p k g e. method_of P own p.0 p.1 k (no_context c p.0 g.0) (form_atomic c p.0 g.0) (ap length statics_are) many g.1 e) (zip (program_methods c) ks) ms pairs e).0 in
-          let parts = split_methods P ms all in
-          let few : 0 + length (statics c) ≤ 1000 = omega (arith, few_statics c fields_are) in
-          let Sources : List Method → Type 0 = λ l. AllByRecursion (IsSourceMethod P) l in
-          let Marks : List Method → Type 0 = λ l. AllByRecursion MayAttempt l in
-          let SetUps : List Method → Type 0 = λ l. AllByRecursion CanSetUp l in
-          record {
-            source = record { fields = rw statics_are (fields_source c 0 (statics c) few); shared = λ i j f g. rw statics_are (fields_shared c i j f g); methods = subst Sources (sym members) parts.0 };
-            marked = subst Marks (sym members) parts.1;
-            initialisers = subst SetUps (sym members) parts.2;
-            fields = statics_are;
-          }
-
-pub links : (c : ClassFile) (P : Program) → linked c ≡ Some P → IsLinked c P
-links c P h =
-    let f = formed c P h in
-    let smalls = all_small c (program_methods c) f.code f.decodes in
-    program_of c P (both _ _ f.outside).1 f.methods f.code smalls.0 smalls.1 f.program

@@ -1,6 +1,6 @@
--- Each instruction of a method of a class's program stands somewhere in its code.
-use Rattle.std.proofs.Common.{◌≡◌, ℕ, zero, suc, ◌<◌, ◌≤◌, List, [], ◌∷◌, length, take, drop, slice_get, Bool, true, false, ◌||◌, nat_lt, nat_le, Option, Some, None, Result, Ok, Err, refl, sym, ap, ◌∙◌, subst, arith}
-use Rattle.std.specs.Prelude.{zip, find, ◌==◌, ◌+◌, if◌then◌else◌, option_map, option_and_then}
+-- Each instruction of a method of a program stands somewhere in its code.
+use Rattle.std.proofs.Common.{◌≡◌, ℕ, zero, suc, ◌<◌, List, [], ◌∷◌, length, take, drop, slice_get, Bool, true, false, ◌||◌, nat_lt, nat_le, Option, Some, None, Result, Ok, Err, refl, sym, ap, ◌∙◌, subst, arith}
+use Rattle.std.specs.Prelude.{zip, find, ◌==◌, ◌+◌, ◌≤◌, if◌then◌else◌, option_map, option_and_then}
 use Rattle.std.specs.Result.{result_ok}
 use Rattle.std.specs.List.{AllByRecursion}
 use Rattle.std.proofs.lemmas.Bool.Decides.{nat_tests}
@@ -14,11 +14,14 @@ use Rattle.jmodel.specs.ClassRules.{is_named}
 use Rattle.jmodel.specs.Reading.{◌>>=◌, run_at, u2_at, u4_at, place}
 use Rattle.jmodel.specs.ClassReading.{attributes_at, handlers_at, body_at, code_at, code_of}
 use Rattle.jmodel.specs.Program.{Method, Program}
-use Rattle.jmodel.specs.Decoding.{Symbols, name_of, in_front, each, op_of}
+use Rattle.jmodel.specs.Decoding.{in_front, each, op_of}
 use Rattle.jmodel.specs.InstructionReading.{instr_at, instrs_at, targets_fit, places_fit, instrs_of}
-use Rattle.jmodel.specs.Linking.{Coded, code_in, named_fault, decoded_code, decoded, all_decoded, program_methods, form_method, form_methods, symbols_of, original_fields, linked, pc_in, pc_of}
+use Rattle.jmodel.specs.Coded.{Coded, code_in, named_fault, decoded_code, decoded}
+use Rattle.jmodel.specs.Linking.{form_method, pc_in}
+use Rattle.jmodel.specs.Classes.{Declared, full_name}
+use Rattle.jmodel.specs.ClassesLinking.{all_decoded, program_methods, original_fields, original_symbols, form_methods, linked, pc_of}
 use Rattle.jmodel.proofs.Numbers.{Has, then_has, after}
-use Rattle.jmodel.proofs.Formed.{formed}
+use Rattle.jmodel.proofs.ClassesFormed.{formed}
 use Rattle.jmodel.proofs.Linked.{each_all, means_of}
 
 -- ---- code isn't empty
@@ -139,16 +142,17 @@ item_there (x ∷ xs) zero h = (x, refl)
 item_there (x ∷ xs) (suc i) h = item_there xs i (omega (arith, h))
 
 -- each that is decoded is some method's
-decoded_some : (c : ClassFile) (ms : List Member) (ks : List Coded) → all_decoded c ms ≡ Ok ks → AllByRecursion IsSomeCoded ks
-decoded_some c [] [] h = tt
-decoded_some c [] (k ∷ ks) h = cc
-decoded_some c (m ∷ ms) ks h = go (decoded c m) refl (all_decoded c ms) (λ js e. decoded_some c ms js e) refl h
+decoded_some : (ms : List Declared) (ks : List Coded) → all_decoded ms ≡ Ok ks → AllByRecursion IsSomeCoded ks
+decoded_some [] [] h = tt
+decoded_some [] (k ∷ ks) h = cc
+decoded_some (m ∷ ms) ks h = go (decoded m.class m.member) refl (all_decoded ms) (λ js e. decoded_some ms js e) refl h
   where
-    go : (r : Result Coded Refusal) → decoded c m ≡ r → (rs : Result (List Coded) Refusal) → ((js : List Coded) → all_decoded c ms ≡ Ok js → AllByRecursion IsSomeCoded js) → all_decoded c ms ≡ rs
+    go : (r : Result Coded Refusal) → decoded m.class m.member ≡ r → (rs : Result (List Coded) Refusal) → ((js : List Coded) → all_decoded ms ≡ Ok js → AllByRecursion IsSomeCoded js) → all_decoded ms ≡ rs
         → (r >>= λ k. rs >>= λ js. Ok (k ∷ js)) ≡ Ok ks → AllByRecursion IsSomeCoded ks
     go (Ok k) e (Ok js) rest es h2 =
         let same : ks ≡ k ∷ js = cc in
-        rw same (some_named (name_of c m) (decoded_code c.pool (code_in c.pool m)) k (λ j h. some_code c.pool (code_in c.pool m) j (in_some c.pool m) h) e, rest js es)
+        let pool = m.class.pool in
+        rw same (some_named (full_name m) (decoded_code pool (code_in pool m.member)) k (λ j h. some_code pool (code_in pool m.member) j (in_some pool m.member) h) e, rest js es)
     go (Ok k) e (Err f) rest es h2 = cc
     go (Err f) e rs rest es h2 = cc
 
@@ -157,32 +161,30 @@ all_at P [] i x all h = cc
 all_at P (y ∷ xs) zero x all h = let same : y ≡ x = cc in subst P same all.0
 all_at P (y ∷ xs) (suc i) x all h = all_at P xs i x all.1 h
 
--- ---- the code of a method of a class's program
+-- ---- the code of a method of a program
 
 -- a method's instructions are those of its code, of which there are some
-pub record HasCode (c : ClassFile) (P : Program) (m : ℕ) (k : Method) : Type 0 where
+pub record HasCode (cs : List ClassFile) (m : ℕ) (k : Method) : Type 0 where
   pub some : 0 < length k.ops
-  pub told : (place : ℕ) → place < length k.ops → (pc : ℕ) × (pc_of c m place ≡ Some pc)
+  pub told : (place : ℕ) → place < length k.ops → (pc : ℕ) × (pc_of cs m place ≡ Some pc)
 
 all_units : (is : List Instr) → AllByRecursion (λ i. Unit {0}) is
 all_units [] = tt
 all_units (i ∷ is) = (tt, all_units is)
 
-module _ (c : ClassFile) (P : Program) (m : ℕ) (k : Method) (there : slice_get P.methods m ≡ Some k) where
-  abbrev own : Symbols
-  own = symbols_of c (original_fields c) (program_methods c)
+module _ (cs : List ClassFile) (P : Program) (m : ℕ) (k : Method) (there : slice_get P.methods m ≡ Some k) where
+  abbrev means : Declared × Coded → Option Method
+  means p = form_method (original_symbols cs p.0.class) p.0.member p.1
 
-  abbrev means : Member × Coded → Option Method
-  means p = form_method own p.0 p.1
-
-  of_pair : (ks : List Coded) → all_decoded c (program_methods c) ≡ Ok ks → (p : Member × Coded) → slice_get (zip (program_methods c) ks) m ≡ Some p → means p ≡ Some k → HasCode c P m k
+  of_pair : (ks : List Coded) → all_decoded (program_methods cs) ≡ Ok ks → (p : Declared × Coded) → slice_get (zip (program_methods cs) ks) m ≡ Some p → means p ≡ Some k → HasCode cs m k
   of_pair ks e p at is =
-      let coded = second_at (program_methods c) ks m p at in
-      let M = means_of own p.0 p.1 k is in
+      let own = original_symbols cs p.0.class in
+      let coded = second_at (program_methods cs) ks m p at in
+      let M = means_of own p.0.member p.1 k is in
       let ops : k.ops ≡ M.ops = ap (λ (k : Method). k.ops) M.is in
       let long : length M.ops ≡ length p.1.instrs = (each_all (op_of own p.1.instrs) (λ i. Unit {0}) (λ o. Unit {0}) (λ i o t e. tt) p.1.instrs M.ops (all_units p.1.instrs) M.told).1 in
       let many : length k.ops ≡ length p.1.instrs = ap length ops ∙ long in
-      let some = all_at IsSomeCoded ks m p.1 (decoded_some c (program_methods c) ks e) coded in
+      let some = all_at IsSomeCoded ks m p.1 (decoded_some (program_methods cs) ks e) coded in
       record {
         some = omega (arith, some, many);
         told = λ place less.
@@ -194,14 +196,14 @@ module _ (c : ClassFile) (P : Program) (m : ℕ) (k : Method) (there : slice_get
             ));
       }
 
-  of_methods : (ks : List Coded) → all_decoded c (program_methods c) ≡ Ok ks → (o : Option (List Method)) → form_methods c ks ≡ o
-      → option_map (λ ms. record { fields = original_fields c; methods = ms }) o ≡ Some P → HasCode c P m k
+  of_methods : (ks : List Coded) → all_decoded (program_methods cs) ≡ Ok ks → (o : Option (List Method)) → form_methods cs ks ≡ o
+      → option_map (λ ms. record { fields = original_fields cs; methods = ms }) o ≡ Some P → HasCode cs m k
   of_methods ks e None es h = cc
   of_methods ks e (Some ms) es h =
-      let same : P ≡ record { fields = original_fields c; methods = ms } = cc in
+      let same : P ≡ record { fields = original_fields cs; methods = ms } = cc in
       let members : P.methods ≡ ms = ap (λ (p : Program). p.methods) same in
-      let found = each_at means (zip (program_methods c) ks) ms m k es (ap (λ (l : List Method). slice_get l m) (sym members) ∙ there) in
+      let found = each_at means (zip (program_methods cs) ks) ms m k es (ap (λ (l : List Method). slice_get l m) (sym members) ∙ there) in
       of_pair ks e found.0 found.1 found.2
 
-pub has_code : (c : ClassFile) (P : Program) (m : ℕ) (k : Method) → linked c ≡ Some P → slice_get P.methods m ≡ Some k → HasCode c P m k
-has_code c P m k h there = let f = formed c P h in of_methods c P m k there f.code f.decodes (form_methods c f.code) refl f.program
+pub has_code : (cs : List ClassFile) (P : Program) (m : ℕ) (k : Method) → linked cs ≡ Some P → slice_get P.methods m ≡ Some k → HasCode cs m k
+has_code cs P m k h there = let f = formed cs P h in of_methods cs P m k there f.code f.decodes (form_methods cs f.code) refl f.program

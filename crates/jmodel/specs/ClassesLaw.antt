@@ -1,15 +1,21 @@
--- What several classes are linked to is a program that the other laws speak of; one class by itself means what it does alone.
-use Rattle.std.specs.Prelude.{◌≡◌, List, [], ◌∷◌, Some, true, codes}
+-- What classes are linked to is a program that the other laws speak of.
+use Rattle.std.specs.Prelude.{◌≡◌, List, Some, true, pos, IfSome, ◌≤ℤ◌}
 use Rattle.std.specs.List.{AllByRecursion}
 use Rattle.jmodel.specs.ClassFile.{ClassFile}
-use Rattle.jmodel.specs.Pool.{class_name}
-use Rattle.jmodel.specs.ClassRules.{same_text}
-use Rattle.jmodel.specs.Program.{Program}
+use Rattle.jmodel.specs.Program.{Method, Program}
 use Rattle.jmodel.specs.Source.{IsSource}
 use Rattle.jmodel.specs.Layout.{fields_of}
-use Rattle.jmodel.specs.LinkedLaw.{CanSetUp, MayAttempt}
-use Rattle.jmodel.specs.Linking.{linking as linking_alone}
-use Rattle.jmodel.specs.ClassesLinking.{linking, linked}
+use Rattle.jmodel.specs.Schedule.{takes}
+use Rattle.jmodel.specs.Coded.{names_initialiser}
+use Rattle.jmodel.specs.ClassesLinking.{linked}
+
+-- no number of attempts, or at least one
+abbrev pub MayAttempt : Method → Type 0
+MayAttempt k = IfSome k.retries (λ n. pos 1 ≤ℤ n)
+
+-- a static initialiser can be called from outside, without arguments
+abbrev pub CanSetUp : Method → Type 0
+CanSetUp k = names_initialiser k.name ≡ true → takes (Some k) 0 ≡ true
 
 -- source code in each method, which may make an attempt where it is called from outside, over the classes' static fields
 pub record IsLinked (cs : List ClassFile) (P : Program) : Type 0 where
@@ -20,7 +26,3 @@ pub record IsLinked (cs : List ClassFile) (P : Program) : Type 0 where
 
 abbrev pub LinkedLaw : Type 0
 LinkedLaw = (cs : List ClassFile) (P : Program) → linked cs ≡ Some P → IsLinked cs P
-
--- a class that stands right under Object
-abbrev pub LoneLaw : Type 0
-LoneLaw = (c : ClassFile) → same_text (class_name c.pool c.super_class) (codes "java/lang/Object") ≡ true → linking (c ∷ []) ≡ linking_alone c

@@ -1,5 +1,5 @@
 -- What the classes of a folder mean as one program, in the byte order of their names: original classes of a temporary form, and rewritten ones.
--- Each class by itself is of the form that a lone class has; it stands under Object or under another class of the folder.
+-- In the form each class stands under Object or under another class of the folder.
 use Rattle.std.specs.Prelude.{ℕ, ◌-◌, ◌*◌, List, [], ◌∷◌, ◌++◌, length, map, filter, find, take, drop, zip, Option, Some, None, Result, Ok, Err, Bool, true, false, not, ◌&&◌, ◌||◌, nat_le, nat_eq, if◌then◌else◌, codes, bytes_eq, bit_and, option_map}
 use Rattle.std.specs.List.{list_any, list_all, starts_with, flat_map}
 use Rattle.std.specs.Option.{option_or}

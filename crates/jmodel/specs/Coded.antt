@@ -1,5 +1,5 @@
 -- Code of methods with its instructions, or its first fault, the mark of atomic methods, and static initialisers.
-use Rattle.std.specs.Prelude.{ℕ, ℤ, pos, List, [], Option, Some, None, Result, Ok, Err, Bool, ◌&&◌, nat_eq, codes, bit_and, bytes_eq, find, option_and_then, is_some, if◌then◌else◌}
+use Rattle.std.specs.Prelude.{ℤ, pos, List, [], Option, Some, None, Result, Ok, Err, Bool, ◌&&◌, nat_eq, codes, bit_and, bytes_eq, find, option_and_then, is_some, if◌then◌else◌}
 use Rattle.jmodel.specs.declared.instruction.Instr.{Instr}
 use Rattle.jmodel.specs.declared.mark.Atomic.{Atomic}
 use Rattle.jmodel.specs.declared.mark.AnnotationFault.{AnnotationFault}

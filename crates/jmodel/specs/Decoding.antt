@@ -33,7 +33,7 @@ number_at is pc = position (λ (i : Instr). nat_eq i.pc pc) is
 -- ---- what names stand for
 
 -- A class, the static fields of its program, the names of its methods in order of their numbers, where the class's static base lies, and
--- the classes among which the one is sought that declares a member; a lone class needs none.
+-- the classes among which the one is sought that declares a member.
 pub record Symbols : Type 0 where
   pub class : ClassFile
   pub fields : List Field

@@ -29,7 +29,6 @@ pub mod Schedule
 pub mod Output
 pub mod SerialLaw
 pub mod OpeningLaw
-pub mod LinkedLaw
 pub mod RegionLaw
 pub mod Reading
 pub mod DescriptorReading
@@ -43,11 +42,10 @@ pub mod Engine
 pub mod Superclasses
 pub mod Decoding
 pub mod Coded
-pub mod Taken
 pub mod Opening
-pub mod Linking
 pub mod Classes
 pub mod ClassesTaken
+pub mod Linking
 pub mod ClassesLinking
 pub mod ClassesLaw
 pub mod PoolAdding

@@ -1,8 +1,7 @@
--- What a class means as a program: original classes of a temporary form, and rewritten ones. The form has the int code of static
+-- What a method means by itself, the fault of its mark, and what a temporary form asks of it and of its class. The form has the int code of static
 -- methods that take ints, of any type of one word, and give one or nothing.
-use Rattle.std.specs.Prelude.{ℕ, pos, ◌-◌, List, [], ◌∷◌, ◌++◌, length, map, filter, take, drop, zip, Option, Some, None, Result, Ok, Err, Bool, true, false, not, ◌==◌, ◌&&◌, ◌||◌, nat_lt, nat_le, nat_eq, if◌then◌else◌, codes, bytes_eq, bit_and, option_map, option_and_then, is_some, slice_get}
+use Rattle.std.specs.Prelude.{ℕ, pos, List, [], ◌∷◌, ◌++◌, length, map, Option, Some, None, Result, Ok, Err, Bool, true, false, not, ◌==◌, ◌&&◌, ◌||◌, nat_lt, nat_le, nat_eq, if◌then◌else◌, codes, bytes_eq, bit_and, option_map, option_and_then, is_some, slice_get}
 use Rattle.std.specs.List.{list_any, list_all, starts_with}
-use Rattle.std.specs.Option.{option_or}
 use Rattle.jmodel.specs.declared.class_file.Constant.{Constant}
 use Rattle.jmodel.specs.declared.class_file.Constant.TheVariants as constants
 use Rattle.jmodel.specs.declared.class_file.FieldType.{FieldType}
@@ -30,15 +29,15 @@ use Rattle.jmodel.specs.Pool.{utf8, class_name, MemberName}
 use Rattle.jmodel.specs.ClassRules.{same_text}
 use Rattle.jmodel.specs.Descriptor.{Signature}
 use Rattle.jmodel.specs.DescriptorReading.{signature_of}
-use Rattle.jmodel.specs.Reading.{◌>>=◌, place}
+use Rattle.jmodel.specs.Reading.{place}
 use Rattle.jmodel.specs.WordTypes.{word_type, as_word}
-use Rattle.jmodel.specs.Program.{Field, Method, Program}
-use Rattle.jmodel.specs.Layout.{library, is_static, statics, text_or_none, base_of, fields_of}
+use Rattle.jmodel.specs.Program.{Method}
+use Rattle.jmodel.specs.Layout.{library, is_static, statics, text_or_none}
 pub use Rattle.jmodel.specs.Coded.{code_in, mark_retries, is_marked, names_initialiser, is_initialiser, retries_of, is_root, Coded, in_method, named_fault, decoded_code, decoded}
-use Rattle.jmodel.specs.Taken.{invoked, is_taken}
+use Rattle.jmodel.specs.ClassesTaken.{invoked}
 use Rattle.jmodel.specs.Name.{printed}
 use Rattle.jmodel.specs.Mark.{mark_of}
-use Rattle.jmodel.specs.Decoding.{number_at, context_class, Symbols, own_name, name_of, each, ops_of}
+use Rattle.jmodel.specs.Decoding.{number_at, context_class, Symbols, name_of, each, ops_of}
 
 -- ---- exception entries, by numbers of instructions
 
@@ -116,20 +115,15 @@ coded_method s counted m k =
 
 -- ---- code
 
--- what each gives, or the first fault
-abbrev pub all_decoded : ClassFile → List Member → Result (List Coded) Refusal
-all_decoded c [] = Ok []
-all_decoded c (m ∷ ms) = decoded c m >>= λ k. all_decoded c ms >>= λ ks. Ok (k ∷ ks)
-
 abbrev pub decoded_or_none : Result Coded Refusal → Option Coded
 decoded_or_none (Ok k) = Some k
 decoded_or_none (Err r) = None
 
--- what a method of a rewritten class means
+-- what a method means, of the form or not
 abbrev pub method_of : Symbols → Bool → Member → Option Method
 method_of s counted m = option_and_then (coded_method s counted m) (decoded_or_none (decoded s.class m))
 
--- ---- the methods of programs
+-- ---- methods with a context
 
 abbrev pub has_context : Option Signature → Bool
 has_context None = false
@@ -138,10 +132,6 @@ has_context (Some s) = list_any is_context s.parameters
 -- whether a method takes a transaction's context, as accessors and duplicates do
 abbrev pub takes_context : Pool → Member → Bool
 takes_context pool m = has_context (signature_of (descriptor_of pool m))
-
--- the methods of an original class's program, in the order of the file
-abbrev pub program_methods : ClassFile → List Member
-program_methods c = filter (is_taken c) c.methods
 
 -- ---- the form
 
@@ -179,10 +169,6 @@ abbrev pub is_form_atomic : Pool → Member → Bool
 is_form_atomic pool m = nat_eq (bit_and m.flags 0x528) 8 && is_some (shape_of (descriptor_of pool m)) && not (takes_context pool m)
     && is_form_name pool m
 
--- a method that isn't one of the program may be anything
-abbrev pub is_form_method : ClassFile → Member → Bool
-is_form_method c m = not (is_taken c m) || is_form_atomic c.pool m
-
 -- a class's name that no class of the library has
 abbrev pub is_free_name : List ℕ → Bool
 is_free_name name = not (list_any (bytes_eq name) library)
@@ -197,18 +183,6 @@ field_name_of pool m = text_or_none (utf8 pool m.name)
 -- No two static fields have one name, also where their types differ.
 abbrev pub are_form_fields : ClassFile → Bool
 are_form_fields c = nat_le (length (statics c)) 100 && list_all (is_form_field c.pool) c.fields && are_distinct (map (field_name_of c.pool) (statics c))
-
-abbrev pub are_form_methods : ClassFile → Bool
-are_form_methods c = nat_le (length (program_methods c)) 100 && list_all (is_form_method c) c.methods
-
--- a class, no interface, 0200, that stands right under Object
-abbrev pub is_form_head : ClassFile → Bool
-is_form_head c = nat_eq (bit_and c.flags 0x200) 0 && is_free_name (own_name c) && same_text (class_name c.pool c.super_class) (codes "java/lang/Object")
-    && is_empty c.interfaces
-
--- the form of a class without a look at its methods
-abbrev pub is_form_outside : ClassFile → Bool
-is_form_outside c = list_all is_form_constant c.pool && is_form_head c && are_form_fields c
 
 -- a Code without exception entries, of at most 200 locals
 abbrev pub is_form_code : Code → Bool
@@ -280,88 +254,24 @@ fault_in name may (Ok None) = None
 abbrev pub mark_fault : ClassFile → Member → Option Refusal
 mark_fault c m = fault_in (printed (name_of c m)) (may_be_marked c.pool m) (mark_of c.pool m)
 
--- the first fault among methods
-abbrev pub marks_fault : ClassFile → List Member → Option Refusal
-marks_fault c [] = None
-marks_fault c (m ∷ ms) = option_or (mark_fault c m) (marks_fault c ms)
-
 abbrev pub unless : {A : Type 0} → Option Refusal → Result A Refusal → Result A Refusal
 unless None r = r
 unless (Some fault) r = Err fault
 
--- ---- programs
+-- ---- parts of programs
 
--- a lone class, with the fields and the methods of its program
-abbrev pub symbols_of : ClassFile → List Field → List Member → Symbols
-symbols_of c fields ms = record {
-  class = c;
-  fields = fields;
-  methods = map (name_of c) ms;
-  base = base_of (c ∷ []) 0;
-  classes = [];
-}
-
-abbrev pub original_fields : ClassFile → List Field
-original_fields c = fields_of (c ∷ []) 0 (c ∷ [])
-
--- the methods of a class's program, whose instructions are these
-abbrev pub form_methods : ClassFile → List Coded → Option (List Method)
-form_methods c ks = each (λ (p : Member × Coded). form_method (symbols_of c (original_fields c) (program_methods c)) p.0 p.1) (zip (program_methods c) ks)
-
-abbrev pub form_program : ClassFile → List Coded → Option Program
-form_program c ks = option_map (λ ms. record { fields = original_fields c; methods = ms }) (form_methods c ks)
-
--- the program of the methods' code, or its first fault
-abbrev pub coded_program : ClassFile → Result (Option Program) Refusal
-coded_program c = if are_form_methods c then (all_decoded c (program_methods c) >>= λ ks. Ok (form_program c ks)) else Ok None
-
--- The program of an original class, none where it isn't of the form, or its first fault: that of the marks of all its methods, else that
--- of the code of those that are taken.
-abbrev pub linking : ClassFile → Result (Option Program) Refusal
-linking c = if is_form_outside c then unless (marks_fault c c.methods) (coded_program c) else Ok None
-
-abbrev pub program_in : Result (Option Program) Refusal → Option Program
-program_in (Ok p) = p
-program_in (Err r) = None
-
--- the program of an original class of the form; other classes have none
-abbrev pub linked : ClassFile → Option Program
-linked c = program_in (linking c)
-
--- the place in its code of an instruction of a method of the program, by their numbers
+-- the place in its code of an instruction, by the method's number and its own
 abbrev pub pc_in : ℕ → Result (List Coded) Refusal → ℕ → Option ℕ
 pc_in m (Err r) n = None
 pc_in m (Ok ks) n = option_map (λ (i : Instr). i.pc) (option_and_then (λ (k : Coded). slice_get k.instrs n) (slice_get ks m))
-
-abbrev pub pc_of : ClassFile → ℕ → ℕ → Option ℕ
-pc_of c m n = pc_in m (all_decoded c (program_methods c)) n
 
 abbrev pub joined : {A : Type 0} → Option (List A) → Option (List A) → Option (List A)
 joined (Some xs) (Some ys) = Some (xs ++ ys)
 joined xs ys = None
 
--- ---- rewritten classes
-
 abbrev pub is_name : MethodName → MethodName → Bool
 is_name n k = bytes_eq n.name k.name && bytes_eq n.descriptor k.descriptor && bytes_eq n.class k.class
 
--- A method of a rewritten class's program: one of the original's, or one that takes a context.
-abbrev pub is_rewritten_method : Program → ClassFile → Member → Bool
-is_rewritten_method P c m = takes_context c.pool m || list_any (λ (k : Method). is_name (name_of c m) k.name) P.methods
-
-abbrev pub rewritten_methods : Program → ClassFile → List Member
-rewritten_methods P c = filter (is_rewritten_method P c) c.methods
-
--- a method that is neither a wrapper nor takes a context stays as it was, and counts
+-- of a rewritten class, a method that is neither a wrapper nor takes a context: it stays as it was
 abbrev pub is_untouched : Pool → Member → Bool
 is_untouched pool m = not (is_root pool m || takes_context pool m)
-
--- The methods of a rewritten class: the last n, which are duplicates, count.
-abbrev pub relinked_methods : Symbols → ℕ → List Member → Option (List Method)
-relinked_methods s n ms = if nat_le n (length ms)
-    then joined (each (λ m. method_of s (is_untouched s.class.pool m) m) (take (length ms - n) ms)) (each (method_of s true) (drop (length ms - n) ms))
-    else None
-
--- the program of a rewritten class, over its original's
-abbrev pub relinked : Program → ClassFile → Option Program
-relinked P c = option_map (λ ms. record { fields = P.fields; methods = ms }) (relinked_methods (symbols_of c P.fields (rewritten_methods P c)) (length P.methods) (rewritten_methods P c))

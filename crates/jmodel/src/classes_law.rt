@@ -1,5 +1,5 @@
 //! Laws of programs of several classes.
-ghost use Rattle.jmodel.specs.ClassesLaw.{LinkedLaw, LoneLaw};
+ghost use Rattle.jmodel.specs.ClassesLaw.{LinkedLaw};
 ghost use Rattle.jmodel.specs.ClassesTaken.{TakenLaw};
 
 /// The program of classes of the form is source code, each of its methods has no mark, or is called from outside in at least one attempt,
@@ -12,9 +12,4 @@ pub fn linked_law()
 /// calls, in whatever class.
 pub fn taken_law()
     ensures { TakenLaw }
-{}
-
-/// A class that stands right under Object, and is the only one, means what it means as a lone class.
-pub fn lone_law()
-    ensures { LoneLaw }
 {}

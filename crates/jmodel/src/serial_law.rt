@@ -14,21 +14,6 @@ pub fn opening_law()
     ensures { OpeningLaw }
 {}
 
-ghost use Rattle.jmodel.specs.LinkedLaw.{LinkedLaw};
-
-/// The program of a class of the form is source code, each of its methods has no mark, or is called from outside in at least one attempt,
-/// its static initialiser can be called without arguments, and it has the class's static fields.
-pub fn linked_law()
-    ensures { LinkedLaw }
-{}
-
-ghost use Rattle.jmodel.specs.Taken.{TakenLaw};
-
-/// The taken methods of a class are the least set that has the marked ones, the static initialisers and each method that one of the set calls.
-pub fn taken_law()
-    ensures { TakenLaw }
-{}
-
 ghost use Rattle.jmodel.specs.Opening.{ReturnLaw};
 
 /// A call ends in one way: static initialisers that all return, run one after another, have none that doesn't.
