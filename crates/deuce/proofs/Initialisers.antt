@@ -9,7 +9,7 @@ use Rattle.jmodel.specs.Coded.{names_initialiser}
 use Rattle.jmodel.specs.Program.{Method, Program, method_at}
 use Rattle.jmodel.specs.State.{State}
 use Rattle.jmodel.specs.Schedule.{takes}
-use Rattle.jmodel.specs.LinkedLaw.{CanSetUp}
+use Rattle.jmodel.specs.ClassesLaw.{CanSetUp}
 use Rattle.jmodel.specs.Opening.{initialisers_from, initialisers, Fails}
 use Rattle.jmodel.specs.Superclasses.{own_name}
 use Rattle.jmodel.specs.Classes.{in_start_order}

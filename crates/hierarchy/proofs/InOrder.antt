@@ -18,7 +18,7 @@ use Rattle.jmodel.specs.ClassFile.{ClassFile}
 use Rattle.jmodel.specs.Layout.{library}
 use Rattle.jmodel.specs.Superclasses.{own_name}
 use Rattle.jmodel.specs.Classes.{placed, in_order, doubled_among}
-use Rattle.jmodel.proofs.Taken.{or_right}
+use Rattle.jmodel.proofs.ClassesTaken.{or_right}
 use Rattle.hierarchy.specs.Ordered.{named_classes, IsInOrder}
 use Rattle.hierarchy.proofs.Bools.{or_second}
 use Rattle.hierarchy.proofs.Parts.{same_bytes}

@@ -9,7 +9,7 @@ use Rattle.jmodel.specs.Program.{Method, Program}
 use Rattle.jmodel.specs.Linking.{is_name, takes_context}
 use Rattle.jmodel.specs.Classes.{Declared, declared_in, full_name}
 use Rattle.jmodel.specs.ClassesLinking.{is_rewritten_method, rewritten_methods, own_count, has_copies, old_members, accessor_members, duplicate_members, relinked}
-use Rattle.jmodel.proofs.Taken.{filter_same, all_of}
+use Rattle.jmodel.proofs.ClassesTaken.{filter_same, all_of}
 use Rattle.hierarchy.specs.Names.{has}
 use Rattle.hierarchy.specs.declared.outcome.BuildEnd.{BuildEnd}
 use Rattle.hierarchy.specs.declared.outcome.BuildEnd.TheVariants.{Refused, NotBuilt, NoMemory}

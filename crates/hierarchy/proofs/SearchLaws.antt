@@ -12,11 +12,9 @@ use Rattle.jmodel.specs.ClassFile.{ClassFile}
 use Rattle.jmodel.specs.Pool.{MemberName}
 use Rattle.jmodel.specs.Coded.{decoded}
 use Rattle.jmodel.specs.Linking.{is_name}
-use Rattle.jmodel.specs.Taken.{code_calls, is_taken_by}
+use Rattle.jmodel.specs.ClassesTaken.{code_calls, is_taken_by, calls, is_taken, IsClosed}
 use Rattle.jmodel.specs.Classes.{Declared, methods_in, full_name}
-use Rattle.jmodel.specs.ClassesTaken.{calls, is_taken, IsClosed}
-use Rattle.jmodel.proofs.Taken.{Within, or_right, filter_covers, Same, filter_same, all_map, all_of}
-use Rattle.jmodel.proofs.ClassesTaken.{closed, taken_law}
+use Rattle.jmodel.proofs.ClassesTaken.{Within, or_right, filter_covers, Same, filter_same, all_map, all_of, closed, taken_law}
 use Rattle.hierarchy.proofs.Bools.{or_left, or_second}
 use Rattle.hierarchy.proofs.Parts.{same_bytes}
 use Rattle.hierarchy.specs.Names.{has, group_of}

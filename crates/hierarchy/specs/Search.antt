@@ -7,9 +7,8 @@ use Rattle.jmodel.specs.ClassFile.{Pool, ClassFile}
 use Rattle.jmodel.specs.Pool.{MemberName}
 use Rattle.jmodel.specs.Coded.{is_root}
 use Rattle.jmodel.specs.Linking.{is_name}
-use Rattle.jmodel.specs.Taken.{invoked, is_named_by}
+use Rattle.jmodel.specs.ClassesTaken.{invoked, is_named_by, is_taken}
 use Rattle.jmodel.specs.Classes.{Declared, methods_in, full_name}
-use Rattle.jmodel.specs.ClassesTaken.{is_taken}
 use Rattle.hierarchy.specs.Names.{has, group_of}
 
 -- A call of a constructor takes that of the named class alone; any other call, each method of the name and the descriptor.

@@ -2,11 +2,10 @@
 //! one or nothing. Temporary: the form grows until it has every program that is accepted.
 ghost use Rattle.std.specs.Prelude.{◌≡◌, length, filter, map, bytes_eq, IfOk};
 ghost use Rattle.std.specs.List.{list_all, list_any};
-ghost use Rattle.jmodel.specs.Taken.{invoked as invoked_by};
+ghost use Rattle.jmodel.specs.ClassesTaken.{invoked as invoked_by, is_taken};
 ghost use Rattle.jmodel.specs.Layout.{library as library_names, is_static as static_member};
 ghost use Rattle.jmodel.specs.Linking.{has_part as part_of, is_reserved as reserved, is_form_constant as form_constant, is_form_field as form_field, are_distinct as distinct, field_name_of as name_of_field, takes_context as with_context, is_special as special, is_form_atomic as form_atomic, is_free_name as free_name, are_form_fields as form_fields, is_form_code as form_code, is_of_reference as of_reference, widened as widened_op, is_form_instr as form_instr, is_form_op as form_op, is_form_method_of as form_method_of, is_form_name as form_name, is_form_callee as form_callee};
 ghost use Rattle.jmodel.specs.Classes.{Declared as DeclaredForm, methods_in as methods_of_classes};
-ghost use Rattle.jmodel.specs.ClassesTaken.{is_taken};
 ghost use Rattle.jmodel.specs.ClassesLinking.{is_form_super as form_super, is_form_head as form_head, is_form_class as form_class, are_form_outside as form_outside, has_few_methods, program_methods, are_form_methods as form_methods};
 
 use crate::code::Coded;

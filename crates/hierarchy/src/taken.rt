@@ -2,9 +2,8 @@
 ghost use Rattle.std.specs.Prelude.{◌≡◌, List, Bool, [], ◌∷◌, ◌++◌, length, map, filter, IfOk, OnOk, MatchOption};
 ghost use Rattle.jmodel.specs.ClassFile.{ClassFile as ClassForm};
 ghost use Rattle.jmodel.specs.Coded.{decoded as decoded_of};
-ghost use Rattle.jmodel.specs.Taken.{index_of as index_in, invoked as invoked_by, is_taken_by, is_named_by, code_calls};
+ghost use Rattle.jmodel.specs.ClassesTaken.{index_of as index_in, invoked as invoked_by, is_taken_by, is_named_by, code_calls, is_taken};
 ghost use Rattle.jmodel.specs.Classes.{Declared as DeclaredForm, methods_in as methods_of_classes};
-ghost use Rattle.jmodel.specs.ClassesTaken.{is_taken};
 ghost use Rattle.hierarchy.specs.Names.{named};
 ghost use Rattle.hierarchy.specs.Search.{class_for as class_of_key, method_key as key_of_method, instrs_call, starting, is_found, IsGrouped, VisitsOf, Finds};
 

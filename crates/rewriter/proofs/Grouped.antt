@@ -11,7 +11,7 @@ use Rattle.jmodel.specs.ClassFile.{ClassFile}
 use Rattle.jmodel.specs.Superclasses.{own_name}
 use Rattle.jmodel.specs.Classes.{doubled_among}
 use Rattle.jmodel.proofs.Linked.{filter_keeps, filter_drops}
-use Rattle.jmodel.proofs.Taken.{all_of}
+use Rattle.jmodel.proofs.ClassesTaken.{all_of}
 use Rattle.rewriter.proofs.Marks.{or_false}
 use Rattle.rewriter.proofs.Pairs.{all_append}
 use Rattle.rewriter.proofs.Numbers.{AreApartBy, flipped}

@@ -16,7 +16,7 @@ use Rattle.jmodel.specs.Linking.{Coded, decoded, descriptor_of, retries_of}
 use Rattle.jmodel.specs.declared.name.MethodName.{MethodName}
 use Rattle.jmodel.specs.Pool.{utf8, class_name}
 use Rattle.jmodel.specs.Layout.{text_or_none, is_static, statics, fields_from}
-use Rattle.jmodel.proofs.Taken.{filter_few}
+use Rattle.jmodel.proofs.ClassesTaken.{filter_few}
 use Rattle.const_pool.proofs.Takes.{bind_ok, guard_ok, fine}
 use Rattle.rewriter.specs.declared.accessors.Accessors.{Accessors}
 use Rattle.rewriter.specs.declared.names.Calls.{Calls}

@@ -19,7 +19,8 @@ use Rattle.jmodel.specs.DescriptorReading.{signature_of}
 use Rattle.jmodel.specs.Rewriting.{with_context, base, offset, duplicate_name}
 use Rattle.jmodel.specs.Constants.{long_value}
 use Rattle.jmodel.specs.Decoding.{Symbols, own_name, name_of, get_op, is_member}
-use Rattle.jmodel.specs.Linking.{is_form_constant, descriptor_of, has_context, has_part, takes_context, is_name, is_context, is_rewritten_method, rewritten_methods, is_reserved, is_root, retries_of}
+use Rattle.jmodel.specs.Linking.{is_form_constant, descriptor_of, has_context, has_part, takes_context, is_name, is_context, is_reserved, is_root, retries_of}
+use Rattle.jmodel.specs.ClassesLinking.{is_rewritten_method as is_method_of}
 use Rattle.rewriter.specs.declared.accessors.Accessors.{Accessors}
 use Rattle.rewriter.specs.Members.{Names, getter_name, setter_name, getter_type, setter_type, address_name}
 use Rattle.rewriter.proofs.Contexts.{marker, context_taken, no_context, field_of, getter_signature, setter_signature}
@@ -35,6 +36,13 @@ use Rattle.rewriter.proofs.Puts.{AreAccessors}
 use Rattle.rewriter.proofs.Marks.{or_false, or_first, or_later, neither, context_same, HasMark, not_some}
 use Rattle.rewriter.proofs.Whole.{Each, IsReplaced, EachReplaced, IsCopyOf, Rewrites}
 use Rattle.rewriter.proofs.Numbers.{left_fails, wanted, name_as, old_names, accessor_names, copy_name, copy_names, field_names, AreFree, AreOwn, address_found, AreUnreserved}
+
+-- whether a method of a class is one of the rewritten program
+abbrev is_rewritten_method : Program → ClassFile → Member → Bool
+is_rewritten_method P c m = is_method_of P (record { class = c; member = m })
+
+abbrev rewritten_methods : Program → ClassFile → List Member
+rewritten_methods P c = filter (is_rewritten_method P c) c.methods
 
 filter_keeps : {A : Type 0} (p : A → Bool) (x : A) (xs : List A) → p x ≡ true → filter p (x ∷ xs) ≡ x ∷ filter p xs
 filter_keeps p x xs e = rw e refl

@@ -12,7 +12,7 @@ use Rattle.jmodel.specs.Attempt.{Log, Bounds, Meter, Ended, Stuck, run_start, Co
 use Rattle.jmodel.specs.History.{Call, Entry, Told}
 use Rattle.jmodel.specs.Book.{IsOfLane}
 use Rattle.jmodel.specs.Engine.{made}
-use Rattle.jmodel.specs.LinkedLaw.{MayAttempt}
+use Rattle.jmodel.specs.ClassesLaw.{MayAttempt}
 use Rattle.jmodel.specs.Schedule.{Known, takes, is_memory}
 use Rattle.jmodel.proofs.Regions.{keeps_region}
 use Rattle.jmodel.proofs.Simulates.{simulation}

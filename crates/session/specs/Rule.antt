@@ -12,7 +12,7 @@ use Rattle.jmodel.specs.Meaning.{Represents, Explains}
 use Rattle.jmodel.specs.Rewriting.{rewritten}
 use Rattle.jmodel.specs.Serial.{Serial}
 use Rattle.jmodel.specs.TypingLaw.{IsTypedProgram}
-use Rattle.jmodel.specs.LinkedLaw.{MayAttempt}
+use Rattle.jmodel.specs.ClassesLaw.{MayAttempt}
 use Rattle.jmodel.specs.Schedule.{Known, takes}
 use Rattle.tx_core.specs.Serial.{word_in}
 

@@ -5,7 +5,7 @@ use Rattle.jmodel.specs.declared.refusal.Refusal.TheVariants.{DoubledClass}
 use Rattle.jmodel.specs.Layout.{library}
 use Rattle.jmodel.specs.Superclasses.{own_name}
 use Rattle.jmodel.specs.Classes.{doubled_among}
-use Rattle.jmodel.proofs.Taken.{or_right}
+use Rattle.jmodel.proofs.ClassesTaken.{or_right}
 use Rattle.hierarchy.proofs.Bools.{or_left, is_true, is_false}
 use Rattle.hierarchy.proofs.Each.{item_is}
 use Rattle.hierarchy.proofs.InOrder.{texts, set_has, set_with, goes_on, is_doubled}

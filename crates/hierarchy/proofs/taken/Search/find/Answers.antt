@@ -2,7 +2,7 @@ use Rattle.std.proofs.Common.{◌≡◌, [], ◌++◌, map, Bool, true, false, i
 use Rattle.std.proofs.lemmas.List.{append-nil}
 use Rattle.jmodel.specs.declared.name.MethodName.{MethodName}
 use Rattle.jmodel.specs.Classes.{Declared}
-use Rattle.jmodel.specs.Taken.{is_taken_by}
+use Rattle.jmodel.specs.ClassesTaken.{is_taken_by}
 use Rattle.hierarchy.specs.Names.{named, has, group_of}
 use Rattle.hierarchy.specs.Search.{call_key, State, VisitsOf}
 use Rattle.hierarchy.proofs.Bools.{is_true, is_false}

@@ -5,7 +5,7 @@ use Rattle.std.specs.List.{list_any}
 use Rattle.std.proofs.lemmas.List.Folds.{list_any_more}
 use Rattle.jmodel.specs.declared.instruction.Instr.{Instr}
 use Rattle.jmodel.specs.Classes.{Declared, full_name}
-use Rattle.jmodel.specs.Taken.{invoked, is_named_by}
+use Rattle.jmodel.specs.ClassesTaken.{invoked, is_named_by}
 use Rattle.hierarchy.proofs.SearchLaws.{nothing_called, then_called, called_as}
 use Rattle.hierarchy.proofs.taken.Search.find_all.Goals as goal
 

@@ -1,6 +1,6 @@
 use Rattle.std.proofs.Common.{◌≡◌, Option, Some, None, OnOk, subst}
 use Rattle.jmodel.specs.Pool.{MemberName}
-use Rattle.jmodel.specs.Taken.{invoked, is_named_by}
+use Rattle.jmodel.specs.ClassesTaken.{invoked, is_named_by}
 use Rattle.hierarchy.specs.Search.{Visits, VisitsOf}
 use Rattle.hierarchy.proofs.SearchLaws.{nothing_called}
 use Rattle.hierarchy.proofs.taken.Search.find_called.Goals as goal

@@ -3,7 +3,7 @@ use Rattle.jmodel.specs.declared.instruction.Instr.{Instr}
 use Rattle.jmodel.specs.declared.refusal.Refusal.{Refusal}
 use Rattle.jmodel.specs.ClassFile.{ClassFile, Pool}
 use Rattle.jmodel.specs.Coded.{Coded, decoded}
-use Rattle.jmodel.specs.Taken.{code_calls}
+use Rattle.jmodel.specs.ClassesTaken.{code_calls}
 use Rattle.jmodel.specs.Classes.{Declared, full_name}
 use Rattle.hierarchy.specs.Search.{instrs_call}
 use Rattle.hierarchy.proofs.SearchLaws.{nothing_called, called_as, visits_if_ok}
