@@ -1,6 +1,9 @@
 pub mod Keeping
 pub mod Entries
 pub mod Stepping
+pub mod Keys
+pub mod Members
+pub mod Listed
 pub mod Stripes
 pub mod Rests
 pub mod Plans

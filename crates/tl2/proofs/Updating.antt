@@ -1,100 +1,84 @@
 -- The commit of an attempt that wrote, from step to step.
-use Rattle.std.proofs.Common.{◌≡◌, ◌≢◌, ◌⊎◌, ◌<◌, ◌+◌, ◌%◌, ℕ, true, List, [], ◌∷◌, ◌++◌, All, length, reverse, slice_index, refl, sym, ap, ◌∙◌, inl, inr, ⊎_elim, subst, arith}
-use mathlib.Core.Option.{some, some-ne-none}
-use mathlib.Core.Logic.{dite}
-use native.Mathlib.Decide.{ℕ_discrete}
-use Rattle.std.proofs.lemmas.List.{reverse-append, reverse-reverse}
-use Rattle.std.proofs.lemmas.List.Elements.{All-nil, All-cons, All-head, All-tail, All-from_get_or}
+use Rattle.std.proofs.Common.{◌≡◌, ◌≢◌, ◌⊎◌, ◌<◌, ◌+◌, ◌%◌, ℕ, true, false, not, List, [], ◌∷◌, All, reverse, refl, sym, ap, ◌∙◌, inl, inr, subst, arith}
+use mathlib.Core.Option.{none, some, some-ne-none}
+use Rattle.std.proofs.lemmas.Bool.{not-true}
+use Rattle.std.proofs.lemmas.List.Elements.{All-weaker}
 use Rattle.jmodel.specs.declared.op.Access.{Access}
 use Rattle.jmodel.specs.declared.value.Answer.{Answer}
 use Rattle.jmodel.specs.Attempt.{Log}
 use Rattle.jmodel.specs.History.{Call, Entry}
 use Rattle.tx_core.specs.declared.engine.Conflict.{Conflict}
-use Rattle.jmodel.specs.Book.{Map, Book, Region, Unticked, Ticked, Has, In, lookup, pairs, without}
+use Rattle.jmodel.specs.Book.{Map, Book, Region, Unticked, Ticked, Has, In, lookup, pairs}
 use Rattle.jmodel.specs.Rule.{Story}
 use Rattle.jmodel.specs.Plays.{accesses, keys, ticked_up, lost_at, update_entry, used_in, region_of, Fits, Updates}
-use Rattle.tx_table.proofs.MapLaws.{lookup_here, lookup_without, lookup_kept}
-use Rattle.tl2.specs.Commits.{AreOwners, Covers, IsChecked, IsRest, IsTaking, IsAdded, stored, update_of}
+use Rattle.tx_table.proofs.MapLaws.{lookup_here}
+use Rattle.tl2.specs.declared.plan.Stripe.{Stripe}
+use Rattle.tl2.specs.Commits.{Holds, IsChecked, IsRest, IsTaking, IsAdded, stored, update_of}
 use Rattle.tl2.specs.Conflicts.{lost_to}
-use Rattle.tl2.specs.Plans.{IsOwning, IsLeft}
+use Rattle.tl2.specs.Plans.{addresses_of, number_of, touches, IsListed, IsPlan}
+use Rattle.tl2.proofs.Keys.{by_bool}
+pub use Rattle.tl2.proofs.Members.{all_in, all_reversed}
+use Rattle.tl2.proofs.Members.{all_from, in_reversed, in_turned, in_keys, in_filter, filter_in, in_touches}
+use Rattle.tl2.proofs.Stripes.{touched, untouched, touching}
+use Rattle.tl2.proofs.Listed.{has_in, in_has, nothing_listed}
 use Rattle.tl2.proofs.Rests.{lost_is}
 use Rattle.tl2.proofs.Entries.{accesses_pairs, pairs_accesses}
-use Rattle.tl2.proofs.Plans.{has_in, has_cases}
-use Rattle.tl2.proofs.Newest.{in_has}
 
-pub all_in : {A : Type 0} (P : A → Type 0) (ls : List A) (p : A) → All P ls → In p ls → P p
-all_in P [] p all i = absurd i
-all_in P (l ∷ ls) p all (inl e) = subst P (sym e) (All-head P l ls all)
-all_in P (l ∷ ls) p all (inr i) = all_in P ls p (All-tail P l ls all) i
-
-pub all_from : {A : Type 0} (P : A → Type 0) (ls : List A) → ((p : A) → In p ls → P p) → All P ls
-all_from P [] f = All-nil P
-all_from P (l ∷ ls) f = All-cons P l ls (f l (inl refl)) (all_from P ls (λ p i. f p (inr i)))
-
-in_either : {A : Type 0} (xs ys : List A) (a : A) → In a (xs ++ ys) → In a xs ⊎ In a ys
-in_either [] ys a i = inr i
-in_either (x ∷ xs) ys a (inl e) = inl (inl e)
-in_either {A} (x ∷ xs) ys a (inr i) = ⊎_elim (λ (j : In a xs). inl (inr j)) (λ (j : In a ys). inr j) (in_either xs ys a i)
-
-in_reversed : {A : Type 0} (xs : List A) (a : A) → In a (reverse xs) → In a xs
-in_reversed [] a i = absurd i
-in_reversed {A} (x ∷ xs) a i = ⊎_elim (λ (j : In a (reverse xs)). inr (in_reversed xs a j)) (λ (j : In a (x ∷ [])). ⊎_elim (λ (e : a ≡ x). inl e) (λ (n : ⊥). absurd n) j)
-    (in_either (reverse xs) (x ∷ []) a (subst (λ (l : List A). In a l) (reverse-append (x ∷ []) xs) i))
-
-in_keys : (m : Map ℕ) (b x : ℕ) → In (b, x) m → In b (keys m)
-in_keys [] b x i = absurd i
-in_keys (y ∷ m) b x (inl e) = inl (ap (λ (p : ℕ × ℕ). p.0) e)
-in_keys (y ∷ m) b x (inr i) = inr (in_keys m b x i)
-
--- what holds of each address that was read, holds of each read of the book
-pub each_read : (P : ℕ → Type 0) (reads : List ℕ) (m : Map ℕ) → reverse reads ≡ keys m → All P reads → (b x : ℕ) → In (b, x) m → P b
-each_read P reads m e all b x i = all_in P reads b all (in_reversed reads b (subst (In b) (sym e) (in_keys m b x i)))
-
-bounded : (words : ℕ) (w : Log) → All (λ (l : Access). l.address < words) w → (a : ℕ) → Has (pairs w) a → a < words
+pub bounded : (words : ℕ) (w : Log) → All (λ (l : Access). l.address < words) w → (a : ℕ) → Has (pairs w) a → a < words
 bounded words w all a h = let t = has_in w a h in subst (λ (k : ℕ). k < words) t.2 (all_in (λ (l : Access). l.address < words) w t.0 all t.1)
 
-pub owners_are : (words : ℕ) (w : Log) (owners : List ℕ) → All (λ (l : Access). l.address < words) w → IsOwning (pairs w) owners → AreOwners words owners
-owners_are words w owners all o s n = let t = o.only s n in (t.0, t.1, t.2, bounded words w all t.0 t.3)
-
-pub due_held : (due : Map ℕ) (owners words : List ℕ) (held : Map ℕ) → IsOwning due owners → Covers owners words 0 4096 held → (b : ℕ) → Has due b → Has held (b % 4096)
-due_held due owners words held o c b h = (slice_index words (b % 4096), c.each (b % 4096) (omega arith) (omega arith) (o.each b h))
-
-pub held_due : (due : Map ℕ) (owners words : List ℕ) (held : Map ℕ) → IsOwning due owners → Covers owners words 0 4096 held → (i y : ℕ) → lookup held i ≡ some y → (b : ℕ) × (b % 4096 ≡ i) × Has due b
-held_due due owners words held o c i y e = let k = c.only i y e in let t = o.only i k.2 in (t.0, t.2, t.3)
-
 -- The last writes of what is due.
-pub newest_some : (w newest : Log) → w ≢ [] → IsLeft (pairs w) newest → newest ≢ []
+pub newest_some : (w newest : Log) → w ≢ [] → IsListed (pairs w) newest → newest ≢ []
 newest_some [] newest some_writes l = absurd (some_writes refl)
-newest_some (p ∷ w) newest some_writes l = λ e.
-    let h = l.only p.address p.word (lookup_here (pairs w) p.address p.word) in
-    some-ne-none h.0 (sym h.1 ∙ ap (λ (k : Log). lookup (pairs k) p.address) e)
+newest_some (p ∷ w) newest some_writes l = λ e. nothing_listed (pairs (p ∷ w)) (subst (IsListed (pairs (p ∷ w))) e l) p.address p.word (lookup_here (pairs w) p.address p.word)
 
-pub newest_fits : (words : ℕ) (w newest : Log) → All (λ (l : Access). l.address < words) w → IsLeft (pairs w) newest → All (λ (l : Access). l.address < words) newest
-newest_fits words w newest all l = all_from (λ (p : Access). p.address < words) newest (λ p i. bounded words w all p.address (p.word, l.each p i))
+pub newest_fits : (words : ℕ) (w newest : Log) → All (λ (l : Access). l.address < words) w → IsListed (pairs w) newest → All (λ (l : Access). l.address < words) newest
+newest_fits words w newest all l = all_from (λ (p : Access). p.address < words) newest (λ p i. let h = in_has newest p i in bounded words w all p.address (h.0, l.same p.address ∙ h.1))
 
-pub covers_same : (o p words : List ℕ) (h k : Map ℕ) → o ≡ p → h ≡ k → Covers o words 0 4096 h → Covers p words 0 4096 k
-covers_same o p words h k e f c = subst (λ (q : List ℕ). Covers q words 0 4096 k) e (subst (λ (m : Map ℕ). Covers o words 0 4096 m) f c)
+-- What a plan says of the stripes that are held, once they are taken, and of what the book has as read.
+module _ {due : Map ℕ} (m : Map ℕ) {stripes : List Stripe} {elsewhere : List ℕ} {newest : Log} (p : IsPlan due (reverse (keys m)) stripes elsewhere newest) where
+  -- a stripe of which an address was read tells so
+  pub read_tells : (b x : ℕ) → In (b, x) m → All (λ s. b % 4096 ≡ number_of s → s.was_read ≡ true) stripes
+  read_tells b x i = All-weaker (λ (s : Stripe). s.was_read ≡ touches (reverse (keys m)) (number_of s)) (λ (s : Stripe). b % 4096 ≡ number_of s → s.was_read ≡ true)
+      (λ s r e. r ∙ ap (touches (reverse (keys m))) (sym e) ∙ in_touches (reverse (keys m)) b (in_turned (keys m) b (in_keys m b x i))) stripes p.read
 
-pub some_held : (w : Log) (owners words : List ℕ) (held : Map ℕ) → w ≢ [] → IsOwning (pairs w) owners → Covers owners words 0 4096 held → held ≢ []
-some_held [] owners words held some_writes o c = absurd (some_writes refl)
-some_held (p ∷ w) owners words held some_writes o c = λ e.
-    let h = due_held (pairs (p ∷ w)) owners words held o c p.address (p.word, lookup_here (pairs w) p.address p.word) in
+  pub elsewhere_read : (b : ℕ) → In b elsewhere → In b (keys m) × (touches (addresses_of stripes) (b % 4096) ≡ false)
+  elsewhere_read b i =
+      let t = in_filter (λ a. not (touches (addresses_of stripes) (a % 4096))) (reverse (keys m)) b (subst (In b) p.elsewhere i) in
+      (in_reversed (keys m) b t.0, not-true _ t.1)
+
+  pub elsewhere_fits : (words : ℕ) → All (λ a. a < words) (keys m) → All (λ a. a < words) elsewhere
+  elsewhere_fits words all = all_from (λ a. a < words) elsewhere (λ a i. all_in (λ a. a < words) (keys m) a all (elsewhere_read a i).0)
+
+  pub stripes_fit : (words : ℕ) → ((a : ℕ) → Has due a → a < words) → All (λ a. a < words) (addresses_of stripes)
+  stripes_fit words f = All-weaker (Has due) (λ a. a < words) f (addresses_of stripes) p.only
+
+  module _ (taken : List Stripe) (same : addresses_of taken ≡ addresses_of stripes) (v : Book) (holds : Holds taken v) where
+    pub due_held : (b : ℕ) → Has due b → Has v.face.held (b % 4096)
+    due_held b h = let t = touched taken (b % 4096) (ap (λ (xs : List ℕ). touches xs (b % 4096)) same ∙ p.each b h) in (t.0, holds.same (b % 4096) ∙ t.1)
+
+    pub held_due : (i y : ℕ) → lookup v.face.held i ≡ some y → (b : ℕ) × (b % 4096 ≡ i) × Has due b
+    held_due i y e =
+        let t = touching taken i y (sym (holds.same i) ∙ e) in
+        (t.0, t.2, all_in (Has due) (addresses_of stripes) t.0 p.only (subst (In t.0) same t.1))
+
+    pub elsewhere_free : All (λ a. lookup v.face.held (a % 4096) ≡ none) elsewhere
+    elsewhere_free = all_from (λ a. lookup v.face.held (a % 4096) ≡ none) elsewhere
+        (λ a i. holds.same (a % 4096) ∙ untouched taken (a % 4096) (ap (λ (xs : List ℕ). touches xs (a % 4096)) same ∙ (elsewhere_read a i).1))
+
+    -- each read is on a stripe that was checked or is held
+    pub all_safe : (u : Book) → IsChecked elsewhere u v → (b y : ℕ) → In (b, y) m → In (b % 4096) v.checked ⊎ Has v.face.held (b % 4096)
+    all_safe u c b y i = by_bool (touches (addresses_of stripes) (b % 4096))
+        (λ t. let h = touched taken (b % 4096) (ap (λ (xs : List ℕ). touches xs (b % 4096)) same ∙ t) in inr (h.0, holds.same (b % 4096) ∙ h.1))
+        (λ f. let there : In b elsewhere = subst (In b) (sym p.elsewhere) (filter_in (λ a. not (touches (addresses_of stripes) (a % 4096))) (reverse (keys m)) b (in_turned (keys m) b (in_keys m b y i)) (ap not f)) in
+        inl (subst (In (b % 4096)) (sym (ap (λ (w : Book). w.checked) c.1)) (all_in (λ a. In (a % 4096) c.0) elsewhere b c.2 there)))
+
+-- what was written has a stripe
+pub some_held : (w : Log) (held : Map ℕ) → w ≢ [] → ((b : ℕ) → Has (pairs w) b → Has held (b % 4096)) → held ≢ []
+some_held [] held some_writes f = absurd (some_writes refl)
+some_held (p ∷ w) held some_writes f = λ e.
+    let h = f p.address (p.word, lookup_here (pairs w) p.address p.word) in
     some-ne-none h.0 (sym h.1 ∙ ap (λ (m : Map ℕ). lookup m (p.address % 4096)) e)
-
--- one word more is stored
-pub left_less : (m : Map ℕ) (l : Access) (ls : Log) → IsLeft m (l ∷ ls) → IsLeft (without m l.address) ls
-left_less m l ls s = record {
-  only = λ a x e.
-      let t = lookup_without m l.address a x e in
-      ⊎_elim (λ (q : l.address ≡ a). absurd (t.0 q)) (λ (h : Has (pairs ls) a). h) (has_cases (pairs ls) l.address l.word a (s.only a x t.1));
-  each = λ p i.
-      let other : l.address ≢ p.address = λ e. s.apart.0 (subst (Has (pairs ls)) (sym e) (in_has ls p i)) in
-      lookup_kept m l.address p.address other ∙ s.each p (inr i);
-  apart = s.apart.1;
-}
-
-pub nothing_left : (m : Map ℕ) → IsLeft m [] → (b x : ℕ) → lookup m b ≡ some x → ⊥
-nothing_left m s b x e = let h = s.only b x e in some-ne-none h.0 (sym h.1)
 
 -- The attempt has ticked at t, to write this, and its reads stand.
 pub record IsTicked (t : ℕ) (m : Map ℕ) (v w : Book) : Type 0 where
@@ -147,19 +131,6 @@ ticked_lost t due checked x v v1 w u later upto k e r stage = record {
   seen = let p = r.seen in let q = ap (λ (b : Book). b.seen) e in let o = k.rest.seen in omega arith;
 }
 
--- each read is on a stripe that was checked or is held
-pub all_safe : (owners words reads : List ℕ) (v w : Book) → IsChecked owners reads (length reads) v w → Covers owners words 0 4096 w.face.held → reverse reads ≡ keys w.reads
-    → (b y : ℕ) → In (b, y) w.reads → In (b % 4096) w.checked ⊎ Has w.face.held (b % 4096)
-all_safe owners words reads v w c cover e = each_read Safe reads w.reads e (All-from_get_or Safe reads 0 each)
-  where
-    Safe : ℕ → Type 0
-    Safe b = In (b % 4096) w.checked ⊎ Has w.face.held (b % 4096)
-
-    each : (i : ℕ) → i < length reads → Safe (slice_index reads i)
-    each i l = dite (ℕ_discrete (slice_index owners (slice_index reads i % 4096)) 0)
-        (λ z. inl (subst (In (slice_index reads i % 4096)) (sym (ap (λ (b : Book). b.checked) c.1)) (c.2 i l z)))
-        (λ n. inr (slice_index words (slice_index reads i % 4096), cover.each (slice_index reads i % 4096) (omega arith) (omega arith) n))
-
 module _ (t : ℕ) (wr : Log) (v w : Book) (x : Answer) (after : ℕ) (k : IsTicked t (pairs wr) v w) where
   abbrev used : Book → ℕ
   used b = used_in (lookup b.regions b.call.region)
@@ -204,16 +175,3 @@ module _ (t : ℕ) (wr : Log) (v w : Book) (x : Answer) (after : ℕ) (k : IsTic
     lost = r.lost ∙ ap (λ (b : Book). b.lost) e ∙ k.lost;
     seen = let p = r.seen in let q = ap (λ (b : Book). b.seen) e in let o = k.seen.1 in omega arith;
   }
-
--- what holds of each element of a reversed list, holds of each of the list
-pub all_reversed : {A : Type 0} (P : A → Type 0) (xs : List A) → All P (reverse xs) → All P xs
-all_reversed P xs all = all_from P xs (λ p i. all_in P (reverse xs) p all (in_reversed (reverse xs) p (subst (In p) (sym (reverse-reverse xs)) i)))
-
--- an address of a stripe that is wanted for it, is due
-pub wanted_due : (due : Map ℕ) (owners : List ℕ) (a : ℕ) → IsOwning due owners → slice_index owners (a % 4096) ≡ a + 1 → Has due a
-wanted_due due owners a o e =
-    let wanted : slice_index owners (a % 4096) ≢ 0 = λ z. omega arith in
-    let t = o.only (a % 4096) wanted in
-    let one_more = t.1 in
-    let same : t.0 ≡ a = omega arith in
-    subst (Has due) same t.3

@@ -21,7 +21,7 @@ use Rattle.tx_table.proofs.Order.{first_same}
 use Rattle.tx_table.proofs.Histories.{oldest, used_is}
 use Rattle.tl2.specs.declared.attempt.At.{At}
 use Rattle.tl2.specs.Standing.{Awaits, IsBefore, IsEarlier, IsSince, Stands, region_since}
-use Rattle.tl2.proofs.Updating.{all_reversed}
+use Rattle.tl2.proofs.Members.{all_reversed}
 
 -- of two calls of one lane and phase that with the lower index comes first
 pub rises_in_lane : (a b : Call) → a.region ≡ b.region → a.phase ≡ b.phase → a.lane ≡ b.lane → a.index < b.index → rises a b ≡ true

@@ -1,16 +1,16 @@
 -- The stripes that a commit holds.
-use Rattle.std.specs.Prelude.{◌≡◌, ◌≢◌, ◌⊎◌, ◌<◌, ◌≤◌, ◌+◌, ◌%◌, ℕ, true, false, List, [], ◌∷◌, ◌++◌, slice_index}
-use mathlib.Core.Option.{some}
+use Rattle.std.specs.Prelude.{◌≡◌, ◌≢◌, ◌⊎◌, ◌≤◌, ◌+◌, ◌%◌, ℕ, true, false, List, [], ◌∷◌, ◌++◌, All}
 use Rattle.jmodel.specs.declared.value.Answer.{Answer}
 use Rattle.jmodel.specs.Attempt.{Log}
 use Rattle.jmodel.specs.History.{Entry}
 use Rattle.jmodel.specs.Book.{Book, Lost, Map, Unticked, Decided, Away, In, lookup}
 use Rattle.jmodel.specs.Plays.{accesses, region_of, used_in}
+use Rattle.tl2.specs.declared.plan.Stripe.{Stripe}
+use Rattle.tl2.specs.Plans.{words_of, IsListed}
 
--- Just the wanted stripes from one up to another are held, with these words. `owners` has 0 for a stripe that isn't wanted.
-pub record Covers (owners words : List ℕ) (from upto : ℕ) (held : Map ℕ) : Type 0 where
-  pub only : (s x : ℕ) → lookup held s ≡ some x → (from ≤ s) × (s < upto) × (slice_index owners s ≢ 0) × (slice_index words s ≡ x)
-  pub each : (s : ℕ) → from ≤ s → s < upto → slice_index owners s ≢ 0 → lookup held s ≡ some (slice_index words s)
+-- just these stripes are held, with the words that they had
+abbrev pub Holds : List Stripe → Book → Type 0
+Holds stripes v = IsListed v.face.held (words_of stripes)
 
 -- The books of one pass before and after steps of one attempt, which met these conflicts, moved the clock so often, and
 -- added no entry.
@@ -34,14 +34,9 @@ pub record IsTaking (v w : Book) : Type 0 where
   pub reads : w.reads ≡ v.reads
   pub bound : w.bound ≡ v.bound
 
--- A stripe that is wanted has 1 more than one of its addresses.
-abbrev pub AreOwners : ℕ → List ℕ → Type 0
-AreOwners words owners = (s : ℕ) → slice_index owners s ≢ 0 → (a : ℕ) × (slice_index owners s ≡ a + 1) × (a % 4096 ≡ s) × (a < words)
-
--- The stripes of the first n of these reads were free with a version up to the bound, but those that are wanted.
-abbrev pub IsChecked : List ℕ → List ℕ → ℕ → Book → Book → Type 0
-IsChecked owners reads n v w = (checked : List ℕ) × (w ≡ record v { checked = checked })
-    × ((i : ℕ) → i < n → slice_index owners (slice_index reads i % 4096) ≡ 0 → In (slice_index reads i % 4096) checked)
+-- The stripes of these addresses were free with a version up to the bound.
+abbrev pub IsChecked : List ℕ → Book → Book → Type 0
+IsChecked addresses v w = (checked : List ℕ) × (w ≡ record v { checked = checked }) × All (λ a. In (a % 4096) checked) addresses
 
 -- the attempt is decided and holds stripes, or it holds none and is over
 abbrev pub IsReleasing : Book → Type 0

@@ -1,29 +1,54 @@
--- What a commit takes and stores.
-use Rattle.std.specs.Prelude.{◌≡◌, ◌≢◌, ◌+◌, ◌%◌, ℕ, Bool, true, false, List, [], ◌∷◌, All, length, slice_index, slice_index_or}
-use mathlib.Core.Option.{some}
-use Rattle.jmodel.specs.declared.op.Access.{Access}
-use Rattle.jmodel.specs.Attempt.{Log}
-use Rattle.jmodel.specs.Book.{Map, Has, In, lookup, pairs}
+-- What a commit takes, looks at once more and stores.
+use Rattle.std.specs.Prelude.{◌≡◌, ◌%◌, ◌==◌, ◌||◌, ℕ, Bool, true, false, not, Some, List, [], ◌∷◌, All, map, filter, IsSome}
+use Rattle.std.specs.List.{list_any}
+use Rattle.std.specs.List.Sorted.{IsStrictlyIncreasing}
+use Rattle.std.specs.Ordering.{nat_cmp}
+use Rattle.std.specs.BTreeMap.{BTreeMap, get}
+use mathlib.Core.Option.{none}
+use Rattle.jmodel.specs.Attempt.{Log, access}
+use Rattle.jmodel.specs.Book.{Map, Has, lookup, pairs}
+use Rattle.tl2.specs.declared.plan.Stripe.{Stripe}
 
--- For each stripe 1 more than an address of it that is written, or 0.
-pub record IsOwning (due : Map ℕ) (owners : List ℕ) : Type 0 where
-  pub only : (s : ℕ) → slice_index owners s ≢ 0 → (a : ℕ) × (slice_index owners s ≡ a + 1) × (a % 4096 ≡ s) × Has due a
-  pub each : (a : ℕ) → Has due a → slice_index owners (a % 4096) ≢ 0
+-- the number of a stripe
+abbrev pub number_of : Stripe → ℕ
+number_of s = s.address % 4096
+
+-- the written addresses by which stripes are known
+abbrev pub addresses_of : List Stripe → List ℕ
+addresses_of stripes = map (λ (s : Stripe). s.address) stripes
+
+-- the numbers of stripes, with the words that they had
+abbrev pub words_of : List Stripe → Log
+words_of stripes = map (λ (s : Stripe). access (number_of s) s.word) stripes
+
+-- one of these addresses lies on the stripe n
+abbrev pub touches : List ℕ → ℕ → Bool
+touches addresses n = list_any (λ a. a % 4096 == n) addresses
 
 -- no address stands twice
 abbrev pub AreApart : Log → Type 0
 AreApart [] = Unit {0}
-AreApart (l ∷ ls) = ¬ Has (pairs ls) l.address × AreApart ls
+AreApart (l ∷ ls) = (lookup (pairs ls) l.address ≡ none) × AreApart ls
 
--- Each address that a map has stands once in a list, with the map's word.
-pub record IsLeft (left : Map ℕ) (ls : Log) : Type 0 where
-  pub only : (a x : ℕ) → lookup left a ≡ some x → Has (pairs ls) a
-  pub each : (l : Access) → In l ls → lookup left l.address ≡ some l.word
+-- A list has each key of a map once, with its word.
+pub record IsListed (m : Map ℕ) (ls : Log) : Type 0 where
+  pub same : (a : ℕ) → lookup m a ≡ lookup (pairs ls) a
   pub apart : AreApart ls
 
+-- The stripes of these words to be written, by their numbers. None is marked as read.
+pub record IsWritten (due : Map ℕ) (stripes : BTreeMap ℕ Stripe) : Type 0 where
+  pub only : (n : ℕ) (s : Stripe) → get nat_cmp stripes n ≡ Some s → (number_of s ≡ n) × Has due s.address × (s.was_read ≡ false)
+  pub each : (a : ℕ) → Has due a → IsSome (get nat_cmp stripes (a % 4096))
+
+-- a stripe, marked as read where one of these addresses lies on it
+abbrev pub marked : List ℕ → ℕ → Stripe → Stripe
+marked reads n s = record s { was_read = s.was_read || touches reads n }
+
 -- A commit's plan, for these words to be written at the last and these addresses that were read.
-pub record IsPlan (due : Map ℕ) (reads owners : List ℕ) (was_read : List Bool) (words : List ℕ) (newest : Log) : Type 0 where
-  pub sizes : (length owners ≡ 4096) × (length was_read ≡ 4096) × (length words ≡ 4096)
-  pub owning : IsOwning due owners
-  pub read : All (λ a. slice_index_or was_read (a % 4096) false ≡ true) reads
-  pub left : IsLeft due newest
+pub record IsPlan (due : Map ℕ) (reads : List ℕ) (stripes : List Stripe) (read_elsewhere : List ℕ) (newest : Log) : Type 0 where
+  pub ascending : IsStrictlyIncreasing (map (λ a. a % 4096) (addresses_of stripes))
+  pub each : (a : ℕ) → Has due a → touches (addresses_of stripes) (a % 4096) ≡ true
+  pub only : All (Has due) (addresses_of stripes)
+  pub read : All (λ s. s.was_read ≡ touches reads (number_of s)) stripes
+  pub elsewhere : read_elsewhere ≡ filter (λ a. not (touches (addresses_of stripes) (a % 4096))) reads
+  pub left : IsListed due newest

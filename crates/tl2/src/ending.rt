@@ -48,7 +48,6 @@ impl<'a, T: Ruled, C: Calling> Tl2<'a, T, C> {
             self.shared,
             plan,
             self.writes.as_slice(),
-            &self.reads,
             answer,
             used,
         );

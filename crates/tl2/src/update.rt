@@ -8,10 +8,10 @@ ghost use Rattle.tx_table.specs.Passes.{book, IsOf, IsSame};
 ghost use Rattle.tx_table.specs.Steps.{IsPast};
 ghost use Rattle.tl2.specs.Conflicts.{lost_to};
 ghost use Rattle.tl2.specs.Commits.{IsAdded, IsRest, stored, update_of};
-ghost use Rattle.tl2.specs.Plans.{IsLeft, IsPlan};
+ghost use Rattle.tl2.specs.Plans.{IsListed, IsPlan};
 
 use crate::commit::{give_back, release_all, take_all, validate_all};
-use crate::plan::{Plan, STRIPES};
+use crate::plan::Plan;
 use jmodel::op::Access;
 use jmodel::value::{Answer, Stamp};
 use std::snapshot::Snapshot;
@@ -45,7 +45,7 @@ fn store_all<T: Story>(
     requires table { IsOf shared.now.table.shared.table_id pass.old }
     requires heap { All (λ l. l.address < shared.now.words) newest.now }
     requires any { newest.now ≢ [] }
-    requires ready { ((book pass.old).face.stage ≡ Ticked) × ((book pass.old).live ≡ true) × IsLeft (book pass.old).face.due newest.now }
+    requires ready { ((book pass.old).face.stage ≡ Ticked) × ((book pass.old).live ≡ true) × IsListed (book pass.old).face.due newest.now }
     requires safe { (b y : ℕ) → In (b, y) (book pass.old).reads → In (b % 4096) (book pass.old).checked ⊎ Has (book pass.old).face.held (b % 4096) }
     requires entry { Updates (T.story shared.now.table.shared.key.story.value) (book pass.old) entry }
     ensures same { IsSame pass.old pass.new }
@@ -60,47 +60,43 @@ fn store_all<T: Story>(
     }
 }
 
-/// Ends an attempt that wrote this, the oldest first, and read these addresses, as an entry with this answer, which leaves so many words of its region
-/// used. The stripes of
-/// what it wrote are taken, the clock is moved, and what it read is looked at once more; then its words are stored, and the
+/// Ends an attempt that wrote this, the oldest first, as an entry with this answer, which leaves so many words of its region used. The stripes of
+/// what it wrote are taken, the clock is moved, and what it read elsewhere is looked at once more; then its words are stored, and the
 /// stripes get the clock's value as their version. After a conflict they get back the words that they had.
 pub(crate) fn update<T: Story>(
     pass: &mut Pass,
     shared: &Shared<T>,
     plan: Plan,
     writes: &[Access],
-    reads: &[u64],
     answer: Snapshot<Answer>,
     used: Snapshot<u64>,
 ) -> Result<Stamp, Conflict>
     requires table { IsOf shared.now.table.shared.table_id pass.old }
     requires ready { ((book pass.old).face.held ≡ []) × ((book pass.old).face.stage ≡ Unticked) × ((book pass.old).live ≡ true) × ((book pass.old).ticks < 2 ^ 40) }
     requires any { reverse writes.now ≢ [] }
-    requires heap { All (λ l. l.address < shared.now.words) (reverse writes.now) × All (λ a. a < shared.now.words) reads.now }
-    requires reads { reverse reads.now ≡ keys (book pass.old).reads }
-    requires plan { IsPlan (pairs (reverse writes.now)) reads.now plan.owners.items plan.was_read.items plan.words.items plan.newest.items }
+    requires heap { All (λ l. l.address < shared.now.words) (reverse writes.now) × All (λ a. a < shared.now.words) (keys (book pass.old).reads) }
+    requires plan { IsPlan (pairs (reverse writes.now)) (reverse (keys (book pass.old).reads)) plan.stripes.items plan.read_elsewhere.items plan.newest.items }
     requires entry { (t : ℕ) → Fits (T.story shared.now.table.shared.key.story.value) (book pass.old) (update_of (book pass.old) t (reverse writes.now) answer.value used.value) }
     ensures same { IsSame pass.old pass.new }
     ensures free { ((book pass.new).face.held ≡ []) × ((book pass.new).face.stage ≡ Unticked) }
     ensures ok { IfOk result (λ stamp. (stamp.update ≡ true) × ((book pass.old).seen < stamp.at) × IsAdded (update_of (book pass.old) stamp.at (reverse writes.now) answer.value used.value) (book pass.old) (book pass.new)) }
-    ensures conflict { IfErr result (λ e. (e.upto ≡ (book pass.old).bound) × IsPast (book pass.old).bound e.word × (Has (pairs (reverse writes.now)) e.address ⊎ In e.address reads.now)) }
+    ensures conflict { IfErr result (λ e. (e.upto ≡ (book pass.old).bound) × IsPast (book pass.old).bound e.word × (Has (pairs (reverse writes.now)) e.address ⊎ In e.address (keys (book pass.old).reads))) }
     ensures err { IfErr result (λ e. (moved : ℕ) × (moved ≤ 1) × IsRest (lost_to (book pass.old) e ∷ []) moved (book pass.old) (book pass.new)) }
     ensures other { IfErr result (λ e. e.word ≢ 2 * (book pass.old).face.number + 1) }
     ensures sole { (book pass.old).numbers ≡ 2 ^ 20 → IsOk result }
 {
     let Plan {
-        owners,
-        was_read,
-        mut words,
+        mut stripes,
+        read_elsewhere,
         newest,
     } = plan;
-    take_all(pass, shared, &owners, &was_read, &mut words)?;
+    take_all(pass, shared, &mut stripes)?;
     let at = tick_for(pass, shared, writes);
-    if let Err(conflict) = validate_all(pass, shared, &owners, reads) {
-        give_back(pass, shared, &owners, &words, STRIPES);
+    if let Err(conflict) = validate_all(pass, shared, &read_elsewhere) {
+        give_back(pass, shared, &stripes);
         return Err(conflict);
     }
     store_all(pass, shared, &newest, answer, used);
-    release_all(pass, shared, &owners);
+    release_all(pass, shared, &stripes);
     Ok(Stamp { at, update: true })
 }

@@ -1,44 +1,39 @@
-use Rattle.std.proofs.Common.{◌≡◌, [], false, refl, sym, inl, ⊎_elim, ◌∙◌, arith}
+use Rattle.std.proofs.Common.{◌≡◌, ◌+◌, [], ◌∷◌, false, drop, slice_index_or, refl, sym, inl, ⊎_elim, ◌∙◌}
+use Rattle.std.proofs.lemmas.List.{drop_more, drop_all}
+use Rattle.jmodel.specs.Attempt.{access}
 use Rattle.jmodel.specs.Book.{Unticked}
-use Rattle.tx_table.specs.Passes.{book}
-use Rattle.tl2.proofs.Stripes.{less, skipped, none_held}
+use Rattle.tx_table.specs.Passes.{book, IsSame}
+use Rattle.tl2.specs.declared.plan.Stripe.{Stripe}
+use Rattle.tl2.specs.Commits.{Holds}
+use Rattle.tl2.specs.Plans.{number_of, words_of}
+use Rattle.tl2.proofs.Listed.{listed_less, none_listed}
 use Rattle.tl2.proofs.Rests.{rest_given}
 use Rattle.tl2.proofs.commit.give_back.Goals as goal
-use Rattle.tl2.proofs.commit.give_back.Goals.{then-owners-stripe-ne0, else-owners-stripe-ne0}
 
 pub loop-stripe-preserved : goal.loop-stripe-preserved
 loop-stripe-preserved g c =
     let i = c.loop-stripe.invariant in
-    elim c.if-owners-stripe-ne0.branch [
-      | then-owners-stripe-ne0 w ↦ rw (w.pass-is, w.release_old.ensures.book) (record {
-        same = (w.release_old.ensures.same.0 ∙ i.same.0, w.release_old.ensures.same.1 ∙ i.same.1);
-        held = less c.args.owners.now c.args.words.now c.loop-stripe.stripe c.args.upto (book c.loop-stripe.pass).face.held i.held;
-        over = inl (refl {a = Unticked});
-        rest = rest_given [] 0 (book c.args.pass.now) (book c.loop-stripe.pass) c.loop-stripe.stripe false i.rest;
-      })
-      | else-owners-stripe-ne0 w ↦ rw w.pass-is (record {
-        same = i.same;
-        held = skipped c.args.owners.now c.args.words.now c.loop-stripe.stripe c.args.upto (book c.loop-stripe.pass).face.held w.if-owners-stripe-ne0.false i.held;
-        over = i.over;
-        rest = i.rest;
-      })
-    ]
+    let n = c.loop-stripe.stripe-index in
+    let s : Stripe = slice_index_or c.args.held.now n (record { address = 0; was_read = false; word = 0 }) in
+    let now : Holds (s ∷ drop (n + 1) c.args.held.now) (book c.loop-stripe.pass) = rw (drop_more c.args.held.now n (record { address = 0; was_read = false; word = 0 }) c.loop-stripe-test.true) at i.held in
+    let same : IsSame c.args.pass.now c.release_old.new.self = (c.release_old.ensures.same.0 ∙ i.same.0, c.release_old.ensures.same.1 ∙ i.same.1) in
+    rw (c.release_old.ensures.book, c.number.ensures) (record {
+      same = same;
+      held = listed_less (book c.loop-stripe.pass).face.held (access (number_of s) s.word) (words_of (drop (n + 1) c.args.held.now)) now;
+      over = inl (refl {a = Unticked});
+      rest = rest_given [] 0 (book c.args.pass.now) (book c.loop-stripe.pass) (number_of s) false i.rest;
+    })
 
 pub returns-clause-free : goal.returns-clause-free
 returns-clause-free g c =
-    let i = c.loop-stripe.invariant in
-    let l = c.loop-stripe.auto.stripe-end in
-    let m = c.loop-stripe-test.false in
-    let e : c.loop-stripe.stripe ≡ c.args.upto = omega arith in
-    none_held c.args.owners.now c.args.words.now c.args.upto (book c.loop-stripe.pass).face.held (rw e at i.held)
+    let over : drop c.loop-stripe.stripe-index c.args.held.now ≡ [] = drop_all c.loop-stripe.stripe-index c.args.held.now c.loop-stripe-test.false in
+    none_listed (book c.loop-stripe.pass).face.held (rw over at c.loop-stripe.invariant.held)
 
 pub returns-clause-over : goal.returns-clause-over
 returns-clause-over g c = λ n.
     let i = c.loop-stripe.invariant in
-    let l = c.loop-stripe.auto.stripe-end in
-    let m = c.loop-stripe-test.false in
-    let e : c.loop-stripe.stripe ≡ c.args.upto = omega arith in
-    let none = none_held c.args.owners.now c.args.words.now c.args.upto (book c.loop-stripe.pass).face.held (rw e at i.held) in
+    let over : drop c.loop-stripe.stripe-index c.args.held.now ≡ [] = drop_all c.loop-stripe.stripe-index c.args.held.now c.loop-stripe-test.false in
+    let none = none_listed (book c.loop-stripe.pass).face.held (rw over at i.held) in
     ⊎_elim (λ (s : (book c.loop-stripe.pass).face.stage ≡ Unticked). s)
     (λ (h : (book c.loop-stripe.pass).face.held ≡ (book c.args.pass.now).face.held). absurd (n (sym h ∙ none)))
     i.over

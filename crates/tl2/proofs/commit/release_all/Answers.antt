@@ -1,52 +1,44 @@
-use Rattle.std.proofs.Common.{◌≡◌, [], ◌∙◌, inl, refl, slice_index, arith}
-use Rattle.tx_table.specs.Passes.{book}
-use Rattle.tl2.proofs.Stripes.{less, skipped, none_held}
-use Rattle.tl2.proofs.Rests.{rest_here, rest_released, releasing_one, decided_still, over}
+use Rattle.std.proofs.Common.{◌≡◌, ◌+◌, [], ◌∷◌, false, drop, slice_index_or, ap, ◌∙◌, arith}
+use Rattle.std.proofs.lemmas.List.{drop_more, drop_all}
+use mathlib.Core.Option.{some}
+use Rattle.jmodel.specs.Attempt.{access}
+use Rattle.jmodel.specs.Book.{lookup}
+use Rattle.tx_table.specs.Passes.{book, IsSame}
+use Rattle.tl2.specs.declared.plan.Stripe.{Stripe}
+use Rattle.tl2.specs.Commits.{Holds}
+use Rattle.tl2.specs.Plans.{number_of, words_of}
+use Rattle.tl2.proofs.Listed.{listed_here, listed_less, none_listed}
+use Rattle.tl2.proofs.Rests.{rest_released, releasing_one, decided_still, over}
 use Rattle.tl2.proofs.commit.release_all.Goals as goal
-use Rattle.tl2.proofs.commit.release_all.Goals.{then-owners-stripe-ne0, else-owners-stripe-ne0}
-
-pub loop-stripe-init : goal.loop-stripe-init
-loop-stripe-init g c = record {
-  same = (refl, refl);
-  held = c.requires.held;
-  releasing = inl (c.requires.stage, c.requires.any);
-  left = c.requires.left;
-  rest = rest_here (book c.args.pass.now);
-}
 
 pub release_new-requires-clause-ready : goal.release_new-requires-clause-ready
 release_new-requires-clause-ready g c =
     let i = c.loop-stripe.invariant in
-    let below = c.loop-stripe-test.true in
-    let x = slice_index i.held.0 c.loop-stripe.stripe in
-    let has = i.held.1.each c.loop-stripe.stripe (omega arith) below c.if-owners-stripe-ne0.true in
-    (below, decided_still (book c.loop-stripe.pass) c.loop-stripe.stripe x i.releasing has, i.left, (x, has))
+    let n = c.loop-stripe.stripe-index in
+    let s : Stripe = slice_index_or c.args.held.now n (record { address = 0; was_read = false; word = 0 }) in
+    let held = (book c.loop-stripe.pass).face.held in
+    let now : Holds (s ∷ drop (n + 1) c.args.held.now) (book c.loop-stripe.pass) = rw (drop_more c.args.held.now n (record { address = 0; was_read = false; word = 0 }) c.loop-stripe-test.true) at i.held in
+    let has : lookup held c.number.result ≡ some s.word = ap (lookup held) c.number.ensures ∙ listed_here held (access (number_of s) s.word) (words_of (drop (n + 1) c.args.held.now)) now in
+    (let e = c.number.ensures in omega arith, decided_still (book c.loop-stripe.pass) c.number.result s.word i.releasing has, i.left, (s.word, has))
 
 pub loop-stripe-preserved : goal.loop-stripe-preserved
 loop-stripe-preserved g c =
     let i = c.loop-stripe.invariant in
-    elim c.if-owners-stripe-ne0.branch [
-      | then-owners-stripe-ne0 w ↦ rw (w.pass-is, w.release_new.ensures.book) (record {
-        same = (w.release_new.ensures.same.0 ∙ i.same.0, w.release_new.ensures.same.1 ∙ i.same.1);
-        held = (i.held.0, less c.args.owners.now i.held.0 c.loop-stripe.stripe 4096 (book c.loop-stripe.pass).face.held i.held.1);
-        releasing = releasing_one (book c.loop-stripe.pass) c.loop-stripe.stripe;
-        left = i.left;
-        rest = rest_released [] 0 (book c.args.pass.now) (book c.loop-stripe.pass) c.loop-stripe.stripe c.requires.stage i.rest;
-      })
-      | else-owners-stripe-ne0 w ↦ rw w.pass-is (record {
-        same = i.same;
-        held = (i.held.0, skipped c.args.owners.now i.held.0 c.loop-stripe.stripe 4096 (book c.loop-stripe.pass).face.held w.if-owners-stripe-ne0.false i.held.1);
-        releasing = i.releasing;
-        left = i.left;
-        rest = i.rest;
-      })
-    ]
+    let n = c.loop-stripe.stripe-index in
+    let s : Stripe = slice_index_or c.args.held.now n (record { address = 0; was_read = false; word = 0 }) in
+    let now : Holds (s ∷ drop (n + 1) c.args.held.now) (book c.loop-stripe.pass) = rw (drop_more c.args.held.now n (record { address = 0; was_read = false; word = 0 }) c.loop-stripe-test.true) at i.held in
+    let same : IsSame c.args.pass.now c.release_new.new.self = (c.release_new.ensures.same.0 ∙ i.same.0, c.release_new.ensures.same.1 ∙ i.same.1) in
+    rw (c.release_new.ensures.book, c.number.ensures) (record {
+      same = same;
+      held = listed_less (book c.loop-stripe.pass).face.held (access (number_of s) s.word) (words_of (drop (n + 1) c.args.held.now)) now;
+      releasing = releasing_one (book c.loop-stripe.pass) (number_of s);
+      left = i.left;
+      rest = rest_released [] 0 (book c.args.pass.now) (book c.loop-stripe.pass) (number_of s) c.requires.stage i.rest;
+    })
 
 pub returns-clause-free : goal.returns-clause-free
 returns-clause-free g c =
     let i = c.loop-stripe.invariant in
-    let l = c.loop-stripe.auto.stripe-end in
-    let m = c.loop-stripe-test.false in
-    let e : c.loop-stripe.stripe ≡ 4096 = omega arith in
-    let none = none_held c.args.owners.now i.held.0 4096 (book c.loop-stripe.pass).face.held (rw e at i.held.1) in
+    let all : drop c.loop-stripe.stripe-index c.args.held.now ≡ [] = drop_all c.loop-stripe.stripe-index c.args.held.now c.loop-stripe-test.false in
+    let none = none_listed (book c.loop-stripe.pass).face.held (rw all at i.held) in
     (none, over (book c.loop-stripe.pass) i.releasing none)

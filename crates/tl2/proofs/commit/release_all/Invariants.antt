@@ -1,14 +1,14 @@
-use Rattle.std.proofs.Common.{◌≡◌, [], ℕ, List}
+use Rattle.std.proofs.Common.{◌≡◌, [], ℕ, drop}
 use mathlib.Core.Option.{some}
 use Rattle.jmodel.specs.Book.{lookup}
 use Rattle.tx_table.specs.Passes.{book, IsSame}
-use Rattle.tl2.specs.Commits.{Covers, IsRest, IsReleasing}
+use Rattle.tl2.specs.Commits.{Holds, IsRest, IsReleasing}
 use Rattle.tl2.proofs.commit.release_all.Given as goal
 
 abbrev pub invariant-loop-stripe : goal.invariant-loop-stripe
 invariant-loop-stripe g l = record {
   same : IsSame l.initial.pass l.pass;
-  held : (words : List ℕ) × Covers l.owners words l.stripe 4096 (book l.pass).face.held;
+  held : Holds (drop l.stripe-index l.held) (book l.pass);
   releasing : IsReleasing (book l.pass);
   left : (b x : ℕ) → lookup (book l.pass).face.left b ≡ some x → ⊥;
   rest : IsRest [] 0 (book l.initial.pass) (book l.pass);

@@ -1,12 +1,14 @@
-use Rattle.std.proofs.Common.{◌≡◌, length}
+use Rattle.std.proofs.Common.{◌≡◌, drop, take}
 use Rattle.tx_table.specs.Passes.{book, IsSame}
-use Rattle.tl2.specs.Commits.{Covers, IsTaking}
+use Rattle.tl2.specs.Commits.{Holds, IsTaking}
+use Rattle.tl2.specs.Plans.{addresses_of}
 use Rattle.tl2.proofs.commit.take_all.Given as goal
 
-abbrev pub invariant-loop-stripe : goal.invariant-loop-stripe
-invariant-loop-stripe g l = record {
+abbrev pub invariant-loop-i : goal.invariant-loop-i
+invariant-loop-i g l = record {
   same : IsSame l.initial.pass l.pass;
-  len : length l.words ≡ 4096;
-  held : Covers l.owners l.words 0 l.stripe (book l.pass).face.held;
+  held : Holds (take l.i l.stripes) (book l.pass);
+  addresses : addresses_of l.stripes ≡ addresses_of l.initial.stripes;
+  later : drop l.i l.stripes ≡ drop l.i l.initial.stripes;
   taking : IsTaking (book l.initial.pass) (book l.pass);
 }

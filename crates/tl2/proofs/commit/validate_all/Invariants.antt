@@ -1,3 +1,4 @@
+use Rattle.std.proofs.Common.{take}
 use Rattle.tx_table.specs.Passes.{book, IsSame}
 use Rattle.tl2.specs.Commits.{IsChecked}
 use Rattle.tl2.proofs.commit.validate_all.Given as goal
@@ -5,5 +6,5 @@ use Rattle.tl2.proofs.commit.validate_all.Given as goal
 abbrev pub invariant-loop-address : goal.invariant-loop-address
 invariant-loop-address g l = record {
   same : IsSame l.initial.pass l.pass;
-  checked : IsChecked l.owners l.reads l.address-index (book l.initial.pass) (book l.pass);
+  checked : IsChecked (take l.address-index l.addresses) (book l.initial.pass) (book l.pass);
 }

@@ -8,7 +8,8 @@ use Rattle.std.specs.BTreeSet as tree
 use Rattle.jmodel.specs.declared.op.Access.{Access}
 use Rattle.jmodel.specs.Attempt.{Log}
 use Rattle.jmodel.specs.Book.{pairs}
-use Rattle.tl2.proofs.Newest.{pairs_last, newest_new, newest_old, seen_more, fresh_more}
+use Rattle.tl2.proofs.Listed.{pairs_last, listed_last, listed_still}
+use Rattle.tl2.proofs.Newest.{seen_more, fresh_more}
 use Rattle.tl2.proofs.plan.newest_of.Goals as goal
 
 pub loop-l-preserved-in-Continue-branch-2 : goal.loop-l-preserved-in-Continue-branch-2
@@ -25,7 +26,7 @@ loop-l-preserved-in-Continue-branch-2 c =
     ∙ pairs_last (take n all) l in
     let new = not-true _ (sym c.in_ok-insert.ensures.added ∙ c.if-branch.true) in
     rw next (record {
-      left = rw c.in_ok-push.ensures.items (newest_new m c.loop-l.newest.items l c.loop-l.invariant.left (c.loop-l.invariant.fresh l.address new));
+      left = rw c.in_ok-push.ensures.items (listed_last m c.loop-l.newest.items l c.loop-l.invariant.left (c.loop-l.invariant.fresh l.address new));
       seen = seen_more (tree.contains nat_cmp c.loop-l.seen) (tree.contains nat_cmp c.insert.new.self) m l c.in_ok-insert.ensures.updates.0 c.loop-l.invariant.seen;
       fresh = fresh_more (tree.contains nat_cmp c.loop-l.seen) (tree.contains nat_cmp c.insert.new.self) m l c.in_ok-insert.ensures.updates.0 c.loop-l.invariant.fresh;
     })
@@ -44,7 +45,7 @@ loop-l-preserved c =
     ∙ pairs_last (take n all) l in
     let old = not-false _ (sym c.in_ok-insert.ensures.added ∙ c.if-branch.false) in
     rw next (record {
-      left = newest_old m c.loop-l.newest.items l c.loop-l.invariant.left (c.loop-l.invariant.seen l.address old);
+      left = listed_still m c.loop-l.newest.items l c.loop-l.invariant.left (c.loop-l.invariant.seen l.address old);
       seen = seen_more (tree.contains nat_cmp c.loop-l.seen) (tree.contains nat_cmp c.insert.new.self) m l c.in_ok-insert.ensures.updates.0 c.loop-l.invariant.seen;
       fresh = fresh_more (tree.contains nat_cmp c.loop-l.seen) (tree.contains nat_cmp c.insert.new.self) m l c.in_ok-insert.ensures.updates.0 c.loop-l.invariant.fresh;
     })

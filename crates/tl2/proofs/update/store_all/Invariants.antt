@@ -2,7 +2,7 @@ use Rattle.std.proofs.Common.{◌≡◌, ℕ, drop}
 use Rattle.jmodel.specs.Book.{Map}
 use Rattle.tx_table.specs.Passes.{book, IsSame}
 use Rattle.tl2.specs.Commits.{stored}
-use Rattle.tl2.specs.Plans.{IsLeft}
+use Rattle.tl2.specs.Plans.{IsListed}
 use Rattle.tl2.proofs.update.store_all.Given as goal
 
 abbrev pub ghost-decide : goal.ghost-decide
@@ -11,5 +11,5 @@ ghost-decide g a = g.entry
 abbrev pub invariant-loop-l : goal.invariant-loop-l
 invariant-loop-l g l = record {
   same : IsSame l.fn.pass l.pass;
-  stored : (left : Map ℕ) × IsLeft left (drop l.l-index l.rest) × (book l.pass ≡ stored (book l.fn.pass) g.entry left);
+  stored : (left : Map ℕ) × IsListed left (drop l.l-index l.rest) × (book l.pass ≡ stored (book l.fn.pass) g.entry left);
 }

@@ -1,52 +1,99 @@
-use Rattle.std.proofs.Common.{◌≡◌, ◌%◌, ℕ, true, refl, sym, ap, inl, inr, ◌∙◌, reverse, slice_index_or, false, subst, arith}
-use Rattle.jmodel.specs.Book.{Book, pairs}
-use Rattle.jmodel.specs.Plays.{keys, ticked_up, lost_at}
+use Rattle.std.proofs.Common.{◌≡◌, ◌%◌, ℕ, List, All, reverse, refl, sym, ap, ◌∙◌, inl, inr, subst, arith}
+use mathlib.Core.Option.{none}
+use Rattle.jmodel.specs.Book.{Book, Map, Has, lookup, pairs}
+use Rattle.jmodel.specs.Plays.{ticked_up, lost_at}
 use Rattle.tx_table.specs.Passes.{book}
 use Rattle.tx_table.specs.Steps.{IsPast}
-use Rattle.tl2.specs.Commits.{Covers}
-use Rattle.tl2.specs.Plans.{IsOwning, IsLeft}
-use Rattle.tl2.proofs.Updating.{each_read, covers_same, owners_are, due_held, held_due, newest_some, newest_fits, some_held, ticked_then, ticked_lost, all_safe, updates, added, wanted_due}
+use Rattle.tl2.specs.declared.plan.Stripe.{Stripe}
+use Rattle.tl2.specs.Commits.{Holds}
+use Rattle.tl2.specs.Plans.{addresses_of, words_of, IsListed}
+use Rattle.tl2.proofs.Members.{all_in}
+use Rattle.tl2.proofs.Updating.{bounded, read_tells, elsewhere_read, elsewhere_fits, stripes_fit, due_held, held_due, elsewhere_free, all_safe, some_held, newest_some, newest_fits, ticked_then, ticked_lost, updates, added}
 use Rattle.tl2.proofs.Rests.{err_says}
 use Rattle.tl2.proofs.update.update.Goals as goal
 
-pub take_all-requires-clause-owners : goal.take_all-requires-clause-owners
-take_all-requires-clause-owners g c = rw c.deref.ensures.value (owners_are c.args.shared.now.words (reverse c.args.writes.now) c.args.plan.owners.items c.requires.heap.0 c.requires.plan.owning)
+pub take_all-requires-clause-heap : goal.take_all-requires-clause-heap
+take_all-requires-clause-heap g c =
+    let words = c.args.shared.now.words in
+    rw c.deref_mut.ensures.value (stripes_fit (book c.args.pass.now).reads c.requires.plan words (bounded words (reverse c.args.writes.now) c.requires.heap.0))
 
 pub take_all-requires-clause-read : goal.take_all-requires-clause-read
-take_all-requires-clause-read g c = rw c.deref-2.ensures.value
-    (each_read (λ (a : ℕ). slice_index_or c.args.plan.was_read.items (a % 4096) false ≡ true) c.args.reads.now (book c.args.pass.now).reads c.requires.reads c.requires.plan.read)
+take_all-requires-clause-read g c = rw c.deref_mut.ensures.value (read_tells (book c.args.pass.now).reads c.requires.plan)
+
+pub returns-in_err-take_all-clause-conflict : goal.returns-in_err-take_all-clause-conflict
+returns-in_err-take_all-clause-conflict g c =
+    let k = c.in_err-take_all.ensures.conflict in
+    let back = c.from_residual.ensures in
+    let due = all_in (Has (pairs (reverse c.args.writes.now))) (addresses_of c.args.plan.stripes.items) c.in_err-take_all.field-0.0.address c.requires.plan.only (rw c.deref_mut.ensures.value at k.2) in
+    err_says c.from_residual.result back.1 (λ e q. rw q (k.0, k.1, inl due))
 
 pub tick_for-at-requires : goal.tick_for-at-requires
 tick_for-at-requires g c κs within =
-    let due = pairs (reverse c.args.writes.now) in
-    let o : IsOwning due c.deref.result.now = rw c.deref.ensures.value c.requires.plan.owning in
+    let m = (book c.args.pass.now).reads in
+    let p = c.requires.plan in
+    let v1 = book c.take_all.new.pass in
     let ok = c.in_ok-take_all.ensures.ok in
-    let held = (book c.take_all.new.pass).face.held in
+    let taken : List Stripe = c.take_all.new.stripes in
+    let same : addresses_of taken ≡ addresses_of c.args.plan.stripes.items = ok.2 ∙ ap addresses_of c.deref_mut.ensures.value in
     let ready = c.requires.ready in
     let ticks = ok.0.rest.ticks in
-    (within, (refl, (c.take_all.ensures.same.0 ∙ c.requires.table, ((ok.0.stage, ok.0.live, omega arith), (due_held due c.deref.result.now _ held o ok.1, held_due due c.deref.result.now _ held o ok.1)))))
+    (within, (refl, (c.take_all.ensures.same.0 ∙ c.requires.table, ((ok.0.stage, ok.0.live, omega arith), (due_held m p taken same v1 ok.1, held_due m p taken same v1 ok.1)))))
+
+pub validate_all-requires-clause-heap : goal.validate_all-requires-clause-heap
+validate_all-requires-clause-heap g c = rw c.deref.ensures.value (elsewhere_fits (book c.args.pass.now).reads c.requires.plan c.args.shared.now.words c.requires.heap.1)
 
 pub returns-in-Err-clause-free : goal.returns-in-Err-clause-free
 returns-in-Err-clause-free g c =
-    let w = reverse c.args.writes.now in
-    let o : IsOwning (pairs w) c.deref.result.now = rw c.deref.ensures.value c.requires.plan.owning in
+    let v1 = book c.take_all.new.pass in
     let ok = c.in_ok-take_all.ensures.ok in
+    let taken : List Stripe = c.take_all.new.stripes in
+    let same : addresses_of taken ≡ addresses_of c.args.plan.stripes.items = ok.2 ∙ ap addresses_of c.deref_mut.ensures.value in
     let lost = c.in-Err.ensures.err in
-    let same : (book c.validate_all.new.pass).face.held ≡ (book c.take_all.new.pass).face.held =
-    ap (λ (b : Book). b.face.held) lost.1 ∙ ap (λ (b : Book). b.face.held) c.tick_for-at.ensures.book in
-    (c.give_back.ensures.free, c.give_back.ensures.over (λ e. some_held w c.deref.result.now _ (book c.take_all.new.pass).face.held c.requires.any o ok.1 (sym same ∙ e)))
+    let is : (book c.validate_all.new.pass).face.held ≡ v1.face.held = ap (λ (b : Book). b.face.held) lost.1 ∙ ap (λ (b : Book). b.face.held) c.tick_for-at.ensures.book in
+    let some = some_held (reverse c.args.writes.now) v1.face.held c.requires.any (due_held (book c.args.pass.now).reads c.requires.plan taken same v1 ok.1) in
+    (c.give_back.ensures.free, c.give_back.ensures.over (λ e. some (sym is ∙ e)))
+
+pub returns-in-Err-clause-conflict : goal.returns-in-Err-clause-conflict
+returns-in-Err-clause-conflict g c =
+    let k = c.in-Err.ensures.conflict in
+    let bound = ap (λ (b : Book). b.bound) c.tick_for-at.ensures.book ∙ c.in_ok-take_all.ensures.ok.0.bound in
+    let read = elsewhere_read (book c.args.pass.now).reads c.requires.plan c.in-Err.conflict.address (rw c.deref.ensures.value at k.2) in
+    (k.0 ∙ bound, subst (λ (n : ℕ). IsPast n c.in-Err.conflict.word) bound k.1, inr read.0)
 
 pub returns-in-Err-clause-err : goal.returns-in-Err-clause-err
 returns-in-Err-clause-err g c =
     let w = reverse c.args.writes.now in
-    let o : IsOwning (pairs w) c.deref.result.now = rw c.deref.ensures.value c.requires.plan.owning in
+    let v1 = book c.take_all.new.pass in
     let ok = c.in_ok-take_all.ensures.ok in
+    let taken : List Stripe = c.take_all.new.stripes in
+    let same : addresses_of taken ≡ addresses_of c.args.plan.stripes.items = ok.2 ∙ ap addresses_of c.deref_mut.ensures.value in
     let lost = c.in-Err.ensures.err in
-    let is : book c.validate_all.new.pass ≡ lost_at (record (ticked_up (book c.take_all.new.pass) c.tick_for-at.result (pairs w)) { checked = lost.0 }) c.in-Err.conflict.address c.in-Err.conflict.word =
+    let is : book c.validate_all.new.pass ≡ lost_at (record (ticked_up v1 c.tick_for-at.result (pairs w)) { checked = lost.0 }) c.in-Err.conflict.address c.in-Err.conflict.word =
     lost.1 ∙ ap (λ (b : Book). lost_at (record b { checked = lost.0 }) c.in-Err.conflict.address c.in-Err.conflict.word) c.tick_for-at.ensures.book in
-    let same : (book c.validate_all.new.pass).face.held ≡ (book c.take_all.new.pass).face.held = ap (λ (b : Book). b.face.held) is in
-    let over = c.give_back.ensures.over (λ e. some_held w c.deref.result.now _ (book c.take_all.new.pass).face.held c.requires.any o ok.1 (sym same ∙ e)) in
-    (1, omega arith, ticked_lost c.tick_for-at.result (pairs w) lost.0 c.in-Err.conflict (book c.args.pass.now) (book c.take_all.new.pass) (book c.validate_all.new.pass) (book c.give_back.new.pass) c.tick_for-at.ensures.later (c.in-Err.ensures.conflict.0 ∙ ap (λ (b : Book). b.bound) c.tick_for-at.ensures.book) ok.0 is c.give_back.ensures.rest over)
+    let held : (book c.validate_all.new.pass).face.held ≡ v1.face.held = ap (λ (b : Book). b.face.held) is in
+    let some = some_held w v1.face.held c.requires.any (due_held (book c.args.pass.now).reads c.requires.plan taken same v1 ok.1) in
+    let over = c.give_back.ensures.over (λ e. some (sym held ∙ e)) in
+    (1, omega arith, ticked_lost c.tick_for-at.result (pairs w) lost.0 c.in-Err.conflict (book c.args.pass.now) v1 (book c.validate_all.new.pass) (book c.give_back.new.pass) c.tick_for-at.ensures.later (c.in-Err.ensures.conflict.0 ∙ ap (λ (b : Book). b.bound) c.tick_for-at.ensures.book) ok.0 is c.give_back.ensures.rest over)
+
+pub returns-in-Err-clause-other : goal.returns-in-Err-clause-other
+returns-in-Err-clause-other g c =
+    let v2 = book c.tick_for-at.new.pass in
+    let ok = c.in_ok-take_all.ensures.ok in
+    let taken : List Stripe = c.take_all.new.stripes in
+    let same : addresses_of taken ≡ addresses_of c.args.plan.stripes.items = ok.2 ∙ ap addresses_of c.deref_mut.ensures.value in
+    let holds : Holds taken v2 = subst (λ (h : Map ℕ). IsListed h (words_of taken)) (sym (ap (λ (b : Book). b.face.held) c.tick_for-at.ensures.book)) ok.1 in
+    let free : All (λ (a : ℕ). lookup v2.face.held (a % 4096) ≡ none) c.deref.result.now = rw c.deref.ensures.value (elsewhere_free (book c.args.pass.now).reads c.requires.plan taken same v2 holds) in
+    rw (ap (λ (b : Book). b.face.number) c.tick_for-at.ensures.book ∙ ok.0.rest.number) at (c.in-Err.ensures.other free)
+
+pub returns-in-Err-clause-sole : goal.returns-in-Err-clause-sole
+returns-in-Err-clause-sole g c = λ whole.
+    let v2 = book c.tick_for-at.new.pass in
+    let ok = c.in_ok-take_all.ensures.ok in
+    let taken : List Stripe = c.take_all.new.stripes in
+    let same : addresses_of taken ≡ addresses_of c.args.plan.stripes.items = ok.2 ∙ ap addresses_of c.deref_mut.ensures.value in
+    let holds : Holds taken v2 = subst (λ (h : Map ℕ). IsListed h (words_of taken)) (sym (ap (λ (b : Book). b.face.held) c.tick_for-at.ensures.book)) ok.1 in
+    let free : All (λ (a : ℕ). lookup v2.face.held (a % 4096) ≡ none) c.deref.result.now = rw c.deref.ensures.value (elsewhere_free (book c.args.pass.now).reads c.requires.plan taken same v2 holds) in
+    c.in-Err.ensures.sole (ap (λ (b : Book). b.numbers) c.tick_for-at.ensures.book ∙ ok.0.rest.numbers ∙ whole) free
 
 pub store_all-requires : goal.store_all-requires
 store_all-requires g c κs within =
@@ -57,23 +104,24 @@ store_all-requires g c κs within =
     let t = c.tick_for-at.result in
     let story = g.T.Story.story c.args.shared.now.table.shared.key.story.value in
     let ok = c.in_ok-take_all.ensures.ok in
+    let taken : List Stripe = c.take_all.new.stripes in
+    let same : addresses_of taken ≡ addresses_of c.args.plan.stripes.items = ok.2 ∙ ap addresses_of c.deref_mut.ensures.value in
     let checked = c.in_default.ensures.ok in
     let is : v3 ≡ record (ticked_up v1 t (pairs w)) { checked = checked.0 } = checked.1 ∙ ap (λ (b : Book). record b { checked = checked.0 }) c.tick_for-at.ensures.book in
     let k = ticked_then t (pairs w) checked.0 v v1 v3 c.tick_for-at.ensures.later ok.0 is in
-    let newest : IsLeft (pairs w) c.deref-4.result.now = rw c.deref-4.ensures.value c.requires.plan.left in
-    let cover : Covers c.deref-3.result.now c.take_all.new.words 0 4096 v3.face.held =
-    covers_same c.deref.result.now c.deref-3.result.now c.take_all.new.words v1.face.held v3.face.held (c.deref.ensures.value ∙ sym c.deref-3.ensures.value) (sym (ap (λ (b : Book). b.face.held) is)) ok.1 in (
+    let holds : Holds taken v3 = subst (λ (h : Map ℕ). IsListed h (words_of taken)) (sym (ap (λ (b : Book). b.face.held) is)) ok.1 in
+    let newest : IsListed (pairs w) c.deref-2.result.now = rw c.deref-2.ensures.value c.requires.plan.left in (
       within,
       (
         c.validate_all.ensures.same.0 ∙ c.tick_for-at.ensures.same.0 ∙ c.take_all.ensures.same.0 ∙ c.requires.table,
         (
-          newest_fits c.args.shared.now.words w c.deref-4.result.now c.requires.heap.0 newest,
+          newest_fits c.args.shared.now.words w c.deref-2.result.now c.requires.heap.0 newest,
           (
-            newest_some w c.deref-4.result.now c.requires.any newest,
+            newest_some w c.deref-2.result.now c.requires.any newest,
             (
               (k.stage, k.live, rw k.due newest),
               (
-                all_safe c.deref-3.result.now c.take_all.new.words c.args.reads.now (book c.tick_for-at.new.pass) v3 checked cover (c.requires.reads ∙ sym (ap keys k.reads)),
+                rw k.reads (all_safe v.reads c.requires.plan taken same v3 holds (book c.tick_for-at.new.pass) (rw c.deref.ensures.value at checked)),
                 updates t w v v3 c.args.answer.value c.args.used.value k story (c.requires.entry t),
               ),
             ),
@@ -82,23 +130,17 @@ store_all-requires g c κs within =
       ),
     )
 
-pub release_all-requires-clause-held : goal.release_all-requires-clause-held
-release_all-requires-clause-held g c =
-    let checked = c.in_default.ensures.ok in
-    let is : (book c.store_all.new.pass).face.held ≡ (book c.take_all.new.pass).face.held =
-    ap (λ (b : Book). b.face.held) c.store_all.ensures.book.2 ∙ ap (λ (b : Book). b.face.held) checked.1 ∙ ap (λ (b : Book). b.face.held) c.tick_for-at.ensures.book in
-    (c.take_all.new.words, covers_same c.deref.result.now c.deref-5.result.now c.take_all.new.words _ _ (c.deref.ensures.value ∙ sym c.deref-5.ensures.value) (sym is) c.in_ok-take_all.ensures.ok.1)
-
 pub release_all-requires-clause-any : goal.release_all-requires-clause-any
 release_all-requires-clause-any g c =
-    let w = reverse c.args.writes.now in
     let v1 = book c.take_all.new.pass in
-    let o : IsOwning (pairs w) c.deref.result.now = rw c.deref.ensures.value c.requires.plan.owning in
     let ok = c.in_ok-take_all.ensures.ok in
+    let taken : List Stripe = c.take_all.new.stripes in
+    let same : addresses_of taken ≡ addresses_of c.args.plan.stripes.items = ok.2 ∙ ap addresses_of c.deref_mut.ensures.value in
     let checked = c.in_default.ensures.ok in
     let is : (book c.store_all.new.pass).face.held ≡ v1.face.held =
     ap (λ (b : Book). b.face.held) c.store_all.ensures.book.2 ∙ ap (λ (b : Book). b.face.held) checked.1 ∙ ap (λ (b : Book). b.face.held) c.tick_for-at.ensures.book in
-    λ e. some_held w c.deref.result.now _ v1.face.held c.requires.any o ok.1 (sym is ∙ e)
+    let some = some_held (reverse c.args.writes.now) v1.face.held c.requires.any (due_held (book c.args.pass.now).reads c.requires.plan taken same v1 ok.1) in
+    λ e. some (sym is ∙ e)
 
 pub returns-clause-ok : goal.returns-clause-ok
 returns-clause-ok g c =
@@ -112,18 +154,3 @@ returns-clause-ok g c =
     let is : v3 ≡ record (ticked_up v1 t (pairs w)) { checked = checked.0 } = checked.1 ∙ ap (λ (b : Book). record b { checked = checked.0 }) c.tick_for-at.ensures.book in
     let k = ticked_then t (pairs w) checked.0 v v1 v3 c.tick_for-at.ensures.later ok.0 is in
     (refl, k.seen.0, added t w v v3 c.args.answer.value c.args.used.value k c.store_all.ensures.book.0 (book c.store_all.new.pass) (book c.release_all.new.pass) c.store_all.ensures.book.2 c.release_all.ensures.rest)
-
-pub returns-in-Err-clause-conflict : goal.returns-in-Err-clause-conflict
-returns-in-Err-clause-conflict g c =
-    let ok = c.in_ok-take_all.ensures.ok in
-    let k = c.in-Err.ensures.conflict in
-    let bound = ap (λ (b : Book). b.bound) c.tick_for-at.ensures.book ∙ ok.0.bound in
-    (k.0 ∙ bound, subst (λ (n : ℕ). IsPast n c.in-Err.conflict.word) bound k.1, inr k.2)
-
-pub returns-in_err-take_all-clause-conflict : goal.returns-in_err-take_all-clause-conflict
-returns-in_err-take_all-clause-conflict g c =
-    let k = c.in_err-take_all.ensures.conflict in
-    let o : IsOwning (pairs (reverse c.args.writes.now)) c.deref.result.now = rw c.deref.ensures.value c.requires.plan.owning in
-    let back = c.from_residual.ensures in
-    let due = wanted_due (pairs (reverse c.args.writes.now)) c.deref.result.now _ o k.2 in
-    err_says c.from_residual.result back.1 (λ e q. rw q (k.0, k.1, inl due))

@@ -1,17 +1,17 @@
-use Rattle.std.proofs.Common.{◌⊎◌, inl, inr, ⊎_elim, ◌≡◌, ◌≢◌, ◌<◌, ◌^◌, true, false, ℕ, List, [], All, reverse, length, sym, ap, ◌∙◌, subst, arith}
-use Rattle.std.proofs.lemmas.List.{length-reverse}
-use Rattle.std.proofs.lemmas.List.Elements.{All-weaker}
+use Rattle.std.proofs.Common.{◌⊎◌, inl, inr, ⊎_elim, ◌≡◌, ◌≢◌, ◌<◌, true, false, ℕ, List, [], All, reverse, length, sym, ap, ◌∙◌, subst, arith}
+use Rattle.std.proofs.lemmas.List.{length-reverse, reverse-reverse}
 use Rattle.std.proofs.lemmas.Grind.{common_steps}
 use Rattle.jmodel.specs.declared.op.Access.{Access}
 use Rattle.jmodel.specs.Attempt.{Log}
 use Rattle.jmodel.specs.Book.{Map, Has, In, pairs}
+use Rattle.jmodel.specs.Plays.{keys}
 use Rattle.tx_core.specs.declared.engine.Conflict.{Conflict}
 use Rattle.tx_table.specs.Passes.{book}
 use Rattle.tl2.specs.Commits.{IsAdded, update_of}
 use Rattle.tl2.specs.Conflicts.{Meets}
 use Rattle.tl2.specs.Standing.{Awaits, Stands}
 use Rattle.tl2.proofs.Entries.{inside, awaits_used, adds_nothing, update_fits, adds_update, lost_stands}
-use Rattle.tl2.proofs.Updating.{all_reversed}
+use Rattle.tl2.proofs.Members.{all_turned, in_reversed}
 use Rattle.tl2.proofs.attempt.Tl2.commit.Goals as goal
 
 pub returns-then-is_empty-clause-run : goal.returns-then-is_empty-clause-run
@@ -53,16 +53,19 @@ returns-then-is_empty-clause-region g c = λ k used a.
     let same : used ≡ c.args.used.value = sym (awaits_used named v k used a) ∙ awaits_used named v m.call m.used m.awaits ∙ sym (m.allowed.stays (inl q)) in
     rw same at (c.finish_refused.ensures.region k used a)
 
-pub of-requires : goal.of-requires
-of-requires g c =
-    let m = c.requires.allowed.stands in
+pub update-done-requires-clause-heap : goal.update-done-requires-clause-heap
+update-done-requires-clause-heap g c =
     let words = c.args.self.now.shared.now.words in
-    let size = c.args.self.now.shared.now.sized in
-    let more = size.1 in
-    let most = size.2 in
-    let small : words < 2 ^ 32 = omega arith in
-    let below : All (λ (l : Access). l.address < words) (reverse c.args.self.now.writes.items) = subst (λ (k : Log). All (λ (l : Access). l.address < words) k) (sym m.writes) m.within in
-    rw c.as_slice.ensures.value (All-weaker (λ (l : Access). l.address < words) (λ (l : Access). l.address < 2 ^ 32) (λ l p. omega arith) c.args.self.now.writes.items (all_reversed (λ (l : Access). l.address < words) c.args.self.now.writes.items below))
+    let m = c.requires.allowed.stands in
+    let written : All (λ (l : Access). l.address < words) (reverse c.args.self.now.writes.items) = subst (λ (k : Log). All (λ (l : Access). l.address < words) k) (sym m.writes) m.within in
+    let read = c.args.self.now.logged (inside _ _ _ c.requires.open.2) in
+    (rw c.as_slice-2.ensures.value written, subst (λ (k : List ℕ). All (λ a. a < words) k) read.0 (all_turned (λ a. a < words) c.args.self.now.reads.items read.1))
+
+pub update-done-requires-clause-plan : goal.update-done-requires-clause-plan
+update-done-requires-clause-plan g c =
+    let read = c.args.self.now.logged (inside _ _ _ c.requires.open.2) in
+    let turned : reverse (keys (book c.args.self.now.pass).reads) ≡ c.deref.result.now = ap (λ (k : List ℕ). reverse k) (sym read.0) ∙ reverse-reverse c.args.self.now.reads.items ∙ sym c.deref.ensures.value in
+    rw (turned, c.as_slice-2.ensures.value, ← c.as_slice.ensures.value) c.in-Ok.ensures
 
 pub update-done-requires-clause-entry : goal.update-done-requires-clause-entry
 update-done-requires-clause-entry g c = λ t.
@@ -95,10 +98,11 @@ returns-in-Err-clause-seen g c = λ e q.
     let rest = c.in-Err.ensures.err in
     let same : c.in-Err.conflict ≡ e = cc in
     let at = ap (λ (ws : Log). pairs (reverse ws)) c.as_slice-2.ensures.value in
+    let read = c.args.self.now.logged (inside _ _ _ c.requires.open.2) in
     subst (λ (d : Conflict). Meets (book c.args.self.now.pass) (book c.update-done.new.pass) d × (Has (pairs (reverse c.args.self.now.writes.items)) d.address ⊎ In d.address c.args.self.now.reads.items)) same (
       record { upto = k.0; past = k.1; other = c.in-Err.ensures.other; kept = rest.2.lost },
       ⊎_elim (λ (h : Has (pairs (reverse c.as_slice-2.result.now)) c.in-Err.conflict.address). inl (subst (λ (m : Map ℕ). Has m c.in-Err.conflict.address) at h))
-          (λ (i : In c.in-Err.conflict.address c.deref-2.result.now). inr (subst (λ (rs : List ℕ). In c.in-Err.conflict.address rs) c.deref-2.ensures.value i)) k.2,
+          (λ (i : In c.in-Err.conflict.address (keys (book c.args.self.now.pass).reads)). inr (in_reversed c.args.self.now.reads.items c.in-Err.conflict.address (subst (In c.in-Err.conflict.address) (sym read.0) i))) k.2,
     )
 
 pub returns-in-Err-clause-run : goal.returns-in-Err-clause-run

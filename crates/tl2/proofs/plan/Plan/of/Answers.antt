@@ -1,11 +1,11 @@
-use Rattle.std.proofs.Common.{◌∙◌, ap, length}
-use Rattle.tl2.proofs.Plans.{many_zeros}
+use Rattle.std.proofs.Common.{◌≡◌, rules}
+use Rattle.std.specs.Map.{values_of}
+use Rattle.tl2.proofs.Plans.{planned}
 use Rattle.tl2.proofs.plan.Plan.of.Goals as goal
 
 pub returns : goal.returns
-returns c = record {
-  sizes = (c.in_ok-owners_of.ensures.len, c.in_ok-read_stripes.ensures.len, ap length (c.in_ok-from_elem.ensures.items_if_clones_equal (λ y q. q)) ∙ many_zeros 4096);
-  owning = c.in_ok-owners_of.ensures.owners;
-  read = c.in_ok-read_stripes.ensures.read;
-  left = c.in_ok-newest_of.ensures;
-}
+returns c =
+    let last = c.mark_read.new.stripes in
+    let values : c.in_ok-collect.field-0.items ≡ values_of last.entries = search rules in
+    planned _ c.args.reads.now c.in_ok-stripes.stripes last c.in_ok-collect.field-0.items _ _ c.in_ok-stripes.ensures c.in_ok-read_elsewhere.ensures.marks c.in_ok-read_elsewhere.ensures.elsewhere
+    c.values.ensures.ordered values c.in_ok-newest_of.ensures
