@@ -1,10 +1,10 @@
 -- What can be run is run, and what can be rewritten is rewritten.
-use Rattle.std.proofs.Common.{◌≡◌, ◌≤◌, ◌⊎◌, ℕ, zero, suc, true, List, [], ◌∷◌, ◌++◌, length, take, Option, Some, None, Result, Ok, Err, inl, inr, refl, sym, ap, ◌∙◌, subst, arith}
+use Rattle.std.proofs.Common.{◌≡◌, ◌≤◌, ◌⊎◌, ℕ, zero, suc, List, [], ◌∷◌, ◌++◌, length, take, Option, Some, None, Result, Ok, Err, inl, inr, refl, sym, ap, ◌∙◌, subst, arith}
 use Rattle.std.specs.Prelude.{String, string_bytes, option_map, Contains}
 use Rattle.std.specs.declared.alloc.Global.{Global}
 use Rattle.std.specs.List.{AllByRecursion, AllZip}
 use Rattle.std.proofs.lemmas.List.{take_all}
-use Rattle.deuce_io.specs.Files.{Files, StandsIn}
+use Rattle.deuce_io.specs.Files.{Files}
 use Rattle.jmodel.specs.declared.refusal.Refusal.{Refusal}
 use Rattle.serde_json.specs.Data.{Data}
 use Rattle.jmodel.specs.declared.value.Answer.{Answer}
@@ -26,10 +26,10 @@ use Rattle.deuce.specs.Headline.{linked_files, IsRunnable, CanRun}
 use Rattle.deuce.specs.Rewritten.{CanRewrite}
 use Rattle.deuce.specs.declared.outcome.Outcome.{Outcome}
 use Rattle.deuce.specs.declared.outcome.Outcome.TheVariants.{Journal, Rewritten, Usage, BadClass, BadProgram, Untyped, BadScript, Unopened, Outside, NotPut, NotBuilt}
-use Rattle.deuce.specs.Folder.{HoldsClasses, HasManyClasses, IsGoodFile, HasClasses, IsBadClass}
-use Rattle.deuce.specs.Ending.{IsBadProgram, HasBadProgram, IsUntypable, IsBadScript, HasBadScript, IsUnopened, HasUnopened, IsOutsideForm, IsNotRewritten, HasUnbuilt, CanRunIn, CanRewriteIn}
+use Rattle.deuce.specs.Folder.{HoldsClasses, IsTooDeep, HasManyClasses, IsOverfull, IsGoodFile, HasClasses, IsBadClass}
+use Rattle.deuce.specs.Ending.{IsBadProgram, HasBadProgram, IsUntypable, IsBadScript, HasBadScript, IsUnopened, HasUnopened, IsOutsideForm, IsNotRewritten, CanRunIn, CanRewriteIn}
 use Rattle.deuce.specs.Outcomes.{Seen, Says, IsBadProgramOfWords, IsUntypableOfWords, IsNotBuilt, IsBadClassOfWords, IsBadScriptOfWords, IsUnopenedOfWords, CanRunWords, CanRewriteWords, status_of}
-use Rattle.deuce.proofs.Folders.{same_names}
+use Rattle.deuce.proofs.Folders.{same_paths}
 use Rattle.deuce.proofs.Lists.{all_at}
 use Rattle.deuce.proofs.Asked.{one_run, one_rewriting, apart, run_folder, rewriting_folder}
 
@@ -49,50 +49,63 @@ front_is told most whole front is cut few =
 
 module _ (told : Files) (dir : List ℕ) where
   -- a file is good for one class
-  same_file : (name : List ℕ) (a b : ClassFile) → IsGoodFile (Some told) dir name a → IsGoodFile (Some told) dir name b → a ≡ b
-  same_file name a b p q =
+  same_file : (path : List ℕ) (a b : ClassFile) → IsGoodFile (Some told) dir path a → IsGoodFile (Some told) dir path b → a ≡ b
+  same_file path a b p q =
       let bytes : p.bytes ≡ q.bytes = let x = p.holds told refl in let y = q.holds told refl in cc in
       one_class q.bytes a b (subst (λ (l : List ℕ). Spells l a) bytes p.is_file.1) q.is_file.1
 
-  same_files : (names : List (List ℕ)) (xs ys : List ClassFile) → AllZip (IsGoodFile (Some told) dir) names xs → AllZip (IsGoodFile (Some told) dir) names ys → xs ≡ ys
+  same_files : (paths : List (List ℕ)) (xs ys : List ClassFile) → AllZip (IsGoodFile (Some told) dir) paths xs → AllZip (IsGoodFile (Some told) dir) paths ys → xs ≡ ys
   same_files [] [] [] p q = refl
   same_files [] [] (b ∷ ys) p q = absurd q
   same_files [] (a ∷ xs) ys p q = absurd p
-  same_files (n ∷ names) [] ys p q = absurd p
-  same_files (n ∷ names) (a ∷ xs) [] p q = absurd q
-  same_files (n ∷ names) (a ∷ xs) (b ∷ ys) p q =
-      ap (λ (c : ClassFile). c ∷ xs) (same_file n a b p.0 q.0) ∙ ap (λ (cs : List ClassFile). b ∷ cs) (same_files names xs ys p.1 q.1)
+  same_files (path ∷ paths) [] ys p q = absurd p
+  same_files (path ∷ paths) (a ∷ xs) [] p q = absurd q
+  same_files (path ∷ paths) (a ∷ xs) (b ∷ ys) p q =
+      ap (λ (c : ClassFile). c ∷ xs) (same_file path a b p.0 q.0) ∙ ap (λ (cs : List ClassFile). b ∷ cs) (same_files paths xs ys p.1 q.1)
 
-  names_are : (xs ys : List (List ℕ)) → HoldsClasses (Some told) dir xs → HoldsClasses (Some told) dir ys → xs ≡ ys
-  names_are xs ys a b = same_names (StandsIn told dir) xs ys (a told refl) (b told refl)
+  paths_are : (xs ys : List (List ℕ)) → HoldsClasses (Some told) dir xs → HoldsClasses (Some told) dir ys → xs ≡ ys
+  paths_are xs ys a b = same_paths told dir xs ys (a told refl) (b told refl)
 
   module _ (Holding : List ClassFile → Type 0) (can : HasClasses (Some told) dir Holding) where
     -- what holds of the classes of the folder holds of these
     held : (Other : List ClassFile → Type 0) → HasClasses (Some told) dir Other → Other can.classes
     held Other has =
-        let names = names_are has.names can.names has.class_files can.class_files in
-        let good = subst (λ (ns : List (List ℕ)). AllZip (IsGoodFile (Some told) dir) ns has.classes) names has.good in
-        subst Other (same_files can.names has.classes can.classes good can.good) has.holding
+        let paths = paths_are has.paths can.paths has.class_files can.class_files in
+        let good = subst (λ (ps : List (List ℕ)). AllZip (IsGoodFile (Some told) dir) ps has.classes) paths has.good in
+        subst Other (same_files can.paths has.classes can.classes good can.good) has.holding
 
     -- there aren't too many
     not_many : (r : Refusal) → HasManyClasses (Some told) dir r → ⊥
     not_many r h =
-        let names = names_are h.names can.names h.class_files can.class_files in
+        let paths = paths_are h.paths can.paths h.class_files can.class_files in
         let many = h.many in
         let few = can.few in
-        omega (arith, many, few, ap length names)
+        omega (arith, many, few, ap length paths)
+
+    -- nor does one lie too deep
+    not_deep : (r : Refusal) → IsTooDeep (Some told) dir r → ⊥
+    not_deep r h =
+        let at = h.deep told refl in
+        let paths = can.class_files told refl in
+        let shallow = paths.shallow at.0 at.1 in
+        let deep = at.2 in
+        omega (arith, shallow, deep)
+
+    fits : (r : Refusal) → IsOverfull (Some told) dir r → ⊥
+    fits r (inl deep) = not_deep r deep
+    fits r (inr many) = not_many r many
 
     -- each file among them is good
-    good_at : (before : List (List ℕ)) (name : List ℕ) (behind : List (List ℕ)) (cs : List ClassFile) → AllZip (IsGoodFile (Some told) dir) (before ++ name ∷ behind) cs → (c : ClassFile) × IsGoodFile (Some told) dir name c
-    good_at [] name behind [] good = absurd good
-    good_at [] name behind (c ∷ cs) good = (c, good.0)
-    good_at (b ∷ before) name behind [] good = absurd good
-    good_at (b ∷ before) name behind (c ∷ cs) good = good_at before name behind cs good.1
+    good_at : (before : List (List ℕ)) (path : List ℕ) (behind : List (List ℕ)) (cs : List ClassFile) → AllZip (IsGoodFile (Some told) dir) (before ++ path ∷ behind) cs → (c : ClassFile) × IsGoodFile (Some told) dir path c
+    good_at [] path behind [] good = absurd good
+    good_at [] path behind (c ∷ cs) good = (c, good.0)
+    good_at (b ∷ before) path behind [] good = absurd good
+    good_at (b ∷ before) path behind (c ∷ cs) good = good_at before path behind cs good.1
 
     no_fault : (path : List ℕ) (r : Refusal) → IsBadClass (Some told) dir path r → ⊥
     no_fault path r bad =
-        let names = names_are can.names (bad.before ++ bad.name ∷ bad.behind) can.class_files bad.class_files in
-        let one = good_at bad.before bad.name bad.behind can.classes (subst (λ (ns : List (List ℕ)). AllZip (IsGoodFile (Some told) dir) ns can.classes) names can.good) in
+        let paths = paths_are can.paths (bad.before ++ bad.relative ∷ bad.behind) can.class_files bad.class_files in
+        let one = good_at bad.before bad.relative bad.behind can.classes (subst (λ (ps : List (List ℕ)). AllZip (IsGoodFile (Some told) dir) ps can.classes) paths can.good) in
         let good = one.1 in
         let within = good.is_file.0 in
         let holds : told path ≡ Some good.bytes = rw bad.class_path (good.holds told refl) in
@@ -137,7 +150,7 @@ CanBeRun files = (P : Program) × IsRunnable files P
 
 good_run : (told : Files) (dir script : List ℕ) → CanRunIn told dir script → HasClasses (Some told) dir CanBeRun
 good_run told dir script can = let has = can.of_classes in record {
-  names = has.names;
+  paths = has.paths;
   class_files = has.class_files;
   few = has.few;
   classes = has.classes;
@@ -147,7 +160,7 @@ good_run told dir script can = let has = can.of_classes in record {
 
 good_rewriting : (told : Files) (dir : List ℕ) → CanRewriteIn told dir → HasClasses (Some told) dir CanBeRun
 good_rewriting told dir can = record {
-  names = can.names;
+  paths = can.paths;
   class_files = can.class_files;
   few = can.few;
   classes = can.classes;
@@ -164,17 +177,11 @@ module _ (words : List (String Global)) (told : Files) (dir : List ℕ) (can : H
   no_program_fault files r is h = refused (rw (is, named h.0 h.1) at h.2)
     where
       refused : HasBadProgram (Some told) dir r → ⊥
-      refused (inl many) = not_many told dir CanBeRun can r many
+      refused (inl over) = fits told dir CanBeRun can r over
       refused (inr has) = no_bad_program can.classes can.holding.0 r can.holding.1 (held told dir CanBeRun can (IsBadProgram r) has)
 
   none_untyped : (files : Option Files) (r : Refusal) → files ≡ Some told → IsUntypableOfWords words files r → ⊥
   none_untyped files r is h = all_typed can.classes can.holding.0 r can.holding.1 (held told dir CanBeRun can (IsUntypable r) (rw (is, named h.0 h.1) at h.2))
-
--- what isn't built isn't them
-not_unbuilt : (told : Files) (dir : List ℕ) (Holding Unbuilt : List ClassFile → Type 0) → (can : HasClasses (Some told) dir Holding) → (Unbuilt can.classes → ⊥) → HasUnbuilt (Some told) dir Unbuilt → ⊥
-not_unbuilt told dir Holding Unbuilt can built (inl folder) =
-    let there = folder told refl in let names = can.class_files told refl in let none = names.no_folder (there.0, true) there.1 in cc
-not_unbuilt told dir Holding Unbuilt can built (inr has) = built (held told dir Holding can Unbuilt has)
 
 -- ---- runs
 
@@ -228,10 +235,10 @@ opens_of_words words files class x h can =
     let same = one_run words h.0 h.1 can.0 can.1 h.2 can.3 in
     opens can.2 can.0 can.1 class x can.5 (rw (can.4, same.0, same.1) at h.3)
 
-unbuilt_run : (told : Files) (dir script : List ℕ) → CanRunIn told dir script → HasUnbuilt (Some told) dir IsOutsideForm → ⊥
+unbuilt_run : (told : Files) (dir script : List ℕ) → CanRunIn told dir script → HasClasses (Some told) dir IsOutsideForm → ⊥
 unbuilt_run told dir script can h =
     let has = can.of_classes in
-    not_unbuilt told dir (CanRunOn can.script_bytes) IsOutsideForm has (not_formed (linking_files has.classes) has.holding.program has.holding.runnable.links) h
+    not_formed (linking_files has.classes) has.holding.program has.holding.runnable.links (held told dir (CanRunOn can.script_bytes) has IsOutsideForm h)
 
 built_run : (words : List (String Global)) (files : Option Files) → IsNotBuilt words files → CanRunWords words files → ⊥
 built_run words files (inl h) can =
@@ -273,8 +280,8 @@ is_rewritten files can (inr h) =
     let one : can.runnable.instrumented ≡ h.instrumented = let other = h.rewrites in cc in
     h.many (few_at h.instrumented h.class (subst (AllByRecursion HasFewMembers) one can.few) h.there)
 
-unbuilt_rewriting : (told : Files) (dir : List ℕ) → CanRewriteIn told dir → HasUnbuilt (Some told) dir IsNotRewritten → ⊥
-unbuilt_rewriting told dir can h = not_unbuilt told dir CanRewrite IsNotRewritten can (is_rewritten can.classes can.holding) h
+unbuilt_rewriting : (told : Files) (dir : List ℕ) → CanRewriteIn told dir → HasClasses (Some told) dir IsNotRewritten → ⊥
+unbuilt_rewriting told dir can h = is_rewritten can.classes can.holding (held told dir CanRewrite can IsNotRewritten h)
 
 built_rewriting : (words : List (String Global)) (files : Option Files) → IsNotBuilt words files → CanRewriteWords words files → ⊥
 built_rewriting words files (inl h) can = absurd (apart words h.0 h.1 can.0 can.1 h.2 can.3)

@@ -7,7 +7,10 @@ pub mod Reading
 pub mod Initialisers
 pub mod Running
 pub mod Folders
-pub mod Listing
+pub mod Depths
+pub mod Sets
+pub mod Levels
+pub mod Listed
 pub mod Asked
 pub mod Outcomes
 pub mod Printed

@@ -1,8 +1,9 @@
 -- Lists of a known length.
-use Rattle.std.proofs.Common.{◌+◌, ◌<◌, ◌∙◌, ap, get_or, add-one, take, slice_get, Some, None, ◌≡◌, ℕ, zero, suc, List, [], ◌∷◌, ◌++◌, length, slice_index_or, refl, sym, subst, arith, Result, Ok, Err}
+use Rattle.std.proofs.Common.{true, false, eqb, ◌+◌, ◌<◌, ◌∙◌, ap, get_or, add-one, take, slice_get, Some, None, ◌≡◌, ℕ, zero, suc, List, [], ◌∷◌, ◌++◌, length, slice_index_or, refl, sym, subst, arith, Result, Ok, Err}
 use Rattle.std.specs.Prelude.{IfOk, IfErr}
 use Rattle.std.specs.Result.{IsErrAnd}
 use Rattle.std.specs.List.{AllByRecursion, AllZip}
+use Rattle.std.proofs.lemmas.Bool.{eqb-true}
 use Rattle.std.proofs.lemmas.List.{take_more}
 use Rattle.std.proofs.lemmas.Option.{slice_get_read}
 
@@ -19,6 +20,20 @@ three (p ∷ q ∷ r ∷ s ∷ t) a b c n x y z = absurd (omega (arith, n))
 pub on_ok : {A E : Type 0} (r : Result A E) (P Q : A → Type 0) → ((x : A) → P x → Q x) → IfOk r P → IfOk r Q
 on_ok (Ok x) P Q f h = f x h
 on_ok (Err e) P Q f h = tt
+
+-- a list whose length isn't 0 has an element, and one whose length is 0 has none
+pub not_empty : {A : Type 0} (xs : List A) (n : ℕ) → n ≡ length xs → eqb n 0 ≡ false → 0 < length xs
+not_empty [] n size other = let none : n ≡ 0 = size in let test : eqb n 0 ≡ true = ap (λ (k : ℕ). eqb k 0) none in let differ : true ≡ false = sym test ∙ other in absurd (cc)
+not_empty (x ∷ xs) n size other = omega arith
+
+pub is_empty : {A : Type 0} (xs : List A) (n : ℕ) → n ≡ length xs → eqb n 0 ≡ true → xs ≡ []
+is_empty [] n size none = refl
+is_empty (x ∷ xs) n size none = let zero : n ≡ 0 = eqb-true n 0 none in absurd (omega (arith, size, zero))
+
+-- what follows from a fact of the value in an Err
+pub on_err : {A E : Type 0} (r : Result A E) (P Q : E → Type 0) → ((e : E) → P e → Q e) → IfErr r P → IfErr r Q
+on_err (Ok x) P Q f h = tt
+on_err (Err e) P Q f h = f e h
 
 -- the end that a `?` hands on
 pub err_is : {A E : Type 0} (r : Result A E) (e : E) (Q : E → Type 0) → IsErrAnd r (λ y. y ≡ e) → Q e → IfErr r Q

@@ -17,19 +17,18 @@ use Rattle.deuce.specs.declared.run.RunEnd.TheVariants as run_ends
 use Rattle.deuce.specs.declared.outcome.Outcome.{Outcome}
 use Rattle.deuce.specs.declared.outcome.Outcome.TheVariants as outcomes
 use Rattle.deuce.specs.Folder.{HasClasses, placed_in}
-use Rattle.deuce.specs.Ending.{Failed, names_of, AreRewritten, EndsPuts, AreClassInputs, AreClassesOf, EndsInputs, EndsClasses, EndsOnClasses, IsBadProgram, IsUntypable, HasUnbuilt}
+use Rattle.deuce.specs.Ending.{Failed, paths_of, AreRewritten, EndsPuts, AreClassInputs, AreClassesOf, EndsInputs, EndsClasses, EndsOnClasses, IsBadProgram, IsUntypable}
 use Rattle.deuce.specs.Outcomes.{Seen, Says, ArePut, IsUnreadAs, IsRefusedAs, IsNotPutAs, IsOutcome, IsNotBuilt, FailedOutside}
 use Rattle.deuce.proofs.Reading.{bad_class, has_classes, stopped_at}
 
 module _ (words : List (String Global)) (old new : Seen) (dir : List ℕ) (kept : new.files ≡ old.files) (names : NamesFolder words dir) (Unbuilt : List ClassFile → Type 0)
-    (unbuilt : HasUnbuilt old.files dir Unbuilt → IsNotBuilt words old.files) where
+    (unbuilt : HasClasses old.files dir Unbuilt → IsNotBuilt words old.files) where
   -- of a command whose inputs weren't there
-  pub unread : (Asks : Call → Type 0) (end : InputEnd) (o : Outcome) → ((path : List ℕ) → Failed Asks path old.faults new.faults new.failed → FailedOutside words path old.faults new.faults new.failed)
+  pub unread : (Asks : Call → Type 0) (end : InputEnd) (o : Outcome) → ((path : List ℕ) → Failed Asks path old.faults new.faults new.failed → FailedOutside words old.files path old.faults new.faults new.failed)
       → EndsInputs Asks old.files dir old.faults new.faults new.failed end → IsUnreadAs end o → IsOutcome words old new o
   unread Asks (ends.Outside path) o fails h is = rw is (kept, fails (string_bytes path) h)
   unread Asks (ends.BadClass path r) o fails h is = absurd h
   unread Asks (ends.Refused r) o fails h is = rw is (kept, (dir, names, inl h))
-  unread Asks ends.NotBuilt o fails h is = rw is (kept, unbuilt (inl h))
   unread Asks ends.NoMemory o fails h is = absurd is
 
   module _ (inputs : List ClassInput) (a : AreClassInputs old.files dir inputs) where
@@ -38,7 +37,6 @@ module _ (words : List (String Global)) (old new : Seen) (dir : List ℕ) (kept 
     not_good (ends.Outside path) o h is = absurd h
     not_good (ends.BadClass path r) o h is = rw is (kept, (dir, names, bad_class old.files dir inputs (string_bytes path) r a h))
     not_good (ends.Refused r) o h is = absurd h
-    not_good ends.NotBuilt o h is = absurd h
     not_good ends.NoMemory o h is = absurd is
 
     -- of a command over the class files that were read
@@ -50,13 +48,13 @@ module _ (words : List (String Global)) (old new : Seen) (dir : List ℕ) (kept 
     refused cs Bad Shut (run_ends.Untyped r) o good bad shut h is = rw is (kept, (dir, names, has_classes old.files dir inputs cs (IsUntypable r) a good h))
     refused cs Bad Shut (run_ends.BadScript r) o good bad shut h is = rw is (kept, bad r h (has_classes old.files dir inputs cs (Bad r) a good h))
     refused cs Bad Shut (run_ends.Unopened name x) o good bad shut h is = rw is (kept, shut name x h (has_classes old.files dir inputs cs (Shut name x) a good h))
-    refused cs Bad Shut run_ends.NotBuilt o good bad shut h is = rw is (kept, unbuilt (inr (has_classes old.files dir inputs cs Unbuilt a good h)))
+    refused cs Bad Shut run_ends.NotBuilt o good bad shut h is = rw is (kept, unbuilt (has_classes old.files dir inputs cs Unbuilt a good h))
     refused cs Bad Shut run_ends.NoMemory o good bad shut h is = absurd is
 
 -- ---- puts that stopped
 
 module _ (words : List (String Global)) (old new : Seen) (dir out : List ℕ) (w : seen_words words ≡ rewrite_words dir out) (inputs : List ClassInput) (news : List (List ℕ)) (taken marked : ℕ)
-    (made : AreRewritten old.files dir (names_of inputs) news taken marked) (puts : List (List ℕ × List ℕ)) (are : puts ≡ placed_in out (names_of inputs) news) (before : ℕ) (later : old.put_faults ≤ before) where
+    (made : AreRewritten old.files dir (paths_of inputs) news taken marked) (puts : List (List ℕ × List ℕ)) (are : puts ≡ placed_in out (paths_of inputs) news) (before : ℕ) (later : old.put_faults ≤ before) where
   pub not_put : (end : PutEnd) (o : Outcome) → EndsPuts puts old.files new.files before new.put_faults new.failed end → IsNotPutAs end o → IsOutcome words old new o
   not_put (put_ends.Failed path) o h is = rw is (
     tt,

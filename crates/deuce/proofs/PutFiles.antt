@@ -7,7 +7,7 @@ use Rattle.deuce_io.specs.Files.{Files, inside, with_content}
 use Rattle.deuce.specs.declared.inputs.ClassInput.{ClassInput}
 use Rattle.deuce.specs.declared.putting.NewFile.{NewFile}
 use Rattle.deuce.specs.Folder.{with_files, placed_in, ArePutUpTo}
-use Rattle.deuce.specs.Ending.{names_of, seen_files}
+use Rattle.deuce.specs.Ending.{paths_of, seen_files}
 
 abbrev pub seen_file : NewFile → List ℕ × List ℕ
 seen_file f = (string_bytes f.path, f.bytes)
@@ -16,17 +16,17 @@ seen_file f = (string_bytes f.path, f.bytes)
 
 -- a class file with its new bytes, as what is put of it
 abbrev pub placed : List ℕ → ClassInput × List ℕ → List ℕ × List ℕ
-placed out p = (inside out (string_bytes p.0.name), p.1)
+placed out p = (inside out (string_bytes p.0.relative), p.1)
 
--- each file's new bytes go to the file's own name
-pub placed_each : (out : List ℕ) (inputs : List ClassInput) (news : List (List ℕ)) → placed_in out (names_of inputs) news ≡ map (placed out) (zip inputs news)
+-- each file's new bytes go to the file's own path
+pub placed_each : (out : List ℕ) (inputs : List ClassInput) (news : List (List ℕ)) → placed_in out (paths_of inputs) news ≡ map (placed out) (zip inputs news)
 placed_each out [] news = refl
 placed_each out (i ∷ inputs) [] = refl
 placed_each out (i ∷ inputs) (new ∷ news) = ap (λ (l : List (List ℕ × List ℕ)). placed out (i, new) ∷ l) (placed_each out inputs news)
 
 -- one more
 pub placed_more : (out : List ℕ) (inputs : List ClassInput) (news : List (List ℕ)) (k : ℕ) (p : ClassInput × List ℕ) (old more : List NewFile) (f : NewFile) → k < length (zip inputs news) → p ≡ get_or (zip inputs news) k p
-    → seen_file f ≡ placed out p → more ≡ old ++ f ∷ [] → seen_files old ≡ take k (placed_in out (names_of inputs) news) → seen_files more ≡ take (k + 1) (placed_in out (names_of inputs) news)
+    → seen_file f ≡ placed out p → more ≡ old ++ f ∷ [] → seen_files old ≡ take k (placed_in out (paths_of inputs) news) → seen_files more ≡ take (k + 1) (placed_in out (paths_of inputs) news)
 placed_more out inputs news k p old more f lt is seen one so_far =
     let all = map (placed out) (zip inputs news) in
     let at : get_or all k (placed out p) ≡ placed out p = get_or-map (placed out) (zip inputs news) k p (placed out p) lt ∙ ap (placed out) (sym is) in
@@ -41,11 +41,11 @@ placed_more out inputs news k p old more f lt is seen one so_far =
     pushed (g ∷ old) f = ap (λ (l : List (List ℕ × List ℕ)). seen_file g ∷ l) (pushed old f)
 
 -- all of them
-pub placed_all : (out : List ℕ) (inputs : List ClassInput) (news : List (List ℕ)) (k : ℕ) (files : List NewFile) → k ≡ length (zip inputs news) → seen_files files ≡ take k (placed_in out (names_of inputs) news)
-    → seen_files files ≡ placed_in out (names_of inputs) news
+pub placed_all : (out : List ℕ) (inputs : List ClassInput) (news : List (List ℕ)) (k : ℕ) (files : List NewFile) → k ≡ length (zip inputs news) → seen_files files ≡ take k (placed_in out (paths_of inputs) news)
+    → seen_files files ≡ placed_in out (paths_of inputs) news
 placed_all out inputs news k files all h =
     let same = ap length (placed_each out inputs news) ∙ length-map (zip inputs news) (placed out) in
-    h ∙ take_all k (placed_in out (names_of inputs) news) (omega (arith, all, same))
+    h ∙ take_all k (placed_in out (paths_of inputs) news) (omega (arith, all, same))
 
 -- ---- how they are put
 

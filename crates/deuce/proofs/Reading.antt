@@ -13,7 +13,7 @@ use Rattle.deuce.specs.declared.inputs.Inputs.{Inputs}
 use Rattle.deuce.specs.Headline.{IsRun}
 use Rattle.deuce.specs.Rewritten.{IsRewriting}
 use Rattle.deuce.specs.Folder.{HoldsClasses, HoldsContents, IsFrontOf, Holds, IsFileOf, IsGoodFile, HasClasses, IsBadClass, with_files, placed_in, ArePutUpTo}
-use Rattle.deuce.specs.Ending.{IsClassInput, AreClassInputs, AreInputs, names_of, AreClassesOf, IsFirstFault, IsJournalOf, AreRewritten, IsRewritingOf, StopsAt, IsUnopened, HasUnopened}
+use Rattle.deuce.specs.Ending.{IsClassInput, AreClassInputs, AreInputs, paths_of, AreClassesOf, IsFirstFault, IsJournalOf, AreRewritten, IsRewritingOf, StopsAt, IsUnopened, HasUnopened}
 
 whole : (most limit : ℕ) (o : Option (List ℕ)) (bytes : List ℕ) → most ≡ suc limit → option_map (take most) o ≡ Some bytes → length bytes ≤ limit → o ≡ Some bytes
 whole most limit None bytes m e le = absurd (cc)
@@ -45,14 +45,14 @@ all_spell (i ∷ inputs) (c ∷ cs) good = (good.0.1, all_spell inputs cs good.1
 
 module _ (files : Option Files) (dir : List ℕ) where
   -- a class file that is good
-  good_file : (input : ClassInput) (c : ClassFile) → IsClassInput files dir input → IsFileOf input.bytes c → IsGoodFile files dir (string_bytes input.name) c
+  good_file : (input : ClassInput) (c : ClassFile) → IsClassInput files dir input → IsFileOf input.bytes c → IsGoodFile files dir (string_bytes input.relative) c
   good_file input c a is = record {
     bytes = input.bytes;
-    holds = holds files (inside dir (string_bytes input.name)) 1048577 1048576 input.bytes refl a.class is.0;
+    holds = holds files (inside dir (string_bytes input.relative)) 1048577 1048576 input.bytes refl a.class is.0;
     is_file = is;
   }
 
-  good_files : (inputs : List ClassInput) (cs : List ClassFile) → AllByRecursion (IsClassInput files dir) inputs → AreClassesOf inputs cs → AllZip (IsGoodFile files dir) (names_of inputs) cs
+  good_files : (inputs : List ClassInput) (cs : List ClassFile) → AllByRecursion (IsClassInput files dir) inputs → AreClassesOf inputs cs → AllZip (IsGoodFile files dir) (paths_of inputs) cs
   good_files [] [] a good = tt
   good_files [] (c ∷ cs) a good = absurd good
   good_files (i ∷ inputs) [] a good = absurd good
@@ -61,7 +61,7 @@ module _ (files : Option Files) (dir : List ℕ) where
   -- what holds of the classes of what was read holds of those of the folder
   pub has_classes : (inputs : List ClassInput) (cs : List ClassFile) (Holding : List ClassFile → Type 0) → AreClassInputs files dir inputs → AreClassesOf inputs cs → Holding cs → HasClasses files dir Holding
   has_classes inputs cs Holding a good h = record {
-    names = names_of inputs;
+    paths = paths_of inputs;
     class_files = a.class_files;
     few = a.few;
     classes = cs;
@@ -72,17 +72,17 @@ module _ (files : Option Files) (dir : List ℕ) where
   -- the first fault of what was read is one of the class files
   pub bad_class : (inputs : List ClassInput) (path : List ℕ) (r : Refusal) → AreClassInputs files dir inputs → IsFirstFault inputs path r → IsBadClass files dir path r
   bad_class inputs path r a fault =
-      let names : names_of inputs ≡ names_of fault.before ++ string_bytes fault.input.name ∷ names_of fault.behind =
-      ap names_of fault.are ∙ map-append (λ (i : ClassInput). string_bytes i.name) fault.before (fault.input ∷ fault.behind) in
+      let paths : paths_of inputs ≡ paths_of fault.before ++ string_bytes fault.input.relative ∷ paths_of fault.behind =
+      ap paths_of fault.are ∙ map-append (λ (i : ClassInput). string_bytes i.relative) fault.before (fault.input ∷ fault.behind) in
       let each = subst (AllByRecursion (IsClassInput files dir)) fault.are a.each in
       let input = the_input fault.before fault.input fault.behind each in
-      let at_path : path ≡ inside dir (string_bytes fault.input.name) = fault.at_path ∙ input.class_path in
+      let at_path : path ≡ inside dir (string_bytes fault.input.relative) = fault.at_path ∙ input.class_path in
       record {
-        before = names_of fault.before;
-        name = string_bytes fault.input.name;
-        behind = names_of fault.behind;
-        class_files = subst (HoldsClasses files dir) names a.class_files;
-        few = subst (λ (ns : List (List ℕ)). length ns ≤ 256) names a.few;
+        before = paths_of fault.before;
+        relative = string_bytes fault.input.relative;
+        behind = paths_of fault.behind;
+        class_files = subst (HoldsClasses files dir) paths a.class_files;
+        few = subst (λ (ps : List (List ℕ)). length ps ≤ 256) paths a.few;
         classes = fault.classes;
         good = good_files fault.before fault.classes (those_before fault.before (fault.input ∷ fault.behind) each) fault.good;
         class_path = at_path;
@@ -100,13 +100,13 @@ module _ (files : Option Files) (dir : List ℕ) where
       those_before (x ∷ xs) ys h = (h.0, those_before xs ys h.1)
 
   -- the class files have what was read
-  all_hold : (inputs : List ClassInput) (cs : List ClassFile) → AllByRecursion (IsClassInput files dir) inputs → AreClassesOf inputs cs → AllZip (λ name. Holds files (inside dir name)) (names_of inputs) (contents_of inputs)
+  all_hold : (inputs : List ClassInput) (cs : List ClassFile) → AllByRecursion (IsClassInput files dir) inputs → AreClassesOf inputs cs → AllZip (λ path. Holds files (inside dir path)) (paths_of inputs) (contents_of inputs)
   unfolding good_file
   all_hold [] cs a good = tt
   all_hold (i ∷ inputs) [] a good = absurd good
   all_hold (i ∷ inputs) (c ∷ cs) a good = ((good_file i c a.0 good.0).holds, all_hold inputs cs a.1 good.1)
 
-  pub read_whole : (inputs : List ClassInput) (cs : List ClassFile) → AreClassInputs files dir inputs → AreClassesOf inputs cs → HoldsContents files dir (names_of inputs) (contents_of inputs)
+  pub read_whole : (inputs : List ClassInput) (cs : List ClassFile) → AreClassInputs files dir inputs → AreClassesOf inputs cs → HoldsContents files dir (paths_of inputs) (contents_of inputs)
   read_whole inputs cs a good = record { class_files = a.class_files; each = all_hold inputs cs a.each good }
 
 -- a run of what was read whole
@@ -115,7 +115,7 @@ pub journal_of : (files : Option Files) (dir script : List ℕ) (inputs : Inputs
 journal_of files dir script inputs cs text a good ran =
     let run = ran (contents_of inputs.classes.items) (all_spell inputs.classes.items cs good) in
     record {
-      names = names_of inputs.classes.items;
+      paths = paths_of inputs.classes.items;
       contents = contents_of inputs.classes.items;
       class_files = read_whole files dir inputs.classes.items cs a.of_classes good;
       script_bytes = inputs.script;
@@ -129,29 +129,29 @@ unopened_of files dir script bytes name x front fits h = record { script_bytes =
 
 -- a rewriting of what was read whole
 pub rewritten_of : (files : Option Files) (dir : List ℕ) (inputs : List ClassInput) (cs : List ClassFile) (news : List (List ℕ)) (taken marked : ℕ) → AreClassInputs files dir inputs → AreClassesOf inputs cs
-    → ((contents : List (List ℕ)) → AllZip Spells contents cs → IsRewriting contents news taken marked) → AreRewritten files dir (names_of inputs) news taken marked
+    → ((contents : List (List ℕ)) → AllZip Spells contents cs → IsRewriting contents news taken marked) → AreRewritten files dir (paths_of inputs) news taken marked
 rewritten_of files dir inputs cs news taken marked a good made = record {
   contents = contents_of inputs;
   class_files = read_whole files dir inputs cs a good;
   rewriting = made (contents_of inputs) (all_spell inputs cs good);
 }
 
-module _ (files files' : Option Files) (dir out : List ℕ) (inputs : List ClassInput) (news : List (List ℕ)) (taken marked : ℕ) (made : AreRewritten files dir (names_of inputs) news taken marked)
-    (puts : List (List ℕ × List ℕ)) (are : puts ≡ placed_in out (names_of inputs) news) where
+module _ (files files' : Option Files) (dir out : List ℕ) (inputs : List ClassInput) (news : List (List ℕ)) (taken marked : ℕ) (made : AreRewritten files dir (paths_of inputs) news taken marked)
+    (puts : List (List ℕ × List ℕ)) (are : puts ≡ placed_in out (paths_of inputs) news) where
   -- that was put
   pub rewriting_of : (classes : ℕ) → classes ≡ length inputs → files' ≡ option_map (with_files puts) files → IsRewritingOf files files' dir out classes taken marked
   rewriting_of classes count put = record {
-    names = names_of inputs;
+    paths = paths_of inputs;
     news = news;
     rewriting = made;
-    count = count ∙ sym (length-map inputs (λ (i : ClassInput). string_bytes i.name));
+    count = count ∙ sym (length-map inputs (λ (i : ClassInput). string_bytes i.relative));
     put = subst (λ (fs : List (List ℕ × List ℕ)). files' ≡ option_map (with_files fs) files) are put;
   }
 
   -- or the puts of which stopped
   pub stopped_at : (path : List ℕ) → ArePutUpTo puts files files' path → StopsAt files files' dir out path
   stopped_at path put = record {
-    names = names_of inputs;
+    paths = paths_of inputs;
     news = news;
     taken = taken;
     marked = marked;

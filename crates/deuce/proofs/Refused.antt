@@ -27,5 +27,4 @@ module _ (inputs : List ClassInput) (i : ℕ) (input : ClassInput) (lt : i < len
     fault = subst (IsFileFault input.bytes) (sym as_is.1) fault;
   }
   refused cs r (ends.Refused s) good fault as_is = absurd as_is
-  refused cs r ends.NotBuilt good fault as_is = absurd as_is
   refused cs r ends.NoMemory good fault as_is = tt

@@ -1,5 +1,6 @@
 -- What the program writes, and why it ends as it does.
-use Rattle.std.specs.Prelude.{◌≡◌, ◌⊎◌, ℕ, ◌<◌, ◌≤◌, pos, List, ◌∷◌, ◌++◌, length, map, bytes_eq, Bool, true, Option, Some, None, Ok, Err, Contains, slice_get, codes, string_bytes, option_map, take}
+use Rattle.std.specs.Prelude.{◌≡◌, ◌⊎◌, ℕ, ◌<◌, ◌≤◌, pos, List, ◌∷◌, ◌++◌, length, map, bytes_eq, Option, Some, IsSome, None, Ok, Err, slice_get, string_bytes, option_map, take}
+use Rattle.std.specs.Option.{ForSome}
 use Rattle.std.specs.List.{AllByRecursion, AllZip}
 use Rattle.std.specs.Borrow.{Bor}
 use Rattle.std.specs.Map.{lookup}
@@ -26,7 +27,7 @@ use Rattle.jmodel.specs.ClassesLinking.{linking, linking_files, pc_of, initialis
 use Rattle.jmodel.specs.Typing.{IsTypable, IsUntypableAt}
 use Rattle.rewriter.specs.RewrittenClasses.{rewritten_classes}
 use Rattle.script.specs.Script.{Script, IsScript, IsFault}
-use Rattle.deuce.specs.Folder.{IsClassFileName, HoldsClasses, HasFolder, HasManyClasses, IsFrontOf, Holds, HoldsContents, IsFileFault, IsFileOf, HasClasses, with_files, placed_in, ArePutUpTo}
+use Rattle.deuce.specs.Folder.{IsClassFileName, depth, IsFolder, HoldsClasses, IsTooDeep, IsOverfull, IsFrontOf, Holds, HoldsContents, IsFileFault, IsFileOf, HasClasses, with_files, placed_in, ArePutUpTo}
 use Rattle.deuce.specs.Headline.{name_in, linked_files, IsRun, CanRun, IsRunnable}
 use Rattle.deuce.specs.Rewritten.{IsRewriting, CanRewrite, HasManyMembers}
 use Rattle.deuce.specs.declared.inputs.ClassInput.{ClassInput}
@@ -39,13 +40,22 @@ use Rattle.deuce.specs.declared.putting.PutEnd.TheVariants as put_ends
 use Rattle.deuce.specs.declared.run.RunEnd.{RunEnd}
 use Rattle.deuce.specs.declared.run.RunEnd.TheVariants as run_ends
 
--- what is asked of a folder of class files: the list of DIR, and the read of a class file in it
-abbrev pub IsCallOfFolder : List ℕ → Call → Type 0
-IsCallOfFolder dir call = (call ≡ list_of dir) ⊎ ((name : List ℕ) × IsClassFileName name × (call ≡ read_of (inside dir name)))
+-- the path from a folder to one under it, which is there, no more than 16 levels down, where the folder tells its files
+abbrev pub IsListed : Option Files → List ℕ → List ℕ → Type 0
+IsListed files dir path = ForSome files (λ told. (depth path < 16) × IsFolder told (inside dir path))
+
+-- the path from a folder to a class file under it, which is there, where the folder tells its files
+abbrev pub IsRead : Option Files → List ℕ → List ℕ → Type 0
+IsRead files dir path = IsClassFileName path × ForSome files (λ told. IsSome (told (inside dir path)))
+
+-- what is asked of a folder of class files: its list, the list of a folder under it, and the read of a class file under it
+abbrev pub IsCallOfFolder : Option Files → List ℕ → Call → Type 0
+IsCallOfFolder files dir call = (call ≡ list_of dir)
+    ⊎ (((path : List ℕ) × IsListed files dir path × (call ≡ list_of (inside dir path))) ⊎ ((path : List ℕ) × IsRead files dir path × (call ≡ read_of (inside dir path))))
 
 -- what a run asks: that, and the read of the script
-abbrev pub IsCallOfRun : List ℕ → List ℕ → Call → Type 0
-IsCallOfRun dir script call = (call ≡ read_of script) ⊎ IsCallOfFolder dir call
+abbrev pub IsCallOfRun : Option Files → List ℕ → List ℕ → Call → Type 0
+IsCallOfRun files dir script call = (call ≡ read_of script) ⊎ IsCallOfFolder files dir call
 
 -- the folder's count of lists and reads rose, and its last failed call is one of these, at this path
 pub record Failed (Asks : Call → Type 0) (path : List ℕ) (before now : ℕ) (last : Option Call) : Type 0 where
@@ -55,19 +65,19 @@ pub record Failed (Asks : Call → Type 0) (path : List ℕ) (before now : ℕ) 
   pub asked : Asks call
   pub at_path : call.path ≡ path
 
--- what was read of a class file of a folder: its path, and its bytes, with at most one over the limit
+-- what was read of a class file under a folder: its path, and its bytes, with at most one over the limit
 pub record IsClassInput (files : Option Files) (dir : List ℕ) (input : ClassInput) : Type 0 where
-  pub class_path : string_bytes input.path ≡ inside dir (string_bytes input.name)
-  pub class : IsFrontOf files (inside dir (string_bytes input.name)) 1048577 input.bytes
+  pub class_path : string_bytes input.path ≡ inside dir (string_bytes input.relative)
+  pub class : IsFrontOf files (inside dir (string_bytes input.relative)) 1048577 input.bytes
 
--- the names of the class files that were read
-abbrev pub names_of : List ClassInput → List (List ℕ)
-names_of inputs = map (λ (i : ClassInput). string_bytes i.name) inputs
+-- the paths from the folder to the class files that were read
+abbrev pub paths_of : List ClassInput → List (List ℕ)
+paths_of inputs = map (λ (i : ClassInput). string_bytes i.relative) inputs
 
--- what was read of the class files of a folder, of which there are no more than 256
+-- what was read of the class files under a folder, of which there are no more than 256
 pub record AreClassInputs (files : Option Files) (dir : List ℕ) (inputs : List ClassInput) : Type 0 where
-  pub class_files : HoldsClasses files dir (names_of inputs)
-  pub few : length (names_of inputs) ≤ 256
+  pub class_files : HoldsClasses files dir (paths_of inputs)
+  pub few : length (paths_of inputs) ≤ 256
   pub each : AllByRecursion (IsClassInput files dir) inputs
 
 -- what a run has read: that, and the script's bytes, with at most one over the limit
@@ -77,35 +87,35 @@ pub record AreInputs (files : Option Files) (dir script : List ℕ) (inputs : In
 
 -- The text is that of a run of the script at a path on the class files of a folder.
 pub record IsJournalOf (files : Option Files) (dir script text : List ℕ) : Type 0 where
-  pub names : List (List ℕ)
+  pub paths : List (List ℕ)
   pub contents : List (List ℕ)
-  pub class_files : HoldsContents files dir names contents
+  pub class_files : HoldsContents files dir paths contents
   pub script_bytes : List ℕ
   pub script_holds : Holds files script script_bytes
   pub run : IsRun contents script_bytes text
 
--- A folder's class files have these names, and these are the bytes of their rewriting, file by file.
-pub record AreRewritten (files : Option Files) (dir : List ℕ) (names news : List (List ℕ)) (taken marked : ℕ) : Type 0 where
+-- The class files under a folder have these paths, and these are the bytes of their rewriting, file by file.
+pub record AreRewritten (files : Option Files) (dir : List ℕ) (paths news : List (List ℕ)) (taken marked : ℕ) : Type 0 where
   pub contents : List (List ℕ)
-  pub class_files : HoldsContents files dir names contents
+  pub class_files : HoldsContents files dir paths contents
   pub rewriting : IsRewriting contents news taken marked
 
--- The class files of a folder, so many, were rewritten, and each new one was put into another folder under its own name, with nothing else.
+-- The class files under a folder, so many, were rewritten, and each new one was put under another folder at the same path, with nothing else.
 pub record IsRewritingOf (files files' : Option Files) (dir out : List ℕ) (classes taken marked : ℕ) : Type 0 where
-  pub names : List (List ℕ)
+  pub paths : List (List ℕ)
   pub news : List (List ℕ)
-  pub rewriting : AreRewritten files dir names news taken marked
-  pub count : classes ≡ length names
-  pub put : files' ≡ option_map (with_files (placed_in out names news)) files
+  pub rewriting : AreRewritten files dir paths news taken marked
+  pub count : classes ≡ length paths
+  pub put : files' ≡ option_map (with_files (placed_in out paths news)) files
 
--- The new files of a rewriting were put one after another, in the order of their names, up to the one at this path, of which nothing is known.
+-- The new files of a rewriting were put one after another, in the order of their paths, up to the one at this path, of which nothing is known.
 pub record StopsAt (files files' : Option Files) (dir out path : List ℕ) : Type 0 where
-  pub names : List (List ℕ)
+  pub paths : List (List ℕ)
   pub news : List (List ℕ)
   pub taken : ℕ
   pub marked : ℕ
-  pub rewriting : AreRewritten files dir names news taken marked
-  pub put : ArePutUpTo (placed_in out names news) files files' path
+  pub rewriting : AreRewritten files dir paths news taken marked
+  pub put : ArePutUpTo (placed_in out paths news) files files' path
 
 -- the count of failed puts rose, and the last failed call is the put of this path, where the puts of a rewriting stopped
 pub record FailedPut (files files' : Option Files) (dir out path : List ℕ) (before now : ℕ) (last : Option Call) : Type 0 where
@@ -125,9 +135,9 @@ IsOverLimit r files = (P : Program) × (linked_files files ≡ Some P) × AllByR
 abbrev pub IsBadProgram : Refusal → List ClassFile → Type 0
 IsBadProgram r files = (linking_files files ≡ Err r) ⊎ IsOverLimit r files
 
--- Why class files are refused: there are too many, or they are good, and their classes are refused.
+-- Why a folder of class files is refused: it passes a limit of folders, or its class files are good, and their classes are refused.
 abbrev pub HasBadProgram : Option Files → List ℕ → Refusal → Type 0
-HasBadProgram files dir r = HasManyClasses files dir r ⊎ HasClasses files dir (IsBadProgram r)
+HasBadProgram files dir r = IsOverfull files dir r ⊎ HasClasses files dir (IsBadProgram r)
 
 -- Of a program's methods, those before this one have typings, and it has none, for the instruction at a place, as the refusal says.
 pub record IsFirstUntypable (P : Program) (cs : List ClassFile) (r : Refusal) : Type 0 where
@@ -180,10 +190,6 @@ IsOutsideForm files = linking_files files ≡ Ok None
 abbrev pub IsNotRewritten : List ClassFile → Type 0
 IsNotRewritten files = IsOutsideForm files ⊎ HasManyMembers files
 
--- Why a folder of class files isn't built: something in it is a folder; or the class files are good, and their classes aren't built.
-abbrev pub HasUnbuilt : Option Files → List ℕ → (List ClassFile → Type 0) → Type 0
-HasUnbuilt files dir Unbuilt = HasFolder files dir ⊎ HasClasses files dir Unbuilt
-
 -- A folder has good class files, for which the script, of which at most one byte over the limit is looked at, has this fault.
 pub record HasBadScript (files : Option Files) (dir script : List ℕ) (r : Refusal) : Type 0 where
   pub script_bytes : List ℕ
@@ -210,27 +216,27 @@ CanRewriteIn told dir = HasClasses (Some told) dir CanRewrite
 abbrev pub EndsInputs : (Call → Type 0) → Option Files → List ℕ → ℕ → ℕ → Option Call → InputEnd → Type 0
 EndsInputs Asks files dir before now last (ends.Outside path) = Failed Asks (string_bytes path) before now last
 EndsInputs Asks files dir before now last (ends.BadClass path r) = ⊥
-EndsInputs Asks files dir before now last (ends.Refused r) = HasManyClasses files dir r
-EndsInputs Asks files dir before now last ends.NotBuilt = HasFolder files dir
+EndsInputs Asks files dir before now last (ends.Refused r) = IsOverfull files dir r
 EndsInputs Asks files dir before now last ends.NoMemory = Unit {0}
 
--- why a folder with these items has no names of class files
-abbrev pub EndsNames : List (List ℕ × Bool) → InputEnd → Type 0
-EndsNames items ends.NotBuilt = (name : List ℕ) × Contains items (name, true)
-EndsNames items ends.NoMemory = Unit {0}
-EndsNames items end = ⊥
+-- why a folder has no paths of class files
+abbrev pub EndsListing : Option Files → List ℕ → ℕ → ℕ → Option Call → InputEnd → Type 0
+EndsListing files dir before now last (ends.Outside path) = Failed (IsCallOfFolder files dir) (string_bytes path) before now last
+EndsListing files dir before now last (ends.BadClass path r) = ⊥
+EndsListing files dir before now last (ends.Refused r) = IsTooDeep files dir r
+EndsListing files dir before now last ends.NoMemory = Unit {0}
 
--- why class files of a folder weren't read
+-- why folders weren't listed, or class files weren't read
 abbrev pub EndsReads : (Call → Type 0) → ℕ → ℕ → Option Call → InputEnd → Type 0
 EndsReads Asks before now last (ends.Outside path) = Failed Asks (string_bytes path) before now last
 EndsReads Asks before now last ends.NoMemory = Unit {0}
 EndsReads Asks before now last end = ⊥
 
--- the end of a command over so many class files
-abbrev pub IsOverLimitAs : ℕ → InputEnd → Type 0
-IsOverLimitAs count (ends.Refused r) = r ≡ OverLimit (codes "classes") (pos count)
-IsOverLimitAs count ends.NoMemory = Unit {0}
-IsOverLimitAs count end = ⊥
+-- the end of a command over a folder that passes this limit by this number
+abbrev pub IsOverLimitAs : List ℕ → ℕ → InputEnd → Type 0
+IsOverLimitAs limit number (ends.Refused r) = r ≡ OverLimit limit (pos number)
+IsOverLimitAs limit number ends.NoMemory = Unit {0}
+IsOverLimitAs limit number end = ⊥
 
 -- the class files that were read are good, and spell these classes
 abbrev pub AreClassesOf : List ClassInput → List ClassFile → Type 0

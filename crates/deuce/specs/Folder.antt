@@ -1,8 +1,8 @@
--- What a folder of class files is: the names of its class files in their order, the classes that these spell, and the first file that is none.
-use Rattle.std.specs.Prelude.{◌≡◌, ◌⊎◌, ◌↔◌, ℕ, ◌<◌, ◌≤◌, pos, List, [], ◌∷◌, ◌++◌, length, map, zip, Bool, true, false, Option, Some, Err, Contains, codes, option_map, slice_get, take}
+-- What a folder of class files is: the paths of the class files under it in their order, the classes that these spell, and the first file that is none.
+use Rattle.std.specs.Prelude.{◌≡◌, ◌==◌, ◌⊎◌, ◌↔◌, ℕ, ◌<◌, ◌≤◌, pos, List, [], ◌∷◌, ◌++◌, length, map, zip, count_by, true, Option, Some, IsSome, Err, Contains, codes, option_map, slice_get, take}
 use Rattle.std.specs.Option.{ForSome}
 use Rattle.std.specs.List.{AllPairs, AllZip}
-use Rattle.deuce_io.specs.Files.{Files, inside, with_content, StandsIn}
+use Rattle.deuce_io.specs.Files.{Files, inside, with_content}
 use Rattle.jmodel.specs.declared.refusal.Refusal.{Refusal}
 use Rattle.jmodel.specs.declared.refusal.Refusal.TheVariants.{OverLimit}
 use Rattle.jmodel.specs.ClassFile.{ClassFile}
@@ -10,32 +10,50 @@ use Rattle.jmodel.specs.ClassRules.{Spells}
 use Rattle.jmodel.specs.ClassFileReading.{class_file_of}
 use Rattle.jmodel.specs.Classes.{is_before}
 
--- ---- names
+-- ---- paths
 
--- the name of a class file: it ends in `.class`
+-- the path of a class file: it ends in `.class`
 abbrev pub IsClassFileName : List ℕ → Type 0
-IsClassFileName name = (front : List ℕ) × (name ≡ front ++ codes ".class")
+IsClassFileName path = (front : List ℕ) × (path ≡ front ++ codes ".class")
 
--- These are the names of the class files here, each once, in the ascending order of their bytes; and nothing here is a folder.
-pub record AreClassNames (Here : List ℕ × Bool → Type 0) (names : List (List ℕ)) : Type 0 where
-  pub no_folder : (item : List ℕ × Bool) → Here item → item.1 ≡ false
-  pub each : (name : List ℕ) → Contains names name ↔ (Here (name, false) × IsClassFileName name)
-  pub ascend : AllPairs (λ x y. is_before x y ≡ true) names
+-- how many folders down a path leads: its slashes
+abbrev pub depth : List ℕ → ℕ
+depth path = count_by (λ c. c == 47) path
 
--- in a folder, where it tells its files, the class files have these names, and nothing is a folder
+-- a folder stands at this path: some file's path goes on behind it
+abbrev pub IsFolder : Files → List ℕ → Type 0
+IsFolder told path = (rest : List ℕ) × IsSome (told (inside path rest))
+
+-- These are the paths from a folder to the class files under it, each once, in the ascending order of their bytes; and no file under it lies in a
+-- folder more than 16 levels down.
+pub record AreClassPaths (told : Files) (dir : List ℕ) (paths : List (List ℕ)) : Type 0 where
+  pub shallow : (path : List ℕ) → IsSome (told (inside dir path)) → depth path ≤ 16
+  pub each : (path : List ℕ) → Contains paths path ↔ (IsSome (told (inside dir path)) × IsClassFileName path)
+  pub ascend : AllPairs (λ x y. is_before x y ≡ true) paths
+
+-- under a folder, where it tells its files, the class files have these paths
 abbrev pub HoldsClasses : Option Files → List ℕ → List (List ℕ) → Type 0
-HoldsClasses files dir names = ForSome files (λ told. AreClassNames (StandsIn told dir) names)
+HoldsClasses files dir paths = ForSome files (λ told. AreClassPaths told dir paths)
 
--- in a folder, where it tells its files, something is a folder
-abbrev pub HasFolder : Option Files → List ℕ → Type 0
-HasFolder files dir = ForSome files (λ told. (name : List ℕ) × StandsIn told dir (name, true))
+-- under a folder, where it tells its files, a file lies in a folder that is 17 levels down
+abbrev pub HasDeepFolder : Option Files → List ℕ → Type 0
+HasDeepFolder files dir = ForSome files (λ told. (path : List ℕ) × IsSome (told (inside dir path)) × (16 < depth path))
 
--- A folder has more class files than 256, as the refusal says.
+-- A folder under this one is 17 levels down, as the refusal says.
+pub record IsTooDeep (files : Option Files) (dir : List ℕ) (r : Refusal) : Type 0 where
+  pub deep : HasDeepFolder files dir
+  pub refusal : r ≡ OverLimit (codes "depth") (pos 17)
+
+-- Under a folder there are more class files than 256, as the refusal says.
 pub record HasManyClasses (files : Option Files) (dir : List ℕ) (r : Refusal) : Type 0 where
-  pub names : List (List ℕ)
-  pub class_files : HoldsClasses files dir names
-  pub many : 256 < length names
-  pub refusal : r ≡ OverLimit (codes "classes") (pos (length names))
+  pub paths : List (List ℕ)
+  pub class_files : HoldsClasses files dir paths
+  pub many : 256 < length paths
+  pub refusal : r ≡ OverLimit (codes "classes") (pos (length paths))
+
+-- a folder passes a limit of folders, as the refusal says
+abbrev pub IsOverfull : Option Files → List ℕ → Refusal → Type 0
+IsOverfull files dir r = IsTooDeep files dir r ⊎ HasManyClasses files dir r
 
 -- ---- what they have
 
@@ -53,41 +71,41 @@ abbrev pub IsFileFault : List ℕ → Refusal → Type 0
 IsFileFault bytes r = ((1048576 < length bytes) × (r ≡ OverLimit (codes "file") (pos (length bytes))))
     ⊎ (((c : ClassFile) → Spells bytes c → ⊥) × (class_file_of bytes ≡ Err r))
 
--- In a folder, where it tells its files, the class files have these names, in ascending order, and these bytes.
-pub record HoldsContents (files : Option Files) (dir : List ℕ) (names contents : List (List ℕ)) : Type 0 where
-  pub class_files : HoldsClasses files dir names
-  pub each : AllZip (λ name. Holds files (inside dir name)) names contents
+-- Under a folder, where it tells its files, the class files have these paths, in ascending order, and these bytes.
+pub record HoldsContents (files : Option Files) (dir : List ℕ) (paths contents : List (List ℕ)) : Type 0 where
+  pub class_files : HoldsClasses files dir paths
+  pub each : AllZip (λ path. Holds files (inside dir path)) paths contents
 
 -- bytes are a class file, within its limit, and spell this class
 abbrev pub IsFileOf : List ℕ → ClassFile → Type 0
 IsFileOf bytes c = (length bytes ≤ 1048576) × Spells bytes c
 
--- The class file of this name in a folder is good, and spells this class.
-pub record IsGoodFile (files : Option Files) (dir name : List ℕ) (c : ClassFile) : Type 0 where
+-- The class file at this path from a folder is good, and spells this class.
+pub record IsGoodFile (files : Option Files) (dir path : List ℕ) (c : ClassFile) : Type 0 where
   pub bytes : List ℕ
-  pub holds : Holds files (inside dir name) bytes
+  pub holds : Holds files (inside dir path) bytes
   pub is_file : IsFileOf bytes c
 
--- The class files of a folder, no more than 256, are good, and this holds of their classes, which stand in the order of the files' names.
+-- The class files under a folder, no more than 256, are good, and this holds of their classes, which stand in the order of the files' paths.
 pub record HasClasses (files : Option Files) (dir : List ℕ) (Holding : List ClassFile → Type 0) : Type 0 where
-  pub names : List (List ℕ)
-  pub class_files : HoldsClasses files dir names
-  pub few : length names ≤ 256
+  pub paths : List (List ℕ)
+  pub class_files : HoldsClasses files dir paths
+  pub few : length paths ≤ 256
   pub classes : List ClassFile
-  pub good : AllZip (IsGoodFile files dir) names classes
+  pub good : AllZip (IsGoodFile files dir) paths classes
   pub holding : Holding classes
 
--- Of the class files of a folder, no more than 256, this one is the first that isn't good: it has this path, and this fault, for which at
+-- Of the class files under a folder, no more than 256, this one is the first that isn't good: it has this path, and this fault, for which at
 -- most one byte over the limit is looked at.
 pub record IsBadClass (files : Option Files) (dir path : List ℕ) (r : Refusal) : Type 0 where
   pub before : List (List ℕ)
-  pub name : List ℕ
+  pub relative : List ℕ
   pub behind : List (List ℕ)
-  pub class_files : HoldsClasses files dir (before ++ name ∷ behind)
-  pub few : length (before ++ name ∷ behind) ≤ 256
+  pub class_files : HoldsClasses files dir (before ++ relative ∷ behind)
+  pub few : length (before ++ relative ∷ behind) ≤ 256
   pub classes : List ClassFile
   pub good : AllZip (IsGoodFile files dir) before classes
-  pub class_path : path ≡ inside dir name
+  pub class_path : path ≡ inside dir relative
   pub bytes : List ℕ
   pub front : IsFrontOf files path 1048577 bytes
   pub fault : IsFileFault bytes r
@@ -99,9 +117,9 @@ abbrev pub with_files : List (List ℕ × List ℕ) → Files → Files
 with_files [] told = told
 with_files (f ∷ fs) told = with_files fs (with_content f.0 (Some f.1) told)
 
--- new bytes for files of these names in a folder, each with its path
+-- new bytes for files at these paths from a folder, each with its path
 abbrev pub placed_in : List ℕ → List (List ℕ) → List (List ℕ) → List (List ℕ × List ℕ)
-placed_in dir names news = zip (map (inside dir) names) news
+placed_in dir paths news = zip (map (inside dir) paths) news
 
 -- Of files with their paths, those before one were put. Nothing is known of the path of that one; all else is as before.
 pub record ArePutUpTo (fs : List (List ℕ × List ℕ)) (files files' : Option Files) (path : List ℕ) : Type 0 where

@@ -10,7 +10,7 @@ use Rattle.jmodel.specs.Output.{◌and◌, answer_text, refusal_text, error_text
 use Rattle.deuce.specs.Command.{seen_words, run_words, rewrite_words, IsNoCommand, NamesFolder}
 use Rattle.deuce.specs.Rewritten.{counts_text}
 use Rattle.deuce.specs.Folder.{IsBadClass, HasClasses}
-use Rattle.deuce.specs.Ending.{IsCallOfFolder, IsCallOfRun, Failed, FailedPut, IsJournalOf, IsRewritingOf, StopsAt, HasBadProgram, IsUntypable, HasBadScript, HasUnopened, IsOutsideForm, IsNotRewritten, HasUnbuilt, CanRunIn, CanRewriteIn}
+use Rattle.deuce.specs.Ending.{IsCallOfFolder, IsCallOfRun, Failed, FailedPut, IsJournalOf, IsRewritingOf, StopsAt, HasBadProgram, IsUntypable, HasBadScript, HasUnopened, IsOutsideForm, IsNotRewritten, CanRunIn, CanRewriteIn}
 use Rattle.deuce.specs.declared.inputs.InputEnd.{InputEnd}
 use Rattle.deuce.specs.declared.inputs.InputEnd.TheVariants as ends
 use Rattle.deuce.specs.declared.putting.PutEnd.{PutEnd}
@@ -62,7 +62,6 @@ abbrev pub IsUnreadAs : InputEnd → Outcome → Type 0
 IsUnreadAs (ends.Outside path) o = o ≡ Outside path
 IsUnreadAs (ends.BadClass path r) o = o ≡ BadClass path r
 IsUnreadAs (ends.Refused r) o = o ≡ BadProgram r
-IsUnreadAs ends.NotBuilt o = o ≡ NotBuilt
 IsUnreadAs ends.NoMemory o = ⊥
 
 -- the outcome of a rewriting the puts of which ended so
@@ -74,7 +73,7 @@ IsNotPutAs put_ends.NoMemory o = ⊥
 abbrev pub IsBadClassOfWords : List (String Global) → Option Files → List ℕ → Refusal → Type 0
 IsBadClassOfWords words files path r = (dir : List ℕ) × NamesFolder words dir × IsBadClass files dir path r
 
--- the class files of the folder that the words name are too many, or good, and their classes are refused so
+-- the folder that the words name passes a limit of folders, or its class files are good, and their classes are refused so
 abbrev pub IsBadProgramOfWords : List (String Global) → Option Files → Refusal → Type 0
 IsBadProgramOfWords words files r = (dir : List ℕ) × NamesFolder words dir × HasBadProgram files dir r
 
@@ -90,13 +89,13 @@ IsBadScriptOfWords words files r = (dir : List ℕ) × (script : List ℕ) × (s
 abbrev pub IsUnopenedOfWords : List (String Global) → Option Files → List ℕ → Answer → Type 0
 IsUnopenedOfWords words files class x = (dir : List ℕ) × (script : List ℕ) × (seen_words words ≡ run_words dir script) × HasUnopened files dir script class x
 
--- The words ask for a run, and its folder isn't built: something in it is a folder, or its class files are good, and not of the form.
+-- The words ask for a run, and its class files are good, and not of the form that is built so far.
 abbrev pub IsUnbuiltRun : List (String Global) → Option Files → Type 0
-IsUnbuiltRun words files = (dir : List ℕ) × (script : List ℕ) × (seen_words words ≡ run_words dir script) × HasUnbuilt files dir IsOutsideForm
+IsUnbuiltRun words files = (dir : List ℕ) × (script : List ℕ) × (seen_words words ≡ run_words dir script) × HasClasses files dir IsOutsideForm
 
--- The words ask for a rewriting, and its folder isn't built: the same, or a rewritten class would have too many members.
+-- The words ask for a rewriting, and its class files are good, but not of the form, or a rewritten class would have too many members.
 abbrev pub IsUnbuiltRewriting : List (String Global) → Option Files → Type 0
-IsUnbuiltRewriting words files = (dir : List ℕ) × (out : List ℕ) × (seen_words words ≡ rewrite_words dir out) × HasUnbuilt files dir IsNotRewritten
+IsUnbuiltRewriting words files = (dir : List ℕ) × (out : List ℕ) × (seen_words words ≡ rewrite_words dir out) × HasClasses files dir IsNotRewritten
 
 abbrev pub IsNotBuilt : List (String Global) → Option Files → Type 0
 IsNotBuilt words files = IsUnbuiltRun words files ⊎ IsUnbuiltRewriting words files
@@ -119,10 +118,10 @@ abbrev pub CanRewriteWords : List (String Global) → Option Files → Type 0
 CanRewriteWords words files = (dir : List ℕ) × (out : List ℕ) × (told : Files) × (seen_words words ≡ rewrite_words dir out) × (files ≡ Some told) × CanRewriteIn told dir
 
 -- a list or a read of the command that the words ask for failed, at this path
-abbrev pub FailedOutside : List (String Global) → List ℕ → ℕ → ℕ → Option Call → Type 0
-FailedOutside words path before now last = (dir : List ℕ) × (other : List ℕ)
-    × (((seen_words words ≡ run_words dir other) × Failed (IsCallOfRun dir other) path before now last)
-    ⊎ ((seen_words words ≡ rewrite_words dir other) × Failed (IsCallOfFolder dir) path before now last))
+abbrev pub FailedOutside : List (String Global) → Option Files → List ℕ → ℕ → ℕ → Option Call → Type 0
+FailedOutside words files path before now last = (dir : List ℕ) × (other : List ℕ)
+    × (((seen_words words ≡ run_words dir other) × Failed (IsCallOfRun files dir other) path before now last)
+    ⊎ ((seen_words words ≡ rewrite_words dir other) × Failed (IsCallOfFolder files dir) path before now last))
 
 -- a put of the rewriting that the words ask for failed, at this path
 abbrev pub FailedPutOfWords : List (String Global) → Option Files → Option Files → List ℕ → ℕ → ℕ → Option Call → Type 0
@@ -168,7 +167,7 @@ Says words old new (BadProgram refusal) = IsBadProgramOfWords words old.files re
 Says words old new (Untyped refusal) = IsUntypableOfWords words old.files refusal
 Says words old new (BadScript refusal) = IsBadScriptOfWords words old.files refusal
 Says words old new (Unopened class answer) = IsUnopenedOfWords words old.files class answer
-Says words old new (Outside path) = FailedOutside words (string_bytes path) old.faults new.faults new.failed
+Says words old new (Outside path) = FailedOutside words old.files (string_bytes path) old.faults new.faults new.failed
 Says words old new (NotPut path) = FailedPutOfWords words old.files new.files (string_bytes path) old.put_faults new.put_faults new.failed
 Says words old new NotBuilt = IsNotBuilt words old.files
 

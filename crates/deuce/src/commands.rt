@@ -15,7 +15,7 @@ use jmodel::NoMemory;
 use std::alloc::Global;
 use std::thread::Threads;
 
-/// Runs a script on the class files of a folder.
+/// Runs a script on the class files under a folder.
 pub fn run_command<R: Threads + Sync, F: Folder>(
     rt: &R,
     alloc: Global,
@@ -41,7 +41,7 @@ pub fn run_command<R: Threads + Sync, F: Folder>(
     }
 }
 
-/// Rewrites the class files of a folder, and puts the new ones under their names into another.
+/// Rewrites the class files under a folder, and puts the new ones under another, at the same paths.
 pub fn rewrite_command<F: Folder>(
     alloc: Global,
     folder: &mut F,
@@ -83,7 +83,6 @@ fn unread(end: InputEnd) -> Result<Outcome, NoMemory>
         InputEnd::Outside(path) => Ok(Outcome::Outside(path)),
         InputEnd::BadClass { path, refusal } => Ok(Outcome::BadClass { path, refusal }),
         InputEnd::Refused(refusal) => Ok(Outcome::BadProgram(refusal)),
-        InputEnd::NotBuilt => Ok(Outcome::NotBuilt),
         InputEnd::NoMemory => Err(NoMemory),
     }
 }

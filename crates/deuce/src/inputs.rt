@@ -1,15 +1,16 @@
 //! What a command reads from its folder.
-ghost use Rattle.std.specs.Prelude.{◌≡◌, ◌<◌, ◌≤◌, ◌↔◌, ◌^◌, map, string_bytes, Contains, IsTrue, IfOk, IfErr};
+ghost use Rattle.std.specs.Prelude.{◌≡◌, ◌<◌, ◌≤◌, ◌^◌, String, string_bytes, IfOk, IfErr};
+ghost use Rattle.std.specs.declared.alloc.Global.{Global};
 ghost use Rattle.std.specs.List.{All, AllByRecursion};
-ghost use Rattle.deuce_io.specs.Files.{NoRepeats, seen_items};
-ghost use Rattle.deuce.specs.Folder.{IsClassFileName, AreClassNames};
-ghost use Rattle.deuce.specs.Ending.{IsCallOfFolder, IsCallOfRun, IsClassInput, AreClassInputs, AreInputs, names_of, EndsNames, EndsInputs, EndsReads, IsOverLimitAs, IsOutsideAt};
+ghost use Rattle.deuce.specs.Listing.{seen_texts};
+ghost use Rattle.deuce.specs.Ending.{IsRead, IsCallOfFolder, IsCallOfRun, IsClassInput, AreClassInputs, AreInputs, paths_of, EndsInputs, EndsReads, IsOverLimitAs, IsOutsideAt};
 
-use deuce_io::{Folder, IoEnd, Item};
+use crate::listing::class_paths;
+use deuce_io::{Folder, IoEnd};
 use jmodel::{Bytes, Refusal};
 use std::alloc::{AllocError, AllocFailed, Global};
 
-/// The most class files of a folder.
+/// The most class files under a folder.
 const CLASSES_LIMIT: usize = 256;
 
 /// The most bytes of a class file.
@@ -18,16 +19,16 @@ pub const CLASS_LIMIT: usize = 1_048_576;
 /// The most bytes of a script.
 pub const SCRIPT_LIMIT: usize = 16_777_216;
 
-/// A class file of a folder, with at most one byte over its limit.
+/// A class file under a folder, with at most one byte over its limit.
 #[derive(Drop)]
 pub struct ClassInput {
-    /// Its name in the folder.
-    pub name: String,
+    /// Its path from the folder.
+    pub relative: String,
     pub path: String,
     pub bytes: Bytes,
 }
 
-/// The class files, in the order of their names, and the script of a run, each with at most one byte over its limit.
+/// The class files, in the order of their paths, and the script of a run, each with at most one byte over its limit.
 #[derive(Drop)]
 pub struct Inputs {
     pub classes: Vec<ClassInput>,
@@ -41,10 +42,8 @@ pub enum InputEnd {
     Outside(String),
     /// The file at this path is no class file, with the first fault.
     BadClass { path: String, refusal: Refusal },
-    /// There are too many class files, as this says.
+    /// A folder lies too deep, or there are too many class files, as this says.
     Refused(Refusal),
-    /// Something in the folder is a folder.
-    NotBuilt,
     NoMemory,
 }
 
@@ -70,7 +69,7 @@ impl<T: Drop> From<AllocFailed<T>> for InputEnd {
     }
 }
 
-/// Lists the folder, and reads its class files, in the order of their names.
+/// Lists a folder and those under it, and reads the class files in them, in the order of their paths.
 pub fn read_classes<F: Folder>(
     alloc: Global,
     folder: &mut F,
@@ -80,20 +79,16 @@ pub fn read_classes<F: Folder>(
     ensures files_kept { F.files folder.new ≡ F.files folder.old }
     ensures counts { F.faults folder.old ≤ F.faults folder.new }
     ensures put_counts { F.put_faults folder.old ≤ F.put_faults folder.new }
-    ensures cause { IfErr result (EndsInputs (IsCallOfFolder dir.now) (F.files folder.old) dir.now (F.faults folder.old) (F.faults folder.new) (F.failed folder.new)) }
+    ensures cause { IfErr result (EndsInputs (IsCallOfFolder (F.files folder.old) dir.now) (F.files folder.old) dir.now (F.faults folder.old) (F.faults folder.new) (F.failed folder.new)) }
 {
-    let items = match folder.list(dir) {
-        Ok(items) => items,
-        Err(end) => return Err(outside(alloc, end, dir)),
-    };
-    let names = class_names(alloc, &items)?;
-    if names.len() > CLASSES_LIMIT {
-        return Err(too_many(alloc, names.len()));
+    let paths = class_paths(alloc, folder, dir)?;
+    if paths.len() > CLASSES_LIMIT {
+        return Err(over_limit(alloc, b"classes", paths.len()));
     }
-    read_each(alloc, folder, dir, names.as_slice())
+    read_each(alloc, folder, dir, paths.as_slice())
 }
 
-/// Lists the folder, and reads its class files, in the order of their names, and then the script.
+/// Lists a folder and those under it, and reads the class files in them, in the order of their paths, and then the script.
 pub fn read_inputs<F: Folder>(
     alloc: Global,
     folder: &mut F,
@@ -102,7 +97,7 @@ pub fn read_inputs<F: Folder>(
 ) -> Result<Inputs, InputEnd>
     ensures inputs { IfOk result (AreInputs (F.files folder.old) dir.now script.now) }
     ensures files_kept { F.files folder.new ≡ F.files folder.old }
-    ensures cause { IfErr result (EndsInputs (IsCallOfRun dir.now script.now) (F.files folder.old) dir.now (F.faults folder.old) (F.faults folder.new) (F.failed folder.new)) }
+    ensures cause { IfErr result (EndsInputs (IsCallOfRun (F.files folder.old) dir.now script.now) (F.files folder.old) dir.now (F.faults folder.old) (F.faults folder.new) (F.failed folder.new)) }
 {
     let classes = read_classes(alloc, folder, dir)?;
     match folder.read(script, SCRIPT_LIMIT + 1) {
@@ -111,47 +106,47 @@ pub fn read_inputs<F: Folder>(
     }
 }
 
-/// Reads the class files of these names in a folder, one after another.
+/// Reads the class files at these paths from a folder, one after another.
 fn read_each<F: Folder>(
     alloc: Global,
     folder: &mut F,
     dir: &str,
-    names: &[&str],
+    paths: &[String],
 ) -> Result<Vec<ClassInput>, InputEnd>
-    requires { All (λ name. IsClassFileName name.now) names.now }
-    ensures names { IfOk result (λ v. names_of v.items ≡ map (λ name. name.now) names.now) }
+    requires { All (λ (path : String Global). IsRead (F.files folder.old) dir.now (string_bytes path)) paths.now }
+    ensures paths { IfOk result (λ v. paths_of v.items ≡ seen_texts paths.now) }
     ensures inputs { IfOk result (λ v. AllByRecursion (IsClassInput (F.files folder.old) dir.now) v.items) }
     ensures files_kept { F.files folder.new ≡ F.files folder.old }
     ensures counts { F.faults folder.old ≤ F.faults folder.new }
     ensures put_counts { F.put_faults folder.old ≤ F.put_faults folder.new }
-    ensures cause { IfErr result (EndsReads (IsCallOfFolder dir.now) (F.faults folder.old) (F.faults folder.new) (F.failed folder.new)) }
+    ensures cause { IfErr result (EndsReads (IsCallOfFolder (F.files folder.old) dir.now) (F.faults folder.old) (F.faults folder.new) (F.failed folder.new)) }
 {
     let mut inputs = Vec::new(alloc);
-    for name in names {
-        inputs.push(read_class_file(alloc, folder, dir, name)?)?;
+    for relative in paths {
+        inputs.push(read_class_file(alloc, folder, dir, relative.as_str())?)?;
     }
     Ok(inputs)
 }
 
-/// Reads the class file of this name in a folder.
+/// Reads the class file at this path from a folder.
 fn read_class_file<F: Folder>(
     alloc: Global,
     folder: &mut F,
     dir: &str,
-    name: &str,
+    relative: &str,
 ) -> Result<ClassInput, InputEnd>
-    requires { IsClassFileName name.now }
-    ensures name { IfOk result (λ input. string_bytes input.name ≡ name.now) }
+    requires { IsRead (F.files folder.old) dir.now relative.now }
+    ensures relative { IfOk result (λ input. string_bytes input.relative ≡ relative.now) }
     ensures input { IfOk result (IsClassInput (F.files folder.old) dir.now) }
     ensures files_kept { F.files folder.new ≡ F.files folder.old }
     ensures counts { F.faults folder.old ≤ F.faults folder.new }
     ensures put_counts { F.put_faults folder.old ≤ F.put_faults folder.new }
-    ensures cause { IfErr result (EndsReads (IsCallOfFolder dir.now) (F.faults folder.old) (F.faults folder.new) (F.failed folder.new)) }
+    ensures cause { IfErr result (EndsReads (IsCallOfFolder (F.files folder.old) dir.now) (F.faults folder.old) (F.faults folder.new) (F.failed folder.new)) }
 {
-    let path = format!(in alloc; "{dir}/{name}")?;
+    let path = format!(in alloc; "{dir}/{relative}")?;
     match folder.read(path.as_str(), CLASS_LIMIT + 1) {
         Ok(bytes) => Ok(ClassInput {
-            name: String::from_str(alloc, name)?,
+            relative: String::from_str(alloc, relative)?,
             path,
             bytes,
         }),
@@ -160,7 +155,7 @@ fn read_class_file<F: Folder>(
 }
 
 /// The end of a command whose call of the folder at this path ended so.
-fn outside(alloc: Global, end: IoEnd, path: &str) -> InputEnd
+pub fn outside(alloc: Global, end: IoEnd, path: &str) -> InputEnd
     ensures { IsOutsideAt end path.now result }
 {
     match end {
@@ -172,39 +167,13 @@ fn outside(alloc: Global, end: IoEnd, path: &str) -> InputEnd
     }
 }
 
-/// The end of a command over a folder of so many class files.
-fn too_many(alloc: Global, count: usize) -> InputEnd
-    requires { count < 2 ^ 63 }
-    ensures { IsOverLimitAs count result }
+/// The end of a command over a folder that passes this limit by this number.
+pub fn over_limit(alloc: Global, limit: &[u8], number: usize) -> InputEnd
+    requires { number < 2 ^ 63 }
+    ensures { IsOverLimitAs limit.now number result }
 {
-    match Bytes::from_slice(alloc, b"classes") {
-        Ok(limit) => InputEnd::Refused(Refusal::OverLimit(limit, count as i64)),
+    match Bytes::from_slice(alloc, limit) {
+        Ok(limit) => InputEnd::Refused(Refusal::OverLimit(limit, number as i64)),
         Err(_) => InputEnd::NoMemory,
     }
-}
-
-/// The names of the class files among these items, in ascending order. NotBuilt where one of the items is a folder.
-fn class_names<'a>(alloc: Global, items: &'a [Item]) -> Result<Vec<&'a str>, InputEnd>
-    ensures named { IfOk result (λ v. All (λ name. IsClassFileName name.now) v.items) }
-    ensures names { NoRepeats (seen_items items.now) → IfOk result (λ v. AreClassNames (Contains (seen_items items.now)) (map (λ name. name.now) v.items)) }
-    ensures cause { IfErr result (EndsNames (seen_items items.now)) }
-{
-    let mut names = Vec::new(alloc);
-    for item in items {
-        if item.folder {
-            return Err(InputEnd::NotBuilt);
-        }
-        let name = item.name.as_str();
-        if is_class_file(name) {
-            names.push(name)?;
-        }
-    }
-    names.sort()?;
-    Ok(names)
-}
-
-fn is_class_file(name: &str) -> bool
-    ensures { IsTrue result ↔ IsClassFileName name.now }
-{
-    name.as_bytes().ends_with(b".class")
 }

@@ -5,6 +5,7 @@
 mod classes;
 mod commands;
 mod inputs;
+mod listing;
 mod outcome;
 mod print;
 mod putting;

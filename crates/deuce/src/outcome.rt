@@ -27,7 +27,7 @@ pub enum Outcome {
         path: String,
         refusal: Refusal,
     },
-    /// There are too many class files, or their classes have this fault, or their rewriting passes this limit.
+    /// A folder lies too deep, or there are too many class files, or their classes have this fault, or their rewriting passes this limit.
     BadProgram(Refusal),
     /// A method of the classes has no typing.
     Untyped(Refusal),
@@ -42,7 +42,7 @@ pub enum Outcome {
     Outside(String),
     /// The put at this path failed.
     NotPut(String),
-    /// The folder or its classes aren't of the form that is built so far, or a rewritten class would have too many members.
+    /// The classes aren't of the form that is built so far, or a rewritten class would have too many members.
     NotBuilt,
 }
 

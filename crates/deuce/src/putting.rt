@@ -2,7 +2,7 @@
 ghost use Rattle.std.specs.Prelude.{◌≡◌, map, IfOk, IfErr, OnOk};
 ghost use Rattle.std.specs.Option.{option_map};
 ghost use Rattle.deuce.specs.Folder.{with_files, placed_in};
-ghost use Rattle.deuce.specs.Ending.{names_of, seen_files, EndsPuts};
+ghost use Rattle.deuce.specs.Ending.{paths_of, seen_files, EndsPuts};
 
 use crate::inputs::ClassInput;
 use deuce_io::{Folder, IoEnd};
@@ -24,18 +24,18 @@ pub enum PutEnd {
     NoMemory,
 }
 
-/// The new files of class files, each with its bytes: they go into a folder under the names of the class files.
+/// The new files of class files, each with its bytes: they go under a folder, at the paths that the class files have under theirs.
 pub fn new_files(
     alloc: Global,
     out: &str,
     inputs: &[ClassInput],
     news: Vec<Bytes>,
 ) -> Result<Vec<NewFile>, AllocError>
-    ensures { IfOk result (λ v. seen_files v.items ≡ placed_in out.now (names_of inputs.now) news.items) }
+    ensures { IfOk result (λ v. seen_files v.items ≡ placed_in out.now (paths_of inputs.now) news.items) }
 {
     let mut files = Vec::new(alloc);
     for (input, bytes) in inputs.iter().zip(news) {
-        let path = format!(in alloc; "{out}/{name}", name = input.name)?;
+        let path = format!(in alloc; "{out}/{relative}", relative = input.relative)?;
         files.push(NewFile { path, bytes })?;
     }
     Ok(files)

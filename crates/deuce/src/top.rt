@@ -25,15 +25,15 @@ use std::thread::Threads;
 /// | 0 | the journal of the run was written whole; or each rewritten class file was put, and the counts were written whole |
 /// | 2 | the words are none of the forms |
 /// | 3 | a file is no class file; the path of the first and its first fault are printed |
-/// | 4 | there are more than 256 class files, their classes have a fault, or their rewriting passes a limit; that is printed |
+/// | 4 | a folder lies 17 levels down, there are more than 256 class files, their classes have a fault, or their rewriting passes a limit; that is printed |
 /// | 5 | a method of the classes has no typing; the first is printed |
 /// | 6 | the script is none for the classes; the first rule that it breaks is printed |
 /// | 7 | a static initialiser doesn't return; its class and the answer are printed |
 /// | 8 | a list or a read of this command failed |
 /// | 9 | the sink failed; a front of the output was written |
 /// | 10 | memory ran out; nothing was written, or a front of the output |
-/// | 11 | the put of a rewritten class file failed; those before it, in the order of their names, were put |
-/// | 12 | something in the folder is a folder; or the classes aren't of the form that is built so far, or a rewritten class would have too many members |
+/// | 11 | the put of a rewritten class file failed; those before it, in the order of their paths, were put |
+/// | 12 | the classes aren't of the form that is built so far, or a rewritten class would have too many members |
 pub fn deuce<R: Threads + Sync, F: Folder, O: Sink>(
     rt: &R,
     alloc: Global,
@@ -55,12 +55,13 @@ pub fn deuce<R: Threads + Sync, F: Folder, O: Sink>(
         → (classes : ℕ) × (taken : ℕ) × (marked : ℕ) × IsRewritingOf (F.files folder.old) (F.files folder.new) dir to classes taken marked
         × Appends (O.written out.old) (O.written out.new) (counts_text classes taken marked) }
 
-    // This class file is the first, in the order of the names, that isn't good, and has this fault.
+    // This class file is the first, in the order of the paths, that isn't good, and has this fault.
     ensures bad_class { result ≡ 3 → (path : List ℕ) × (refusal : Refusal)
         × IsBadClassOfWords words.now (F.files folder.old) path refusal
         × Appends (O.written out.old) (O.written out.new) (error_text (codes "3") (path and refusal_text refusal)) }
 
-    // There are more class files than 256, as this says; or they are good, and their classes have this fault, or their rewriting passes this limit.
+    // A folder lies 17 levels down, or there are more class files than 256, as this says; or they are good, and their classes have this fault, or their
+    // rewriting passes this limit.
     ensures bad_program { result ≡ 4 → (refusal : Refusal) × IsBadProgramOfWords words.now (F.files folder.old) refusal
         × Appends (O.written out.old) (O.written out.new) (error_text (codes "4") (refusal_text refusal)) }
 
@@ -76,15 +77,14 @@ pub fn deuce<R: Threads + Sync, F: Folder, O: Sink>(
     ensures unopened { result ≡ 7 → (class : List ℕ) × (answer : Answer) × IsUnopenedOfWords words.now (F.files folder.old) class answer
         × Appends (O.written out.old) (O.written out.new) (error_text (codes "7") (class and answer_text answer)) }
 
-    // Something in the folder is a folder; or the class files are good and their classes without a fault, but not of the form, or a rewritten class
-    // would have too many members.
+    // The class files are good and their classes without a fault, but not of the form, or a rewritten class would have too many members.
     ensures not_built { result ≡ 12 → IsNotBuilt words.now (F.files folder.old) }
     ensures not_built_line { result ≡ 12 → Appends (O.written out.old) (O.written out.new) (error_text (codes "12") (codes "NotBuilt")) }
 
     // A fault of the folder is one of this command's calls, and its path is printed; the new files before one whose put failed were put whole. A fault of
     // the sink is the sink's.
     ensures outside { result ≡ 8 → (path : List ℕ)
-        × FailedOutside words.now path (F.faults folder.old) (F.faults folder.new) (F.failed folder.new)
+        × FailedOutside words.now (F.files folder.old) path (F.faults folder.old) (F.faults folder.new) (F.failed folder.new)
         × Appends (O.written out.old) (O.written out.new) (error_text (codes "8") path) }
     ensures not_put { result ≡ 11 → (path : List ℕ)
         × FailedPutOfWords words.now (F.files folder.old) (F.files folder.new) path (F.put_faults folder.old) (F.put_faults folder.new) (F.failed folder.new)

@@ -3,7 +3,7 @@
 #![tactic(auto)]
 
 use deuce::top::deuce;
-use deuce_io::{MemSink, RealFolder};
+use deuce_io::{Folder, IoEnd, MemSink, RealFolder};
 use std::alloc::Global;
 use std::rt::Runtime;
 use std::thread::Threads;
@@ -30,6 +30,33 @@ fn names_in<R: Runtime + AllocGlobal>(
     Ok(names)
 }
 
+/// How many levels of folders under a folder are looked through.
+const LEVELS: usize = 16;
+
+/// The paths from a folder to the files under it, in order.
+fn files_under<F: Folder>(alloc: Global, folder: &mut F, root: &str) -> Result<Vec<String>, IoEnd> {
+    let mut files = Vec::new(alloc);
+    let mut level = Vec::new(alloc);
+    level.push(String::new(alloc))?;
+    for _ in 0..=LEVELS {
+        let mut next = Vec::new(alloc);
+        for front in &level {
+            let dir = format!(in alloc; "{root}/{front}")?;
+            for item in &folder.list(dir.as_str())? {
+                let path = format!(in alloc; "{front}{name}", name = item.name)?;
+                if item.folder {
+                    next.push(format!(in alloc; "{path}/")?)?;
+                } else {
+                    files.push(path)?;
+                }
+            }
+        }
+        level = next;
+    }
+    files.sort()?;
+    Ok(files)
+}
+
 /// Makes the top call of a row, and prints its name, its status, what it wrote, and the files that it put into the row's folder `out`.
 fn print_row<R: Runtime + AllocGlobal + Threads + Sync>(
     rt: &R,
@@ -43,7 +70,7 @@ fn print_row<R: Runtime + AllocGlobal + Threads + Sync>(
     let text = str::from_utf8(out.written.as_slice()).unwrap_or("no text\n");
     print!(rt; "== {name}\nstatus {status}\n{text}")?;
     let put = format!(in alloc; "rows/{name}/out")?;
-    let Ok(files) = names_in(rt, alloc, put.as_str()) else {
+    let Ok(files) = files_under(alloc, &mut folder, put.as_str()) else {
         return Ok(());
     };
     for file in &files {
@@ -67,7 +94,7 @@ fn words_of<R: Runtime + AllocGlobal>(
     Ok(words)
 }
 
-/// Prints the name of a file that a row put, and whether it has the bytes of the same name in the row's folder `wanted`, where there is one.
+/// Prints the path of a file that a row put, and whether it has the bytes of the file at the same path in the row's folder `wanted`, where there is one.
 fn print_put<R: Runtime + AllocGlobal>(
     rt: &R,
     alloc: Global,

@@ -1,6 +1,6 @@
 //! Folders and sinks that fail, and files over their limits.
 use crate::fixture::{COUNTER, ONE_CALL, REWRITE, RUN, THREE_CALLS, call, folder_of, gives};
-use deuce_io::{Folder, IoEnd, MemSink};
+use deuce_io::{Folder, IoEnd, MemFolder, MemSink};
 use std::alloc::Global;
 use std::test::Fail;
 use std::thread::Threads;
@@ -46,6 +46,51 @@ fn a_read_and_a_put_that_fail_are_named(rt: HostRuntime) -> Result<(), Fail> {
             "error 11 o/Counter.class\n"
         )?
     );
+    Ok(())
+}
+
+/// Whether a run over folders in a folder, of which the list of this number fails, names the folder at this path.
+fn list_fails_at<R: Threads + Sync>(
+    rt: &R,
+    alloc: Global,
+    number: u64,
+    path: &str,
+) -> Result<bool, IoEnd> {
+    let mut folder = MemFolder::new(alloc);
+    for file in ["d/a-b/x/F", "d/a/x/F", "d/a/y/F", "s"] {
+        folder.put(file, b"".as_slice())?;
+    }
+    folder.fail_lists.push(number)?;
+    let line = format!(in alloc; "error 8 {path}\n")?;
+    Ok(gives(rt, alloc, RUN, folder, 8, line.as_str())?)
+}
+
+#[test]
+fn folders_are_listed_level_by_level(rt: HostRuntime) -> Result<(), Fail> {
+    for (number, path) in [
+        (1, "d"),
+        (2, "d/a"),
+        (3, "d/a-b"),
+        (4, "d/a/x"),
+        (5, "d/a/y"),
+        (6, "d/a-b/x"),
+    ] {
+        assert!(rt; list_fails_at(&rt, rt.alloc(), number, path)?, "{path}");
+    }
+    Ok(())
+}
+
+#[test]
+fn a_folder_17_levels_down_is_not_listed(rt: HostRuntime) -> Result<(), Fail> {
+    let alloc = rt.alloc();
+    let mut folder = folder_of(alloc, COUNTER.as_slice(), THREE_CALLS)?;
+    folder.put(
+        "d/1/2/3/4/5/6/7/8/9/10/11/12/13/14/15/16/17/F",
+        b"".as_slice(),
+    )?;
+    let (status, written) = call(&rt, alloc, RUN, &mut folder, MemSink::new(alloc, 64))?;
+    assert_eq!(rt; (status, folder.lists), (4, 17));
+    assert!(rt; written.as_slice() == b"error 4 30 OverLimit depth 17\n".as_slice());
     Ok(())
 }
 

@@ -18,7 +18,7 @@ returns-in-Err-clause-outcome g c =
     let new = seen (g.F.Folder.files c.read_classes.new.folder) (g.F.Folder.faults c.read_classes.new.folder) (g.F.Folder.put_faults c.read_classes.new.folder) (g.F.Folder.failed c.read_classes.new.folder) in
     on_ok c.unread.result (IsUnreadAs c.in-Err.end) _
     (λ o is words w. unread words old new c.args.dir.now c.read_classes.ensures.files_kept (c.args.out.now, inr w) IsNotRewritten (λ h. inr (c.args.dir.now, c.args.out.now, w, h))
-    (IsCallOfFolder c.args.dir.now) c.in-Err.end o (λ path failed. (c.args.dir.now, c.args.out.now, inr (w, failed))) c.in-Err.ensures.cause is) c.unread.ensures
+    (IsCallOfFolder (g.F.Folder.files c.args.folder.now) c.args.dir.now) c.in-Err.end o (λ path failed. (c.args.dir.now, c.args.out.now, inr (w, failed))) c.in-Err.ensures.cause is) c.unread.ensures
 
 pub returns-in-Err-classes_of-clause-outcome : goal.returns-in-Err-classes_of-clause-outcome
 returns-in-Err-classes_of-clause-outcome g c =

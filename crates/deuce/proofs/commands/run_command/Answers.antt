@@ -15,7 +15,7 @@ returns-in-Err-clause-outcome g c =
     let new = seen (g.F.Folder.files c.read_inputs.new.folder) (g.F.Folder.faults c.read_inputs.new.folder) (g.F.Folder.put_faults c.read_inputs.new.folder) (g.F.Folder.failed c.read_inputs.new.folder) in
     on_ok c.unread.result (IsUnreadAs c.in-Err.end) _
     (λ o is words w. unread words old new c.args.dir.now c.read_inputs.ensures.files_kept (c.args.script.now, inl w) IsOutsideForm (λ h. inl (c.args.dir.now, c.args.script.now, w, h))
-    (IsCallOfRun c.args.dir.now c.args.script.now) c.in-Err.end o (λ path failed. (c.args.dir.now, c.args.script.now, inl (w, failed))) c.in-Err.ensures.cause is) c.unread.ensures
+    (IsCallOfRun (g.F.Folder.files c.args.folder.now) c.args.dir.now c.args.script.now) c.in-Err.end o (λ path failed. (c.args.dir.now, c.args.script.now, inl (w, failed))) c.in-Err.ensures.cause is) c.unread.ensures
 
 pub returns-in-Err-classes_of-clause-outcome : goal.returns-in-Err-classes_of-clause-outcome
 returns-in-Err-classes_of-clause-outcome g c =

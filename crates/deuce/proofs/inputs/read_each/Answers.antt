@@ -1,22 +1,44 @@
-use Rattle.std.proofs.Common.{◌∙◌, subst, arith}
-use Rattle.std.specs.Prelude.{Option}
+use Rattle.std.proofs.Common.{◌≡◌, ◌∙◌, ap, get_or, sym, subst, arith}
+use Rattle.std.specs.Prelude.{Option, string_bytes}
 use Rattle.deuce_io.specs.Files.{Files}
-use Rattle.deuce.specs.Ending.{IsClassInput}
-use Rattle.deuce.proofs.Listing.{named_more}
-use Rattle.deuce.proofs.Lists.{all_pushed}
+use Rattle.deuce.specs.Ending.{IsClassInput, IsCallOfFolder, IsRead, EndsReads}
+use Rattle.deuce.proofs.Listed.{read_more, reads_as}
+use Rattle.deuce.proofs.Lists.{all_pushed, err_is}
 use Rattle.deuce.proofs.inputs.read_each.Goals as goal
 
-pub loop-name-preserved : goal.loop-name-preserved
-loop-name-preserved g c =
-    let so_far = c.loop-name.invariant in
+pub read_class_file-requires : goal.read_class_file-requires
+read_class_file-requires g c =
+    let dir = c.args.dir.now in
+    let item = c.relative-item.result in
+    let path : string_bytes (get_or c.args.paths.now c.loop-relative.relative-index item) ≡ c.as_str.result.now = ap string_bytes (sym c.relative-item.is) ∙ sym c.as_str.ensures.value in
+    let there = subst (IsRead (g.F.Folder.files c.args.folder.now) dir) path (c.requires c.loop-relative.relative-index item c.loop-relative-test.true) in
+    subst (λ (files : Option Files). IsRead files dir c.as_str.result.now) (sym c.loop-relative.invariant.kept) there
+
+pub loop-relative-preserved : goal.loop-relative-preserved
+loop-relative-preserved g c =
+    let so_far = c.loop-relative.invariant in
     let input = c.in_ok-read_class_file.field-0 in
-    let old = c.loop-name.inputs.items in
+    let old = c.loop-relative.inputs.items in
     let dir = c.args.dir.now in
     let one = subst (λ (files : Option Files). IsClassInput files dir input) so_far.kept c.in_ok-read_class_file.ensures.input in
     record {
-      names_are = named_more c.args.names.now c.loop-name.name-index _ old c.push.new.self.items input c.in_ok-push.ensures.items so_far.names_are c.loop-name-test.true c.in_ok-read_class_file.ensures.name;
+      paths_are = read_more c.args.paths.now c.loop-relative.relative-index c.relative-item.result old c.push.new.self.items input c.in_ok-push.ensures.items so_far.paths_are c.loop-relative-test.true
+          (c.in_ok-read_class_file.ensures.relative ∙ c.as_str.ensures.value ∙ ap string_bytes c.relative-item.is);
       each = rw c.in_ok-push.ensures.items (all_pushed (IsClassInput (g.F.Folder.files c.args.folder.now) dir) old input so_far.each one);
       kept = c.read_class_file.ensures.files_kept ∙ so_far.kept;
       counts = omega (arith, so_far.counts, c.read_class_file.ensures.counts);
       put_counts = omega (arith, so_far.put_counts, c.read_class_file.ensures.put_counts);
     }
+
+pub returns-in_err-read_class_file-clause-cause : goal.returns-in_err-read_class_file-clause-cause
+returns-in_err-read_class_file-clause-cause g c =
+    let dir = c.args.dir.now in
+    let files = g.F.Folder.files c.args.folder.now in
+    let first = g.F.Folder.faults c.args.folder.now in
+    let before = g.F.Folder.faults c.loop-relative.folder in
+    let now = g.F.Folder.faults c.read_class_file.new.folder in
+    let last = g.F.Folder.failed c.read_class_file.new.folder in
+    let end = c.in_err-read_class_file.field-0.0 in
+    err_is c.from_residual.result end (EndsReads (IsCallOfFolder files dir) first now last) c.from_residual.ensures.1
+    (reads_as (IsCallOfFolder (g.F.Folder.files c.loop-relative.folder) dir) (IsCallOfFolder files dir) first before now last c.loop-relative.invariant.counts
+    (λ call asked. subst (λ (f : Option Files). IsCallOfFolder f dir call) c.loop-relative.invariant.kept asked) end c.in_err-read_class_file.ensures.cause)

@@ -7,7 +7,7 @@ use Rattle.std.proofs.lemmas.Iterator.{YieldsList-from_slice, YieldsList-from_zi
 use Rattle.std.proofs.lemmas.Iterator.Adapters.{YieldsList-from_vec}
 use Rattle.std.proofs.lemmas.Iterator.Consumers.{YieldsList-turn, YieldsList-end}
 use Rattle.deuce.specs.Folder.{placed_in}
-use Rattle.deuce.specs.Ending.{names_of, seen_files}
+use Rattle.deuce.specs.Ending.{paths_of, seen_files}
 use Rattle.deuce.proofs.PutFiles.{placed_more, placed_all}
 use Rattle.deuce.proofs.putting.new_files.Goals as goal
 
@@ -20,7 +20,7 @@ loop-input-preserved c =
     let many : into_iter_len (zip_second c.into_iter-input-iterator.result) ≡ length news = first_of (cc, search rules) in
     let turn = YieldsList-turn (YieldsList-from_zip (YieldsList-from_slice inputs first) (YieldsList-from_vec news second many))
     c.loop-input.yielded c.loop-input.input-iterator c.loop-input.yielded_by c.next.result c.next.new.self (c.in-Some.input, c.in-Some.bytes) c.in-Some.is c.next.ensures.steps in
-    let Seen : ℕ → Type 0 = λ n. seen_files c.push.new.self.items ≡ take n (placed_in c.args.out.now (names_of inputs) news) in
+    let Seen : ℕ → Type 0 = λ n. seen_files c.push.new.self.items ≡ take n (placed_in c.args.out.now (paths_of inputs) news) in
     subst Seen (sym (length_push c.loop-input.yielded (c.in-Some.input, c.in-Some.bytes)))
     (placed_more c.args.out.now inputs news (length c.loop-input.yielded) (c.in-Some.input.now, c.in-Some.bytes) c.loop-input.files.items c.push.new.self.items _ turn.0 turn.1
     (ap (λ p. (p, c.in-Some.bytes)) c.in_ok-path.ensures.ok) c.in_ok-push.ensures.items c.loop-input.invariant)

@@ -2,7 +2,7 @@ use Rattle.std.proofs.Common.{take, length, ◌-◌, sym, ◌∙◌}
 use Rattle.std.specs.Prelude.{codes}
 use Rattle.std.proofs.lemmas.Slice.Eq.{ends_is}
 use Rattle.std.proofs.lemmas.Bool.Decides.{Decides-eqb}
-use Rattle.deuce.proofs.inputs.is_class_file.Goals as goal
+use Rattle.deuce.proofs.listing.is_class_file.Goals as goal
 
 pub returns : goal.returns
 returns c =

@@ -1,0 +1,69 @@
+use Rattle.std.proofs.Common.{◌≡◌, ◌<◌, ◌+◌, ◌++◌, ◌∷◌, ◌∙◌, [], ℕ, List, length, take, ap, inl, inr, sym, subst, string_bytes, arith}
+use Rattle.std.proofs.lemmas.List.{length-map, get_or-map, map-append, take_more, take_all}
+use Rattle.deuce_io.specs.Fault.{list_of}
+use Rattle.deuce_io.specs.Files.{inside, StandsIn}
+use Rattle.deuce.specs.Listing.{seen_texts, TakesIn}
+use Rattle.deuce.specs.Ending.{IsCallOfFolder, IsListed, EndsReads}
+use Rattle.deuce.proofs.Levels.{AreTaken, level_more, found_next}
+use Rattle.deuce.proofs.Listed.{reads_as}
+use Rattle.deuce.proofs.Lists.{err_is}
+use Rattle.deuce.proofs.listing.list_level.Goals as goal
+
+pub returns-in_err-folders-clause-cause : goal.returns-in_err-folders-clause-cause
+returns-in_err-folders-clause-cause g c =
+    let dir = c.args.dir.now in
+    let files = g.F.Folder.files c.args.folder.now in
+    let first = g.F.Folder.faults c.args.folder.now in
+    let before = g.F.Folder.faults c.loop-relative.folder in
+    let now = g.F.Folder.faults c.list_folder.new.folder in
+    let last = g.F.Folder.failed c.list_folder.new.folder in
+    let end = c.in_err-folders.field-0.0 in
+    let relative = string_bytes c.relative-item.result in
+    let path : c.as_str.result.now ≡ inside dir relative = c.as_str.ensures.value ∙ c.in_ok-path.ensures.ok in
+    let listed = subst (IsListed files dir) (ap string_bytes (sym c.relative-item.is)) (c.requires c.loop-relative.relative-index c.relative-item.result c.loop-relative-test.true) in
+    err_is c.from_residual-in_err-folders.result end (EndsReads (IsCallOfFolder files dir) first now last) c.from_residual-in_err-folders.ensures.1
+    (reads_as (λ call. call ≡ list_of c.as_str.result.now) (IsCallOfFolder files dir) first before now last c.loop-relative.invariant.counts
+    (λ call is. inr (inl (relative, listed, is ∙ ap list_of path))) end c.in_err-folders.ensures.cause)
+
+pub loop-relative-preserved : goal.loop-relative-preserved
+loop-relative-preserved g c =
+    let so_far = c.loop-relative.invariant in
+    let dir = c.args.dir.now in
+    let i = c.loop-relative.relative-index in
+    let level = c.args.level.now in
+    let relative = string_bytes c.relative-item.result in
+    let old = seen_texts c.args.classes.now.keys in
+    let between = seen_texts c.loop-relative.classes.keys in
+    let new = seen_texts c.list_folder.new.classes.keys in
+    let next = seen_texts c.loop-relative.next.items in
+    let some = seen_texts c.in_ok-folders.folders.items in
+    let more = seen_texts c.append.new.self.items in
+    let path : c.as_str.result.now ≡ inside dir relative = c.as_str.ensures.value ∙ c.in_ok-path.ensures.ok in
+    let front : c.as_str-in-loop-relative.result.now ≡ relative ++ 47 ∷ [] = c.as_str-in-loop-relative.ensures.value ∙ c.in_ok-front.ensures.ok in
+    let less : i < length (seen_texts level) = omega (arith, c.loop-relative-test.true, length-map level string_bytes) in
+    let longer : take (i + 1) (seen_texts level) ≡ take i (seen_texts level) ++ relative ∷ [] =
+    take_more (seen_texts level) i relative less
+    ∙ ap (λ (x : List ℕ). take i (seen_texts level) ++ x ∷ []) (get_or-map string_bytes level i c.relative-item.result relative c.loop-relative-test.true ∙ ap string_bytes (sym c.relative-item.is)) in
+    let joined : more ≡ next ++ some = ap seen_texts c.in_ok-append.ensures.items ∙ map-append string_bytes c.loop-relative.next.items c.in_ok-folders.folders.items in
+    record {
+      taken = λ told is.
+          let found = c.in_ok-folders.ensures.found told (so_far.kept ∙ is) in
+          level_more told dir (take i (seen_texts level)) (take (i + 1) (seen_texts level)) relative old between new next some more longer joined
+          (subst (λ (f : List ℕ). TakesIn (StandsIn told (inside dir relative)) f between new some) front
+          (subst (λ (p : List ℕ). TakesIn (StandsIn told p) c.as_str-in-loop-relative.result.now between new some) path found)) (so_far.taken told is);
+      named = λ all. c.in_ok-folders.ensures.named (so_far.named all);
+      kept = c.list_folder.ensures.files_kept ∙ so_far.kept;
+      counts = omega (arith, so_far.counts, c.list_folder.ensures.counts);
+      put_counts = omega (arith, so_far.put_counts, c.list_folder.ensures.put_counts);
+    }
+
+pub returns-clause-found : goal.returns-clause-found
+returns-clause-found g c = λ told is levels found.
+    let dir = c.args.dir.now in
+    let level = seen_texts c.args.level.now in
+    let i = c.loop-relative.relative-index in
+    let old = seen_texts c.args.classes.now.keys in
+    let new = seen_texts c.loop-relative.classes.keys in
+    let next = seen_texts c.loop-relative.next.items in
+    let all : take i level ≡ level = take_all i level (omega (arith, c.loop-relative-test.false, length-map c.args.level.now string_bytes)) in
+    found_next told dir levels old new level next found (subst (λ (l : List (List ℕ)). AreTaken told dir l old new next) all (c.loop-relative.invariant.taken told is))
