@@ -39,7 +39,8 @@ pub fn class_paths<F: Folder>(
     if !level.is_empty() {
         return Err(over_limit(alloc, b"depth", DEPTH_LIMIT + 1));
     }
-    Ok(classes.into_iter().collect(alloc)?)
+    let paths: Vec<String> = classes.into_iter().collect(alloc)?;
+    Ok(paths)
 }
 
 /// Lists the folders of a level, one after another: adds the class files in them to those that were found, and gives the folders in them, which

@@ -62,12 +62,12 @@ returns-clause-paths g c = λ told is.
     let all : c.levels.counter ≡ 16 = omega (arith, c.levels-test.false, c.levels.auto.counter-end) in
     let end : eqb (vec_len c.levels.level) 0 ≡ true = sym c.is_empty.ensures ∙ c.if-not-is_empty.false in
     let none = is_empty c.levels.level.items (vec_len c.levels.level) c.levels.level.ok.0 end in
-    let given : c.in_ok-collect.field-0.items ≡ c.levels.classes.keys = search rules in
+    let given : c.in_ok-paths.paths.items ≡ c.levels.classes.keys = search rules in
     let found = subst (λ (level : List (String Global)). Listed told dir 16 c.levels.classes.keys level) none
     (subst (λ (n : ℕ). Listed told dir n c.levels.classes.keys c.levels.level.items) all (c.levels.invariant.found told is)) in
     rw given (all_found told dir c.levels.classes.keys found c.into_iter.ensures.into_iter_gives.4)
 
 pub returns-clause-named : goal.returns-clause-named
 returns-clause-named g c =
-    let given : c.in_ok-collect.field-0.items ≡ c.levels.classes.keys = search rules in
+    let given : c.in_ok-paths.paths.items ≡ c.levels.classes.keys = search rules in
     rw given (all_named c.levels.classes.keys c.levels.invariant.named)
