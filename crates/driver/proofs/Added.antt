@@ -3,7 +3,7 @@ use Rattle.std.proofs.Common.{◌≡◌, ◌≤◌, ℕ, List, ◌++◌, length,
 use Rattle.std.specs.Prelude.{IsPermutation}
 use Rattle.std.specs.List.Sorted.{IsSortedBy}
 use Rattle.atomic_table.specs.Seated.{TableId}
-use Rattle.jmodel.specs.Book.{Book}
+use Rattle.tx_table.specs.Book.{Book}
 use Rattle.jmodel.specs.Schedule.{Phase, Lanes}
 use Rattle.tx_table.specs.declared.shared.Pass.{Pass}
 use Rattle.tx_table.specs.Passes.{book}

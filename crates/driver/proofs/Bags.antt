@@ -9,7 +9,7 @@ use Rattle.std.proofs.lemmas.List.Sorted.{All-permutation, length_permutation, I
 use Rattle.claims.specs.Claims.{below}
 use Rattle.jmodel.specs.declared.value.Answer.{Answer}
 use Rattle.jmodel.specs.declared.value.Answer.TheVariants.{NoMemory}
-use Rattle.jmodel.specs.Book.{Book}
+use Rattle.tx_table.specs.Book.{Book}
 use Rattle.jmodel.specs.History.{Call, Entry, Told, told, comes_first}
 use Rattle.jmodel.specs.Schedule.{Known, Lanes, Bag, AreDealt, phase_calls, ascends}
 use Rattle.session.specs.declared.record.Record.{Record}

@@ -5,9 +5,9 @@ use Rattle.std.specs.declared.alloc.AllocError.{AllocError}
 use Rattle.std.proofs.lemmas.List.{length-take-le, take_more, take_all}
 use Rattle.std.proofs.lemmas.Result.{IfOk-at_ok}
 use Rattle.atomic_table.specs.Seated.{TableId}
-use Rattle.jmodel.specs.Book.{Book, Unticked}
+use Rattle.tx_table.specs.Book.{Book, Unticked}
 use Rattle.jmodel.specs.History.{Told}
-use Rattle.jmodel.specs.Plays.{joined}
+use Rattle.tx_table.specs.Plays.{joined}
 use Rattle.jmodel.specs.Schedule.{Known, Phase}
 use Rattle.tx_table.specs.declared.shared.Pass.{Pass}
 use Rattle.tx_table.specs.Passes.{book, IsOf, IsSame}

@@ -28,3 +28,4 @@ pub mod Midway
 pub mod Spending
 pub mod More
 pub mod Rooms
+pub mod Telling

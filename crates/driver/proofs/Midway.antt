@@ -5,7 +5,7 @@ use Rattle.std.specs.Prelude.{Result}
 use Rattle.std.specs.declared.alloc.AllocError.{AllocError}
 use Rattle.std.proofs.lemmas.List.{length-take-le, length-drop, take_more}
 use Rattle.atomic_table.specs.Seated.{TableId}
-use Rattle.jmodel.specs.Book.{Book}
+use Rattle.tx_table.specs.Book.{Book}
 use Rattle.jmodel.specs.History.{Entry}
 use Rattle.jmodel.specs.Schedule.{Known, Phase}
 use Rattle.tx_table.specs.declared.shared.Pass.{Pass}

@@ -15,11 +15,11 @@ use Rattle.jmodel.specs.declared.value.Answer.TheVariants.{NoMemory}
 use Rattle.jmodel.specs.Program.{Program}
 use Rattle.jmodel.specs.State.{State}
 use Rattle.jmodel.specs.History.{Call, Entry, Told, told, used_after, round, first_by, comes_first}
-use Rattle.jmodel.specs.Book.{Book, rises, lookup}
-use Rattle.jmodel.specs.Rule.{Ends, or_zero}
+use Rattle.tx_table.specs.Book.{Book, rises, lookup}
+use Rattle.tx_table.specs.Rule.{Ends, or_zero}
 use Rattle.tx_table.proofs.MapLaws.{ne_cond}
 use Rattle.jmodel.specs.Schedule.{ScriptPhase, AreDealt, AreScriptCalls, MayPrecede, ascends}
-use Rattle.jmodel.proofs.Telling.{told_in_order}
+use Rattle.driver.proofs.Telling.{told_in_order}
 use Rattle.session.specs.Rule.{IsRuled, IsStretch, calls_of, answers_of}
 use Rattle.session.specs.Lane.{record_of}
 use Rattle.driver.specs.declared.journal.Journal.{Journal}

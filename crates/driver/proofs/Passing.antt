@@ -11,9 +11,9 @@ use native.Mathlib.Decide.{ℕ_discrete}
 use mathlib.Core.Option.{Option, some, none}
 use Rattle.atomic_table.specs.Seated.{TableId}
 use Rattle.jmodel.specs.History.{Call, Entry, Told, told}
-use Rattle.jmodel.specs.Book.{Map, Region, Book, In, lookup, only}
-use Rattle.jmodel.specs.Rule.{Story, last_of}
-use Rattle.jmodel.specs.Plays.{used_in, stays_here, goes_out, inverse, joined, first_book, opening_regions}
+use Rattle.tx_table.specs.Book.{Map, Region, Book, In, lookup, only}
+use Rattle.tx_table.specs.Rule.{Story, last_of}
+use Rattle.tx_table.specs.Plays.{used_in, stays_here, goes_out, inverse, joined, first_book, opening_regions}
 use Rattle.jmodel.specs.Schedule.{Known, Phase, lane_calls}
 use Rattle.tx_table.specs.declared.shared.Pass.{Pass}
 use Rattle.tx_table.specs.Passes.{book, IsOf, IsSame}

@@ -11,9 +11,9 @@ use Rattle.std.proofs.lemmas.List.Sorted.{All-permutation, IsPermutation-trans, 
 use Rattle.jmodel.specs.declared.value.Answer.TheVariants.{NoMemory}
 use Rattle.jmodel.specs.declared.value.Answer.{Answer}
 use Rattle.jmodel.specs.History.{Call, Entry, Told, told, round, first_by, comes_first}
-use Rattle.jmodel.specs.Book.{In}
+use Rattle.tx_table.specs.Book.{In}
 use Rattle.jmodel.specs.Schedule.{Known, Phase, Lanes, lane_calls, phase_calls, ascends, is_memory}
-use Rattle.jmodel.proofs.Telling.{history_order, sorted_pairs}
+use Rattle.driver.proofs.Telling.{history_order, sorted_pairs}
 use Rattle.tl2.specs.Standing.{IsBehind}
 use Rattle.session.specs.declared.record.Record.{Record}
 use Rattle.session.specs.Rule.{calls_of}

@@ -8,7 +8,7 @@ use mathlib.Core.Logic.{dite}
 use native.Mathlib.Decide.{ℕ_discrete}
 use Rattle.atomic_table.specs.Seated.{TableId}
 use Rattle.jmodel.specs.History.{Entry, Told, told}
-use Rattle.jmodel.specs.Book.{Book, In, lookup}
+use Rattle.tx_table.specs.Book.{Book, In, lookup}
 use Rattle.jmodel.specs.Schedule.{Known, Phase}
 use Rattle.tx_table.specs.declared.shared.Pass.{Pass}
 use Rattle.tx_table.specs.Passes.{book}

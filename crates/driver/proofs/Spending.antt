@@ -2,7 +2,7 @@
 use Rattle.std.proofs.Common.{◌≡◌, ◌<◌, ◌≤◌, ◌+◌, ◌*◌, ℕ, zero, suc, List, [], ◌∷◌, ◌++◌, length, get_or, take, map, sym, ap, ◌∙◌, refl, arith}
 use Rattle.std.proofs.lemmas.List.{length-append}
 use Rattle.jmodel.specs.Schedule.{Phase, ScriptPhase, lists_in, lane_calls, phase_calls, script_calls}
-use Rattle.jmodel.specs.Book.{Book}
+use Rattle.tx_table.specs.Book.{Book}
 use Rattle.driver.specs.Passing.{call_count, HasRoom}
 use Rattle.driver.proofs.More.{lanes_more}
 use Rattle.driver.proofs.Places.{length_lane}

@@ -6,7 +6,7 @@ use Rattle.jmodel.specs.Program.{Program}
 use Rattle.jmodel.specs.State.{State}
 use Rattle.jmodel.specs.declared.value.Answer.{Answer}
 use Rattle.jmodel.specs.History.{Call, Entry, Words, told, overlaid, memory_after, used_after, used_with, AreEntries}
-use Rattle.jmodel.specs.Book.{In}
+use Rattle.tx_table.specs.Book.{In}
 use Rattle.jmodel.specs.Meaning.{Represents, Explains}
 use Rattle.jmodel.specs.Serial.{Serial}
 use Rattle.jmodel.proofs.SerialProof.{serial_of}

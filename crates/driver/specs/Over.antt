@@ -2,7 +2,7 @@
 use Rattle.std.specs.Prelude.{◌≡◌, ◌≤◌, ◌<◌, ◌+◌, ◌*◌, ℕ, suc, List, ◌++◌, map, All, AllPairs, IsPermutation, filter, true, false}
 use Rattle.std.specs.List.{AllByRecursion, flat_map}
 use Rattle.jmodel.specs.declared.value.Answer.TheVariants.{NoMemory}
-use Rattle.jmodel.specs.Book.{Book, In}
+use Rattle.tx_table.specs.Book.{Book, In}
 use Rattle.jmodel.specs.History.{Call, Entry, Told, told, comes_first}
 use Rattle.jmodel.specs.Schedule.{Phase, ScriptPhase, AreDealt, ascends}
 use Rattle.tl2.specs.Standing.{IsBehind}

@@ -4,8 +4,8 @@ use mathlib.Core.Option.{none}
 use Rattle.std.specs.declared.alloc.AllocError.{AllocError}
 use Rattle.atomic_table.specs.Seated.{TableId}
 use Rattle.jmodel.specs.History.{Entry}
-use Rattle.jmodel.specs.Book.{Book, In, lookup}
-use Rattle.jmodel.specs.Plays.{used_in}
+use Rattle.tx_table.specs.Book.{Book, In, lookup}
+use Rattle.tx_table.specs.Plays.{used_in}
 use Rattle.jmodel.specs.Schedule.{Known, Phase}
 use Rattle.tx_table.specs.declared.shared.Pass.{Pass}
 use Rattle.tx_table.specs.Passes.{book}

@@ -1,8 +1,8 @@
 -- What a table of shared words is opened for, for the lanes of a run.
 use Rattle.std.specs.Prelude.{ℕ, zero, suc, List, [], ◌∷◌, Bool, nat_eq}
 use Rattle.jmodel.specs.History.{Entry}
-use Rattle.jmodel.specs.Book.{Map}
-use Rattle.jmodel.specs.Rule.{Story}
+use Rattle.tx_table.specs.Book.{Map}
+use Rattle.tx_table.specs.Rule.{Story}
 
 -- the regions of the first n lanes, of which no word is used
 abbrev pub lane_regions : ℕ → Map ℕ

@@ -2,7 +2,7 @@
 ghost use Rattle.std.specs.Prelude.{◌≡◌, ◌≤◌, ◌<◌, ℕ, suc, List, ◌∷◌, [], length, IfOk, OnOk, All, count_by, nat_lt};
 ghost use Rattle.std.specs.List.{AllByRecursion};
 ghost use Rattle.atomic_table.specs.Seated.{TableId};
-ghost use Rattle.jmodel.specs.Book.{Book};
+ghost use Rattle.tx_table.specs.Book.{Book};
 ghost use Rattle.jmodel.specs.History.{Entry};
 ghost use Rattle.jmodel.specs.Schedule.{Known as Form, Lanes as ALanes, Bag as ABag, lists_in};
 ghost use Rattle.tx_table.specs.declared.shared.Pass.{Pass as APass};

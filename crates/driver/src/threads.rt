@@ -2,7 +2,7 @@
 ghost use Rattle.std.specs.Prelude.{◌≡◌, ◌≤◌, ◌<◌, ℕ, List, [], length, slice_index_or, IfOk};
 ghost use Rattle.std.specs.List.{AllByRecursion};
 ghost use Rattle.jmodel.specs.History.{Entry};
-ghost use Rattle.jmodel.specs.Book.{Book};
+ghost use Rattle.tx_table.specs.Book.{Book};
 ghost use Rattle.jmodel.specs.Schedule.{Known as Form, Phase};
 ghost use Rattle.tx_table.specs.Passes.{book};
 ghost use Rattle.session.specs.Rule.{IsRuled, IsReady, IsCallOf};

@@ -1,6 +1,6 @@
 //! Reads over a table of shared words.
 ghost use Rattle.std.specs.Prelude.{◌≡◌, ◌<◌, []};
-ghost use Rattle.jmodel.specs.Book.{Unticked};
+ghost use Rattle.tx_table.specs.Book.{Unticked};
 ghost use Rattle.tx_table.specs.Passes.{book, IsOf};
 
 use jmodel::NoMemory;

@@ -47,4 +47,3 @@ pub mod AccessorTypes
 pub mod WrapperTypes
 pub mod DuplicateTypes
 pub mod TypedRewriting
-pub mod Telling

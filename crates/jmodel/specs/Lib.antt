@@ -49,9 +49,6 @@ pub mod Linking
 pub mod ClassesLinking
 pub mod ClassesLaw
 pub mod PoolAdding
-pub mod Book
-pub mod Rule
-pub mod Plays
 pub mod Annotation
 pub mod AnnotationRules
 pub mod AnnotationReading

@@ -10,7 +10,7 @@ use Rattle.jmodel.specs.declared.value.Value.{Value}
 use Rattle.jmodel.specs.Program.{Method, Program}
 use Rattle.jmodel.specs.Attempt.{Log, Bounds, Meter, Ended, Stuck, run_start, Comes, Runs, count_of}
 use Rattle.jmodel.specs.History.{Call, Entry, Told}
-use Rattle.jmodel.specs.Book.{IsOfLane}
+use Rattle.tx_table.specs.Book.{IsOfLane}
 use Rattle.jmodel.specs.Engine.{made}
 use Rattle.jmodel.specs.ClassesLaw.{MayAttempt}
 use Rattle.jmodel.specs.Schedule.{Known, takes, is_memory}

@@ -12,8 +12,8 @@ use Rattle.atomic_table.specs.Seated.{TableId}
 use Rattle.jmodel.specs.Attempt.{Log}
 use Rattle.jmodel.specs.History.{Call, Entry, Told, round, used_after}
 use Rattle.jmodel.specs.Schedule.{Known, call_at, is_memory}
-use Rattle.jmodel.specs.Book.{Book, Lost, Region, Unticked, In, lookup, rises}
-use Rattle.jmodel.specs.Rule.{Succeeds, last_of}
+use Rattle.tx_table.specs.Book.{Book, Lost, Region, Unticked, In, lookup, rises}
+use Rattle.tx_table.specs.Rule.{Succeeds, last_of}
 use Rattle.jmodel.specs.declared.op.Access.{Access}
 use Rattle.machine.specs.declared.room.Room.{Room}
 use Rattle.tx_table.specs.declared.shared.Pass.{Pass}

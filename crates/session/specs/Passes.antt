@@ -4,8 +4,8 @@ use mathlib.Core.Option.{Option, some}
 use Rattle.atomic_table.specs.Seated.{TableId}
 use Rattle.jmodel.specs.History.{Call, Entry}
 use Rattle.jmodel.specs.Schedule.{Known, call_at}
-use Rattle.jmodel.specs.Book.{Book, Unticked, lookup}
-use Rattle.jmodel.specs.Rule.{Succeeds}
+use Rattle.tx_table.specs.Book.{Book, Unticked, lookup}
+use Rattle.tx_table.specs.Rule.{Succeeds}
 use Rattle.tx_table.specs.declared.shared.Pass.{Pass}
 use Rattle.tx_table.specs.Passes.{book, IsOf}
 use Rattle.tl2.specs.Standing.{IsSince}

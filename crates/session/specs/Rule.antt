@@ -7,7 +7,7 @@ use Rattle.jmodel.specs.Program.{Program, method_at}
 use Rattle.jmodel.specs.State.{State}
 use Rattle.jmodel.specs.declared.value.Answer.{Answer}
 use Rattle.jmodel.specs.History.{Call, Entry, Told, leaves_words}
-use Rattle.jmodel.specs.Book.{IsOfLane}
+use Rattle.tx_table.specs.Book.{IsOfLane}
 use Rattle.jmodel.specs.Meaning.{Represents, Explains}
 use Rattle.jmodel.specs.Rewriting.{rewritten}
 use Rattle.jmodel.specs.Serial.{Serial}

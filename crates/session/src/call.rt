@@ -1,7 +1,7 @@
 //! One call, as a transaction over an engine.
 ghost use Rattle.std.specs.Prelude.{◌≡◌, ◌≤◌, ◌<◌, ◌+◌, ◌*◌, ◌^◌, ℕ, List, []};
 ghost use Rattle.jmodel.specs.History.{Entry};
-ghost use Rattle.jmodel.specs.Book.{IsOfLane};
+ghost use Rattle.tx_table.specs.Book.{IsOfLane};
 ghost use Rattle.session.specs.Rule.{IsRuled, IsReady, IsCallOf};
 ghost use Rattle.session.specs.Lane.{record_of};
 ghost use Rattle.session.specs.Adds.{call_of, told_by, AddsCall};

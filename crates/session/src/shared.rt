@@ -3,7 +3,7 @@ ghost use Rattle.std.specs.Prelude.{◌≡◌, ◌≢◌, ◌≤◌, ◌<◌, �
 ghost use Rattle.std.specs.List.{AllByRecursion};
 ghost use Rattle.atomic_table.specs.Seated.{TableId};
 ghost use Rattle.jmodel.specs.History.{Entry};
-ghost use Rattle.jmodel.specs.Book.{Book};
+ghost use Rattle.tx_table.specs.Book.{Book};
 ghost use Rattle.tx_table.specs.Passes.{book};
 ghost use Rattle.session.specs.Rule.{IsRuled, IsReady, IsCallOf};
 ghost use Rattle.session.specs.Lane.{HasMade};
@@ -51,7 +51,7 @@ pub fn make_shared<T: Ruled>(
 /// Which table a pass is of, and its book as its calls began. A caller picks them for its proof.
 pub(crate) trait Beginning {
     ghost use Rattle.atomic_table.specs.Seated.{TableId};
-    ghost use Rattle.jmodel.specs.Book.{Book};
+    ghost use Rattle.tx_table.specs.Book.{Book};
 
     ghost began: { TableId → Book → Type 0 };
 }

@@ -10,9 +10,9 @@ use Rattle.jmodel.specs.declared.value.Stamp.{Stamp}
 use Rattle.jmodel.specs.Attempt.{Log}
 use Rattle.jmodel.specs.History.{Call, Entry, leaves_words}
 use Rattle.jmodel.specs.Engine.{made}
-use Rattle.jmodel.specs.Book.{Map, Book, Lost, Region, lookup, pairs}
-use Rattle.jmodel.specs.Rule.{Story, Succeeds}
-use Rattle.jmodel.specs.Plays.{accesses, reader_entry, used_in, finished, region_of, Fits, Reads}
+use Rattle.tx_table.specs.Book.{Map, Book, Lost, Region, lookup, pairs}
+use Rattle.tx_table.specs.Rule.{Story, Succeeds}
+use Rattle.tx_table.specs.Plays.{accesses, reader_entry, used_in, finished, region_of, Fits, Reads}
 use Rattle.tx_core.specs.Engine.{IsAllowed, Adds}
 use Rattle.tx_table.specs.declared.shared.Pass.{Pass}
 use Rattle.tx_table.specs.Passes.{book, IsSame}

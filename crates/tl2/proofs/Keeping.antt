@@ -3,9 +3,9 @@ use Rattle.std.proofs.Common.{◌≡◌, ◌≤◌, ◌==◌, ℕ, Bool, true, f
 use mathlib.Core.Option.{some}
 use Rattle.atomic_table.specs.Seated.{TableId}
 use Rattle.jmodel.specs.History.{Entry}
-use Rattle.jmodel.specs.Book.{Book, Map, Region, In, lookup}
-use Rattle.jmodel.specs.Rule.{last_of}
-use Rattle.jmodel.specs.Plays.{region_of}
+use Rattle.tx_table.specs.Book.{Book, Map, Region, In, lookup}
+use Rattle.tx_table.specs.Rule.{last_of}
+use Rattle.tx_table.specs.Plays.{region_of}
 use Rattle.tx_table.specs.declared.shared.Pass.{Pass}
 use Rattle.tx_table.specs.Passes.{book, IsSame}
 use Rattle.tl2.specs.Standing.{IsBehind, Keeps, region_since}

@@ -5,7 +5,7 @@ use mathlib.Core.Logic.{dite}
 use native.Mathlib.Decide.{ℕ_discrete}
 use Rattle.jmodel.specs.declared.op.Access.{Access}
 use Rattle.jmodel.specs.Attempt.{Log}
-use Rattle.jmodel.specs.Book.{Map, Has, In, lookup, pairs, without}
+use Rattle.tx_table.specs.Book.{Map, Has, In, lookup, pairs, without}
 use Rattle.tx_table.proofs.MapLaws.{eq_cond, lookup_here, lookup_else, lookup_put, lookup_gone, lookup_kept}
 use Rattle.tl2.specs.Plans.{AreApart, IsListed}
 

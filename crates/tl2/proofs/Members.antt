@@ -2,8 +2,8 @@
 use Rattle.std.proofs.Common.{◌≡◌, ◌⊎◌, ◌||◌, ◌==◌, ◌%◌, ℕ, Bool, true, cond, List, [], ◌∷◌, ◌++◌, All, filter, length, reverse, slice_index, zero, suc, ◌<◌, refl, sym, ap, ◌∙◌, inl, inr, ⊎_elim, subst, eq-eqb, arith}
 use Rattle.std.proofs.lemmas.List.{reverse-append, reverse-reverse}
 use Rattle.std.proofs.lemmas.List.Elements.{All-nil, All-cons, All-head, All-tail}
-use Rattle.jmodel.specs.Book.{Map, In}
-use Rattle.jmodel.specs.Plays.{keys}
+use Rattle.tx_table.specs.Book.{Map, In}
+use Rattle.tx_table.specs.Plays.{keys}
 use Rattle.tl2.specs.Plans.{touches}
 use Rattle.tl2.proofs.Keys.{by_bool}
 

@@ -4,7 +4,7 @@ use mathlib.Core.Option.{Option, none, some}
 use Rattle.std.specs.Ordering.{nat_cmp}
 use Rattle.std.specs.BTreeMap.{is_at}
 use Rattle.jmodel.specs.declared.op.Access.{Access}
-use Rattle.jmodel.specs.Book.{Map, Has, lookup}
+use Rattle.tx_table.specs.Book.{Map, Has, lookup}
 use Rattle.tx_table.proofs.MapLaws.{lookup_here, lookup_else}
 use Rattle.tl2.proofs.Keys.{at_same, at_here, by_bool}
 use Rattle.tl2.proofs.Listed.{lookup_found, lookup_missed}

@@ -15,7 +15,7 @@ use Rattle.std.proofs.lemmas.Map.Keys.{IsStrictlyIncreasing-from_sorted}
 use Rattle.std.proofs.lemmas.Map.Views.{All-found}
 use Rattle.jmodel.specs.declared.op.Access.{Access}
 use Rattle.jmodel.specs.Attempt.{Log}
-use Rattle.jmodel.specs.Book.{Map, Has, pairs}
+use Rattle.tx_table.specs.Book.{Map, Has, pairs}
 use Rattle.tx_table.proofs.MapLaws.{lookup_here}
 use Rattle.tl2.specs.declared.plan.Stripe.{Stripe}
 use Rattle.tl2.specs.Plans.{addresses_of, marked, number_of, touches, IsListed, IsPlan, IsWritten}

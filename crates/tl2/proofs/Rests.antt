@@ -4,8 +4,8 @@ use Rattle.std.specs.Result.{IsErrAnd}
 use Rattle.std.proofs.Common.{◌≡◌, ◌≢◌, ◌⊎◌, Result, Ok, Err, ℕ, Bool, true, List, [], ◌∷◌, refl, sym, ap, ◌∙◌, inl, inr, arith}
 use mathlib.Core.Option.{some, some-ne-none}
 use Rattle.tx_core.specs.declared.engine.Conflict.{Conflict}
-use Rattle.jmodel.specs.Book.{Book, Lost, Map, Unticked, Decided, lookup, without}
-use Rattle.jmodel.specs.Plays.{gave_up, took, lost_at, released, stage_of, used_in}
+use Rattle.tx_table.specs.Book.{Book, Lost, Map, Unticked, Decided, lookup, without}
+use Rattle.tx_table.specs.Plays.{gave_up, took, lost_at, released, stage_of, used_in}
 use Rattle.tl2.specs.Commits.{IsRest, IsTaking, IsReleasing}
 use Rattle.tl2.specs.Conflicts.{lost_to}
 

@@ -6,8 +6,8 @@ use Rattle.atomic_table.specs.Seated.{TableId}
 use Rattle.jmodel.specs.declared.op.Access.{Access}
 use Rattle.jmodel.specs.Attempt.{Log, access, answered, recorded, written}
 use Rattle.jmodel.specs.History.{Call, Entry}
-use Rattle.jmodel.specs.Book.{Book, Look, Had, pairs}
-use Rattle.jmodel.specs.Plays.{begun, lost_at, loaded_at, logged, value_in}
+use Rattle.tx_table.specs.Book.{Book, Look, Had, pairs}
+use Rattle.tx_table.specs.Plays.{begun, lost_at, loaded_at, logged, value_in}
 use Rattle.tx_table.specs.declared.shared.Pass.{Pass}
 use Rattle.tx_table.specs.Passes.{book, IsSame}
 use Rattle.tl2.specs.declared.attempt.At.{At}

@@ -6,7 +6,7 @@ use Rattle.std.proofs.lemmas.List.{drop_more, take_more_set, map_push, map-set, 
 use Rattle.std.proofs.lemmas.List.Elements.{All-head, All-tail, All-more, All-weaker, All-get_or, All-from_get_or}
 use Rattle.std.proofs.lemmas.List.Kept.{AllPairs-from_increasing}
 use Rattle.jmodel.specs.Attempt.{access}
-use Rattle.jmodel.specs.Book.{Book, Map, Has, In, lookup, pairs}
+use Rattle.tx_table.specs.Book.{Book, Map, Has, In, lookup, pairs}
 use Rattle.tx_table.proofs.MapLaws.{lookup_put, lookup_else}
 use Rattle.tl2.specs.declared.plan.Stripe.{Stripe}
 use Rattle.tl2.specs.Commits.{IsChecked}

@@ -3,8 +3,8 @@ use Rattle.std.proofs.Common.{◌≡◌, ◌≢◌, ◌<◌, ◌==◌, ℕ, zero
 use mathlib.Core.Logic.{dite}
 use native.Mathlib.Decide.{ℕ_discrete}
 use mathlib.Core.Option.{Option, none, some}
-use Rattle.jmodel.specs.Book.{Map, Book, Region, lookup, only}
-use Rattle.jmodel.specs.Plays.{opening_regions, stays_here, goes_out, inverse}
+use Rattle.tx_table.specs.Book.{Map, Book, Region, lookup, only}
+use Rattle.tx_table.specs.Plays.{opening_regions, stays_here, goes_out, inverse}
 use Rattle.tx_table.specs.Trials.{the_call, Before}
 use Rattle.jmodel.specs.History.{Call}
 use Rattle.tx_table.proofs.MapLaws.{lookup_here, eq_cond, ne_cond}

@@ -8,9 +8,9 @@ use Rattle.jmodel.specs.declared.value.Answer.{Answer}
 use Rattle.jmodel.specs.Attempt.{Log}
 use Rattle.jmodel.specs.History.{Call, Entry}
 use Rattle.tx_core.specs.declared.engine.Conflict.{Conflict}
-use Rattle.jmodel.specs.Book.{Map, Book, Region, Unticked, Ticked, Has, In, lookup, pairs}
-use Rattle.jmodel.specs.Rule.{Story}
-use Rattle.jmodel.specs.Plays.{accesses, keys, ticked_up, lost_at, update_entry, used_in, region_of, Fits, Updates}
+use Rattle.tx_table.specs.Book.{Map, Book, Region, Unticked, Ticked, Has, In, lookup, pairs}
+use Rattle.tx_table.specs.Rule.{Story}
+use Rattle.tx_table.specs.Plays.{accesses, keys, ticked_up, lost_at, update_entry, used_in, region_of, Fits, Updates}
 use Rattle.tx_table.proofs.MapLaws.{lookup_here}
 use Rattle.tl2.specs.declared.plan.Stripe.{Stripe}
 use Rattle.tl2.specs.Commits.{Holds, IsChecked, IsRest, IsTaking, IsAdded, stored, update_of}

@@ -12,8 +12,8 @@ use Rattle.atomic_table.specs.Seated.{TableId}
 use Rattle.jmodel.specs.declared.op.Access.{Access}
 use Rattle.jmodel.specs.Attempt.{Log}
 use Rattle.jmodel.specs.History.{Call, Entry, round, first_by, used_after}
-use Rattle.jmodel.specs.Book.{Book, Region, lookup, rises, IsOfLane}
-use Rattle.jmodel.specs.Rule.{Succeeds, last_of, region_after}
+use Rattle.tx_table.specs.Book.{Book, Region, lookup, rises, IsOfLane}
+use Rattle.tx_table.specs.Rule.{Succeeds, last_of, region_after}
 use Rattle.tx_table.specs.declared.shared.Pass.{Pass}
 use Rattle.tx_table.specs.Passes.{book}
 use Rattle.tx_table.proofs.MapLaws.{eq_cond, ne_cond}

@@ -3,8 +3,8 @@ use Rattle.std.specs.Prelude.{◌≡◌, ◌≢◌, ◌⊎◌, ◌≤◌, ◌+�
 use Rattle.jmodel.specs.declared.value.Answer.{Answer}
 use Rattle.jmodel.specs.Attempt.{Log}
 use Rattle.jmodel.specs.History.{Entry}
-use Rattle.jmodel.specs.Book.{Book, Lost, Map, Unticked, Decided, Away, In, lookup}
-use Rattle.jmodel.specs.Plays.{accesses, region_of, used_in}
+use Rattle.tx_table.specs.Book.{Book, Lost, Map, Unticked, Decided, Away, In, lookup}
+use Rattle.tx_table.specs.Plays.{accesses, region_of, used_in}
 use Rattle.tl2.specs.declared.plan.Stripe.{Stripe}
 use Rattle.tl2.specs.Plans.{words_of, IsListed}
 

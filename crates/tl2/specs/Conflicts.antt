@@ -1,8 +1,8 @@
 -- The conflicts of an attempt.
 use Rattle.std.specs.Prelude.{◌≡◌, ◌≢◌, ◌+◌, ◌*◌, ◌∷◌}
 use Rattle.tx_core.specs.declared.engine.Conflict.{Conflict}
-use Rattle.jmodel.specs.Book.{Book, Lost, lookup}
-use Rattle.jmodel.specs.Plays.{used_in}
+use Rattle.tx_table.specs.Book.{Book, Lost, lookup}
+use Rattle.tx_table.specs.Plays.{used_in}
 use Rattle.tx_table.specs.Steps.{IsPast}
 
 -- what a book keeps of a conflict that its attempt met

@@ -1,7 +1,7 @@
 -- The addresses that an engine keeps.
 use Rattle.std.specs.Prelude.{◌≡◌, ◌≢◌, ◌<◌, ℕ, List, All, reverse}
-use Rattle.jmodel.specs.Book.{Book}
-use Rattle.jmodel.specs.Plays.{keys}
+use Rattle.tx_table.specs.Book.{Book}
+use Rattle.tx_table.specs.Plays.{keys}
 use Rattle.tl2.specs.declared.attempt.At.{At}
 use Rattle.tl2.specs.declared.attempt.At.TheVariants.{Outside}
 

@@ -5,8 +5,8 @@ use Rattle.atomic_table.specs.Seated.{TableId}
 use Rattle.jmodel.specs.declared.op.Access.{Access}
 use Rattle.jmodel.specs.Attempt.{Log, access, written}
 use Rattle.jmodel.specs.History.{Call, Entry}
-use Rattle.jmodel.specs.Book.{Book, Region, Saw, Had, In, lookup, pairs, rises, IsOfLane}
-use Rattle.jmodel.specs.Rule.{Succeeds, last_of}
+use Rattle.tx_table.specs.Book.{Book, Region, Saw, Had, In, lookup, pairs, rises, IsOfLane}
+use Rattle.tx_table.specs.Rule.{Succeeds, last_of}
 use Rattle.tx_table.specs.declared.shared.Pass.{Pass}
 use Rattle.tx_table.specs.Passes.{book}
 use Rattle.tl2.specs.declared.attempt.At.{At}

@@ -5,7 +5,7 @@ use Rattle.jmodel.specs.declared.op.Access.{Access}
 use Rattle.jmodel.specs.Attempt.{Log}
 use Rattle.jmodel.specs.History.{Entry}
 use Rattle.atomic_table.specs.Seated.{TableId}
-use Rattle.jmodel.specs.Book.{Map, Book, Region, Unticked, lookup}
+use Rattle.tx_table.specs.Book.{Map, Book, Region, Unticked, lookup}
 use Rattle.tx_table.specs.declared.shared.Pass.{Pass}
 use Rattle.tx_table.specs.Passes.{book, IsOf}
 use Rattle.tx_table.specs.Trials.{Before}

@@ -2,7 +2,7 @@
 ghost use Rattle.std.specs.Prelude.{◌≡◌, ℕ, List, [], length, reverse};
 ghost use Rattle.jmodel.specs.Attempt.{Log};
 ghost use Rattle.jmodel.specs.History.{Entry};
-ghost use Rattle.jmodel.specs.Book.{Unticked};
+ghost use Rattle.tx_table.specs.Book.{Unticked};
 ghost use Rattle.tx_table.specs.Passes.{book, IsOf};
 ghost use Rattle.tl2.specs.Logs.{IsLogged};
 
@@ -26,7 +26,7 @@ pub trait Ruled: Story {
 pub trait Calling {
     ghost use Rattle.atomic_table.specs.Seated.{TableId};
     ghost use Rattle.jmodel.specs.History.{Call};
-    ghost use Rattle.jmodel.specs.Book.{Book};
+    ghost use Rattle.tx_table.specs.Book.{Book};
 
     ghost call: { Self → Call };
 

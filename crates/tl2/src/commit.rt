@@ -2,8 +2,8 @@
 ghost use Rattle.std.specs.Prelude.{◌≡◌, ◌≢◌, ◌<◌, ◌+◌, ◌*◌, ◌%◌, ◌^◌, [], ◌∷◌, ℕ, List, true, All, map, IfOk, IfErr, IsOk};
 ghost use Rattle.std.specs.List.Sorted.{IsStrictlyIncreasing};
 ghost use mathlib.Core.Option.{some as Found, none as Missing};
-ghost use Rattle.jmodel.specs.Book.{Unticked, Decided, In, lookup};
-ghost use Rattle.jmodel.specs.Plays.{lost_at, took};
+ghost use Rattle.tx_table.specs.Book.{Unticked, Decided, In, lookup};
+ghost use Rattle.tx_table.specs.Plays.{lost_at, took};
 ghost use Rattle.tx_table.specs.Passes.{book, IsOf, IsSame};
 ghost use Rattle.tx_table.specs.Steps.{IsPast};
 ghost use Rattle.tl2.specs.Conflicts.{lost_to};

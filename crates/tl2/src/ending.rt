@@ -3,7 +3,7 @@ ghost use Rattle.std.specs.Prelude.{◌≡◌, ◌⊎◌, reverse, ◌<◌, ◌�
 ghost use mathlib.Core.Option.{some as Found};
 ghost use Rattle.jmodel.specs.Attempt.{Log};
 ghost use Rattle.jmodel.specs.History.{Call, Entry};
-ghost use Rattle.jmodel.specs.Book.{Has, In, pairs};
+ghost use Rattle.tx_table.specs.Book.{Has, In, pairs};
 ghost use Rattle.tx_core.specs.Engine.{raised, Adds, MayEnd, IsOfWrites};
 ghost use Rattle.tx_table.specs.Passes.{book, IsSame};
 ghost use Rattle.tl2.specs.Conflicts.{Meets};

@@ -2,7 +2,7 @@
 ghost use Rattle.std.specs.Prelude.{◌≡◌, ◌%◌, ℕ, filter, is_none, option_map, reverse, IfOk, OnOk};
 ghost use Rattle.std.specs.Ordering.{nat_cmp};
 ghost use Rattle.std.specs.BTreeMap.{get};
-ghost use Rattle.jmodel.specs.Book.{pairs};
+ghost use Rattle.tx_table.specs.Book.{pairs};
 ghost use Rattle.tl2.specs.Plans.{marked, number_of, IsListed, IsPlan, IsWritten};
 
 use jmodel::NoMemory;

@@ -2,10 +2,10 @@
 ghost use Rattle.std.specs.Prelude.{◌≡◌, ◌≢◌, ◌⊎◌, ◌<◌, ◌≤◌, ◌+◌, ◌*◌, ◌%◌, ◌∷◌, ◌++◌, ◌^◌, [], ℕ, List, None, true, reverse, MatchResult, IfOk, IfErr, IsOk};
 ghost use mathlib.Core.Option.{some as Found};
 ghost use Rattle.jmodel.specs.Attempt.{Log, access, answered, recorded, written};
-ghost use Rattle.jmodel.specs.Book.{Unticked};
+ghost use Rattle.tx_table.specs.Book.{Unticked};
 ghost use Rattle.jmodel.specs.History.{Call, Entry};
-ghost use Rattle.jmodel.specs.Plays.{begun, finished, Reads};
-ghost use Rattle.jmodel.specs.Rule.{Snapshot as Learns};
+ghost use Rattle.tx_table.specs.Plays.{begun, finished, Reads};
+ghost use Rattle.tx_table.specs.Rule.{Snapshot as Learns};
 ghost use Rattle.tx_core.specs.Engine.{raised, Adds, MayEnd, IsOfWrites};
 ghost use Rattle.tx_table.specs.Passes.{book, IsOf, IsSame, IsKin};
 ghost use Rattle.tl2.specs.Conflicts.{Meets};

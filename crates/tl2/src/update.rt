@@ -2,8 +2,8 @@
 ghost use Rattle.std.specs.Prelude.{◌≡◌, ◌≢◌, ◌⊎◌, ◌<◌, ◌≤◌, ◌+◌, ◌*◌, ◌%◌, ◌^◌, [], ℕ, true, All, reverse, IfOk, IfErr, IsOk, ◌∷◌};
 ghost use mathlib.Core.Option.{some as Found};
 ghost use Rattle.jmodel.specs.History.{Entry};
-ghost use Rattle.jmodel.specs.Book.{Map, Has, In, Unticked, Ticked, lookup, pairs};
-ghost use Rattle.jmodel.specs.Plays.{keys, ticked_up, Fits, Updates};
+ghost use Rattle.tx_table.specs.Book.{Map, Has, In, Unticked, Ticked, lookup, pairs};
+ghost use Rattle.tx_table.specs.Plays.{keys, ticked_up, Fits, Updates};
 ghost use Rattle.tx_table.specs.Passes.{book, IsOf, IsSame};
 ghost use Rattle.tx_table.specs.Steps.{IsPast};
 ghost use Rattle.tl2.specs.Conflicts.{lost_to};

@@ -4,9 +4,9 @@ use mathlib.Core.Option.{Option, none, some, some-ne-none}
 use mathlib.Core.Logic.{dite}
 use native.Mathlib.Decide.{ℕ_discrete}
 use Rattle.jmodel.specs.History.{Entry}
-use Rattle.jmodel.specs.Book.{Map, lookup, pairs, Region, Book}
-use Rattle.jmodel.specs.Rule.{Story, used_at, wrote, last_of, region_after, top_of, Succeeds, IsLater, Continues}
-use Rattle.jmodel.specs.Plays.{Fits}
+use Rattle.tx_table.specs.Book.{Map, lookup, pairs, Region, Book}
+use Rattle.tx_table.specs.Rule.{Story, used_at, wrote, last_of, region_after, top_of, Succeeds, IsLater, Continues}
+use Rattle.tx_table.specs.Plays.{Fits}
 
 -- its stamp is over that of the last entry there
 pub later : (e : Entry) (z : Option Entry) → (top_of z < e.stamp.at) ⊎ ((top_of z ≤ e.stamp.at) × (e.stamp.update ≡ false)) → IsLater e z

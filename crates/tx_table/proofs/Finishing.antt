@@ -6,10 +6,10 @@ use native.Mathlib.Decide.{ℕ_discrete}
 use lib.ListN.{get_elem?}
 use Rattle.atomic_table.specs.Table.{State}
 use Rattle.jmodel.specs.History.{Entry}
-use Rattle.jmodel.specs.Book.{lookup, Has, In, pairs, Stage, Unticked, Ticked, Face, Book}
-use Rattle.jmodel.specs.Rule.{Story, used_at, start, wrote, value, base, last_of, region_after, top_of, World, Clear, Knows, Grip, Annals, weigh, faces}
+use Rattle.tx_table.specs.Book.{lookup, Has, In, pairs, Stage, Unticked, Ticked, Face, Book}
+use Rattle.tx_table.specs.Rule.{Story, used_at, start, wrote, value, base, last_of, region_after, top_of, World, Clear, Knows, Grip, Annals, weigh, faces}
 use Rattle.tx_table.specs.Steps.{IsKept}
-use Rattle.jmodel.specs.Plays.{finished, region_of, Reads}
+use Rattle.tx_table.specs.Plays.{finished, region_of, Reads}
 use Rattle.tx_table.proofs.MapLaws.{lookup_put, eq_cond, ne_cond}
 use Rattle.tx_table.proofs.Values.{value_same, wrote_unread}
 use Rattle.tx_table.proofs.Private.{face_at, world_of, same_total, total_set}

@@ -7,8 +7,8 @@ use native.Mathlib.Decide.{ℕ_discrete}
 use lib.ListN.{get_elem?}
 use Rattle.std.proofs.lemmas.List.{get_or-append-add, get_or_append_left, get_or-replicate, length-replicate}
 use Rattle.atomic_table.specs.Table.{opening}
-use Rattle.jmodel.specs.Rule.{Story}
-use Rattle.jmodel.specs.Plays.{first_book}
+use Rattle.tx_table.specs.Rule.{Story}
+use Rattle.tx_table.specs.Plays.{first_book}
 use Rattle.tx_table.specs.Steps.{IsKept}
 use Rattle.tx_table.proofs.Opened.{opens}
 

@@ -4,8 +4,8 @@ use mathlib.Core.Option.{some}
 use mathlib.Core.Logic.{dite}
 use native.Mathlib.Decide.{ℕ_discrete}
 use Rattle.jmodel.specs.History.{Entry}
-use Rattle.jmodel.specs.Book.{lookup, In, pairs}
-use Rattle.jmodel.specs.Rule.{Story, used_at, start, or_old, last_of, region_after, Continues, IsRegionKept}
+use Rattle.tx_table.specs.Book.{lookup, In, pairs}
+use Rattle.tx_table.specs.Rule.{Story, used_at, start, or_old, last_of, region_after, Continues, IsRegionKept}
 use Rattle.std.specs.Prelude.{AllPairs, IsTrue, ◌↔◌, nat_eq, unwrap_or, option_map, find, Some}
 use Rattle.std.proofs.lemmas.List.Quantifiers.{all_pairs_push}
 use Rattle.jmodel.specs.declared.op.Access.{Access}

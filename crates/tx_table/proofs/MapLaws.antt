@@ -3,7 +3,7 @@ use Rattle.std.proofs.Common.{◌==◌, ◌++◌, ◌≡◌, ◌≢◌, ◌⊎�
 use mathlib.Core.Option.{none, some, some-injective, some-ne-none}
 use mathlib.Core.Logic.{dite}
 use native.Mathlib.Decide.{ℕ_discrete}
-use Rattle.jmodel.specs.Book.{Map, lookup, without, only}
+use Rattle.tx_table.specs.Book.{Map, lookup, without, only}
 
 pub eq_cond : {A : Type 0} (i j : ℕ) (x y : A) → i ≡ j → cond (i == j) x y ≡ x
 eq_cond i j x y e = rw (eq-eqb i j e) refl

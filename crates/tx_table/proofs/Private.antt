@@ -5,8 +5,8 @@ use mathlib.Core.Logic.{dite}
 use native.Mathlib.Decide.{ℕ_discrete}
 use lib.ListN.{get_elem?}
 use Rattle.atomic_table.specs.Table.{State}
-use Rattle.jmodel.specs.Book.{Face, Book}
-use Rattle.jmodel.specs.Rule.{Story, used_at, start, Faces, World, Knows, Locks, Annals, total, weigh, face_of, faces, code, Counts, Numbers, IsSole, world}
+use Rattle.tx_table.specs.Book.{Face, Book}
+use Rattle.tx_table.specs.Rule.{Story, used_at, start, Faces, World, Knows, Locks, Annals, total, weigh, face_of, faces, code, Counts, Numbers, IsSole, world}
 use Rattle.tx_table.specs.Steps.{IsKept}
 use lib.Seq.{set-get_or}
 use Rattle.atomic_table.proofs.Lists.{at_set, set_else}

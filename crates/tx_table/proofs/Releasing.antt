@@ -5,10 +5,10 @@ use mathlib.Core.Logic.{dite}
 use native.Mathlib.Decide.{ℕ_discrete}
 use lib.ListN.{get_elem?}
 use Rattle.atomic_table.specs.Table.{State}
-use Rattle.jmodel.specs.Book.{Map, lookup, without, Stage, Unticked, Ticked, Decided, Face, Book}
-use Rattle.jmodel.specs.Rule.{Story, used_at, start, stripe, wrote, value, World, Knows, Grip, weigh, faces}
+use Rattle.tx_table.specs.Book.{Map, lookup, without, Stage, Unticked, Ticked, Decided, Face, Book}
+use Rattle.tx_table.specs.Rule.{Story, used_at, start, stripe, wrote, value, World, Knows, Grip, weigh, faces}
 use Rattle.tx_table.specs.Steps.{IsKept}
-use Rattle.jmodel.specs.Plays.{released, stage_of}
+use Rattle.tx_table.specs.Plays.{released, stage_of}
 use Rattle.tx_table.proofs.MapLaws.{lookup_kept, lookup_without}
 use Rattle.tx_table.proofs.Puts.{put, put_here, put_else, put_or}
 use Rattle.tx_table.proofs.Private.{face_at, world_of, same_total}

@@ -3,8 +3,8 @@ use Rattle.std.proofs.Common.{◌≡◌, ◌≢◌, ◌⊎◌, ℕ, zero, suc, �
 use mathlib.Core.Option.{Option, none, some}
 use mathlib.Core.Logic.{dite}
 use native.Mathlib.Decide.{dec_le}
-use Rattle.jmodel.specs.Book.{Has, Stage, Unticked, Ticked, Decided}
-use Rattle.jmodel.specs.Rule.{stripe, value, World, Clear, Watch, Catch, Locks}
+use Rattle.tx_table.specs.Book.{Has, Stage, Unticked, Ticked, Decided}
+use Rattle.tx_table.specs.Rule.{stripe, value, World, Clear, Watch, Catch, Locks}
 use Rattle.tx_table.proofs.Values.{value_still}
 
 pub nothing_or : (z : Option ℕ) → ((x : ℕ) → z ≡ some x → ⊥) → z ≡ none

@@ -4,8 +4,8 @@ use mathlib.Core.Option.{Option, none, some, some-ne-none}
 use mathlib.Core.Logic.{dite}
 use native.Mathlib.Decide.{ℕ_discrete}
 use Rattle.jmodel.specs.History.{Entry}
-use Rattle.jmodel.specs.Book.{lookup, In, pairs, rises}
-use Rattle.jmodel.specs.Rule.{Story, used_at, first_of, wrote, last_of, region_after, Succeeds, IsLater, Continues, IsRegionKept}
+use Rattle.tx_table.specs.Book.{lookup, In, pairs, rises}
+use Rattle.tx_table.specs.Rule.{Story, used_at, first_of, wrote, last_of, region_after, Succeeds, IsLater, Continues, IsRegionKept}
 use Rattle.std.proofs.Math.Dec.{ltb}
 use Rattle.jmodel.specs.declared.op.Access.{Access}
 use Rattle.tx_table.proofs.MapLaws.{eq_cond, ne_cond}

@@ -3,9 +3,9 @@ use Rattle.std.specs.Prelude.{nat_lt}
 use Rattle.std.proofs.Common.{◌≡◌, ◌⊎◌, ℕ, suc, ◌+◌, ◌%◌, ◌^◌, ◌<◌, true, [], ◌∷◌, sym, refl, ap, ◌∙◌, subst, inr, ⊎_elim, arith}
 use mathlib.Core.Option.{Option, none, some, some-ne-none}
 use Rattle.jmodel.specs.History.{Call, Entry, round, first_by}
-use Rattle.jmodel.specs.Book.{Map, lookup, without, Has, In, pairs, Ticked, Decided, Book, rises}
-use Rattle.jmodel.specs.Rule.{Story, Succeeds}
-use Rattle.jmodel.specs.Plays.{took, ticked_up, decided_up, released, accesses, update_entry, used_in, region_of, Fits, Updates}
+use Rattle.tx_table.specs.Book.{Map, lookup, without, Has, In, pairs, Ticked, Decided, Book, rises}
+use Rattle.tx_table.specs.Rule.{Story, Succeeds}
+use Rattle.tx_table.specs.Plays.{took, ticked_up, decided_up, released, accesses, update_entry, used_in, region_of, Fits, Updates}
 use Rattle.tx_table.specs.Trials.{the_call, Before, Ready, plus_one, adding}
 use Rattle.tx_table.proofs.MapLaws.{lookup_put, lookup_here}
 use Rattle.tx_table.proofs.Order.{first_same}
@@ -97,7 +97,7 @@ module _ (key : Story) (runs : (e : Entry) → key.runs e) (v : Book) (lane inde
       pub done : (v4 : Book) → v4 ≡ released v3 3 → Ready lane (index + 1) v4
       done v4 e = let all : v4 ≡ released (decided_up v2 (adding v2) 3) 3 = e ∙ ap (λ b. released b 3) decided in subst (Ready lane (index + 1)) (sym all) (
         ap (λ m. without m 3) held_is,
-        ap (λ m. Rattle.jmodel.specs.Plays.stage_of (without m 3)) held_is,
+        ap (λ m. Rattle.tx_table.specs.Plays.stage_of (without m 3)) held_is,
         ((region_of (adding v2)).1, here, (index, omega arith, call_is)),
       )
         where

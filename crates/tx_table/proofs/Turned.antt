@@ -6,8 +6,8 @@ use native.Mathlib.Decide.{ℕ_discrete}
 use lib.ListN.{get_elem?}
 use Rattle.atomic_table.specs.Table.{State}
 use Rattle.jmodel.specs.History.{Entry}
-use Rattle.jmodel.specs.Book.{lookup, Has, Decided, Face, Book}
-use Rattle.jmodel.specs.Rule.{Story, used_at, start, stripe, wrote, value, last_of, Chain, World, Knows, Grip, Annals, total, weigh, faces, code, Counts, IsSole, world}
+use Rattle.tx_table.specs.Book.{lookup, Has, Decided, Face, Book}
+use Rattle.tx_table.specs.Rule.{Story, used_at, start, stripe, wrote, value, last_of, Chain, World, Knows, Grip, Annals, total, weigh, faces, code, Counts, IsSole, world}
 use Rattle.tx_table.specs.Steps.{IsKept}
 use Rattle.tx_table.proofs.Private.{Like, numbers_stay, two_le, faces_here, faces_else, each_stays, world_of, same_total}
 use Rattle.tx_table.proofs.Turns.{Turn, knows_turns, grip_turns}

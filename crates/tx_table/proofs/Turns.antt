@@ -4,8 +4,8 @@ use mathlib.Core.Option.{some}
 use mathlib.Core.Logic.{dite}
 use native.Mathlib.Decide.{ℕ_discrete}
 use Rattle.jmodel.specs.History.{Entry}
-use Rattle.jmodel.specs.Book.{Has, Unticked, Ticked, Decided, Look, Away, Saw, Had, Face, Book}
-use Rattle.jmodel.specs.Rule.{stripe, value, base, region_after, top_of, World, Clear, Sees, Watch, Catch, Looks, Knows, Grip, Annals}
+use Rattle.tx_table.specs.Book.{Has, Unticked, Ticked, Decided, Look, Away, Saw, Had, Face, Book}
+use Rattle.tx_table.specs.Rule.{stripe, value, base, region_after, top_of, World, Clear, Sees, Watch, Catch, Looks, Knows, Grip, Annals}
 
 module _ (o : ℕ → ℕ) (op : ℕ → ℕ) (W W' : World) (me : ℕ) where
   pub record Turn : Type 0 where

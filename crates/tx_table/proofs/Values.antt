@@ -4,8 +4,8 @@ use mathlib.Core.Option.{Option, none, some}
 use mathlib.Core.Logic.{dite}
 use native.Mathlib.Decide.{ℕ_discrete}
 use Rattle.jmodel.specs.History.{Entry}
-use Rattle.jmodel.specs.Book.{lookup, pairs}
-use Rattle.jmodel.specs.Rule.{Writes, first_of, wrote, or_old, value}
+use Rattle.tx_table.specs.Book.{lookup, pairs}
+use Rattle.tx_table.specs.Rule.{Writes, first_of, wrote, or_old, value}
 use Rattle.tx_table.proofs.MapLaws.{eq_cond, ne_cond}
 
 module _ (o : ℕ → ℕ) where

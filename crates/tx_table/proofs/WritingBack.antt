@@ -5,10 +5,10 @@ use mathlib.Core.Logic.{dite}
 use native.Mathlib.Decide.{ℕ_discrete}
 use lib.ListN.{get_elem?}
 use Rattle.atomic_table.specs.Table.{State}
-use Rattle.jmodel.specs.Book.{lookup, Stage, Ticked, Decided, Face, Book}
-use Rattle.jmodel.specs.Rule.{Story, used_at, start, stripe, wrote, value, World, Knows, Grip, weigh, faces}
+use Rattle.tx_table.specs.Book.{lookup, Stage, Ticked, Decided, Face, Book}
+use Rattle.tx_table.specs.Rule.{Story, used_at, start, stripe, wrote, value, World, Knows, Grip, weigh, faces}
 use Rattle.tx_table.specs.Steps.{IsKept}
-use Rattle.jmodel.specs.Plays.{wrote_back}
+use Rattle.tx_table.specs.Plays.{wrote_back}
 use Rattle.tx_table.proofs.MapLaws.{lookup_kept, lookup_without}
 use Rattle.tx_table.proofs.Values.{value_still, value_at}
 use Rattle.tx_table.proofs.Private.{face_at, world_of, same_total}

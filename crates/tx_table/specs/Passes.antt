@@ -1,7 +1,7 @@
 -- A pass and its table.
 use Rattle.std.specs.Prelude.{◌≡◌}
 use Rattle.atomic_table.specs.Seated.{TableId}
-use Rattle.jmodel.specs.Book.{Book}
+use Rattle.tx_table.specs.Book.{Book}
 use Rattle.tx_table.specs.declared.shared.Pass.{Pass}
 
 -- what the pass knows

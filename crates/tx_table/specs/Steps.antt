@@ -3,10 +3,10 @@ use Rattle.std.specs.Prelude.{◌≡◌, ◌≢◌, ◌⊎◌, ◌<◌, ◌≤�
 use Rattle.atomic_table.specs.Table.{State, Me, Step}
 use Rattle.jmodel.specs.History.{Call, Entry}
 use mathlib.Core.Option.{none}
-use Rattle.jmodel.specs.Book.{Book, Map, lookup}
+use Rattle.tx_table.specs.Book.{Book, Map, lookup}
 use Rattle.jmodel.specs.declared.value.Answer.TheVariants.{Spent}
-use Rattle.jmodel.specs.Rule.{Story, Rule}
-use Rattle.jmodel.specs.Plays.{no_call, begun, looked, loaded_at, checked_at, finished, validated, tried, ticked_up, decided_up, wrote_back, released, gave_up, Aims, word_in}
+use Rattle.tx_table.specs.Rule.{Story, Rule}
+use Rattle.tx_table.specs.Plays.{no_call, begun, looked, loaded_at, checked_at, finished, validated, tried, ticked_up, decided_up, wrote_back, released, gave_up, Aims, word_in}
 
 -- the rule, of a table's words and views
 abbrev pub IsKept : {S : Type 0} → Story → State S Book → Type 0

@@ -2,8 +2,8 @@
 use Rattle.std.specs.Prelude.{◌≡◌, ℕ, suc, ◌+◌, ◌%◌, ◌^◌, ◌<◌, [], ◌∷◌}
 use mathlib.Core.Option.{Option, none, some}
 use Rattle.jmodel.specs.History.{Call, Entry}
-use Rattle.jmodel.specs.Book.{Map, lookup, Region, Unticked, Book}
-use Rattle.jmodel.specs.Plays.{update_entry, used_in}
+use Rattle.tx_table.specs.Book.{Map, lookup, Region, Unticked, Book}
+use Rattle.tx_table.specs.Plays.{update_entry, used_in}
 use Rattle.jmodel.specs.declared.value.Answer.TheVariants.{Returned}
 use Rattle.std.specs.Prelude.{None, Bool, ◌==◌}
 

@@ -1,7 +1,7 @@
 //! What the rule says, in words of the table.
 ghost use Rattle.std.specs.Prelude.{ℕ, List};
-ghost use Rattle.jmodel.specs.Book.{Book};
-ghost use Rattle.jmodel.specs.Rule.{Rule, Shows};
+ghost use Rattle.tx_table.specs.Book.{Book};
+ghost use Rattle.tx_table.specs.Rule.{Rule, Shows};
 
 use crate::shared::Story;
 

@@ -1,9 +1,9 @@
 //! The table's opening and its close, and how passes are split and joined.
 ghost use Rattle.std.specs.Prelude.{◌≡◌, ℕ, Bool, ◌+◌, ◌^◌, ◌<◌, ◌≤◌, [], length, slice_index, IfOk, IfErr};
 ghost use Rattle.std.specs.Slots.{slots_items, slots_len, IsFull};
-ghost use Rattle.jmodel.specs.Book.{Unticked};
-ghost use Rattle.jmodel.specs.Rule.{Ends};
-ghost use Rattle.jmodel.specs.Plays.{first_book, stays_here, goes_out, joined};
+ghost use Rattle.tx_table.specs.Book.{Unticked};
+ghost use Rattle.tx_table.specs.Rule.{Ends};
+ghost use Rattle.tx_table.specs.Plays.{first_book, stays_here, goes_out, joined};
 ghost use Rattle.tx_table.specs.Passes.{book, IsOf, IsSame};
 
 use crate::law::{Merge, Part, Parting};

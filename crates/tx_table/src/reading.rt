@@ -2,9 +2,9 @@
 ghost use Rattle.std.specs.Prelude.{◌≡◌, ◌≢◌, ◌⊎◌, ◌≤◌, ◌<◌, ◌+◌, ◌*◌, ◌^◌, ◌/◌, ◌%◌, [], ℕ, true, false, IfOk, IfErr, IsOk};
 ghost use Rattle.jmodel.specs.History.{Call, Entry};
 ghost use mathlib.Core.Option.{none as Missing};
-ghost use Rattle.jmodel.specs.Book.{Book, lookup, Unticked, Saw};
-ghost use Rattle.jmodel.specs.Rule.{Snapshot};
-ghost use Rattle.jmodel.specs.Plays.{begun, lost_at, loaded_at, logged, value_in, finished, Aims, IsLoaded, Reads, word_in};
+ghost use Rattle.tx_table.specs.Book.{Book, lookup, Unticked, Saw};
+ghost use Rattle.tx_table.specs.Rule.{Snapshot};
+ghost use Rattle.tx_table.specs.Plays.{begun, lost_at, loaded_at, logged, value_in, finished, Aims, IsLoaded, Reads, word_in};
 ghost use Rattle.tx_table.specs.Passes.{book, IsOf, IsSame};
 ghost use Rattle.tx_table.specs.Steps.{IsPast};
 

@@ -1,7 +1,7 @@
 //! The table and what a thread has of it.
 ghost use Rattle.std.specs.Prelude.{◌≡◌, ◌^◌, ◌<◌, ◌*◌, ◌+◌, [], length};
-ghost use Rattle.jmodel.specs.Rule.{Story as Telling};
-ghost use Rattle.jmodel.specs.Plays.{word_in};
+ghost use Rattle.tx_table.specs.Rule.{Story as Telling};
+ghost use Rattle.tx_table.specs.Plays.{word_in};
 
 use crate::law::{Law, View};
 use atomic_table::{Seat, Table};

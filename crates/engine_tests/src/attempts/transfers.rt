@@ -1,8 +1,8 @@
 //! Sixteen threads move amounts between addresses that share a few stripes.
 ghost use Rattle.std.specs.Prelude.{◌≡◌, ◌≤◌, ◌<◌, ◌+◌, ◌^◌, [], ℕ, Bool, List, All, length, IfOk, ⊤};
 ghost use Rattle.jmodel.specs.History.{Entry};
-ghost use Rattle.jmodel.specs.Book.{Unticked};
-ghost use Rattle.jmodel.specs.Plays.{first_book, stays_here, goes_out};
+ghost use Rattle.tx_table.specs.Book.{Unticked};
+ghost use Rattle.tx_table.specs.Plays.{first_book, stays_here, goes_out};
 ghost use Rattle.tx_table.specs.Passes.{book, IsOf, IsSame};
 ghost use Rattle.tl2.specs.Trials.{StandsSomehow, IsWaiting, IsStarting, IsEnding, of_lane, regions_below};
 

@@ -1,7 +1,7 @@
 use Rattle.std.proofs.Common.{◌≡◌, ◌<◌, ◌+◌, ℕ, suc, List, length, map, take, replicate, slice_index, sym, ◌∙◌, subst, arith}
 use Rattle.std.specs.List.{AllByRecursion}
 use Rattle.std.proofs.lemmas.List.{length-take-le, take_all, get_or-replicate}
-use Rattle.jmodel.specs.Rule.{Ends}
+use Rattle.tx_table.specs.Rule.{Ends}
 use Rattle.jmodel.specs.Schedule.{ScriptPhase, lists_in}
 use Rattle.tx_table.specs.Passes.{book}
 use Rattle.session.specs.Rule.{IsCallOf}

@@ -1,5 +1,5 @@
 use Rattle.std.proofs.Common.{ℕ, length, take}
-use Rattle.jmodel.specs.Book.{Book}
+use Rattle.tx_table.specs.Book.{Book}
 use Rattle.jmodel.specs.Schedule.{Phase}
 use Rattle.driver.specs.Passing.{call_count, AreEnding, IsJoining}
 use Rattle.driver.proofs.threads.gather.Given as goal

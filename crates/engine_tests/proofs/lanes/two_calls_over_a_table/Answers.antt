@@ -1,7 +1,7 @@
 use Rattle.std.proofs.Common.{◌≡◌, true, length, ap, ◌∙◌, arith}
 use mathlib.Core.Option.{none}
-use Rattle.jmodel.specs.Book.{Book, lookup}
-use Rattle.jmodel.specs.Plays.{goes_out}
+use Rattle.tx_table.specs.Book.{Book, lookup}
+use Rattle.tx_table.specs.Plays.{goes_out}
 use Rattle.tx_table.specs.Passes.{book}
 use Rattle.session.proofs.Idle.{idle_ready}
 use Rattle.engine_tests.proofs.lanes.two_calls_over_a_table.Goals as goal

@@ -1,4 +1,4 @@
-use Rattle.jmodel.specs.Plays.{no_call}
+use Rattle.tx_table.specs.Plays.{no_call}
 use Rattle.engine_tests.proofs.tables.reads.Given as goal
 
 abbrev pub ghost-begin : goal.ghost-begin

@@ -1,5 +1,5 @@
 use Rattle.std.proofs.Common.{◌≡◌, [], ◌⊎◌, false, drop}
-use Rattle.jmodel.specs.Book.{Unticked}
+use Rattle.tx_table.specs.Book.{Unticked}
 use Rattle.tx_table.specs.Passes.{book, IsSame}
 use Rattle.tl2.specs.Commits.{Holds, IsRest}
 use Rattle.tl2.proofs.commit.give_back.Given as goal

@@ -1,6 +1,6 @@
 use Rattle.std.proofs.Common.{◌≡◌, [], ℕ, drop}
 use mathlib.Core.Option.{some}
-use Rattle.jmodel.specs.Book.{lookup}
+use Rattle.tx_table.specs.Book.{lookup}
 use Rattle.tx_table.specs.Passes.{book, IsSame}
 use Rattle.tl2.specs.Commits.{Holds, IsRest, IsReleasing}
 use Rattle.tl2.proofs.commit.release_all.Given as goal

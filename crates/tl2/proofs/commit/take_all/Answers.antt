@@ -1,6 +1,6 @@
 use Rattle.std.proofs.Common.{◌≡◌, ◌<◌, ◌+◌, ◌%◌, ℕ, false, true, length, slice_index_or, sym, ◌∙◌, subst, arith}
 use Rattle.std.proofs.lemmas.List.{drop-set-lt}
-use Rattle.jmodel.specs.Book.{In}
+use Rattle.tx_table.specs.Book.{In}
 use Rattle.tx_table.specs.Passes.{book, IsSame}
 use Rattle.tx_table.specs.Steps.{IsPast}
 use Rattle.tl2.specs.declared.plan.Stripe.{Stripe}

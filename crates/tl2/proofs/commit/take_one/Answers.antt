@@ -1,5 +1,5 @@
 use Rattle.std.proofs.Common.{◌≡◌, ◌≤◌, ◌*◌, true, false, not, ⊎_elim}
-use Rattle.jmodel.specs.Book.{In}
+use Rattle.tx_table.specs.Book.{In}
 use Rattle.tx_table.specs.Passes.{book}
 use Rattle.tl2.proofs.commit.take_one.Goals as goal
 

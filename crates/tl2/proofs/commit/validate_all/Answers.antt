@@ -1,7 +1,7 @@
 use Rattle.std.proofs.Common.{◌%◌, ℕ, ◌∙◌, refl, sym, ap, subst}
 use Rattle.std.proofs.lemmas.List.{take_all}
 use Rattle.std.proofs.lemmas.List.Elements.{All-nil}
-use Rattle.jmodel.specs.Book.{Book, In}
+use Rattle.tx_table.specs.Book.{Book, In}
 use Rattle.tx_table.specs.Passes.{book, IsSame}
 use Rattle.tl2.proofs.Members.{in_at}
 use Rattle.tl2.proofs.Stripes.{checked_more}

@@ -7,7 +7,7 @@ use Rattle.std.specs.Ordering.{nat_cmp}
 use Rattle.std.specs.BTreeSet as tree
 use Rattle.jmodel.specs.declared.op.Access.{Access}
 use Rattle.jmodel.specs.Attempt.{Log}
-use Rattle.jmodel.specs.Book.{pairs}
+use Rattle.tx_table.specs.Book.{pairs}
 use Rattle.tl2.proofs.Listed.{pairs_last, listed_last, listed_still}
 use Rattle.tl2.proofs.Newest.{seen_more, fresh_more}
 use Rattle.tl2.proofs.plan.newest_of.Goals as goal

@@ -2,7 +2,7 @@ use Rattle.std.proofs.Common.{◌≡◌, ℕ, true, false, length, reverse, take
 use mathlib.Core.Option.{none}
 use Rattle.std.specs.Ordering.{nat_cmp}
 use Rattle.std.specs.BTreeSet as tree
-use Rattle.jmodel.specs.Book.{Has, lookup, pairs}
+use Rattle.tx_table.specs.Book.{Has, lookup, pairs}
 use Rattle.tl2.specs.Plans.{IsListed}
 use Rattle.tl2.proofs.plan.newest_of.Given as goal
 

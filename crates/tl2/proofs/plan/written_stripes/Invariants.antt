@@ -1,5 +1,5 @@
 use Rattle.std.proofs.Common.{reverse, take}
-use Rattle.jmodel.specs.Book.{pairs}
+use Rattle.tx_table.specs.Book.{pairs}
 use Rattle.tl2.specs.Plans.{IsWritten}
 use Rattle.tl2.proofs.plan.written_stripes.Given as goal
 

@@ -3,8 +3,8 @@ use Rattle.std.proofs.lemmas.List.{drop_more, drop_all}
 use Rattle.std.proofs.lemmas.List.Elements.{All-tail}
 use Rattle.jmodel.specs.declared.op.Access.{Access}
 use Rattle.jmodel.specs.Attempt.{Log}
-use Rattle.jmodel.specs.Book.{Book, without}
-use Rattle.jmodel.specs.Plays.{wrote_back}
+use Rattle.tx_table.specs.Book.{Book, without}
+use Rattle.tx_table.specs.Plays.{wrote_back}
 use Rattle.tx_table.specs.Passes.{book}
 use Rattle.tl2.specs.Plans.{IsListed}
 use Rattle.tl2.proofs.Listed.{listed_less, nothing_listed}

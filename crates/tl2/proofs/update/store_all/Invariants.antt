@@ -1,5 +1,5 @@
 use Rattle.std.proofs.Common.{◌≡◌, ℕ, drop}
-use Rattle.jmodel.specs.Book.{Map}
+use Rattle.tx_table.specs.Book.{Map}
 use Rattle.tx_table.specs.Passes.{book, IsSame}
 use Rattle.tl2.specs.Commits.{stored}
 use Rattle.tl2.specs.Plans.{IsListed}

@@ -1,7 +1,7 @@
 use Rattle.std.proofs.Common.{◌≡◌, ◌%◌, ℕ, List, All, reverse, refl, sym, ap, ◌∙◌, inl, inr, subst, arith}
 use mathlib.Core.Option.{none}
-use Rattle.jmodel.specs.Book.{Book, Map, Has, lookup, pairs}
-use Rattle.jmodel.specs.Plays.{ticked_up, lost_at}
+use Rattle.tx_table.specs.Book.{Book, Map, Has, lookup, pairs}
+use Rattle.tx_table.specs.Plays.{ticked_up, lost_at}
 use Rattle.tx_table.specs.Passes.{book}
 use Rattle.tx_table.specs.Steps.{IsPast}
 use Rattle.tl2.specs.declared.plan.Stripe.{Stripe}

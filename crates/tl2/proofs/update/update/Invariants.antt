@@ -1,6 +1,6 @@
 use Rattle.std.proofs.Common.{reverse}
-use Rattle.jmodel.specs.Book.{pairs}
-use Rattle.jmodel.specs.Plays.{update_entry}
+use Rattle.tx_table.specs.Book.{pairs}
+use Rattle.tx_table.specs.Plays.{update_entry}
 use Rattle.tx_table.specs.Passes.{book}
 use Rattle.tl2.proofs.update.update.Given as goal
 

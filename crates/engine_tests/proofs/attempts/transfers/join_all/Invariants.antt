@@ -1,5 +1,5 @@
 use Rattle.std.proofs.Common.{◌≡◌, ◌+◌, ◌≤◌, ◌*◌, [], All, length}
-use Rattle.jmodel.specs.Book.{Unticked}
+use Rattle.tx_table.specs.Book.{Unticked}
 use Rattle.tx_table.specs.Passes.{book, IsSame}
 use Rattle.tl2.specs.Trials.{IsEnding}
 use Rattle.engine_tests.proofs.attempts.transfers.join_all.Given as goal

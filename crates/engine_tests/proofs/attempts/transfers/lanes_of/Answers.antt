@@ -1,7 +1,7 @@
 use Rattle.std.proofs.Common.{suc, refl, sym, ap, ◌∙◌, subst, arith}
 use Rattle.std.proofs.lemmas.List.{length-append}
 use Rattle.std.proofs.lemmas.List.Elements.{All-push}
-use Rattle.jmodel.specs.Book.{Book, lookup}
+use Rattle.tx_table.specs.Book.{Book, lookup}
 use Rattle.tx_table.specs.Passes.{book}
 use Rattle.tl2.specs.Trials.{IsStarting, IsWaiting}
 use Rattle.tl2.proofs.Trials.{lane_waits, lane_stays}

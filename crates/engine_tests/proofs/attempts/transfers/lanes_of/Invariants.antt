@@ -1,6 +1,6 @@
 use Rattle.std.proofs.Common.{◌≡◌, ◌+◌, ◌<◌, ◌≤◌, ℕ, suc, [], All, length}
 use mathlib.Core.Option.{some, none}
-use Rattle.jmodel.specs.Book.{Unticked, lookup}
+use Rattle.tx_table.specs.Book.{Unticked, lookup}
 use Rattle.tx_table.specs.Passes.{book, IsSame}
 use Rattle.tl2.specs.Trials.{IsStarting, of_lane}
 use Rattle.engine_tests.proofs.attempts.transfers.lanes_of.Given as goal

@@ -1,5 +1,5 @@
 use Rattle.std.proofs.Common.{◌≡◌, ℕ, true, false, ◌/◌, ◌%◌, ap}
-use Rattle.jmodel.specs.Book.{Map, Saw, lookup}
+use Rattle.tx_table.specs.Book.{Map, Saw, lookup}
 use Rattle.tl2.specs.declared.attempt.At.TheVariants.{Looked}
 use Rattle.tl2.proofs.Entries.{inside}
 use Rattle.tl2.proofs.Stepping.{stands_looking, stands_lost}

@@ -3,8 +3,8 @@ use Rattle.std.proofs.lemmas.List.{length-reverse, reverse-reverse}
 use Rattle.std.proofs.lemmas.Grind.{common_steps}
 use Rattle.jmodel.specs.declared.op.Access.{Access}
 use Rattle.jmodel.specs.Attempt.{Log}
-use Rattle.jmodel.specs.Book.{Map, Has, In, pairs}
-use Rattle.jmodel.specs.Plays.{keys}
+use Rattle.tx_table.specs.Book.{Map, Has, In, pairs}
+use Rattle.tx_table.specs.Plays.{keys}
 use Rattle.tx_core.specs.declared.engine.Conflict.{Conflict}
 use Rattle.tx_table.specs.Passes.{book}
 use Rattle.tl2.specs.Commits.{IsAdded, update_of}

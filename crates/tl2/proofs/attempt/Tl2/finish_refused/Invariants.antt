@@ -1,4 +1,4 @@
-use Rattle.jmodel.specs.Plays.{reader_entry}
+use Rattle.tx_table.specs.Plays.{reader_entry}
 use Rattle.tx_table.specs.Passes.{book}
 use Rattle.tl2.proofs.attempt.Tl2.finish_refused.Given as goal
 

@@ -1,5 +1,5 @@
 use Rattle.std.proofs.Common.{◌≡◌, ℕ, true, false, ◌%◌, ap, sym, ◌∙◌}
-use Rattle.jmodel.specs.Book.{Map, lookup}
+use Rattle.tx_table.specs.Book.{Map, lookup}
 use Rattle.tl2.proofs.Stepping.{stands_logged, stands_lost}
 use Rattle.tl2.proofs.attempt.Tl2.on_read.Goals as goal
 

@@ -1,4 +1,4 @@
-use Rattle.jmodel.specs.Rule.{Snapshot}
+use Rattle.tx_table.specs.Rule.{Snapshot}
 use Rattle.tx_table.proofs.shared.Pass.begin.Given as goal
 
 abbrev pub ghosts-begin_as : goal.ghosts-begin_as

@@ -1,4 +1,4 @@
-use Rattle.jmodel.specs.Rule.{Snapshot}
+use Rattle.tx_table.specs.Rule.{Snapshot}
 use Rattle.tx_table.proofs.shared.Pass.recheck.Given as goal
 
 abbrev pub ghosts-recheck_as : goal.ghosts-recheck_as

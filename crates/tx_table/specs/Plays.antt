@@ -4,8 +4,8 @@ use mathlib.Core.Option.{Option, none, some}
 use Rattle.jmodel.specs.declared.value.Answer.{Answer}
 use Rattle.jmodel.specs.Attempt.{Log}
 use Rattle.jmodel.specs.History.{Call, Entry, leaves_words}
-use Rattle.jmodel.specs.Book.{Map, lookup, without, only, pairs, Region, Stage, Unticked, Ticked, Decided, Look, Away, Saw, Had, Book, IsOfLane}
-use Rattle.jmodel.specs.Rule.{Story, Succeeds, nobody}
+use Rattle.tx_table.specs.Book.{Map, lookup, without, only, pairs, Region, Stage, Unticked, Ticked, Decided, Look, Away, Saw, Had, Book, IsOfLane}
+use Rattle.tx_table.specs.Rule.{Story, Succeeds, nobody}
 
 abbrev pub no_call : Call
 no_call = record { phase = 0; lane = 0; index = 0; method = 0; args = []; region = 0 }

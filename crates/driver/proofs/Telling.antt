@@ -21,8 +21,8 @@ use Rattle.jmodel.specs.declared.value.Answer.{Answer}
 use Rattle.jmodel.specs.declared.value.Answer.TheVariants.{Returned, Threw, Budget, Depth, Heap, Spent, NoMemory}
 use Rattle.jmodel.specs.declared.value.Stamp.{Stamp}
 use Rattle.jmodel.specs.History.{Call, Entry, Told, told, round, first_by, comes_first, precedes}
-use Rattle.jmodel.specs.Book.{In, rises}
-use Rattle.jmodel.specs.Rule.{weigh, IsRegionKept}
+use Rattle.tx_table.specs.Book.{In, rises}
+use Rattle.tx_table.specs.Rule.{weigh, IsRegionKept}
 
 -- ---- whether two are the same
 
