@@ -27,6 +27,7 @@ fn begin_at<T: Story, C: Calling>(pass: &mut Pass, shared: &Shared<T>, _call: &S
     ensures same { IsSame pass.old pass.new }
     ensures book { book pass.new ≡ begun (book pass.old) told (book pass.new).bound }
     ensures later { (book pass.old).seen ≤ (book pass.new).bound }
+    ensures snapshot { Learns (T.story shared.now.table.shared.key.story.value) (book pass.new) }
 {
     pass.begin(shared);
 }
@@ -52,6 +53,7 @@ impl<'a, T: Ruled, C: Calling> Tl2<'a, T, C> {
         ensures open { IsOpen self.new.shared.now.words self.new.at (C.call self.new.call.value) (book self.new.pass) }
         ensures awaits { (c : Call) (used : ℕ) → Awaits (C.call self.old.call.value) (book self.old.pass) c used → Awaits (C.call self.new.call.value) (book self.new.pass) c used }
         ensures ticks { (book self.new.pass).ticks ≡ (book self.old.pass).ticks }
+        ensures snapshot { Learns (T.story self.new.shared.now.table.shared.key.story.value) (book self.new.pass) }
         ensures same { IsSame self.old.pass self.new.pass × IsKin (book self.old.pass) (book self.new.pass) }
     {
         self.writes.clear();
@@ -73,6 +75,7 @@ impl<'a, T: Ruled, C: Calling> Tl2<'a, T, C> {
         ensures seen { IfErr result (λ e. (e.address ≡ address) × Meets (book self.old.pass) (book self.new.pass) e) }
         ensures sole { (book self.old.pass).numbers ≡ 2 ^ 20 → IsOk result }
         ensures same { IsSame self.old.pass self.new.pass × IsKin (book self.old.pass) (book self.new.pass) }
+        ensures snapshot { Learns (T.story self.old.shared.now.table.shared.key.story.value) (book self.old.pass) → Learns (T.story self.new.shared.now.table.shared.key.story.value) (book self.new.pass) }
         ensures looked { IfOk result (λ _. IsLooked self.new.shared.now.words self.new.at self.new.writes.items address) }
     {
         if address >= self.shared.words || self.writes.written(address).is_some() {
@@ -100,6 +103,7 @@ impl<'a, T: Ruled, C: Calling> Tl2<'a, T, C> {
         ensures awaits { (c : Call) (used : ℕ) → Awaits (C.call self.old.call.value) (book self.old.pass) c used → Awaits (C.call self.new.call.value) (book self.new.pass) c used }
         ensures ticks { (book self.new.pass).ticks ≡ (book self.old.pass).ticks }
         ensures same { IsSame self.old.pass self.new.pass × IsKin (book self.old.pass) (book self.new.pass) }
+        ensures snapshot { Learns (T.story self.old.shared.now.table.shared.key.story.value) (book self.old.pass) → Learns (T.story self.new.shared.now.table.shared.key.story.value) (book self.new.pass) }
         ensures loaded { IsLooked self.old.shared.now.words self.old.at self.old.writes.items address → IsLoaded self.new.shared.now.words self.new.at self.new.writes.items address result }
     {
         if let Some(word) = self.writes.written(address) {
@@ -128,6 +132,7 @@ impl<'a, T: Ruled, C: Calling> Tl2<'a, T, C> {
         ensures awaits { (c : Call) (used : ℕ) → Awaits (C.call self.old.call.value) (book self.old.pass) c used → Awaits (C.call self.new.call.value) (book self.new.pass) c used }
         ensures ticks { (book self.new.pass).ticks ≡ (book self.old.pass).ticks }
         ensures snapshot { IfOk result (λ _. written (reverse self.old.writes.items) address ≡ None → Learns (T.story self.new.shared.now.table.shared.key.story.value) (book self.new.pass)) }
+        ensures still { Learns (T.story self.old.shared.now.table.shared.key.story.value) (book self.old.pass) → Learns (T.story self.new.shared.now.table.shared.key.story.value) (book self.new.pass) }
         ensures same { IsSame self.old.pass self.new.pass × IsKin (book self.old.pass) (book self.new.pass) }
         ensures seen { (e : Conflict) → result ≡ Err (TxEnd.Conflict e) → (e.address ≡ address) × Meets (book self.old.pass) (book self.new.pass) e }
         ensures sole { (book self.old.pass).numbers ≡ 2 ^ 20 → IfErr result (λ end. end ≡ TxEnd.NoMemory) }
@@ -166,6 +171,7 @@ impl<'a, T: Ruled, C: Calling> Tl2<'a, T, C> {
         ensures awaits { (c : Call) (used : ℕ) → Awaits (C.call self.old.call.value) (book self.old.pass) c used → Awaits (C.call self.new.call.value) (book self.new.pass) c used }
         ensures ticks { (book self.new.pass).ticks ≡ (book self.old.pass).ticks }
         ensures same { IsSame self.old.pass self.new.pass × IsKin (book self.old.pass) (book self.new.pass) }
+        ensures snapshot { Learns (T.story self.old.shared.now.table.shared.key.story.value) (book self.old.pass) → Learns (T.story self.new.shared.now.table.shared.key.story.value) (book self.new.pass) }
         ensures err { IfErr result (λ end. end ≡ TxEnd.NoMemory) }
     {
         if address >= self.shared.words || self.writes.push(Access { address, word }).is_err() {

@@ -25,10 +25,10 @@ pub enum TxEnd {
 /// An engine may share its words with others, and then its entry is one for all from a step inside `commit` on. So what
 /// the call answers, and how many words of its region it leaves used, is told to `commit` and `finish_refused`, for contracts alone.
 pub trait Engine {
-    ghost use Rattle.std.specs.Prelude.{◌≡◌, ◌<◌, ◌≤◌, ◌+◌, ◌^◌, [], ◌∷◌, ◌++◌, ℕ, List, MatchResult, IfOk, IfErr, IsOk};
+    ghost use Rattle.std.specs.Prelude.{◌≡◌, ◌⊎◌, ◌<◌, ◌≤◌, ◌+◌, ◌^◌, [], ◌∷◌, ◌++◌, ℕ, List, MatchResult, IfOk, IfErr, IsOk};
     ghost use Rattle.jmodel.specs.Attempt.{Log, access, answered, recorded, written};
-    ghost use Rattle.jmodel.specs.History.{Call, Entry};
-    ghost use Rattle.tx_core.specs.Engine.{raised, Adds, MayEnd, IsOfWrites};
+    ghost use Rattle.jmodel.specs.History.{Call, Entry, Words};
+    ghost use Rattle.tx_core.specs.Engine.{raised, Adds, MayEnd, IsOfWrites, IsSnapshot, LeadsTo};
 
     /// The entries that were committed, the oldest first; the conflicts met so far; and what the attempt has read and
     /// written, the last first.
@@ -42,6 +42,9 @@ pub trait Engine {
 
     /// What may be committed.
     ghost allows: { Entry → Type 0 };
+
+    /// The words, and the used words of each region, that the history may begin with.
+    ghost begins: { Words → (ℕ → ℕ) → Type 0 };
 
     /// Others commit entries to the same history. Then an attempt may end with an entry that may be committed, and no other.
     ghost is_shared: { Type 0 };
@@ -139,4 +142,9 @@ pub trait Engine {
     /// How often the clock was raised by commits. No memory.
     fn ticks(&self) -> u64
         ensures { result ≡ clock self.now };
+
+    /// All that an open attempt read is what entries leave that may be committed, one after another from what the history began with, and after them
+    /// the awaited call's region has its used words. Where no others commit, they are the history itself, of which the caller knows the used words.
+    ghost snapshot: { (e : Self) (h : List Entry) (n : ℕ) (r w : Log) (c : Call) (used : ℕ) → stands e h n r w → is_open e → awaits e c used
+        → is_shared ⊎ ((first : Words) (opened : ℕ → ℕ) → begins first opened → LeadsTo opened h c used) → IsSnapshot begins allows c used r };
 }
