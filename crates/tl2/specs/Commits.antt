@@ -34,6 +34,10 @@ pub record IsTaking (v w : Book) : Type 0 where
   pub reads : w.reads ≡ v.reads
   pub bound : w.bound ≡ v.bound
 
+-- What the attempt of w means to write, that of v means to write too, or it keeps to P.
+abbrev pub MeansOnly : (ℕ → Type 0) → Book → Book → Type 0
+MeansOnly P v w = (a : ℕ) → In a w.wants → In a v.wants ⊎ P a
+
 -- The stripes of these addresses were free with a version up to the bound.
 abbrev pub IsChecked : List ℕ → Book → Book → Type 0
 IsChecked addresses v w = (checked : List ℕ) × (w ≡ record v { checked = checked }) × All (λ a. In (a % 4096) checked) addresses

@@ -189,6 +189,7 @@ impl<'a, T: Ruled, C: Calling> Tl2<'a, T, C> {
         ensures ticks { (book self.new.pass).ticks ≡ (book self.old.pass).ticks }
         ensures region { (c : Call) (used : ℕ) → Awaits (C.call self.old.call.value) (book self.old.pass) c used → (book self.new.pass).regions ≡ (c.region, record { used = used; last = Found c }) ∷ (book self.old.pass).regions }
         ensures same { IsSame self.old.pass self.new.pass × ((book self.new.pass).numbers ≡ (book self.old.pass).numbers) × ((book self.new.pass).fresh ≡ (book self.old.pass).fresh) }
+        ensures wants { (book self.new.pass).wants ≡ (book self.old.pass).wants }
     {
         let stamp = finish_with(&mut self.pass, self.shared, answer);
         self.writes.clear();

@@ -85,7 +85,7 @@ pub record Book : Type 0 where
   pub call : Call
   pub bound : ℕ
   pub reads : Map ℕ
-  -- the addresses that it means to write
+  -- the addresses that it means to write: those for which it took stripes, and from the tick on those of its writes too
   pub wants : List ℕ
   pub look : Look
   pub goal : ℕ

@@ -109,7 +109,7 @@ keys m = map (λ (x : ℕ × ℕ). x.0) m
 
 -- the clock is now n, and these are the writes
 abbrev pub ticked_up : Book → ℕ → Map ℕ → Book
-ticked_up v n due = record v { face = record v.face { stage = Ticked; tick = n; due = due }; ticks = v.ticks + 1; seen = n; wants = keys due; look = Away; goal = n; checked = [] }
+ticked_up v n due = record v { face = record v.face { stage = Ticked; tick = n; due = due }; ticks = v.ticks + 1; seen = n; wants = keys due ++ v.wants; look = Away; goal = n; checked = [] }
 
 abbrev pub region_of : Entry → ℕ × Region
 region_of e = (e.call.region, record { used = e.used_after; last = some e.call })

@@ -7,7 +7,7 @@ use Rattle.tx_table.specs.Book.{Map, Has, In, pairs}
 use Rattle.tx_table.specs.Plays.{keys}
 use Rattle.tx_core.specs.declared.engine.Conflict.{Conflict}
 use Rattle.tx_table.specs.Passes.{book}
-use Rattle.tl2.specs.Commits.{IsAdded, update_of}
+use Rattle.tl2.specs.Commits.{IsAdded, MeansOnly, update_of}
 use Rattle.tl2.specs.Conflicts.{Meets}
 use Rattle.tl2.specs.Standing.{Awaits, Stands}
 use Rattle.tl2.proofs.Entries.{inside, awaits_used, adds_nothing, update_fits, adds_update, lost_stands}
@@ -111,3 +111,9 @@ returns-in-Err-clause-run g c = λ h n r w s.
     let rest = c.in-Err.ensures.err in
     rw c.clear.ensures.items (lost_stands g.C.Calling.began e.shared.now.words rest.0 n e.at e.writes.items e.pass c.update-done.new.pass h r w _
     c.in-Err.ensures.same (λ whole. let no : false ≡ true = c.in-Err.ensures.sole whole in cc no) rest.2 s)
+
+pub returns-in-Ok-done-clause-means : goal.returns-in-Ok-done-clause-means
+returns-in-Ok-done-clause-means g c = subst (λ (ws : Log). MeansOnly (Has (pairs (reverse ws))) (book c.args.self.now.pass) (book c.update-done.new.pass)) c.as_slice-2.ensures.value c.update-done.ensures.means
+
+pub returns-in-Err-clause-means : goal.returns-in-Err-clause-means
+returns-in-Err-clause-means g c = subst (λ (ws : Log). MeansOnly (Has (pairs (reverse ws))) (book c.args.self.now.pass) (book c.update-done.new.pass)) c.as_slice-2.ensures.value c.update-done.ensures.means
