@@ -77,6 +77,7 @@ pub trait Engine {
         ensures open { IfOk result (λ _. is_open self.new) }
         ensures awaits { (c : Call) (used : ℕ) → awaits self.old c used → awaits self.new c used }
         ensures looked { IfOk result (λ _. looked self.new address) }
+        ensures conflict { IfErr result (λ e. e.address ≡ address) }
         ensures alone { is_alone self.old → is_alone self.new × IsOk result }
         ensures ticks { clock self.new ≡ clock self.old };
 
@@ -97,6 +98,7 @@ pub trait Engine {
             → MatchResult result (λ word. (word ≡ answered w address word) × stands self.new h n (recorded (written w address) address word r) w)
             (λ end. stands self.new h (raised end n) r w) }
         ensures open { IfOk result (λ _. is_open self.new) }
+        ensures conflict { (e : Conflict) → result ≡ Err (TxEnd.Conflict e) → e.address ≡ address }
         ensures awaits { (c : Call) (used : ℕ) → awaits self.old c used → awaits self.new c used }
         ensures alone { is_alone self.old → is_alone self.new × IfErr result (λ end. end ≡ TxEnd.NoMemory) }
         ensures ticks { clock self.new ≡ clock self.old };
@@ -112,7 +114,7 @@ pub trait Engine {
         ensures ticks { clock self.new ≡ clock self.old };
 
     /// Ends the attempt as an entry of the history with this answer, which leaves so many words of its region used, where its reads stand. An `Err`
-    /// has rolled it back.
+    /// has rolled it back, and one for want of memory didn't raise the clock.
     fn commit(&mut self, answer: Snapshot<Answer>, used: Snapshot<u64>) -> Result<Stamp, TxEnd>
         requires open { is_open self.old }
         requires clock { clock self.old < 2 ^ 40 }
@@ -121,7 +123,8 @@ pub trait Engine {
             → MatchResult result (λ stamp. IsOfWrites stamp w × Adds (awaits self.old) allows (stands self.new) h n answer.value (λ _. used.value) stamp r w) (λ end. stands self.new h (raised end n) [] []) }
         ensures awaits { (c : Call) (used : ℕ) → awaits self.old c used → IfErr result (λ _. awaits self.new c used) }
         ensures alone { is_alone self.old → is_alone self.new × IfErr result (λ end. end ≡ TxEnd.NoMemory) }
-        ensures ticks { clock self.new ≤ clock self.old + 1 };
+        ensures ticks { clock self.new ≤ clock self.old + 1 }
+        ensures memory { result ≡ Err TxEnd.NoMemory → clock self.new ≡ clock self.old };
 
     /// Ends the attempt as an entry with this answer that wrote nothing and leaves the used words of its region as they were. No memory.
     fn finish_refused(&mut self, answer: Snapshot<Answer>) -> Stamp
