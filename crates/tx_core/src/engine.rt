@@ -61,12 +61,16 @@ pub trait Engine {
     /// What is known of the word that was given for an address after the look.
     ghost loaded: { Self → ℕ → ℕ → Type 0 } = { λ _ _ _. Unit {0} };
 
+    /// How many attempts were begun. Nothing is said where this is left out.
+    ghost attempts: { Self → ℕ → Type 0 } = { λ _ _. Unit {0} };
+
     /// Begins an attempt. No memory.
     fn begin(&mut self)
         ensures run { (h : List Entry) (n : ℕ) → stands self.old h n [] [] → stands self.new h n [] [] }
         ensures open { is_open self.new }
         ensures awaits { (c : Call) (used : ℕ) → awaits self.old c used → awaits self.new c used }
         ensures alone { is_alone self.old → is_alone self.new }
+        ensures attempts { (k : ℕ) → attempts self.old k → attempts self.new (k + 1) }
         ensures ticks { clock self.new ≡ clock self.old };
 
     /// Before a read. No memory.
@@ -79,6 +83,7 @@ pub trait Engine {
         ensures looked { IfOk result (λ _. looked self.new address) }
         ensures conflict { IfErr result (λ e. e.address ≡ address) }
         ensures alone { is_alone self.old → is_alone self.new × IsOk result }
+        ensures attempts { (k : ℕ) → attempts self.old k → attempts self.new k }
         ensures ticks { clock self.new ≡ clock self.old };
 
     /// The word as it lies there, whoever wrote it. No memory.
@@ -89,6 +94,7 @@ pub trait Engine {
         ensures open { is_open self.new }
         ensures awaits { (c : Call) (used : ℕ) → awaits self.old c used → awaits self.new c used }
         ensures alone { is_alone self.old → is_alone self.new }
+        ensures attempts { (k : ℕ) → attempts self.old k → attempts self.new k }
         ensures ticks { clock self.new ≡ clock self.old };
 
     /// The attempt's own last word there, or else a word that was committed there, which it logs as read.
@@ -101,6 +107,7 @@ pub trait Engine {
         ensures conflict { (e : Conflict) → result ≡ Err (TxEnd.Conflict e) → e.address ≡ address }
         ensures awaits { (c : Call) (used : ℕ) → awaits self.old c used → awaits self.new c used }
         ensures alone { is_alone self.old → is_alone self.new × IfErr result (λ end. end ≡ TxEnd.NoMemory) }
+        ensures attempts { (k : ℕ) → attempts self.old k → attempts self.new k }
         ensures ticks { clock self.new ≡ clock self.old };
 
     /// Logs a write.
@@ -111,6 +118,7 @@ pub trait Engine {
         ensures open { IfOk result (λ _. is_open self.new) }
         ensures awaits { (c : Call) (used : ℕ) → awaits self.old c used → awaits self.new c used }
         ensures alone { is_alone self.old → is_alone self.new × IfErr result (λ end. end ≡ TxEnd.NoMemory) }
+        ensures attempts { (k : ℕ) → attempts self.old k → attempts self.new k }
         ensures ticks { clock self.new ≡ clock self.old };
 
     /// Ends the attempt as an entry of the history with this answer, which leaves so many words of its region used, where its reads stand. An `Err`
@@ -123,6 +131,7 @@ pub trait Engine {
             → MatchResult result (λ stamp. IsOfWrites stamp w × Adds (awaits self.old) allows (stands self.new) h n answer.value (λ _. used.value) stamp r w) (λ end. stands self.new h (raised end n) [] []) }
         ensures awaits { (c : Call) (used : ℕ) → awaits self.old c used → IfErr result (λ _. awaits self.new c used) }
         ensures alone { is_alone self.old → is_alone self.new × IfErr result (λ end. end ≡ TxEnd.NoMemory) }
+        ensures attempts { (k : ℕ) → attempts self.old k → attempts self.new k }
         ensures ticks { clock self.new ≤ clock self.old + 1 }
         ensures memory { result ≡ Err TxEnd.NoMemory → clock self.new ≡ clock self.old };
 
@@ -133,6 +142,7 @@ pub trait Engine {
         ensures run { (h : List Entry) (n : ℕ) (r w : Log) → stands self.old h n r w
             → IsOfWrites result [] × Adds (awaits self.old) allows (stands self.new) h n answer.value (λ used. used) result r [] }
         ensures alone { is_alone self.old → is_alone self.new }
+        ensures attempts { (k : ℕ) → attempts self.old k → attempts self.new k }
         ensures ticks { clock self.new ≡ clock self.old };
 
     /// Ends the attempt without an entry. No memory.
@@ -140,6 +150,7 @@ pub trait Engine {
         ensures run { (h : List Entry) (n : ℕ) (r w : Log) → stands self.old h n r w → stands self.new h n [] [] }
         ensures awaits { (c : Call) (used : ℕ) → awaits self.old c used → awaits self.new c used }
         ensures alone { is_alone self.old → is_alone self.new }
+        ensures attempts { (k : ℕ) → attempts self.old k → attempts self.new k }
         ensures ticks { clock self.new ≡ clock self.old };
 
     /// How often the clock was raised by commits. No memory.
