@@ -125,6 +125,7 @@ pub record IsTicked (t : ℕ) (m : Map ℕ) (v w : Book) : Type 0 where
   pub number : w.face.number ≡ v.face.number
   pub numbers : w.numbers ≡ v.numbers
   pub fresh : w.fresh ≡ v.fresh
+  pub begins : w.begins ≡ v.begins
   pub ticks : w.ticks ≡ v.ticks + 1
   pub regions : w.regions ≡ v.regions
   pub entries : w.entries ≡ v.entries
@@ -142,6 +143,7 @@ ticked_then t due checked v v1 w later k e = subst (IsTicked t due v) (sym e) (r
   number = k.rest.number;
   numbers = k.rest.numbers;
   fresh = k.rest.fresh;
+  begins = k.rest.begins;
   ticks = let p = k.rest.ticks in omega arith;
   regions = k.rest.regions;
   entries = k.rest.entries;
@@ -159,6 +161,7 @@ ticked_lost t due checked x v v1 w u later upto k e r stage = record {
   stage = inl stage;
   numbers = r.numbers ∙ ap (λ (b : Book). b.numbers) e ∙ k.rest.numbers;
   fresh = r.fresh ∙ ap (λ (b : Book). b.fresh) e ∙ k.rest.fresh;
+  begins = r.begins ∙ ap (λ (b : Book). b.begins) e ∙ k.rest.begins;
   ticks = let p = r.ticks in let q = ap (λ (b : Book). b.ticks) e in let o = k.rest.ticks in omega arith;
   regions = r.regions ∙ ap (λ (b : Book). b.regions) e ∙ k.rest.regions;
   entries = r.entries ∙ ap (λ (b : Book). b.entries) e ∙ k.rest.entries;
@@ -205,6 +208,7 @@ module _ (t : ℕ) (wr : Log) (v w : Book) (x : Answer) (after : ℕ) (k : IsTic
     number = r.number ∙ ap (λ (b : Book). b.face.number) e ∙ k.number;
     numbers = r.numbers ∙ ap (λ (b : Book). b.numbers) e ∙ k.numbers;
     fresh = r.fresh ∙ ap (λ (b : Book). b.fresh) e ∙ k.fresh;
+    begins = r.begins ∙ ap (λ (b : Book). b.begins) e ∙ k.begins;
     ticks = let p = r.ticks in let q = ap (λ (b : Book). b.ticks) e in let o = k.ticks in omega arith;
     regions = r.regions ∙ ap (λ (b : Book). b.regions) e ∙ ap (λ (d : Entry). region_of d ∷ w.regions) entry_is ∙ ap (λ (m : Map Region). region_of (update_of v t wr x after) ∷ m) k.regions;
     entries = r.entries ∙ ap (λ (b : Book). b.entries) e ∙ ap (λ (d : Entry). d ∷ w.entries) entry_is ∙ ap (λ (es : List Entry). update_of v t wr x after ∷ es) k.entries;

@@ -12,13 +12,14 @@ use Rattle.tl2.specs.Plans.{words_of, IsListed}
 abbrev pub Holds : List Stripe → Book → Type 0
 Holds stripes v = IsListed v.face.held (words_of stripes)
 
--- The books of one pass before and after steps of one attempt, which met these conflicts, moved the clock so often, and
--- added no entry.
+-- The books of one pass before and after steps of one attempt, which met these conflicts, moved the clock so often,
+-- began no other attempt, and added no entry.
 pub record IsRest (met : List Lost) (moved : ℕ) (v w : Book) : Type 0 where
   pub number : w.face.number ≡ v.face.number
   pub stage : (w.face.stage ≡ Unticked) ⊎ (w.face.stage ≡ v.face.stage)
   pub numbers : w.numbers ≡ v.numbers
   pub fresh : w.fresh ≡ v.fresh
+  pub begins : w.begins ≡ v.begins
   pub ticks : w.ticks ≡ v.ticks + moved
   pub regions : w.regions ≡ v.regions
   pub entries : w.entries ≡ v.entries
@@ -67,6 +68,7 @@ pub record IsAdded (e : Entry) (v w : Book) : Type 0 where
   pub number : w.face.number ≡ v.face.number
   pub numbers : w.numbers ≡ v.numbers
   pub fresh : w.fresh ≡ v.fresh
+  pub begins : w.begins ≡ v.begins
   pub ticks : w.ticks ≡ v.ticks + 1
   pub regions : w.regions ≡ region_of e ∷ v.regions
   pub entries : w.entries ≡ e ∷ v.entries

@@ -31,6 +31,7 @@ impl<'a, T: Ruled, C: Calling> Tl2<'a, T, C> {
             → MatchResult result (λ stamp. IsOfWrites stamp w × Adds (Awaits (C.call self.old.call.value) (book self.old.pass)) T.rule (Stands C.began self.new.shared.now.words self.new.at self.new.writes.items self.new.pass) h n answer.value (λ _. used.value) stamp r w)
             (λ end. Stands C.began self.new.shared.now.words self.new.at self.new.writes.items self.new.pass h (raised end n) [] []) }
         ensures awaits { (c : Call) (used : ℕ) → Awaits (C.call self.old.call.value) (book self.old.pass) c used → IfErr result (λ _. Awaits (C.call self.new.call.value) (book self.new.pass) c used) }
+        ensures begins { (book self.new.pass).begins ≡ (book self.old.pass).begins }
         ensures ticks { (book self.new.pass).ticks ≤ (book self.old.pass).ticks + 1 }
         ensures seen { (e : Conflict) → result ≡ Err (TxEnd.Conflict e) → Meets (book self.old.pass) (book self.new.pass) e × (Has (pairs (reverse self.old.writes.items)) e.address ⊎ In e.address self.old.reads.items) }
         ensures sole { (book self.old.pass).numbers ≡ 2 ^ 20 → IfErr result (λ end. end ≡ TxEnd.NoMemory) }

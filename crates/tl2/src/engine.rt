@@ -30,6 +30,8 @@ impl<'a, T: Ruled, C: Calling> Engine for Tl2<'a, T, C> {
 
     ghost loaded = { λ s a x. IsLoaded s.shared.now.words s.at s.writes.items a x };
 
+    ghost attempts = { λ s k. (book s.pass).begins ≡ k };
+
     // The pass holds every number, so no other pass of the table is in use.
     ghost is_alone = { λ s. (book s.pass).numbers ≡ 2 ^ 20 };
 
