@@ -21,6 +21,8 @@ rest_here v = record {
   entries = refl;
   lost = refl;
   call = refl;
+  bound = refl;
+  reads = refl;
   seen = omega arith;
 }
 
@@ -37,6 +39,8 @@ rest_given c t v w s kept r = record {
   entries = r.entries;
   lost = r.lost;
   call = r.call;
+  bound = r.bound;
+  reads = r.reads;
   seen = r.seen;
 }
 
@@ -54,16 +58,16 @@ taking_one v w s word a t = record {
     entries = t.rest.entries;
     lost = t.rest.lost;
     call = t.rest.call;
+    bound = t.rest.bound;
+    reads = t.rest.reads;
     seen = t.rest.seen;
   };
   stage = t.stage;
   live = t.live;
-  reads = t.reads;
-  bound = t.bound;
 }
 
 pub taking_here : (v : Book) → v.face.stage ≡ Unticked → v.live ≡ true → IsTaking v v
-taking_here v stage live = record { rest = rest_here v; stage = stage; live = live; reads = refl; bound = refl }
+taking_here v stage live = record { rest = rest_here v; stage = stage; live = live }
 
 -- a conflict at a later step of the same attempt is one of its beginning
 pub lost_is : (v w : Book) (e : Conflict) → e.upto ≡ w.bound → w.call ≡ v.call → w.regions ≡ v.regions → w.reads ≡ v.reads → w.lost ≡ v.lost
@@ -88,8 +92,10 @@ taking_lost v w u e upto t r = record {
   ticks = let p = r.ticks in let q = t.rest.ticks in omega arith;
   regions = r.regions ∙ t.rest.regions;
   entries = r.entries ∙ t.rest.entries;
-  lost = r.lost ∙ lost_is v w e upto t.rest.call t.rest.regions t.reads t.rest.lost;
+  lost = r.lost ∙ lost_is v w e upto t.rest.call t.rest.regions t.rest.reads t.rest.lost;
   call = r.call ∙ t.rest.call;
+  bound = r.bound ∙ t.rest.bound;
+  reads = r.reads ∙ t.rest.reads;
   seen = let p = r.seen in let q = t.rest.seen in omega arith;
 }
   where
@@ -117,6 +123,8 @@ rest_released c t v w s d r = record {
   entries = r.entries;
   lost = r.lost;
   call = r.call;
+  bound = r.bound;
+  reads = r.reads;
   seen = r.seen;
 }
   where

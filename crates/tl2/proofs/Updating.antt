@@ -149,7 +149,7 @@ ticked_then t due checked v v1 w later k e = subst (IsTicked t due v) (sym e) (r
   entries = k.rest.entries;
   lost = k.rest.lost;
   call = k.rest.call;
-  reads = k.reads;
+  reads = k.rest.reads;
   seen = (let p = k.rest.seen in omega arith, refl);
 })
 
@@ -165,8 +165,10 @@ ticked_lost t due checked x v v1 w u later upto k e r stage = record {
   ticks = let p = r.ticks in let q = ap (λ (b : Book). b.ticks) e in let o = k.rest.ticks in omega arith;
   regions = r.regions ∙ ap (λ (b : Book). b.regions) e ∙ k.rest.regions;
   entries = r.entries ∙ ap (λ (b : Book). b.entries) e ∙ k.rest.entries;
-  lost = r.lost ∙ ap (λ (b : Book). b.lost) e ∙ lost_is v v1 x upto k.rest.call k.rest.regions k.reads k.rest.lost;
+  lost = r.lost ∙ ap (λ (b : Book). b.lost) e ∙ lost_is v v1 x upto k.rest.call k.rest.regions k.rest.reads k.rest.lost;
   call = r.call ∙ ap (λ (b : Book). b.call) e ∙ k.rest.call;
+  bound = r.bound ∙ ap (λ (b : Book). b.bound) e ∙ k.rest.bound;
+  reads = r.reads ∙ ap (λ (b : Book). b.reads) e ∙ k.rest.reads;
   seen = let p = r.seen in let q = ap (λ (b : Book). b.seen) e in let o = k.rest.seen in omega arith;
 }
 

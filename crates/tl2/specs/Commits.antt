@@ -13,7 +13,7 @@ abbrev pub Holds : List Stripe → Book → Type 0
 Holds stripes v = IsListed v.face.held (words_of stripes)
 
 -- The books of one pass before and after steps of one attempt, which met these conflicts, moved the clock so often,
--- began no other attempt, and added no entry.
+-- began no other attempt, added no entry, and kept the reads.
 pub record IsRest (met : List Lost) (moved : ℕ) (v w : Book) : Type 0 where
   pub number : w.face.number ≡ v.face.number
   pub stage : (w.face.stage ≡ Unticked) ⊎ (w.face.stage ≡ v.face.stage)
@@ -25,6 +25,8 @@ pub record IsRest (met : List Lost) (moved : ℕ) (v w : Book) : Type 0 where
   pub entries : w.entries ≡ v.entries
   pub lost : w.lost ≡ met ++ v.lost
   pub call : w.call ≡ v.call
+  pub bound : w.bound ≡ v.bound
+  pub reads : w.reads ≡ v.reads
   pub seen : v.seen ≤ w.seen
 
 -- The attempt's reads stand, and it has not ticked.
@@ -32,8 +34,6 @@ pub record IsTaking (v w : Book) : Type 0 where
   pub rest : IsRest [] 0 v w
   pub stage : w.face.stage ≡ Unticked
   pub live : w.live ≡ true
-  pub reads : w.reads ≡ v.reads
-  pub bound : w.bound ≡ v.bound
 
 -- What the attempt of w means to write, that of v means to write too, or it keeps to P.
 abbrev pub MeansOnly : (ℕ → Type 0) → Book → Book → Type 0

@@ -17,7 +17,7 @@ take_one-requires-clause-heap g c =
 
 pub take_one-requires-clause-read : goal.take_one-requires-clause-read
 take_one-requires-clause-read g c = λ b x i e.
-    let before : In (b, x) (book c.args.pass.now).reads = rw c.loop-i.invariant.taking.reads at i in
+    let before : In (b, x) (book c.args.pass.now).reads = rw c.loop-i.invariant.taking.rest.reads at i in
     let more : c.loop-i.i < length c.loop-i.stripes = omega arith in
     let most : c.loop-i.i < length c.args.stripes.now = omega arith in
     let same = same_later c.loop-i.stripes c.args.stripes.now c.loop-i.i more most c.loop-i.invariant.later in
@@ -26,7 +26,7 @@ take_one-requires-clause-read g c = λ b x i e.
 pub returns-in-Err-clause-conflict : goal.returns-in-Err-clause-conflict
 returns-in-Err-clause-conflict g c =
     let k = c.in-Err.ensures.conflict in
-    let bound = c.loop-i.invariant.taking.bound in
+    let bound = c.loop-i.invariant.taking.rest.bound in
     let all = addresses_of c.args.stripes.now in
     let more : c.loop-i.i < length c.loop-i.stripes = omega arith in (
       k.1 ∙ bound,

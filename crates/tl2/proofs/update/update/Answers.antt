@@ -125,7 +125,7 @@ returns-in-Err-clause-free g c =
 pub returns-in-Err-clause-conflict : goal.returns-in-Err-clause-conflict
 returns-in-Err-clause-conflict g c =
     let k = c.in-Err.ensures.conflict in
-    let bound = c.in_ok-take_all.ensures.ok.0.bound in
+    let bound = c.in_ok-take_all.ensures.ok.0.rest.bound in
     let read = elsewhere_read (book c.args.pass.now).reads c.requires.plan c.in-Err.conflict.address (rw c.deref.ensures.value at k.2) in
     (k.0 ∙ bound, subst (λ (n : ℕ). IsPast n c.in-Err.conflict.word) bound k.1, inr read.0)
 

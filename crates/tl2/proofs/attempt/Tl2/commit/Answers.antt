@@ -100,7 +100,7 @@ returns-in-Err-clause-seen g c = λ e q.
     let at = ap (λ (ws : Log). pairs (reverse ws)) c.as_slice-2.ensures.value in
     let read = c.args.self.now.logged (inside _ _ _ c.requires.open.2) in
     subst (λ (d : Conflict). Meets (book c.args.self.now.pass) (book c.update-done.new.pass) d × (Has (pairs (reverse c.args.self.now.writes.items)) d.address ⊎ In d.address c.args.self.now.reads.items)) same (
-      record { upto = k.0; past = k.1; other = c.in-Err.ensures.other; kept = rest.2.lost },
+      record { upto = k.0; past = k.1; other = c.in-Err.ensures.other; kept = rest.2.lost; bound = rest.2.bound; reads = rest.2.reads },
       ⊎_elim (λ (h : Has (pairs (reverse c.as_slice-2.result.now)) c.in-Err.conflict.address). inl (subst (λ (m : Map ℕ). Has m c.in-Err.conflict.address) at h))
           (λ (i : In c.in-Err.conflict.address (keys (book c.args.self.now.pass).reads)). inr (in_reversed c.args.self.now.reads.items c.in-Err.conflict.address (subst (In c.in-Err.conflict.address) (sym read.0) i))) k.2,
     )
