@@ -30,7 +30,7 @@ pub trait Engine {
     ghost use Rattle.jmodel.specs.History.{Call, Entry, Words};
     ghost use Rattle.tx_core.specs.Engine.{raised, Adds, MayEnd, IsOfWrites, IsSnapshot, LeadsTo};
 
-    /// The entries that were committed, the oldest first; the conflicts met so far; and what the attempt has read and
+    /// The entries that were committed, the oldest first; how many conflicts were met; and what the attempt has read and
     /// written, the last first.
     ghost stands: { Self → List Entry → ℕ → Log → Log → Type 0 };
 
