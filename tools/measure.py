@@ -8,8 +8,8 @@ medians of seconds by the clock and of seconds of processors, and the largest me
 """
 
 import json
+import multiprocessing
 import os
-import resource
 import statistics
 import subprocess
 import sys
@@ -103,23 +103,23 @@ def crossed(classes):
 
 INC = "Counter.inc()I"
 CASES = {
-    "100,000 calls of Counter, 1 lane": (counter, script([on_lanes(INC, 1, 100_000)])),
-    "the same, 2 lanes": (counter, script([on_lanes(INC, 2, 50_000)], 2)),
-    "the same, 4 lanes": (counter, script([on_lanes(INC, 4, 25_000)], 4)),
-    "the same, 16 lanes": (counter, script([on_lanes(INC, 16, 6_250)], 16)),
-    "the same, 2 lanes in 10,000 phases": (counter, script([on_lanes(INC, 2, 5)] * 10_000, 2)),
-    "the same, a bag for 16 workers": (counter, script([{"bag": calls(INC, 100_000)}], 16)),
-    "10 loops of 999,999 turns": (loops, script([on_lanes("Loops.spin(I)I", 1, 10, 999_999)], budget=1_000_000)),
-    "999,999 turns that read and write a field": (loops, script([on_lanes("Loops.copy(I)I", 1, 1, 999_999)], budget=1_000_000)),
-    "the same on each of 2 lanes": (loops, script([on_lanes("Loops.copy(I)I", 2, 1, 999_999)], 2, budget=1_000_000)),
-    "100,000 divisions by 0": (loops, script([on_lanes("Loops.divide(I)I", 1, 100_000, 0)], region=1_048_576)),
-    "a switch of 16,000 cases, 500,000 times": (lambda: switch(16_000), script([on_lanes("Cases.m(I)I", 1, 1, 499_999)], budget=1_000_000)),
-    "100 methods of 5,000 bytes, 1,000 calls": (lambda: large(625), script([on_lanes("Large.m0()V", 1, 1_000)])),
+    "100,000 calls of Counter, 1 lane": (counter, lambda: script([on_lanes(INC, 1, 100_000)])),
+    "the same, 2 lanes": (counter, lambda: script([on_lanes(INC, 2, 50_000)], 2)),
+    "the same, 4 lanes": (counter, lambda: script([on_lanes(INC, 4, 25_000)], 4)),
+    "the same, 16 lanes": (counter, lambda: script([on_lanes(INC, 16, 6_250)], 16)),
+    "the same, 2 lanes in 10,000 phases": (counter, lambda: script([on_lanes(INC, 2, 5)] * 10_000, 2)),
+    "the same, a bag for 16 workers": (counter, lambda: script([{"bag": calls(INC, 100_000)}], 16)),
+    "10 loops of 999,999 turns": (loops, lambda: script([on_lanes("Loops.spin(I)I", 1, 10, 999_999)], budget=1_000_000)),
+    "999,999 turns that read and write a field": (loops, lambda: script([on_lanes("Loops.copy(I)I", 1, 1, 999_999)], budget=1_000_000)),
+    "the same on each of 2 lanes": (loops, lambda: script([on_lanes("Loops.copy(I)I", 2, 1, 999_999)], 2, budget=1_000_000)),
+    "100,000 divisions by 0": (loops, lambda: script([on_lanes("Loops.divide(I)I", 1, 100_000, 0)], region=1_048_576)),
+    "a switch of 16,000 cases, 500,000 times": (lambda: switch(16_000), lambda: script([on_lanes("Cases.m(I)I", 1, 1, 499_999)], budget=1_000_000)),
+    "100 methods of 5,000 bytes, 1,000 calls": (lambda: large(625), lambda: script([on_lanes("Large.m0()V", 1, 1_000)])),
     "the same, rewritten": (lambda: large(625), None),
-    "a method of 6,000 branches and 200 locals": (lambda: branches(6_000, 200), script([on_lanes("Branches.m(I)I", 1, 1, 3)])),
-    "256 classes, 100 fields and methods each, 100,000 calls": (lambda: crossed(256), script([on_lanes("C0.m0()I", 1, 100_000)])),
+    "a method of 6,000 branches and 200 locals": (lambda: branches(6_000, 200), lambda: script([on_lanes("Branches.m(I)I", 1, 1, 3)])),
+    "256 classes, 100 fields and methods each, 100,000 calls": (lambda: crossed(256), lambda: script([on_lanes("C0.m0()I", 1, 100_000)])),
     "256 classes, rewritten": (lambda: crossed(256), None),
-    "a script of 450,000 calls, refused": (counter, script([on_lanes(INC, 1, 450_000)])),
+    "a script of 450,000 calls, refused": (counter, lambda: script([on_lanes(INC, 1, 450_000)])),
 }
 
 
@@ -131,20 +131,25 @@ def measured(words):
     return time.monotonic() - before, used.ru_utime + used.ru_stime, used.ru_maxrss / 1024
 
 
+def make_inputs(folder, sources, script_text):
+    compiled(folder, sources())
+    if script_text:
+        with open(f"{folder}/script.json", "w") as it:
+            it.write(script_text())
+
+
 def main(wanted):
     subprocess.run([f"{TOP}/deuce"], stdout=subprocess.DEVNULL)
-    resource.setrlimit(resource.RLIMIT_CORE, (0, 0))
     print("| What | Seconds by the clock | Seconds of processors | MB |\n|---|---|---|---|")
-    for name, (sources, calls_) in CASES.items():
+    for name, (sources, script_text) in CASES.items():
         if wanted and not any(it in name for it in wanted):
             continue
         with tempfile.TemporaryDirectory() as folder:
-            words = ["run", compiled(folder, sources()), f"{folder}/script.json"]
-            if calls_ is None:
-                words = ["rewrite", words[1], f"{folder}/out"]
-            else:
-                with open(words[2], "w") as it:
-                    it.write(calls_)
+            # (a process of its own makes them, since the program would begin with the memory that this one took)
+            maker = multiprocessing.Process(target=make_inputs, args=(folder, sources, script_text))
+            maker.start()
+            maker.join()
+            words = ["run", f"{folder}/classes", f"{folder}/script.json"] if script_text else ["rewrite", f"{folder}/classes", f"{folder}/out"]
             clock, processors, memory = zip(*[measured(words) for _ in range(RUNS)])
         print(f"| {name} | {statistics.median(clock):.2f} | {statistics.median(processors):.2f} | {max(memory):.0f} |", flush=True)
 
