@@ -1,5 +1,5 @@
 -- What the program writes, and why it ends as it does.
-use Rattle.std.specs.Prelude.{◌≡◌, ◌⊎◌, ℕ, ◌<◌, ◌≤◌, pos, List, ◌∷◌, ◌++◌, length, map, bytes_eq, Option, Some, IsSome, None, Ok, Err, slice_get, string_bytes, option_map, take}
+use Rattle.std.specs.Prelude.{◌≡◌, ◌⊎◌, ℕ, ◌+◌, ◌<◌, ◌≤◌, pos, List, ◌∷◌, ◌++◌, length, map, bytes_eq, Option, Some, IsSome, None, Ok, Err, slice_get, string_bytes, option_map, take}
 use Rattle.std.specs.Option.{ForSome}
 use Rattle.std.specs.List.{AllByRecursion, AllZip}
 use Rattle.std.specs.Borrow.{Bor}
@@ -26,8 +26,8 @@ use Rattle.jmodel.specs.Classes.{in_order, doubled_class}
 use Rattle.jmodel.specs.ClassesLinking.{linking, linking_files, pc_of, initialisers_in}
 use Rattle.jmodel.specs.Typing.{IsTypable, IsUntypableAt}
 use Rattle.rewriter.specs.RewrittenClasses.{rewritten_classes}
-use Rattle.script.specs.Script.{Script, IsScript, IsFault}
-use Rattle.deuce.specs.Folder.{IsClassFileName, depth, IsFolder, HoldsClasses, IsTooDeep, IsOverfull, IsFrontOf, Holds, HoldsContents, IsFileFault, IsFileOf, HasClasses, with_files, placed_in, ArePutUpTo}
+use Rattle.script.specs.Script.{Script, IsScript, IsFault, script_limit}
+use Rattle.deuce.specs.Folder.{IsClassFileName, depth, class_limit, IsFolder, HoldsClasses, IsTooDeep, IsOverfull, IsFrontOf, Holds, HoldsContents, IsFileFault, IsFileOf, HasClasses, with_files, placed_in, ArePutUpTo}
 use Rattle.deuce.specs.Headline.{name_in, linked_files, IsRun, CanRun, IsRunnable}
 use Rattle.deuce.specs.Rewritten.{IsRewriting, CanRewrite, HasManyMembers}
 use Rattle.deuce.specs.declared.inputs.ClassInput.{ClassInput}
@@ -68,7 +68,7 @@ pub record Failed (Asks : Call → Type 0) (path : List ℕ) (before now : ℕ) 
 -- what was read of a class file under a folder: its path, and its bytes, with at most one over the limit
 pub record IsClassInput (files : Option Files) (dir : List ℕ) (input : ClassInput) : Type 0 where
   pub class_path : string_bytes input.path ≡ inside dir (string_bytes input.relative)
-  pub class : IsFrontOf files (inside dir (string_bytes input.relative)) 1048577 input.bytes
+  pub class : IsFrontOf files (inside dir (string_bytes input.relative)) (class_limit + 1) input.bytes
 
 -- the paths from the folder to the class files that were read
 abbrev pub paths_of : List ClassInput → List (List ℕ)
@@ -83,7 +83,7 @@ pub record AreClassInputs (files : Option Files) (dir : List ℕ) (inputs : List
 -- what a run has read: that, and the script's bytes, with at most one over the limit
 pub record AreInputs (files : Option Files) (dir script : List ℕ) (inputs : Inputs) : Type 0 where
   pub of_classes : AreClassInputs files dir inputs.classes.items
-  pub script_bytes : IsFrontOf files script 16777217 inputs.script
+  pub script_bytes : IsFrontOf files script (script_limit + 1) inputs.script
 
 -- The text is that of a run of the script at a path on the class files of a folder.
 pub record IsJournalOf (files : Option Files) (dir script text : List ℕ) : Type 0 where
@@ -193,7 +193,7 @@ IsNotRewritten files = IsOutsideForm files ⊎ HasManyMembers files
 -- A folder has good class files, for which the script, of which at most one byte over the limit is looked at, has this fault.
 pub record HasBadScript (files : Option Files) (dir script : List ℕ) (r : Refusal) : Type 0 where
   pub script_bytes : List ℕ
-  pub script_front : IsFrontOf files script 16777217 script_bytes
+  pub script_front : IsFrontOf files script (script_limit + 1) script_bytes
   pub of_classes : HasClasses files dir (IsBadScript script_bytes r)
 
 -- A folder has good class files, and a script for them, but a run of it doesn't begin.
