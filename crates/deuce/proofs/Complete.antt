@@ -28,7 +28,8 @@ use Rattle.deuce.specs.declared.outcome.Outcome.{Outcome}
 use Rattle.deuce.specs.declared.outcome.Outcome.TheVariants.{Journal, Rewritten, Usage, BadClass, BadProgram, Untyped, BadScript, Unopened, Outside, NotPut, NotBuilt}
 use Rattle.deuce.specs.Folder.{class_limit, HoldsClasses, IsTooDeep, HasManyClasses, IsOverfull, IsGoodFile, HasClasses, IsBadClass}
 use Rattle.deuce.specs.Ending.{IsBadProgram, HasBadProgram, IsUntypable, IsBadScript, HasBadScript, IsUnopened, HasUnopened, IsOutsideForm, IsNotRewritten, CanRunIn, CanRewriteIn}
-use Rattle.deuce.specs.Outcomes.{Seen, Says, IsBadProgramOfWords, IsUntypableOfWords, IsNotBuilt, IsBadClassOfWords, IsBadScriptOfWords, IsUnopenedOfWords, CanRunWords, CanRewriteWords, status_of}
+use Rattle.deuce_io.specs.Seen.{Seen}
+use Rattle.deuce.specs.Outcomes.{Says, IsBadProgramOfWords, IsUntypableOfWords, IsNotBuilt, IsBadClassOfWords, IsBadScriptOfWords, IsUnopenedOfWords, CanRunWords, CanRewriteWords, status_of}
 use Rattle.deuce.proofs.Folders.{same_paths}
 use Rattle.deuce.proofs.Lists.{all_at}
 use Rattle.deuce.proofs.Asked.{one_run, one_rewriting, apart, run_folder, rewriting_folder}

@@ -118,13 +118,7 @@ fn fail_by(
 }
 
 impl<R: Files + AllocGlobal + Clone + Drop> Folder for RealFolder<R> {
-    ghost faults = { λ f. f.faults };
-
-    ghost put_faults = { λ f. f.put_faults };
-
-    ghost failed = { λ f. option_map seen_call f.failed };
-
-    ghost files = { λ f. None };
+    ghost seen = { λ f. record { files = None; faults = f.faults; put_faults = f.put_faults; failed = option_map seen_call f.failed } };
 
     fn list(&mut self, dir: &str) -> Result<Vec<Item>, IoEnd>
         // as of every folder

@@ -17,10 +17,10 @@ fn list_and_read<F: Folder>(
     path: &str,
     most: usize,
 ) -> Result<Bytes, IoEnd>
-    ensures failed { IsErrOf result IoEnd.Failed → Rose (F.faults folder.old) (F.faults folder.new) }
-    ensures call { IsErrOf result IoEnd.Failed → (F.failed folder.new ≡ Some (list_of dir.now)) ⊎ (F.failed folder.new ≡ Some (read_of path.now)) }
-    ensures whole { ForSome (F.files folder.old) (λ told. IfOk result (λ bytes. length bytes < most → told path.now ≡ Some bytes)) }
-    ensures kept { F.files folder.new ≡ F.files folder.old }
+    ensures failed { IsErrOf result IoEnd.Failed → Rose (F.seen folder.old).faults (F.seen folder.new).faults }
+    ensures call { IsErrOf result IoEnd.Failed → ((F.seen folder.new).failed ≡ Some (list_of dir.now)) ⊎ ((F.seen folder.new).failed ≡ Some (read_of path.now)) }
+    ensures whole { ForSome (F.seen folder.old).files (λ told. IfOk result (λ bytes. length bytes < most → told path.now ≡ Some bytes)) }
+    ensures kept { (F.seen folder.new).files ≡ (F.seen folder.old).files }
 {
     folder.list(dir)?;
     let bytes = folder.read(path, most)?;
