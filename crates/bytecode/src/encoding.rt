@@ -6,6 +6,7 @@ ghost use Rattle.jmodel.specs.ClassFile.{u2, u4};
 ghost use Rattle.jmodel.specs.Instruction.{signed, distance as distance_of, highest as highest_of, jump, zeros, pair_text as text_of_pair, number_text, local_text, increment_text, index_text, interface_text, dimensions_text, target_text, table_text, lookup_text, wide_text, operands_text, text, code_text, IsNumber, IsArrayType, IsLocal, IsIncrement, IsIndex, IsTarget, IsTable, IsLookup, IsWide, IsSized, IsInstr, AreInOrder, Holds};
 
 use crate::forms::form_of;
+use crate::opcodes;
 use crate::switches::padding;
 use jmodel::{Bytes, Form, Instr, NoMemory, Operands};
 use std::alloc::{AllocError, Global};
@@ -280,7 +281,7 @@ fn put_wide(out: &mut Bytes, operands: &Operands) -> Result<(), AllocError>
         Operands::Wide { op, local, add } => {
             put_u1(out, *op)?;
             put_u2(out, *local)?;
-            if *op == 132 {
+            if *op == opcodes::IINC {
                 put_s2(out, *add)
             } else {
                 Ok(())

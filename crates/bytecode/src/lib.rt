@@ -9,6 +9,7 @@ mod forms;
 mod instructions;
 pub mod laws;
 mod numbers;
+pub mod opcodes;
 mod operands;
 mod places;
 mod relocation;

@@ -6,6 +6,7 @@ ghost use Rattle.jmodel.specs.Relocation.{IsShapedAs, IsShaped, size_at as size,
 ghost use Rattle.bytecode.specs.Within.{within};
 
 use crate::forms::form_of;
+use crate::opcodes;
 use crate::switches::padding;
 use jmodel::{Form, Instr, Operands};
 
@@ -38,7 +39,10 @@ fn wide_size(operands: &Operands) -> usize
     ensures small { result < 2 ^ 35 }
 {
     match operands {
-        Operands::Wide { op: 132, .. } => 5,
+        Operands::Wide {
+            op: opcodes::IINC,
+            ..
+        } => 5,
         Operands::Wide { .. } => 3,
         _ => 0,
     }

@@ -3,6 +3,7 @@
 
 mod distinct;
 mod head;
+mod lists;
 mod members;
 mod methods;
 mod reader;

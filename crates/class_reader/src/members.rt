@@ -1,8 +1,8 @@
 //! What fields and methods begin with, and fields (JVM Specification, Java SE 7, section 4.5).
 ghost use Rattle.std.specs.Prelude.{◌≡◌, Bool, if◌then◌else◌, IfOk};
-ghost use Rattle.jmodel.specs.Reading.{Gives, items_at};
+ghost use Rattle.jmodel.specs.Reading.{Gives};
 ghost use Rattle.jmodel.specs.DescriptorReading.{is_field_descriptor as is_field, is_method_descriptor as is_method};
-ghost use Rattle.jmodel.specs.ClassFileReading.{descriptor_fits as fits_use, member_head_at as member_head, field_at as field, members_at as members, full_name as name_of};
+ghost use Rattle.jmodel.specs.ClassFileReading.{descriptor_fits as fits_use, member_head_at as member_head, field_at as field, full_name as name_of};
 ghost use Rattle.const_pool.specs.Uses.{uses_of};
 ghost use Rattle.class_reader.specs.Heads.{head_of};
 
@@ -82,8 +82,9 @@ pub fn full_name(
     Ok(text)
 }
 
+/// A field, and the place after it.
 #[tactic(auto, unfolding(jmodel::specs::ClassFileReading::field_at))]
-fn field_at(
+pub fn field_at(
     alloc: Global,
     pool: &Pool,
     known: &Descriptors,
@@ -102,41 +103,4 @@ fn field_at(
         attributes,
     };
     Ok((member, after))
-}
-
-fn field_list(
-    alloc: Global,
-    pool: &Pool,
-    known: &Descriptors,
-    bytes: &[u8],
-    count: u16,
-    start: usize,
-) -> Result<(Vec<Member>, usize), Halt>
-    requires { known.now ≡ uses_of pool.now }
-    ensures { Gives (λ x. (x.0.items, x.1)) result (items_at (field pool.now bytes.now) count start) }
-{
-    let mut items = Vec::new(alloc);
-    let mut at = start;
-    for _ in 0..count {
-        let (item, after) = field_at(alloc, pool, known, bytes, at)?;
-        items.push(item)?;
-        at = after;
-    }
-    Ok((items, at))
-}
-
-/// The fields behind their count, and the place after them.
-#[tactic(auto, unfolding(jmodel::specs::ClassFileReading::members_at))]
-pub fn fields_at(
-    alloc: Global,
-    pool: &Pool,
-    known: &Descriptors,
-    bytes: &[u8],
-    at: usize,
-) -> Result<(Vec<Member>, usize), Halt>
-    requires { known.now ≡ uses_of pool.now }
-    ensures { Gives (λ x. (x.0.items, x.1)) result (members (field pool.now bytes.now) bytes.now at) }
-{
-    let (count, at) = u2_at(bytes, at)?;
-    field_list(alloc, pool, known, bytes, count, at)
 }

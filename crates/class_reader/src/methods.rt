@@ -2,7 +2,7 @@
 ghost use Rattle.std.specs.Prelude.{◌≡◌, false, codes};
 ghost use Rattle.jmodel.specs.Reading.{Gives, Fails, items_at};
 ghost use Rattle.jmodel.specs.ClassRules.{is_named as named, has_no_code as no_code};
-ghost use Rattle.jmodel.specs.ClassFileReading.{judge as judged, method_attribute_at as method_attribute, method_attributes_at as method_attributes, method_at as method, members_at as members, full_name as name_of};
+ghost use Rattle.jmodel.specs.ClassFileReading.{judge as judged, method_attribute_at as method_attribute, method_attributes_at as method_attributes, method_at as method, full_name as name_of};
 ghost use Rattle.const_pool.specs.Uses.{uses_of};
 ghost use Rattle.class_reader.specs.Heads.{no_method};
 ghost use Rattle.jmodel.specs.declared.refusal.Refusal.TheVariants.{BadCode};
@@ -104,8 +104,9 @@ fn method_attributes_at(
     Err(bad_code(alloc, pool, head))
 }
 
+/// A method, and the place after it.
 #[tactic(auto, unfolding(jmodel::specs::ClassFileReading::method_at))]
-fn method_at(
+pub fn method_at(
     alloc: Global,
     pool: &Pool,
     known: &Descriptors,
@@ -125,41 +126,4 @@ fn method_at(
         attributes,
     };
     Ok((member, after))
-}
-
-fn method_list(
-    alloc: Global,
-    pool: &Pool,
-    known: &Descriptors,
-    bytes: &[u8],
-    count: u16,
-    start: usize,
-) -> Result<(Vec<Member>, usize), Halt>
-    requires { known.now ≡ uses_of pool.now }
-    ensures { Gives (λ x. (x.0.items, x.1)) result (items_at (method pool.now bytes.now) count start) }
-{
-    let mut items = Vec::new(alloc);
-    let mut at = start;
-    for _ in 0..count {
-        let (item, after) = method_at(alloc, pool, known, bytes, at)?;
-        items.push(item)?;
-        at = after;
-    }
-    Ok((items, at))
-}
-
-/// The methods behind their count, and the place after them.
-#[tactic(auto, unfolding(jmodel::specs::ClassFileReading::members_at))]
-pub fn methods_at(
-    alloc: Global,
-    pool: &Pool,
-    known: &Descriptors,
-    bytes: &[u8],
-    at: usize,
-) -> Result<(Vec<Member>, usize), Halt>
-    requires { known.now ≡ uses_of pool.now }
-    ensures { Gives (λ x. (x.0.items, x.1)) result (members (method pool.now bytes.now) bytes.now at) }
-{
-    let (count, at) = u2_at(bytes, at)?;
-    method_list(alloc, pool, known, bytes, count, at)
 }

@@ -8,8 +8,7 @@ ghost use Rattle.class_reader.specs.Numbers.{AreNamed};
 
 use crate::distinct::distinct;
 use crate::head::{head_at, magic_at, version_at};
-use crate::members::fields_at;
-use crate::methods::methods_at;
+use crate::lists::{MemberKind, members_at};
 use const_pool::fields::offset;
 use const_pool::{ClassFile, Descriptors, Pool, attributes_at};
 use jmodel::{Halt, Refusal};
@@ -28,8 +27,8 @@ fn parts_at(
 {
     let known = Descriptors::of(alloc, &pool)?;
     let (head, at) = head_at(alloc, &pool, bytes, at)?;
-    let (fields, at) = fields_at(alloc, &pool, &known, bytes, at)?;
-    let (methods, at) = methods_at(alloc, &pool, &known, bytes, at)?;
+    let (fields, at) = members_at(alloc, &pool, &known, MemberKind::Field, bytes, at)?;
+    let (methods, at) = members_at(alloc, &pool, &known, MemberKind::Method, bytes, at)?;
     let (attributes, after) = attributes_at(alloc, &pool, bytes, at)?;
     let class = ClassFile {
         minor,

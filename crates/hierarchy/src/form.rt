@@ -17,6 +17,7 @@ use crate::shape::{has_context, shape_of};
 use crate::symbols::{equal, is_static, own_name, super_name, text};
 use crate::taken::invoked;
 use crate::word_types::word_type;
+use bytecode::opcodes;
 use const_pool::{ClassFile, Code, Constant, Member, Pool};
 use jmodel::op::Op;
 use jmodel::value::Value;
@@ -283,7 +284,13 @@ fn is_form_code(code: &Code) -> bool
 fn is_of_reference(opcode: u8) -> bool
     ensures { result ≡ of_reference opcode }
 {
-    matches!(opcode, 25 | 58 | 42..=45 | 75..=78)
+    matches!(
+        opcode,
+        opcodes::ALOAD
+            | opcodes::ASTORE
+            | opcodes::ALOAD_0..=opcodes::ALOAD_3
+            | opcodes::ASTORE_0..=opcodes::ASTORE_3
+    )
 }
 
 // The opcode that wide stands before.

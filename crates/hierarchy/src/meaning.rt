@@ -9,6 +9,7 @@ use crate::numbered::Numbered;
 use crate::reference::{Reference, field_reference, method_reference};
 use crate::symbols::{equal, is_text, own_name};
 use crate::word_types::{read_type, word_type, write_type};
+use bytecode::opcodes;
 use const_pool::{ClassFile, Member, Pool};
 use jmodel::op::{Binary, ContextCall, Division, Op, Rearrange, Test, Unary};
 use jmodel::value::Value;
@@ -75,10 +76,18 @@ fn short_local_op(opcode: u8) -> Option<Op>
     ensures { result ≡ short_local opcode }
 {
     match opcode {
-        26..=29 => Some(Op::Load(opcode as usize - 26)),
-        42..=45 => Some(Op::Load(opcode as usize - 42)),
-        59..=62 => Some(Op::Store(opcode as usize - 59)),
-        75..=78 => Some(Op::Store(opcode as usize - 75)),
+        opcodes::ILOAD_0..=opcodes::ILOAD_3 => Some(Op::Load(
+            opcode as usize - opcodes::ILOAD_0 as usize,
+        )),
+        opcodes::ALOAD_0..=opcodes::ALOAD_3 => Some(Op::Load(
+            opcode as usize - opcodes::ALOAD_0 as usize,
+        )),
+        opcodes::ISTORE_0..=opcodes::ISTORE_3 => Some(Op::Store(
+            opcode as usize - opcodes::ISTORE_0 as usize,
+        )),
+        opcodes::ASTORE_0..=opcodes::ASTORE_3 => Some(Op::Store(
+            opcode as usize - opcodes::ASTORE_0 as usize,
+        )),
         _ => None,
     }
 }
@@ -88,21 +97,21 @@ fn arithmetic_op(opcode: u8) -> Option<Op>
     ensures { result ≡ arithmetic opcode }
 {
     match opcode {
-        96 => Some(Op::Binary(Binary::Add)),
-        100 => Some(Op::Binary(Binary::Subtract)),
-        104 => Some(Op::Binary(Binary::Multiply)),
-        108 => Some(Op::Divide(Division::Quotient)),
-        112 => Some(Op::Divide(Division::Remainder)),
-        116 => Some(Op::Unary(Unary::Negate)),
-        120 => Some(Op::Binary(Binary::ShiftLeft)),
-        122 => Some(Op::Binary(Binary::ShiftRight)),
-        124 => Some(Op::Binary(Binary::UnsignedShiftRight)),
-        126 => Some(Op::Binary(Binary::And)),
-        128 => Some(Op::Binary(Binary::Or)),
-        130 => Some(Op::Binary(Binary::Xor)),
-        145 => Some(Op::Unary(Unary::ToByte)),
-        146 => Some(Op::Unary(Unary::ToChar)),
-        147 => Some(Op::Unary(Unary::ToShort)),
+        opcodes::IADD => Some(Op::Binary(Binary::Add)),
+        opcodes::ISUB => Some(Op::Binary(Binary::Subtract)),
+        opcodes::IMUL => Some(Op::Binary(Binary::Multiply)),
+        opcodes::IDIV => Some(Op::Divide(Division::Quotient)),
+        opcodes::IREM => Some(Op::Divide(Division::Remainder)),
+        opcodes::INEG => Some(Op::Unary(Unary::Negate)),
+        opcodes::ISHL => Some(Op::Binary(Binary::ShiftLeft)),
+        opcodes::ISHR => Some(Op::Binary(Binary::ShiftRight)),
+        opcodes::IUSHR => Some(Op::Binary(Binary::UnsignedShiftRight)),
+        opcodes::IAND => Some(Op::Binary(Binary::And)),
+        opcodes::IOR => Some(Op::Binary(Binary::Or)),
+        opcodes::IXOR => Some(Op::Binary(Binary::Xor)),
+        opcodes::I2B => Some(Op::Unary(Unary::ToByte)),
+        opcodes::I2C => Some(Op::Unary(Unary::ToChar)),
+        opcodes::I2S => Some(Op::Unary(Unary::ToShort)),
         _ => None,
     }
 }
@@ -112,16 +121,16 @@ fn rearranging_op(opcode: u8) -> Option<Op>
     ensures { result ≡ rearranging opcode }
 {
     match opcode {
-        0 => Some(Op::Rearrange(Rearrange::Nothing)),
-        87 => Some(Op::Rearrange(Rearrange::Pop)),
-        88 => Some(Op::Rearrange(Rearrange::PopTwo)),
-        89 => Some(Op::Rearrange(Rearrange::Duplicate)),
-        90 => Some(Op::Rearrange(Rearrange::DuplicateUnder)),
-        91 => Some(Op::Rearrange(Rearrange::DuplicateUnderTwo)),
-        92 => Some(Op::Rearrange(Rearrange::DuplicateTwo)),
-        93 => Some(Op::Rearrange(Rearrange::DuplicateTwoUnder)),
-        94 => Some(Op::Rearrange(Rearrange::DuplicateTwoUnderTwo)),
-        95 => Some(Op::Rearrange(Rearrange::Swap)),
+        opcodes::NOP => Some(Op::Rearrange(Rearrange::Nothing)),
+        opcodes::POP => Some(Op::Rearrange(Rearrange::Pop)),
+        opcodes::POP2 => Some(Op::Rearrange(Rearrange::PopTwo)),
+        opcodes::DUP => Some(Op::Rearrange(Rearrange::Duplicate)),
+        opcodes::DUP_X1 => Some(Op::Rearrange(Rearrange::DuplicateUnder)),
+        opcodes::DUP_X2 => Some(Op::Rearrange(Rearrange::DuplicateUnderTwo)),
+        opcodes::DUP2 => Some(Op::Rearrange(Rearrange::DuplicateTwo)),
+        opcodes::DUP2_X1 => Some(Op::Rearrange(Rearrange::DuplicateTwoUnder)),
+        opcodes::DUP2_X2 => Some(Op::Rearrange(Rearrange::DuplicateTwoUnderTwo)),
+        opcodes::SWAP => Some(Op::Rearrange(Rearrange::Swap)),
         _ => None,
     }
 }
@@ -131,22 +140,24 @@ fn leaving_op(opcode: u8) -> Option<Op>
     ensures { result ≡ leaving opcode }
 {
     match opcode {
-        172 => Some(Op::ReturnValue),
-        177 => Some(Op::Return),
-        191 => Some(Op::Throw),
+        opcodes::IRETURN => Some(Op::ReturnValue),
+        opcodes::RETURN => Some(Op::Return),
+        opcodes::ATHROW => Some(Op::Throw),
         _ => None,
     }
 }
 
-// An instruction without operands; the constants from -1 to 5 have the opcodes from 2 to 8.
+// An instruction without operands.
 fn simple_op(opcode: u8) -> Option<Op>
     ensures { result ≡ simple opcode }
 {
     match opcode {
-        2..=8 => Some(Op::Constant(Value::Int(opcode as i32 - 3))),
-        0 | 87..=95 => rearranging_op(opcode),
-        96..=147 => arithmetic_op(opcode),
-        172..=255 => leaving_op(opcode),
+        opcodes::ICONST_M1..=opcodes::ICONST_5 => Some(Op::Constant(Value::Int(
+            opcode as i32 - opcodes::ICONST_0 as i32,
+        ))),
+        opcodes::NOP | opcodes::POP..=opcodes::SWAP => rearranging_op(opcode),
+        opcodes::IADD..=opcodes::I2S => arithmetic_op(opcode),
+        opcodes::IRETURN..=255 => leaving_op(opcode),
         _ => short_local_op(opcode),
     }
 }
@@ -156,7 +167,7 @@ fn number_op(opcode: u8, n: i32) -> Option<Op>
     ensures { result ≡ number opcode n }
 {
     match opcode {
-        16 | 17 => Some(Op::Constant(Value::Int(n))),
+        opcodes::BIPUSH | opcodes::SIPUSH => Some(Op::Constant(Value::Int(n))),
         _ => None,
     }
 }
@@ -166,8 +177,8 @@ fn local_op(opcode: u8, n: u16) -> Option<Op>
     ensures { result ≡ local opcode n }
 {
     match opcode {
-        21 | 25 => Some(Op::Load(n as usize)),
-        54 | 58 => Some(Op::Store(n as usize)),
+        opcodes::ILOAD | opcodes::ALOAD => Some(Op::Load(n as usize)),
+        opcodes::ISTORE | opcodes::ASTORE => Some(Op::Store(n as usize)),
         _ => None,
     }
 }
@@ -177,7 +188,7 @@ fn wide_op(opcode: u8, n: u16, add: i16) -> Option<Op>
     ensures { result ≡ wide opcode n add }
 {
     match opcode {
-        132 => Some(Op::Increment(n as usize, add as i32)),
+        opcodes::IINC => Some(Op::Increment(n as usize, add as i32)),
         _ => local_op(opcode, n),
     }
 }
@@ -202,9 +213,12 @@ fn jump_to(opcode: u8, to: usize) -> Option<Op>
     ensures { result ≡ jump_to_number opcode to }
 {
     match opcode {
-        153..=158 => Some(Op::Branch(test_of(153, opcode)?, to)),
-        159..=164 => Some(Op::BranchInts(test_of(159, opcode)?, to)),
-        167 | 200 => Some(Op::Goto(to)),
+        opcodes::IFEQ..=opcodes::IFLE => Some(Op::Branch(test_of(opcodes::IFEQ, opcode)?, to)),
+        opcodes::IF_ICMPEQ..=opcodes::IF_ICMPLE => Some(Op::BranchInts(
+            test_of(opcodes::IF_ICMPEQ, opcode)?,
+            to,
+        )),
+        opcodes::GOTO | opcodes::GOTO_W => Some(Op::Goto(to)),
         _ => None,
     }
 }
@@ -379,11 +393,11 @@ fn pool_op(symbols: &Symbols, opcode: u8, i: u16) -> Option<Op>
     let class = symbols.class;
     let pool = &class.pool;
     match opcode {
-        18 | 19 => Some(Op::Constant(Value::Int(integer(pool, i)?))),
-        178 => get_op(symbols, &field_reference(pool, i)?),
-        179 => put_op(symbols, &field_reference(pool, i)?),
-        182 => virtual_call_op(&method_reference(pool, i)?),
-        184 => static_call_op(symbols, &method_reference(pool, i)?),
+        opcodes::LDC | opcodes::LDC_W => Some(Op::Constant(Value::Int(integer(pool, i)?))),
+        opcodes::GETSTATIC => get_op(symbols, &field_reference(pool, i)?),
+        opcodes::PUTSTATIC => put_op(symbols, &field_reference(pool, i)?),
+        opcodes::INVOKEVIRTUAL => virtual_call_op(&method_reference(pool, i)?),
+        opcodes::INVOKESTATIC => static_call_op(symbols, &method_reference(pool, i)?),
         _ => None,
     }
 }

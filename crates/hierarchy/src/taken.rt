@@ -12,6 +12,7 @@ use crate::declared::{Declared, methods_in};
 use crate::names::{Groups, Names};
 use crate::reference::{Reference, member_reference};
 use crate::symbols::{equal, own_name, text};
+use bytecode::opcodes;
 use const_pool::{ClassFile, Pool};
 use jmodel::{Halt, Instr, NoMemory, Operands};
 use std::alloc::Global;
@@ -32,7 +33,7 @@ fn index_of(operands: &Operands) -> Option<u16>
 pub fn invoked<'a>(pool: &'a Pool, i: &Instr) -> Option<Reference<'a>>
     ensures { result ≡ invoked_by pool.now i.now }
 {
-    if !matches!(i.op, 182..=185) {
+    if !matches!(i.op, opcodes::INVOKEVIRTUAL..=opcodes::INVOKEINTERFACE) {
         return None;
     }
     member_reference(pool, index_of(&i.operands)?)

@@ -11,11 +11,10 @@ use Rattle.jmodel.specs.Decoding.{Symbols, own_name, in_front, each}
 use Rattle.jmodel.specs.Linking.{method_of, is_root, takes_context, is_untouched, retries_of}
 use Rattle.rewriter.specs.declared.accessors.Accessors.{Accessors}
 use Rattle.rewriter.specs.Meaning.{HasBytes, AreFiled}
-use Rattle.rewriter.specs.Members.{Names}
 use Rattle.rewriter.specs.Rewritten.{id_behind, both_of}
 use Rattle.rewriter.proofs.Puts.{AreAccessors}
 use Rattle.rewriter.proofs.Rests.{StandsAt, here, behind, from_first, all_where}
-use Rattle.rewriter.proofs.Whole.{Each, AreNames, IsCopyOf}
+use Rattle.rewriter.proofs.Whole.{Each, IsCopyOf}
 use Rattle.rewriter.proofs.Marks.{or_first, or_later, neither, retries_stay, retries_swapped}
 use Rattle.rewriter.proofs.Untouched.{untouched_is}
 use Rattle.rewriter.proofs.Old.{AllOld, AreBoth}
@@ -104,17 +103,17 @@ module _ (s0 s : Symbols) (P : Program) (part : Part) (K : Known s0 s P part) (T
       ∙ front (first_of a.getter) (each first_of (a.setter ∷ flat_map both_of A)) _ _ one back
       ∙ ap (λ (i : ℕ). Some (getter_method n f ∷ setter_method n f ∷ accessors i fs)) (add-one n)
 
-  module _ (O : IsSource P) (names : Names) (N : AreNames P part.methods new.pool names) where
-    copies_each : (e n i : ℕ) (ms D : List Member) (ks : List Method) → Each (λ Z n p x. IsCopyOf c names Z p x) new.pool e (zip ks ms) D → AllOld s0 ms ks → AreBoth c.pool ms → AllByRecursion HasBytes ms
-        → StandsAt P.methods n ks → StandsAt part.methods i ks → each (method_of s true) D ≡ Some (map (duplicate_method P) ks)
-    copies_each e n i [] [] [] w h a b r q = refl
-    copies_each e n i [] D (k ∷ ks) w h a b r q = absurd h
-    copies_each e n i [] (x ∷ D) [] w h a b r q = absurd w
-    copies_each e n i (m ∷ ms) D [] w h a b r q = absurd h
-    copies_each e n i (m ∷ ms) [] (k ∷ ks) w h a b r q = absurd w
-    copies_each e n i (m ∷ ms) (x ∷ D) (k ∷ ks) w h a b r q =
-        let one = copy_is s0 s P part K T O names N n i m x k a.0.0 a.0.2 (here P.methods n k ks r) (here part.methods i k ks q) h.0 b.0 w.0 a.0.1 a.0.3 in
-        let more = copies_each (e + 1) (n + 1) (i + 1) ms D ks w.1 h.1 a.1 b.1 (behind P.methods n k ks r) (behind part.methods i k ks q) in
+  module _ (O : IsSource P) where
+    copies_each : (e n : ℕ) (ms D : List Member) (ks : List Method) → Each (λ Z n p x. IsCopyOf P c Z p x) new.pool e (zip ks ms) D → AllOld s0 ms ks → AreBoth c.pool ms → AllByRecursion HasBytes ms
+        → StandsAt P.methods n ks → each (method_of s true) D ≡ Some (map (duplicate_method P) ks)
+    copies_each e n [] [] [] w h a b r = refl
+    copies_each e n [] D (k ∷ ks) w h a b r = absurd h
+    copies_each e n [] (x ∷ D) [] w h a b r = absurd w
+    copies_each e n (m ∷ ms) D [] w h a b r = absurd h
+    copies_each e n (m ∷ ms) [] (k ∷ ks) w h a b r = absurd w
+    copies_each e n (m ∷ ms) (x ∷ D) (k ∷ ks) w h a b r =
+        let one = copy_is s0 s P part K T O n m x k a.0.0 a.0.2 (here P.methods n k ks r) h.0 b.0 w.0 a.0.1 a.0.3 in
+        let more = copies_each (e + 1) (n + 1) ms D ks w.1 h.1 a.1 b.1 (behind P.methods n k ks r) in
         front (method_of s true x) (each (method_of s true) D) _ _ one more
 
   -- what the old methods mean that are the program's, what the accessors mean, and what the duplicates mean
@@ -129,5 +128,5 @@ module _ (s0 s : Symbols) (P : Program) (part : Part) (K : Known s0 s P part) (T
   pub copies_mean : IsSource P → AreFiled c → each (method_of s true) K.rewritten.methods.new.copies ≡ Some (map (duplicate_method P) part.methods)
   copies_mean O F =
       let N = K.rewritten.methods.new in
-      copies_each O N.copied.names N.copied.are_names 0 part.first 0 (own_members c part) N.copies part.methods N.copied.each K.olds (both s0 s P part K)
-      (all_where HasBytes part.is_taken c.methods F) K.methods_at (from_first part.methods)
+      copies_each O 0 part.first (own_members c part) N.copies part.methods N.copied K.olds (both s0 s P part K)
+      (all_where HasBytes part.is_taken c.methods F) K.methods_at

@@ -15,8 +15,8 @@ use Rattle.jmodel.specs.ClassReading.{code_at, attributes_at, handlers_at, handl
 use Rattle.jmodel.proofs.Examples.{counter_program}
 use Rattle.jmodel.proofs.Counter.{counter}
 use Rattle.rewriter.specs.Adding.{index_of, put, put_wide, put_utf8, add_utf8, add_integer, add_long, put_class, add_class, put_pair, add_pair, put_field, add_field, put_method, add_method}
-use Rattle.rewriter.specs.Members.{typed_name, constant_value, address_member, base_member, place_refs, look_refs, read_refs, getter_body, setter_body, accessor, getter_of, setter_of, accessors_of, method_if_needed, getter_call, setter_call, calls_of, duplicate_call, duplicate_body, coded_duplicate, duplicate_of, opening_of, ending_of, wrapper_bytes, wrapper_of}
-use Rattle.rewriter.specs.Rewritten.{added_fields, names_of, duplicates, added_methods, new_methods, rewritten_share}
+use Rattle.rewriter.specs.Members.{typed_name, constant_value, address_member, base_member, place_refs, look_refs, read_refs, getter_body, setter_body, accessor, getter_of, setter_of, accessors_of, room_for, call_index, few_places, duplicate_refs, duplicate_texts, made_duplicate, coded_duplicate, duplicate_of, opening_of, ending_of, wrapper_bytes, wrapper_of}
+use Rattle.rewriter.specs.Rewritten.{added_fields, added_methods, new_methods, rewritten_share}
 use Rattle.rewriter.specs.RewrittenClasses.{rewritten_classes}
 
 -- what the rewriting of classes means
@@ -25,5 +25,5 @@ meaning P (Ok cs) = relinked P cs
 meaning P (Err e) = None
 
 pub rewriting_means : meaning counter_program (rewritten_classes (counter ∷ []) counter_program) ≡ Some (rewritten counter_program)
-unfolding number_at run_at items_at code_at attributes_at handlers_at handler_at body_at element_rest type_rest type_of types_at result_of signature_of is_field_descriptor signed_at target_at signed_operand_at local_at entry_operand_at jump_at parts_at instrs_at targets_fit instrs_of index_of put put_wide put_utf8 add_utf8 add_integer add_long put_class add_class put_pair add_pair put_field add_field put_method add_method typed_name constant_value address_member base_member place_refs look_refs read_refs getter_body setter_body accessor getter_of setter_of accessors_of method_if_needed getter_call setter_call calls_of duplicate_call duplicate_body coded_duplicate duplicate_of opening_of ending_of wrapper_bytes wrapper_of added_fields names_of duplicates added_methods new_methods rewritten_share retries_in all_annotations annotations_of counted_until u2_at run_of items_until top_annotation_at text_at read_descriptor write_descriptor
+unfolding number_at run_at items_at code_at attributes_at handlers_at handler_at body_at element_rest type_rest type_of types_at result_of signature_of is_field_descriptor signed_at target_at signed_operand_at local_at entry_operand_at jump_at parts_at instrs_at targets_fit instrs_of index_of put put_wide put_utf8 add_utf8 add_integer add_long put_class add_class put_pair add_pair put_field add_field put_method add_method typed_name constant_value address_member base_member place_refs look_refs read_refs getter_body setter_body accessor getter_of setter_of accessors_of room_for call_index few_places duplicate_refs duplicate_texts made_duplicate coded_duplicate duplicate_of opening_of ending_of wrapper_bytes wrapper_of added_fields added_methods new_methods rewritten_share retries_in all_annotations annotations_of counted_until u2_at run_of items_until top_annotation_at text_at read_descriptor write_descriptor
 rewriting_means = refl

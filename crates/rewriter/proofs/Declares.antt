@@ -18,7 +18,7 @@ use Rattle.jmodel.specs.Decoding.{Symbols}
 use Rattle.jmodel.specs.Linking.{has_part, is_form_field}
 use Rattle.jmodel.proofs.Linked.{filter_keeps, filter_drops}
 use Rattle.rewriter.specs.declared.accessors.Accessors.{Accessors}
-use Rattle.rewriter.specs.Members.{Names, getter_name, setter_name, getter_type, setter_type}
+use Rattle.rewriter.specs.Members.{getter_name, setter_name, getter_type, setter_type}
 use Rattle.rewriter.specs.Part.{Part, own_members}
 use Rattle.rewriter.specs.Rewritten.{both_of}
 use Rattle.rewriter.proofs.Added.{two_true}
@@ -171,16 +171,16 @@ module _ (s0 s : Symbols) (P : Program) (part : Part) (K : Known s0 s P part) wh
       other_type new.pool name type a.setter (setter_type f.type) (ap (λ (y : Member). utf8 new.pool y.descriptor) t.is ∙ t.typed) (shown_apart (setter_type f.type) type (setter_shows f.type) free) in
       ap (list_any (is_member new.pool name type)) (flat_map-cons both_of a A) ∙ rw (one, two) (no_accessor name type free (e + 1) fs A h.1)
 
-  no_copy : (name type : List ℕ) → has_part marker type ≡ false → (names : Names) (e : ℕ) (ks : List Method) (ms D : List Member) → AllOld s0 ms ks → Each (λ Z n p x. IsCopyOf c names Z p x) new.pool e (zip ks ms) D → list_any (is_member new.pool name type) D ≡ false
-  no_copy name type free names e [] [] [] o h = refl
-  no_copy name type free names e (k ∷ ks) [] D o h = absurd o
-  no_copy name type free names e [] [] (x ∷ D) o h = absurd h
-  no_copy name type free names e [] (m ∷ ms) D o h = absurd o
-  no_copy name type free names e (k ∷ ks) (m ∷ ms) [] o h = absurd h
-  no_copy name type free names e (k ∷ ks) (m ∷ ms) (x ∷ D) o h =
+  no_copy : (name type : List ℕ) → has_part marker type ≡ false → (e : ℕ) (ks : List Method) (ms D : List Member) → AllOld s0 ms ks → Each (λ Z n p x. IsCopyOf P c Z p x) new.pool e (zip ks ms) D → list_any (is_member new.pool name type) D ≡ false
+  no_copy name type free e [] [] [] o h = refl
+  no_copy name type free e (k ∷ ks) [] D o h = absurd o
+  no_copy name type free e [] [] (x ∷ D) o h = absurd h
+  no_copy name type free e [] (m ∷ ms) D o h = absurd o
+  no_copy name type free e (k ∷ ks) (m ∷ ms) [] o h = absurd h
+  no_copy name type free e (k ∷ ks) (m ∷ ms) (x ∷ D) o h =
       let one : is_member new.pool name type x ≡ false =
       other_type new.pool name type x (with_context k.name.descriptor) (ap (λ (y : Member). utf8 new.pool y.descriptor) h.0.copy.is ∙ h.0.copy.typed) (shown_apart (with_context k.name.descriptor) type (context_shows k.name.descriptor) free) in
-      rw one (no_copy name type free names (e + 1) ks ms D o.1 h.1)
+      rw one (no_copy name type free (e + 1) ks ms D o.1 h.1)
 
   -- a method whose descriptor shows no context is declared where it was
   pub methods_same : (w : MemberName) → has_part marker w.descriptor ≡ false → declares_method w new ≡ declares_method w c
@@ -188,7 +188,7 @@ module _ (s0 s : Symbols) (P : Program) (part : Part) (K : Known s0 s P part) wh
       let M = K.rewritten.methods in
       let N = M.new in
       let a = no_accessor w.name w.descriptor free 0 part.fields N.accessors N.each in
-      let d = no_copy w.name w.descriptor free N.copied.names 0 part.methods (own_members c part) N.copies K.olds N.copied.each in
+      let d = no_copy w.name w.descriptor free 0 part.methods (own_members c part) N.copies K.olds N.copied in
       ap (list_any (is_member new.pool w.name w.descriptor)) methods_are
       ∙ any_front (is_member new.pool w.name w.descriptor) M.olds (flat_map both_of N.accessors ++ N.copies) (any_append (is_member new.pool w.name w.descriptor) (flat_map both_of N.accessors) N.copies a d)
       ∙ olds_same w.name w.descriptor c.methods M.olds K.rules.methods (became s0 s P part K)
@@ -216,18 +216,18 @@ module _ (s0 s : Symbols) (P : Program) (part : Part) (K : Known s0 s P part) wh
             ∙ any_behind (is_member new.pool (setter_name f) (setter_type f.type)) (a.getter ∷ a.setter ∷ []) (flat_map both_of A) more.1,
       )
 
-  some_copy : (names : Names) (e : ℕ) (ks : List Method) (ms D : List Member) (j : ℕ) (k : Method) → AllOld s0 ms ks → Each (λ Z n p x. IsCopyOf c names Z p x) new.pool e (zip ks ms) D → slice_get ks j ≡ Some k
+  some_copy : (e : ℕ) (ks : List Method) (ms D : List Member) (j : ℕ) (k : Method) → AllOld s0 ms ks → Each (λ Z n p x. IsCopyOf P c Z p x) new.pool e (zip ks ms) D → slice_get ks j ≡ Some k
       → list_any (is_member new.pool (duplicate_name k.name.name) (with_context k.name.descriptor)) D ≡ true
-  some_copy names e [] ms D j k o h at = cc
-  some_copy names e (q ∷ ks) [] D j k o h at = absurd o
-  some_copy names e (q ∷ ks) (m ∷ ms) [] j k o h at = absurd h
-  some_copy names e (q ∷ ks) (m ∷ ms) (x ∷ D) zero k o h at =
+  some_copy e [] ms D j k o h at = cc
+  some_copy e (q ∷ ks) [] D j k o h at = absurd o
+  some_copy e (q ∷ ks) (m ∷ ms) [] j k o h at = absurd h
+  some_copy e (q ∷ ks) (m ∷ ms) (x ∷ D) zero k o h at =
       let is : q ≡ k = cc in
       let C = h.0.copy in
       let one = is_it new.pool (duplicate_name q.name.name) (with_context q.name.descriptor) x (ap (λ (y : Member). utf8 new.pool y.name) C.is ∙ C.named) (ap (λ (y : Member). utf8 new.pool y.descriptor) C.is ∙ C.typed) in
       subst (λ (y : Method). list_any (is_member new.pool (duplicate_name y.name.name) (with_context y.name.descriptor)) (x ∷ D) ≡ true) is (or_first (is_member new.pool (duplicate_name q.name.name) (with_context q.name.descriptor) x) _ one)
-  some_copy names e (q ∷ ks) (m ∷ ms) (x ∷ D) (suc j) k o h at =
-      or_later (is_member new.pool (duplicate_name k.name.name) (with_context k.name.descriptor) x) _ (some_copy names (e + 1) ks ms D j k o.1 h.1 at)
+  some_copy e (q ∷ ks) (m ∷ ms) (x ∷ D) (suc j) k o h at =
+      or_later (is_member new.pool (duplicate_name k.name.name) (with_context k.name.descriptor) x) _ (some_copy (e + 1) ks ms D j k o.1 h.1 at)
 
   -- the class declares the accessors of its fields, and the duplicates of its methods
   pub getter_declared : (j : ℕ) (f : Field) → slice_get part.fields j ≡ Some f → declares_method (getter_wanted f) new ≡ true
@@ -249,7 +249,7 @@ module _ (s0 s : Symbols) (P : Program) (part : Part) (K : Known s0 s P part) wh
       let N = K.rewritten.methods.new in
       ap (list_any (is_member new.pool (duplicate_name k.name.name) (with_context k.name.descriptor))) methods_are
       ∙ any_behind (is_member new.pool (duplicate_name k.name.name) (with_context k.name.descriptor)) K.rewritten.methods.olds (flat_map both_of N.accessors ++ N.copies)
-      (any_behind (is_member new.pool (duplicate_name k.name.name) (with_context k.name.descriptor)) (flat_map both_of N.accessors) N.copies (some_copy N.copied.names 0 part.methods (own_members c part) N.copies j k K.olds N.copied.each at))
+      (any_behind (is_member new.pool (duplicate_name k.name.name) (with_context k.name.descriptor)) (flat_map both_of N.accessors) N.copies (some_copy 0 part.methods (own_members c part) N.copies j k K.olds N.copied at))
 
   -- ---- fields
 

@@ -12,7 +12,7 @@ use Rattle.jmodel.specs.Decoding.{Symbols, own_name}
 use Rattle.jmodel.specs.Linking.{has_part, is_reserved}
 use Rattle.jmodel.specs.Rewriting.{with_context, duplicate_name}
 use Rattle.rewriter.specs.declared.accessors.Accessors.{Accessors}
-use Rattle.rewriter.specs.Members.{Names, getter_name, setter_name, getter_type, setter_type}
+use Rattle.rewriter.specs.Members.{getter_name, setter_name, getter_type, setter_type}
 use Rattle.rewriter.specs.Rewritten.{both_of}
 use Rattle.rewriter.proofs.Became.{Became, EachBecame, became}
 use Rattle.rewriter.proofs.Contexts.{context_apart, context_shows, getter_shows, setter_shows, getter_no_setter}
@@ -163,19 +163,19 @@ module _ (s0 s : Symbols) (P : Program) (part : Part) (K : Known s0 s P part) wh
   new = s.class
 
   -- the duplicates by their names and descriptors
-  copies_keyed : (names : Names) (n : ℕ) (ms D : List Member) (ks : List Method) → Each (λ Z n p x. IsCopyOf c names Z p x) new.pool n (zip ks ms) D → AllOld s0 ms ks
+  copies_keyed : (n : ℕ) (ms D : List Member) (ks : List Method) → Each (λ Z n p x. IsCopyOf P c Z p x) new.pool n (zip ks ms) D → AllOld s0 ms ks
       → AreBoth c.pool ms → AreKeyed new.pool D (copy_keys ks)
-  copies_keyed names n [] [] [] w h a = tt
-  copies_keyed names n [] D (k ∷ ks) w h a = absurd h
-  copies_keyed names n [] (x ∷ D) [] w h a = absurd w
-  copies_keyed names n (m ∷ ms) D [] w h a = absurd h
-  copies_keyed names n (m ∷ ms) [] (k ∷ ks) w h a = absurd w
-  copies_keyed names n (m ∷ ms) (x ∷ D) (k ∷ ks) w h a = (
+  copies_keyed n [] [] [] w h a = tt
+  copies_keyed n [] D (k ∷ ks) w h a = absurd h
+  copies_keyed n [] (x ∷ D) [] w h a = absurd w
+  copies_keyed n (m ∷ ms) D [] w h a = absurd h
+  copies_keyed n (m ∷ ms) [] (k ∷ ks) w h a = absurd w
+  copies_keyed n (m ∷ ms) (x ∷ D) (k ∷ ks) w h a = (
     record {
       named = ap (λ (y : Member). utf8 new.pool y.name) w.0.copy.is ∙ w.0.copy.named;
       typed = ap (λ (y : Member). utf8 new.pool y.descriptor) w.0.copy.is ∙ w.0.copy.typed;
     },
-    copies_keyed names (n + 1) ms D ks w.1 h.1 a.1,
+    copies_keyed (n + 1) ms D ks w.1 h.1 a.1,
   )
 
   -- ---- old methods
@@ -213,7 +213,7 @@ module _ (s0 s : Symbols) (P : Program) (part : Part) (K : Known s0 s P part) wh
       let old = olds_keyed c.methods K.rules.methods in
       let front = all_keyed c.methods M.olds old_keys old (became s0 s P part K) in
       let a = accessors_keyed (own_name c) new.pool 0 part.fields N.accessors N.each in
-      let d = copies_keyed N.copied.names 0 (own_members c part) N.copies part.methods N.copied.each K.olds (both s0 s P part K) in
+      let d = copies_keyed 0 (own_members c part) N.copies part.methods N.copied K.olds (both s0 s P part K) in
       let back = subst (λ (ms : List Member). AreKeyed new.pool ms added) (sym N.are) (keyed_append new.pool (flat_map both_of N.accessors) N.copies (accessor_keys part.fields) (copy_keys part.methods) a d) in
       let keyed = keyed_append new.pool M.olds M.added old_keys added front back in
       let added_unlike = unlike_append (accessor_keys part.fields) (copy_keys part.methods) (accessors_unlike part.fields K.fields_apart) (copies_unlike part.methods (unreserved s0 s P part K) (methods_apart s0 s P part K))

@@ -1,7 +1,7 @@
 -- What the duplicates of a rewritten class mean.
-use Rattle.std.proofs.Common.{◌≡◌, ℕ, zero, suc, ◌+◌, ◌<◌, ◌≤◌, Bool, true, false, ◌||◌, List, [], ◌∷◌, ◌++◌, length, map, Some, None, Ok, refl, sym, ap, ◌∙◌, subst, arith, length-append, eq-eqb}
-use Rattle.std.specs.Prelude.{slice_get, slice_index, sum_by}
-use Rattle.std.specs.List.{list_any, flat_map, AllByRecursion}
+use Rattle.std.proofs.Common.{◌≡◌, ℕ, zero, suc, ◌+◌, ◌<◌, ◌≤◌, true, List, [], ◌∷◌, ◌++◌, length, map, Option, Some, None, Ok, refl, sym, ap, ◌∙◌, subst, arith, length-append}
+use Rattle.std.specs.Prelude.{slice_get, slice_index, option_map, sum_by}
+use Rattle.std.specs.List.{flat_map, AllByRecursion}
 use Rattle.std.proofs.lemmas.Option.{get_or_from_slice_get}
 use Rattle.std.proofs.lemmas.List.{take_all}
 use Rattle.std.proofs.lemmas.List.Sums.{sum_by-cons}
@@ -28,20 +28,20 @@ use Rattle.jmodel.specs.ClassRules.{IsCode}
 use Rattle.jmodel.specs.Linking.{catch_of, shape_of, Coded, descriptor_of, method_of}
 use Rattle.jmodel.specs.Relocation.{Block, all_instrs, behind, place_of, laid_to, relocated}
 use Rattle.const_pool.proofs.Takes.{ok_is}
-use Rattle.rewriter.specs.Members.{Names, added_method, plain, laid_code, gets, puts, calls, some_op, getter_in, setter_in, block, block_instrs, blocks_from, duplicate_flags}
+use Rattle.rewriter.specs.Members.{added_method, plain, laid_code, getter_named, setter_named, duplicate_named, callee, block, block_instrs, blocks_from, duplicate_flags}
 use Rattle.rewriter.specs.Meaning.{HasBytes}
 use Rattle.rewriter.proofs.Grown.{Grown}
 use Rattle.rewriter.proofs.Lay.{IsSolid, laid_to_append, laid_length, all_cons}
 use Rattle.rewriter.proofs.Puts.{IsMethodAt}
 use Rattle.rewriter.proofs.Read.{IsLaid, shaped_all, LeadsIn}
 use Rattle.rewriter.proofs.Single.{plain_laid}
-use Rattle.rewriter.proofs.Pairs.{each_append, each_length, all_append, IsCalled, Calls, AreParts, sound, zip_blocks, blocks_are, all_solid, all_laid, all_lead, all_mean}
+use Rattle.rewriter.proofs.Pairs.{each_append, each_length, all_append, Calls, AreCalled, AreParts, sound, zip_blocks, blocks_are, all_solid, all_laid, all_lead, all_mean}
 use Rattle.rewriter.proofs.Renamed.{context_other}
 use Rattle.rewriter.proofs.Coded.{method_as, CodedFacts, coded_means, added_code, added_retries, same_methods}
 use Rattle.rewriter.proofs.Filed.{IsRead, decoded_is, IsFiled, filed, spelled, some_instr, parts_of}
 use Rattle.rewriter.proofs.Laid.{IsLaidCode, laid_is, stub_read, stub_rules, stub_catches}
 use Rattle.rewriter.proofs.Contexts.{wider, wider_shape}
-use Rattle.rewriter.proofs.Whole.{Each, AreCalls, AreNames, IsCopy, IsCopyOf}
+use Rattle.rewriter.proofs.Whole.{Each, IsCallOf, AreCallsOf, IsCopy, IsCopyOf}
 use Rattle.rewriter.proofs.Old.{IsOld, few_params}
 use Rattle.rewriter.proofs.Numbers.{getter_wanted, setter_wanted, copy_wanted}
 use Rattle.rewriter.proofs.Tables.{Known, own_same}
@@ -62,24 +62,10 @@ each_at {A} {B} Facts Z n (a ∷ xs) (b ∷ ys) (suc i) x h e =
     let z : n + 1 + i ≡ n + suc i = omega arith in
     (r.0, r.1, subst (λ (k : ℕ). Facts Z k x r.0) z r.2)
 
-any_at : {A : Type 0} (p : A → Bool) (xs : List A) (i : ℕ) (x : A) → slice_get xs i ≡ Some x → p x ≡ true → list_any p xs ≡ true
-any_at p [] i x e h = cc
-any_at {A} p (a ∷ xs) zero x e h = let s : x ≡ a = cc in let t : p a ≡ true = ap p (sym s) ∙ h in rw t refl
-any_at p (a ∷ xs) (suc i) x e h = later (p a) (list_any p xs) (any_at p xs i x e h)
-  where
-    later : (u v : Bool) → v ≡ true → (u || v) ≡ true
-    later true v t = refl
-    later false v t = t
-
 all_at : {A : Type 0} (Q : A → Type 0) (xs : List A) (i : ℕ) (x : A) → AllByRecursion Q xs → slice_get xs i ≡ Some x → Q x
 all_at Q [] i x h e = absurd cc
 all_at {A} Q (a ∷ xs) zero x h e = let s : a ≡ x = cc in subst Q s h.0
 all_at Q (a ∷ xs) (suc i) x h e = all_at Q xs i x h.1 e
-
--- what holds of each by its number holds of all
-all_from : {A : Type 0} (Q : A → Type 0) (xs : List A) → ((i : ℕ) (x : A) → slice_get xs i ≡ Some x → Q x) → AllByRecursion Q xs
-all_from Q [] h = tt
-all_from Q (x ∷ xs) h = (h 0 x refl, all_from Q xs (λ i y e. h (suc i) y e))
 
 some_at : {A : Type 0} (xs : List A) (i : ℕ) → i < length xs → (x : A) × (slice_get xs i ≡ Some x)
 some_at [] i h = absurd (omega arith)
@@ -111,7 +97,7 @@ name_of_parts class name descriptor = record { class = class; name = name; descr
 
 -- ---- what duplicates call
 
-module _ (s0 s : Symbols) (P : Program) (part : Part) (K : Known s0 s P part) (T : Tied s0 s P) (O : IsSource P) (names : Names) (N : AreNames P part.methods s.class.pool names) where
+module _ (s0 s : Symbols) (P : Program) (part : Part) (K : Known s0 s P part) (T : Tied s0 s P) (O : IsSource P) where
   abbrev c : ClassFile
   c = s0.class
 
@@ -121,34 +107,28 @@ module _ (s0 s : Symbols) (P : Program) (part : Part) (K : Known s0 s P part) (T
   source_op : (n : ℕ) (k : Method) → slice_get P.methods n ≡ Some k → (j : ℕ) (o : Op) → slice_get k.ops j ≡ Some o → IsSourceOp P k o
   source_op n k e j o t = all_at (IsSourceOp P k) k.ops j o (all_at (IsSourceMethod P) P.methods n k O.methods e).each t
 
-  -- what a method of the class does some method of the class does
-  used : (p : Op → Bool) (n j : ℕ) (k : Method) (o : Op) → slice_get part.methods n ≡ Some k → slice_get k.ops j ≡ Some o → p o ≡ true → some_op p part.methods ≡ true
-  used p n j k o e t h = any_at (λ (y : Method). list_any p y.ops) part.methods n k e (any_at p k.ops j o t h)
+  module _ (n : ℕ) (k : Method) (e : slice_get P.methods n ≡ Some k) (calls : List ℕ) (C : AreCallsOf P k.ops s.class.pool calls) where
+    -- what the block of an instruction calls, where it calls something
+    call_there : (j : ℕ) (o : Op) (w : MethodName) → slice_get k.ops j ≡ Some o → callee P o ≡ Some w → IsMethodAt w.class w.name w.descriptor new.pool (slice_index calls j)
+    call_there j o w t is =
+        let x = each_at (λ Z n o i. IsCallOf (callee P o) Z i) new.pool 0 k.ops calls j o C t in
+        let index : x.0 ≡ slice_index calls j = sym (get_or_from_slice_get calls j x.0 0 x.1) in
+        let there : IsCallOf (Some w) new.pool x.0 = subst (λ (c : Option MethodName). IsCallOf c new.pool x.0) is x.2 in
+        subst (λ (i : ℕ). IsMethodAt w.class w.name w.descriptor new.pool i) index there
 
-  module _ (n i : ℕ) (k : Method) (e : slice_get P.methods n ≡ Some k) (mine : slice_get part.methods i ≡ Some k) where
-    calls_one : (j : ℕ) (o : Op) → slice_get k.ops j ≡ Some o → Calls s P names o
+    calls_one : (j : ℕ) (o : Op) → slice_get k.ops j ≡ Some o → Calls s P (slice_index calls j) o
     calls_one j (op.GetStatic f) t =
         let F = some_at P.fields f (source_op n k e j (op.GetStatic f) t) in
-        let x = each_at (λ Z n f x. AreCalls part.methods n f Z x) new.pool 0 P.fields names.accessors f F.0 N.accessors F.1 in
-        let zero_is : f ≡ 0 + f = omega arith in
-        let yes : some_op (gets (0 + f)) part.methods ≡ true = subst (λ (i : ℕ). some_op (gets i) part.methods ≡ true) zero_is (used (gets f) i j k (op.GetStatic f) mine t (eq-eqb f f refl)) in
-        let index : x.0.getter ≡ getter_in (slice_get names.accessors f) = ap getter_in (sym x.1) in
-        subst (λ (i : ℕ). IsCalled s i (getter P f)) index (record { name = getter_wanted F.0; few = (x.2.getter yes).1; is = (x.2.getter yes).0; means = T.getters f F.0 F.1 })
+        let there = call_there j (op.GetStatic f) (getter_named F.0) t (ap (option_map getter_named) F.1) in
+        record { name = getter_wanted F.0; few = there.1; is = there.0; means = T.getters f F.0 F.1 }
     calls_one j (op.PutStatic f) t =
         let F = some_at P.fields f (source_op n k e j (op.PutStatic f) t) in
-        let x = each_at (λ Z n f x. AreCalls part.methods n f Z x) new.pool 0 P.fields names.accessors f F.0 N.accessors F.1 in
-        let zero_is : f ≡ 0 + f = omega arith in
-        let yes : some_op (puts (0 + f)) part.methods ≡ true = subst (λ (i : ℕ). some_op (puts i) part.methods ≡ true) zero_is (used (puts f) i j k (op.PutStatic f) mine t (eq-eqb f f refl)) in
-        let index : x.0.setter ≡ setter_in (slice_get names.accessors f) = ap setter_in (sym x.1) in
-        subst (λ (i : ℕ). IsCalled s i (setter P f)) index (record { name = setter_wanted F.0; few = (x.2.setter yes).1; is = (x.2.setter yes).0; means = T.setters f F.0 F.1 })
+        let there = call_there j (op.PutStatic f) (setter_named F.0) t (ap (option_map setter_named) F.1) in
+        record { name = setter_wanted F.0; few = there.1; is = there.0; means = T.setters f F.0 F.1 }
     calls_one j (op.InvokeStatic m) t =
         let M = some_at P.methods m (source_op n k e j (op.InvokeStatic m) t) in
-        let x = each_at (λ Z n k i. some_op (calls n) part.methods ≡ true → IsMethodAt k.name.class (duplicate_name k.name.name) (with_context k.name.descriptor) Z i) new.pool 0 P.methods names.duplicates m M.0 N.duplicates M.1 in
-        let zero_is : m ≡ 0 + m = omega arith in
-        let yes : some_op (calls (0 + m)) part.methods ≡ true = subst (λ (i : ℕ). some_op (calls i) part.methods ≡ true) zero_is (used (calls m) i j k (op.InvokeStatic m) mine t (eq-eqb m m refl)) in
-        let index : x.0 ≡ slice_index names.duplicates m = sym (get_or_from_slice_get names.duplicates m x.0 0 x.1) in
-        let there = x.2 yes in
-        subst (λ (i : ℕ). IsCalled s i (duplicate P m)) index (record { name = copy_wanted M.0; few = there.1; is = there.0; means = T.copies m M.0 M.1 })
+        let there = call_there j (op.InvokeStatic m) (duplicate_named M.0) t (ap (option_map duplicate_named) M.1) in
+        record { name = copy_wanted M.0; few = there.1; is = there.0; means = T.copies m M.0 M.1 }
     calls_one j (op.Constant v) t = tt
     calls_one j (op.Load i) t = tt
     calls_one j (op.Store i) t = tt
@@ -163,12 +143,19 @@ module _ (s0 s : Symbols) (P : Program) (part : Part) (K : Known s0 s P part) (T
     calls_one j (op.Switch other cases) t = tt
     calls_one j o t = tt
 
-    pub all_called : AllByRecursion (Calls s P names) k.ops
-    all_called = all_from (Calls s P names) k.ops calls_one
+    called_from : (i : ℕ) (os : List Op) → ((j : ℕ) (o : Op) → slice_get os j ≡ Some o → Calls s P (slice_index calls (i + j)) o) → AreCalled s P calls i os
+    called_from i [] f = tt
+    called_from i (o ∷ os) f = (
+      (let z : i + 0 ≡ i = omega arith in subst (λ (x : ℕ). Calls s P (slice_index calls x) o) z (f 0 o refl)),
+      called_from (i + 1) os (λ j q t. let z : i + suc j ≡ i + 1 + j = omega arith in subst (λ (x : ℕ). Calls s P (slice_index calls x) q) z (f (suc j) q t)),
+    )
+
+    pub all_called : AreCalled s P calls 0 k.ops
+    all_called = called_from 0 k.ops (λ j o t. let z : j ≡ 0 + j = omega arith in subst (λ (x : ℕ). Calls s P (slice_index calls x) o) z (calls_one j o t))
 
   -- the same, where the class's methods hold bytes
-  module _ (n i : ℕ) (m x : Member) (k : Method) (t : List ℕ) (named : utf8 c.pool m.name ≡ Some t) (at : slice_get P.methods n ≡ Some k) (mine : slice_get part.methods i ≡ Some k) (h : IsOld s0 m k) (held : HasBytes m)
-      (w : IsCopyOf c names new.pool (k, m) x) (d : List ℕ) (described : utf8 c.pool m.descriptor ≡ Some d) where
+  module _ (n : ℕ) (m x : Member) (k : Method) (t : List ℕ) (named : utf8 c.pool m.name ≡ Some t) (at : slice_get P.methods n ≡ Some k) (h : IsOld s0 m k) (held : HasBytes m)
+      (w : IsCopyOf P c new.pool (k, m) x) (d : List ℕ) (described : utf8 c.pool m.descriptor ≡ Some d) where
     abbrev G : Grown c.pool new.pool
     G = K.rewritten.grown
 
@@ -190,31 +177,31 @@ module _ (s0 s : Symbols) (P : Program) (part : Part) (K : Known s0 s P part) (T
     parts : AreParts s0 h.coded.instrs k.locals k.gives k.ops h.coded.instrs
     parts = parts_of s0 h.coded.instrs k.locals k.gives k.ops h.coded.instrs h.ops (spelled c.pool m h.coded c refl held read).instrs.each h.fits
 
-    called : AllByRecursion (Calls s P names) k.ops
-    called = all_called n i k at mine
+    pub copy : IsCopy P k m h.coded new.pool x
+    copy = let same : w.coded ≡ h.coded = ok_is w.coded h.coded (sym w.decodes ∙ h.decodes) in subst (λ (y : Coded). IsCopy P k m y new.pool x) same w.copy
+
+    called : AreCalled s P copy.calls 0 k.ops
+    called = all_called n k at copy.calls copy.called
 
     abbrev zipped : List Block
-    zipped = zip_blocks s0 s K.rewritten.grown P names k.params few h.coded.instrs k.locals room k.gives k.ops h.coded.instrs
+    zipped = zip_blocks s0 s K.rewritten.grown P copy.calls k.params few h.coded.instrs k.locals room k.gives 0 k.ops h.coded.instrs
 
-    zipped_are : blocks_from names k.params k.ops 0 h.coded.instrs ≡ zipped
-    zipped_are = blocks_are s0 s K.rewritten.grown P names k.params few h.coded.instrs k.locals room k.gives k.ops 0 k.ops h.coded.instrs parts (λ j. let z : 0 + j ≡ j = omega arith in ap (slice_get k.ops) z)
-
-    pub copy : IsCopy names k m h.coded new.pool x
-    copy = let same : w.coded ≡ h.coded = ok_is w.coded h.coded (sym w.decodes ∙ h.decodes) in subst (λ (y : Coded). IsCopy names k m y new.pool x) same w.copy
+    zipped_are : blocks_from copy.calls k.params k.ops 0 h.coded.instrs ≡ zipped
+    zipped_are = blocks_are s0 s K.rewritten.grown P copy.calls k.params few h.coded.instrs k.locals room k.gives k.ops 0 k.ops h.coded.instrs parts (λ j. let z : 0 + j ≡ j = omega arith in ap (slice_get k.ops) z)
 
     laid : IsLaidCode (h.coded.code.max_stack + 1) (h.coded.code.max_locals + 1) zipped [] (Some copy.body.conflict) (plain 191 ∷ []) copy.body.code
     laid =
         let told : laid_code (h.coded.code.max_stack + 1) (h.coded.code.max_locals + 1) zipped [] (Some copy.body.conflict) (plain 191 ∷ []) ≡ Ok copy.body.code =
         ap (λ (bs : List Block). laid_code (h.coded.code.max_stack + 1) (h.coded.code.max_locals + 1) bs [] (Some copy.body.conflict) (plain 191 ∷ [])) (sym zipped_are)
-        ∙ ap (λ (hs : List Handler). laid_code (h.coded.code.max_stack + 1) (h.coded.code.max_locals + 1) (blocks_from names k.params k.ops 0 h.coded.instrs) hs (Some copy.body.conflict) (plain 191 ∷ [])) (sym h.no_entries)
+        ∙ ap (λ (hs : List Handler). laid_code (h.coded.code.max_stack + 1) (h.coded.code.max_locals + 1) (blocks_from copy.calls k.params k.ops 0 h.coded.instrs) hs (Some copy.body.conflict) (plain 191 ∷ [])) (sym h.no_entries)
         ∙ copy.body.laid in
         laid_is (h.coded.code.max_stack + 1) (h.coded.code.max_locals + 1) zipped [] (Some copy.body.conflict) (plain 191 ∷ []) copy.body.code told
 
     solid_all : AllByRecursion IsSolid zipped
-    solid_all = all_solid s0 s K.rewritten.grown P names k.params few h.coded.instrs k.locals room k.gives k.ops h.coded.instrs parts called
+    solid_all = all_solid s0 s K.rewritten.grown P copy.calls k.params few h.coded.instrs k.locals room k.gives 0 k.ops h.coded.instrs parts called
 
     laid_blocks : AllByRecursion (IsLaid new.pool) (all_instrs zipped)
-    laid_blocks = all_laid s0 s K.rewritten.grown P names k.params few h.coded.instrs k.locals room k.gives k.ops h.coded.instrs parts called
+    laid_blocks = all_laid s0 s K.rewritten.grown P copy.calls k.params few h.coded.instrs k.locals room k.gives 0 k.ops h.coded.instrs parts called
 
     stub_laid : IsLaid new.pool (plain 191)
     stub_laid = plain_laid new.pool 191 (omega arith) tt tt
@@ -224,11 +211,11 @@ module _ (s0 s : Symbols) (P : Program) (part : Part) (K : Known s0 s P part) (T
 
     leads : AllByRecursion (λ (i : Instr). LeadsIn zipped i.operands) (all_instrs zipped ++ plain 191 ∷ [])
     leads = all_append (λ (i : Instr). LeadsIn zipped i.operands) (all_instrs zipped) (plain 191 ∷ [])
-        (all_lead s0 s K.rewritten.grown P names k.params few h.coded.instrs k.locals room k.gives k.ops parts called (plain 191 ∷ []) k.ops h.coded.instrs parts called) (tt, tt)
+        (all_lead s0 s K.rewritten.grown P copy.calls k.params few h.coded.instrs k.locals room k.gives k.ops parts called (plain 191 ∷ []) 0 k.ops h.coded.instrs parts called) (tt, tt)
 
     -- what the blocks mean
     mean : each (op_of s (relocated zipped (plain 191 ∷ []))) (laid_to (place_of zipped) 0 (all_instrs zipped)) ≡ Some (blocks P k.params k.ops)
-    mean = all_mean s0 s K.rewritten.grown P names k.params few h.coded.instrs k.locals room k.gives k.ops parts called (plain 191 ∷ []) 0 k.ops h.coded.instrs parts called
+    mean = all_mean s0 s K.rewritten.grown P copy.calls k.params few h.coded.instrs k.locals room k.gives k.ops parts called (plain 191 ∷ []) 0 0 k.ops h.coded.instrs parts called
 
     means : ops_of s (relocated zipped (plain 191 ∷ [])) ≡ Some (blocks P k.params k.ops ++ op.Throw ∷ [])
     means =
@@ -243,19 +230,19 @@ module _ (s0 s : Symbols) (P : Program) (part : Part) (K : Known s0 s P part) (T
     some_ops : 0 < length (all_instrs zipped)
     some_ops =
         let first = some_instr c.pool h.coded.code h.coded.instrs code_filed.rules (spelled c.pool m h.coded c refl held read).holds in
-        some_of k.ops h.coded.instrs parts called first
+        some_of 0 k.ops h.coded.instrs parts called first
       where
-        some_of : (os : List Op) (is : List Instr) → AreParts s0 h.coded.instrs k.locals k.gives os is → AllByRecursion (Calls s P names) os → 0 < length is
-            → 0 < length (all_instrs (zip_blocks s0 s K.rewritten.grown P names k.params few h.coded.instrs k.locals room k.gives os is))
-        some_of [] [] a b l = absurd (omega arith)
-        some_of [] (i ∷ is) a b l = absurd a
-        some_of (o ∷ os) [] a b l = absurd a
-        some_of (o ∷ os) (i ∷ is) a b l =
-            let g = sound s0 s K.rewritten.grown P names k.params few h.coded.instrs k.locals room k.gives o i a.0 b.0 in
+        some_of : (e : ℕ) (os : List Op) (is : List Instr) → AreParts s0 h.coded.instrs k.locals k.gives os is → AreCalled s P copy.calls e os → 0 < length is
+            → 0 < length (all_instrs (zip_blocks s0 s K.rewritten.grown P copy.calls k.params few h.coded.instrs k.locals room k.gives e os is))
+        some_of e [] [] a b l = absurd (omega arith)
+        some_of e [] (i ∷ is) a b l = absurd a
+        some_of e (o ∷ os) [] a b l = absurd a
+        some_of e (o ∷ os) (i ∷ is) a b l =
+            let g = sound s0 s K.rewritten.grown P copy.calls k.params few h.coded.instrs k.locals room k.gives (slice_index copy.calls e) o i a.0 b.0 in
             let some = g.some in
-            let rest = zip_blocks s0 s K.rewritten.grown P names k.params few h.coded.instrs k.locals room k.gives os is in
-            let list = ap length (all_cons (block i.pc (block_instrs names k.params (Some o) i)) rest) in
-            let both = length-append (block_instrs names k.params (Some o) i) (all_instrs rest) in
+            let rest = zip_blocks s0 s K.rewritten.grown P copy.calls k.params few h.coded.instrs k.locals room k.gives (e + 1) os is in
+            let list = ap length (all_cons (block i.pc (block_instrs (slice_index copy.calls e) k.params (Some o) i)) rest) in
+            let both = length-append (block_instrs (slice_index copy.calls e) k.params (Some o) i) (all_instrs rest) in
             omega (arith, some, list, both)
 
     code_read : instrs_of new.pool copy.body.code.handlers copy.body.code.code ≡ Ok (relocated zipped (plain 191 ∷ []))

@@ -1,5 +1,5 @@
 -- A pool only grows: its entries stay where they are.
-use Rattle.std.proofs.Common.{◌≡◌, ℕ, ◌+◌, List, [], ◌∷◌, ◌++◌, length, Result, Ok, Err, Option, Some, None, Bool, true, false, IfOk, subst, refl, sym, ap, ◌∙◌, append_assoc, nat_lt, nat_eq}
+use Rattle.std.proofs.Common.{◌≡◌, ℕ, ◌+◌, ◌-◌, List, [], ◌∷◌, ◌++◌, length, Result, Ok, Err, Option, Some, None, Bool, true, false, IfOk, subst, refl, sym, ap, ◌∙◌, append_assoc, nat_lt, nat_eq}
 use Rattle.std.proofs.lemmas.List.{append-nil}
 use Rattle.std.specs.Prelude.{ℤ, pos, codes, position, if◌then◌else◌, slice_get, zip}
 use Rattle.std.specs.Int.{w64, cast_signed}
@@ -7,6 +7,8 @@ use Rattle.jmodel.specs.declared.class_file.Constant.{Constant}
 use Rattle.jmodel.specs.declared.class_file.Constant.TheVariants.{Utf8, Integer, Long, Class, NameAndType, Second}
 use Rattle.jmodel.specs.declared.class_file.Constant.TheVariants as constants
 use Rattle.jmodel.specs.declared.refusal.Refusal.{Refusal}
+use Rattle.jmodel.specs.declared.name.MethodName.{MethodName}
+use Rattle.jmodel.specs.declared.op.Op.{Op}
 use Rattle.jmodel.specs.declared.refusal.Halt.{Halt}
 use Rattle.jmodel.specs.ClassFile.{Pool, Member, ClassFile, Code}
 use Rattle.jmodel.specs.Program.{Field, Method, Program}
@@ -18,8 +20,8 @@ use Rattle.jmodel.specs.Name.{printed}
 use Rattle.jmodel.specs.Decoding.{own_name}
 use Rattle.rewriter.specs.Adding.{index_of, put, put_wide, is_utf8, put_utf8, utf8_if, add_utf8, is_integer, integer_if, add_integer, is_long, long_if, add_long, is_class, put_class, class_if, add_class, is_pair, put_pair, pair_if, add_pair, is_field, put_field, field_if, add_field, is_method, put_method, method_if, add_method}
 use Rattle.jmodel.specs.WordTypes.{type_descriptor, read_descriptor, write_descriptor}
-use Rattle.rewriter.specs.Members.{uses_of, context_class, getter_type, setter_type, getter_name, setter_name, address_name, typed_name, constant_value, address_member, base_member, place_refs, look_refs, read_refs, getter_body, setter_body, accessor, getter_of, setter_of, accessors_of, Names, getter_code, setter_code, straight_bytes, gets, puts, calls, some_op, method_if_needed, getter_call, setter_call, calls_of, duplicate_call, blocks_from, duplicate_body, laid_bytes, of_method, stub, coded_duplicate, duplicate_of, opening_of, ending_of, wrapper_bytes, wrapper_of, with_code}
-use Rattle.rewriter.specs.Rewritten.{grow_from, wrapper_if, replaced, number_behind, id_behind, old_from, bases, added_fields, names_of, duplicates, added_methods, new_methods, rewritten_share, Keeps}
+use Rattle.rewriter.specs.Members.{added_method, context_class, getter_type, setter_type, getter_name, setter_name, address_name, typed_name, constant_value, address_member, base_member, place_refs, look_refs, read_refs, getter_body, setter_body, accessor, getter_of, setter_of, accessors_of, getter_code, setter_code, straight_bytes, calls_of, blocks_from, coded_duplicate, duplicate_of, opening_of, ending_of, wrapper_bytes, wrapper_of, with_code, getter_named, setter_named, duplicate_named, room_for, few_places, callee, call_index, duplicate_refs, duplicate_texts, duplicate_bytes, made_duplicate}
+use Rattle.rewriter.specs.Rewritten.{grow_from, wrapper_if, replaced, number_behind, id_behind, old_from, bases, added_fields, room_in, duplicates, added_methods, new_methods, rewritten_share, Keeps}
 use Rattle.rewriter.specs.Part.{Share}
 
 -- one pool is a front of another
@@ -237,67 +239,69 @@ accessor_grows name type bytes pool =
     after a.1 (add_utf8 (codes "Code") a.1) _ (add_utf8_grows (codes "Code") a.1) (λ b.
     given _ b.1))
 
-getter_of_grows : (own : List ℕ) (f : Field) (pool : Pool) → Grown pool (getter_of own f pool)
+getter_of_grows : (room : ℕ) (own : List ℕ) (f : Field) (pool : Pool) → Grown pool (getter_of room own f pool)
 unfolding getter_of
-getter_of_grows own f pool =
+getter_of_grows room own f pool =
+    instead pool (room_for room (getter_named f)) _ (λ u.
     after pool (getter_body own f pool) _ (getter_body_grows own f pool) (λ a.
-    accessor_grows (getter_name f) (getter_type f.type) a.0 a.1)
+    accessor_grows (getter_name f) (getter_type f.type) a.0 a.1))
 
-setter_of_grows : (own : List ℕ) (f : Field) (pool : Pool) → Grown pool (setter_of own f pool)
+setter_of_grows : (room : ℕ) (own : List ℕ) (f : Field) (pool : Pool) → Grown pool (setter_of room own f pool)
 unfolding setter_of
-setter_of_grows own f pool =
+setter_of_grows room own f pool =
+    instead pool (room_for room (setter_named f)) _ (λ u.
     after pool (setter_body own f pool) _ (setter_body_grows own f pool) (λ a.
-    accessor_grows (setter_name f) (setter_type f.type) a.0 a.1)
+    accessor_grows (setter_name f) (setter_type f.type) a.0 a.1))
 
-accessors_of_grows : (own : List ℕ) (f : Field) (pool : Pool) → Grown pool (accessors_of own f pool)
+accessors_of_grows : (room : ℕ) (own : List ℕ) (f : Field) (pool : Pool) → Grown pool (accessors_of room own f pool)
 unfolding accessors_of
-accessors_of_grows own f pool =
-    after pool (getter_of own f pool) _ (getter_of_grows own f pool) (λ a.
-    after a.1 (setter_of own f a.1) _ (setter_of_grows own f a.1) (λ b.
+accessors_of_grows room own f pool =
+    after pool (getter_of room own f pool) _ (getter_of_grows room own f pool) (λ a.
+    after a.1 (setter_of (room - 1) own f a.1) _ (setter_of_grows (room - 1) own f a.1) (λ b.
     given _ b.1))
 
-method_if_needed_grows : (needed : Bool) (class name descriptor : List ℕ) (pool : Pool) → Grown pool (method_if_needed needed class name descriptor pool)
-unfolding method_if_needed
-method_if_needed_grows needed class name descriptor pool = either pool needed _ _ (add_method_grows class name descriptor pool) (given 0 pool)
+grow_from_grows : {A B : Type 0} (f : ℕ → A → Pool → Result (B × Pool) Refusal) → ((n : ℕ) (x : A) (pool : Pool) → Grown pool (f n x pool)) → (n : ℕ) (xs : List A) (pool : Pool) → Grown pool (grow_from f n xs pool)
+grow_from_grows f h n [] pool = given [] pool
+grow_from_grows f h n (x ∷ xs) pool =
+    after pool (f n x pool) _ (h n x pool) (λ a. after a.1 (grow_from f (n + 1) xs a.1) _ (grow_from_grows f h (n + 1) xs a.1) (λ b. given _ b.1))
 
-getter_call_grows : (own : List Method) (n : ℕ) (f : Field) (pool : Pool) → Grown pool (getter_call (uses_of own) n f pool)
-unfolding getter_call
-getter_call_grows own n f pool = method_if_needed_grows (some_op (gets n) own) f.class (getter_name f) (getter_type f.type) pool
+call_index_grows : (o : Option MethodName) (pool : Pool) → Grown pool (call_index o pool)
+unfolding call_index
+call_index_grows (Some k) pool = add_method_grows k.class k.name k.descriptor pool
+call_index_grows None pool = given 0 pool
 
-setter_call_grows : (own : List Method) (n : ℕ) (f : Field) (pool : Pool) → Grown pool (setter_call (uses_of own) n f pool)
-unfolding setter_call
-setter_call_grows own n f pool = method_if_needed_grows (some_op (puts n) own) f.class (setter_name f) (setter_type f.type) pool
+calls_of_grows : (P : Program) (os : List Op) (pool : Pool) → Grown pool (calls_of P os pool)
+calls_of_grows P os pool = grow_from_grows (λ n o. call_index (callee P o)) (λ n o q. call_index_grows (callee P o) q) 0 os pool
 
-calls_of_grows : (own : List Method) (n : ℕ) (f : Field) (pool : Pool) → Grown pool (calls_of (uses_of own) n f pool)
-unfolding calls_of
-calls_of_grows own n f pool =
-    after pool (getter_call (uses_of own) n f pool) _ (getter_call_grows own n f pool) (λ a.
-    after a.1 (setter_call (uses_of own) n f a.1) _ (setter_call_grows own n f a.1) (λ b.
+duplicate_refs_grow : (P : Program) (k : Method) (pool : Pool) → Grown pool (duplicate_refs P k pool)
+unfolding duplicate_refs
+duplicate_refs_grow P k pool =
+    after pool (calls_of P k.ops pool) _ (calls_of_grows P k.ops pool) (λ a.
+    after a.1 (add_class (codes "org/deuce/transaction/TransactionException") a.1) _ (add_class_grows (codes "org/deuce/transaction/TransactionException") a.1) (λ b.
     given _ b.1))
 
-duplicate_call_grows : (own : List Method) (n : ℕ) (k : Method) (pool : Pool) → Grown pool (duplicate_call (uses_of own) n k pool)
-unfolding duplicate_call
-duplicate_call_grows own n k pool = method_if_needed_grows (some_op (calls n) own) k.name.class (duplicate_name k.name.name) (with_context k.name.descriptor) pool
+duplicate_texts_grow : (k : Method) (pool : Pool) → Grown pool (duplicate_texts k pool)
+unfolding duplicate_texts
+duplicate_texts_grow k pool =
+    after pool (typed_name (duplicate_name k.name.name) (with_context k.name.descriptor) pool) _ (typed_name_grows (duplicate_name k.name.name) (with_context k.name.descriptor) pool) (λ a.
+    after a.1 (add_utf8 (codes "Code") a.1) _ (add_utf8_grows (codes "Code") a.1) (λ b.
+    given _ b.1))
 
-duplicate_body_grows : (name : List ℕ) (k : Code) (blocks : List Block) (pool : Pool) → Grown pool (duplicate_body name k blocks pool)
-unfolding duplicate_body
-duplicate_body_grows name k blocks pool =
-    either pool (nat_eq k.max_locals 65535) _ _ (fails _ pool) (either pool (nat_eq k.max_stack 65535) _ _ (fails _ pool)
-    (after pool (add_class (codes "org/deuce/transaction/TransactionException") pool) _ (add_class_grows (codes "org/deuce/transaction/TransactionException") pool) (λ a.
-    kept a.1 (of_method name (laid_bytes (k.max_stack + 1) (k.max_locals + 1) blocks k.handlers (Some a.0) stub)) (λ x. x))))
+made_duplicate_grows : (P : Program) (k : Method) (m : Member) (coded : Coded) (pool : Pool) → Grown pool (made_duplicate P k m coded pool)
+unfolding made_duplicate
+made_duplicate_grows P k m coded pool =
+    after pool (duplicate_refs P k pool) _ (duplicate_refs_grow P k pool) (λ a.
+    after a.1 (duplicate_texts k a.1) _ (duplicate_texts_grow k a.1) (λ b.
+    kept b.1 (duplicate_bytes (printed k.name) coded.code (blocks_from a.0.0 k.params k.ops 0 coded.instrs) a.0.1) (λ bytes. added_method (duplicate_flags m.flags) b.0.0.0 b.0.0.1 b.0.1 bytes)))
 
-coded_duplicate_grows : (names : Names) (k : Method) (m : Member) (coded : Coded) (pool : Pool) → Grown pool (coded_duplicate names k m coded pool)
+coded_duplicate_grows : (P : Program) (room : ℕ) (k : Method) (m : Member) (coded : Coded) (pool : Pool) → Grown pool (coded_duplicate P room k m coded pool)
 unfolding coded_duplicate
-coded_duplicate_grows names k m coded pool =
-    after pool (duplicate_body (printed k.name) coded.code (blocks_from names k.params k.ops 0 coded.instrs) pool) _ (duplicate_body_grows (printed k.name) coded.code (blocks_from names k.params k.ops 0 coded.instrs) pool) (λ a.
-    after a.1 (add_utf8 (duplicate_name k.name.name) a.1) _ (add_utf8_grows (duplicate_name k.name.name) a.1) (λ n.
-    after n.1 (add_utf8 (with_context k.name.descriptor) n.1) _ (add_utf8_grows (with_context k.name.descriptor) n.1) (λ b.
-    after b.1 (add_utf8 (codes "Code") b.1) _ (add_utf8_grows (codes "Code") b.1) (λ d.
-    given _ d.1))))
+coded_duplicate_grows P room k m coded pool =
+    instead pool (room_for room (duplicate_named k)) _ (λ u. instead pool (few_places (printed k.name) coded.code) _ (λ v. made_duplicate_grows P k m coded pool))
 
-duplicate_of_grows : (c : ClassFile) (names : Names) (k : Method) (m : Member) (pool : Pool) → Grown pool (duplicate_of c names k m pool)
+duplicate_of_grows : (P : Program) (c : ClassFile) (room : ℕ) (k : Method) (m : Member) (pool : Pool) → Grown pool (duplicate_of P c room k m pool)
 unfolding duplicate_of
-duplicate_of_grows c names k m pool = instead pool (decoded c m) (λ coded. coded_duplicate names k m coded pool) (λ coded. coded_duplicate_grows names k m coded pool)
+duplicate_of_grows P c room k m pool = instead pool (decoded c m) (λ coded. coded_duplicate P room k m coded pool) (λ coded. coded_duplicate_grows P room k m coded pool)
 
 opening_of_grows : (n : ℕ) (attempts : ℤ) (pool : Pool) → Grown pool (opening_of n attempts pool)
 unfolding opening_of
@@ -320,15 +324,10 @@ ending_of_grows k pool =
 wrapper_of_grows : (c : ClassFile) (n : ℕ) (attempts : ℤ) (k : Method) (m : Member) (pool : Pool) → Grown pool (wrapper_of c n attempts k m pool)
 unfolding wrapper_of
 wrapper_of_grows c n attempts k m pool =
-    either pool (nat_lt 65535 n) _ _ (fails _ pool) (after pool (opening_of n attempts pool) _ (opening_of_grows n attempts pool) (λ a.
+    either pool (nat_lt 2147483647 n) _ _ (fails _ pool) (after pool (opening_of n attempts pool) _ (opening_of_grows n attempts pool) (λ a.
     after a.1 (ending_of k a.1) _ (ending_of_grows k a.1) (λ b. kept b.1 (wrapper_bytes k a.0 b.0) (λ bytes. with_code c.pool bytes m))))
 
 -- ---- the class
-
-grow_from_grows : {A B : Type 0} (f : ℕ → A → Pool → Result (B × Pool) Refusal) → ((n : ℕ) (x : A) (pool : Pool) → Grown pool (f n x pool)) → (n : ℕ) (xs : List A) (pool : Pool) → Grown pool (grow_from f n xs pool)
-grow_from_grows f h n [] pool = given [] pool
-grow_from_grows f h n (x ∷ xs) pool =
-    after pool (f n x pool) _ (h n x pool) (λ a. after a.1 (grow_from f (n + 1) xs a.1) _ (grow_from_grows f h (n + 1) xs a.1) (λ b. given _ b.1))
 
 bases_grow : (fs : List Field) (pool : Pool) → Grown pool (bases fs pool)
 bases_grow [] pool = given [] pool
@@ -340,23 +339,16 @@ added_fields_grow fs pool =
     after pool (grow_from (λ n f. address_member f) 0 fs pool) _ (grow_from_grows (λ n f. address_member f) (λ n f q. address_member_grows f q) 0 fs pool) (λ a.
     after a.1 (bases fs a.1) _ (bases_grow fs a.1) (λ b. given _ b.1))
 
-names_of_grows : (P : Program) (own : List Method) (pool : Pool) → Grown pool (names_of P own pool)
-unfolding names_of
-names_of_grows P own pool =
-    after pool (grow_from (calls_of (uses_of own)) 0 P.fields pool) _ (grow_from_grows (calls_of (uses_of own)) (λ n f q. calls_of_grows own n f q) 0 P.fields pool) (λ a.
-    after a.1 (grow_from (duplicate_call (uses_of own)) 0 P.methods a.1) _ (grow_from_grows (duplicate_call (uses_of own)) (λ n k q. duplicate_call_grows own n k q) 0 P.methods a.1) (λ b. given _ b.1))
-
-duplicates_grow : (P : Program) (c : ClassFile) (share : Share) (pool : Pool) → Grown pool (duplicates P c share pool)
-unfolding duplicates
-duplicates_grow P c share pool =
-    after pool (names_of P share.methods pool) _ (names_of_grows P share.methods pool) (λ a.
-    grow_from_grows (λ n (p : Method × Member). duplicate_of c a.0 p.0 p.1) (λ n p q. duplicate_of_grows c a.0 p.0 p.1 q) 0 (zip share.methods share.members) a.1)
+duplicates_grow : (P : Program) (c : ClassFile) (share : Share) (room : ℕ) (pool : Pool) → Grown pool (duplicates P c share room pool)
+duplicates_grow P c share room pool =
+    grow_from_grows (λ n (p : Method × Member). duplicate_of P c (room - n) p.0 p.1) (λ n p q. duplicate_of_grows P c (room - n) p.0 p.1 q) 0 (zip share.methods share.members) pool
 
 added_methods_grow : (P : Program) (c : ClassFile) (share : Share) (pool : Pool) → Grown pool (added_methods P c share pool)
 unfolding added_methods
 added_methods_grow P c share pool =
-    after pool (grow_from (λ n f. accessors_of (own_name c) f) 0 share.fields pool) _ (grow_from_grows (λ n f. accessors_of (own_name c) f) (λ n f q. accessors_of_grows (own_name c) f q) 0 share.fields pool) (λ a.
-    after a.1 (duplicates P c share a.1) _ (duplicates_grow P c share a.1) (λ b. given _ b.1))
+    after pool (grow_from (λ n f. accessors_of (room_in c - n - n) (own_name c) f) 0 share.fields pool) _
+    (grow_from_grows (λ n f. accessors_of (room_in c - n - n) (own_name c) f) (λ n f q. accessors_of_grows (room_in c - n - n) (own_name c) f q) 0 share.fields pool) (λ a.
+    after a.1 (duplicates P c share (room_in c - length share.fields - length share.fields) a.1) _ (duplicates_grow P c share (room_in c - length share.fields - length share.fields) a.1) (λ b. given _ b.1))
 
 wrapper_if_grows : (c : ClassFile) (n : ℕ) (a : Option ℤ) (o : Option Method) (m : Member) (pool : Pool) → Grown pool (wrapper_if c n a o m pool)
 wrapper_if_grows c n None o m pool = given m pool

@@ -56,5 +56,5 @@ pub mod ClassesMeant
 pub mod ClassesForms
 pub mod Splits
 pub mod Shares
-pub mod Gathered
+pub mod Rooms
 pub mod Olds

@@ -21,13 +21,12 @@ use Rattle.jmodel.specs.Linking.{Coded}
 use Rattle.bytecode.specs.Relocated.{StandFor}
 use Rattle.bytecode.proofs.OriginLaws.{origin_is}
 use Rattle.const_pool.proofs.Takes.{bind_ok, ok_is}
-use Rattle.rewriter.specs.Rewritten.{grow_from, names_of}
+use Rattle.rewriter.specs.Adding.{grow_from, add_class}
 use Rattle.rewriter.proofs.Added.{method_added}
-use Rattle.rewriter.specs.declared.names.Calls.{Calls}
 use Rattle.rewriter.specs.declared.wrappers.Opening.{Opening}
 use Rattle.rewriter.specs.declared.wrappers.Ending.{Ending}
-use Rattle.rewriter.specs.Made.{AreSmallNames, IsSmallOp, IsSmallMethod, CanBeMade}
-use Rattle.rewriter.specs.Members.{uses_of, method_if_needed, getter_call, setter_call, calls_of, duplicate_call, Names, stub, plain, naming, jump, local_instr, load_int, store_int, load_reference, store_reference, increment, call_static, call_virtual, getter_in, setter_in, block_instrs, blocks_from, int_loads, keeps, answers, wrapper_blocks, wrapper_handlers}
+use Rattle.rewriter.specs.Made.{AreIndexes, IsSmallOp, IsSmallMethod, CanBeMade}
+use Rattle.rewriter.specs.Members.{callee, call_index, calls_of, duplicate_refs, stub, plain, naming, jump, local_instr, load_int, store_int, load_reference, store_reference, increment, call_static, call_virtual, block_instrs, blocks_from, int_loads, keeps, answers, wrapper_blocks, wrapper_handlers}
 use Rattle.rewriter.proofs.Single.{local_cases, increment_cases, load_laid, store_laid, load_reference_laid, store_reference_laid, increment_laid}
 use Rattle.rewriter.proofs.Kept.{adds_little}
 use Rattle.rewriter.proofs.Pairs.{all_append, IsPart, AreParts}
@@ -90,40 +89,43 @@ CanStand bs i = IsShaped i × ArePcs bs (targets_of i.operands)
 free_stands : (bs : List Block) (i : Instr) → IsFree i → CanStand bs i
 free_stands bs i f = (f.shaped, subst (ArePcs bs) (sym f.nowhere) tt)
 
-module _ (names : Names) (small : AreSmallNames names) (p : ℕ) (few : p < 60000) (bs : List Block) where
-  block_stands : (o : Op) (i : Instr) → IsSmallOp o → CanStand bs i → AllByRecursion (CanStand bs) (block_instrs names p (Some o) i)
-  block_stands (op.GetStatic f) i s h = (free_stands bs (load_reference p) (load_reference_free p (omega (arith, few))), (free_stands bs (call_static (getter_in (slice_get names.accessors f))) (call_static_free (getter_in (slice_get names.accessors f)) (small.getters f)), tt))
-  block_stands (op.PutStatic f) i s h = (free_stands bs (load_reference p) (load_reference_free p (omega (arith, few))), (free_stands bs (call_static (setter_in (slice_get names.accessors f))) (call_static_free (setter_in (slice_get names.accessors f)) (small.setters f)), tt))
-  block_stands (op.InvokeStatic m) i s h = (free_stands bs (load_reference p) (load_reference_free p (omega (arith, few))), (free_stands bs (call_static (slice_index names.duplicates m)) (call_static_free (slice_index names.duplicates m) (small.duplicates m)), tt))
-  block_stands (op.Load n) i s h = (free_stands bs (load_int (moved p n)) (load_free (moved p n) (omega (arith, moved_most p n, s))), tt)
-  block_stands (op.Store n) i s h = (free_stands bs (store_int (moved p n)) (store_free (moved p n) (omega (arith, moved_most p n, s))), tt)
-  block_stands (op.Increment n x) i s h = (free_stands bs (increment (moved p n) x) (increment_free (moved p n) x (omega (arith, moved_most p n, s.0)) s.1), tt)
-  block_stands (op.Constant v) i s h = (h, tt)
-  block_stands (op.Rearrange r) i s h = (h, tt)
-  block_stands (op.Binary b) i s h = (h, tt)
-  block_stands (op.Divide d) i s h = (h, tt)
-  block_stands (op.Unary u) i s h = (h, tt)
-  block_stands (op.Branch t to) i s h = (h, tt)
-  block_stands (op.BranchInts t to) i s h = (h, tt)
-  block_stands (op.Goto to) i s h = (h, tt)
-  block_stands (op.Switch other cases) i s h = (h, tt)
-  block_stands op.Return i s h = (h, tt)
-  block_stands op.ReturnValue i s h = (h, tt)
-  block_stands op.Throw i s h = (h, tt)
-  block_stands op.GetContext i s h = (h, tt)
-  block_stands (op.Context x) i s h = (h, tt)
+module _ (p : ℕ) (few : p < 60000) (bs : List Block) where
+  call_stands : (index : ℕ) → index < 65536 → AllByRecursion (CanStand bs) (load_reference p ∷ call_static index ∷ [])
+  call_stands index small = (free_stands bs (load_reference p) (load_reference_free p (omega (arith, few))), (free_stands bs (call_static index) (call_static_free index small), tt))
 
-  option_stands : (o : Option Op) (i : Instr) → ((x : Op) → o ≡ Some x → IsSmallOp x) → CanStand bs i → AllByRecursion (CanStand bs) (block_instrs names p o i)
-  option_stands None i s h = (h, tt)
-  option_stands (Some o) i s h = block_stands o i (s o refl) h
+  block_stands : (index : ℕ) → index < 65536 → (o : Op) (i : Instr) → IsSmallOp o → CanStand bs i → AllByRecursion (CanStand bs) (block_instrs index p (Some o) i)
+  block_stands index small (op.GetStatic f) i s h = call_stands index small
+  block_stands index small (op.PutStatic f) i s h = call_stands index small
+  block_stands index small (op.InvokeStatic m) i s h = call_stands index small
+  block_stands index small (op.Load n) i s h = (free_stands bs (load_int (moved p n)) (load_free (moved p n) (omega (arith, moved_most p n, s))), tt)
+  block_stands index small (op.Store n) i s h = (free_stands bs (store_int (moved p n)) (store_free (moved p n) (omega (arith, moved_most p n, s))), tt)
+  block_stands index small (op.Increment n x) i s h = (free_stands bs (increment (moved p n) x) (increment_free (moved p n) x (omega (arith, moved_most p n, s.0)) s.1), tt)
+  block_stands index small (op.Constant v) i s h = (h, tt)
+  block_stands index small (op.Rearrange r) i s h = (h, tt)
+  block_stands index small (op.Binary b) i s h = (h, tt)
+  block_stands index small (op.Divide d) i s h = (h, tt)
+  block_stands index small (op.Unary u) i s h = (h, tt)
+  block_stands index small (op.Branch t to) i s h = (h, tt)
+  block_stands index small (op.BranchInts t to) i s h = (h, tt)
+  block_stands index small (op.Goto to) i s h = (h, tt)
+  block_stands index small (op.Switch other cases) i s h = (h, tt)
+  block_stands index small op.Return i s h = (h, tt)
+  block_stands index small op.ReturnValue i s h = (h, tt)
+  block_stands index small op.Throw i s h = (h, tt)
+  block_stands index small op.GetContext i s h = (h, tt)
+  block_stands index small (op.Context x) i s h = (h, tt)
 
-  each_stands : (ops : List Op) (n : ℕ) (is : List Instr) → ((j : ℕ) (o : Op) → slice_get ops j ≡ Some o → IsSmallOp o) → AllByRecursion (CanStand bs) is → EachInstr (CanStand bs) (blocks_from names p ops n is)
-  each_stands ops n [] s h = tt
-  each_stands ops n (i ∷ is) s h = (option_stands (slice_get ops n) i (λ o e. s n o e) h.0, each_stands ops (n + 1) is s h.1)
+  option_stands : (index : ℕ) → index < 65536 → (o : Option Op) (i : Instr) → ((x : Op) → o ≡ Some x → IsSmallOp x) → CanStand bs i → AllByRecursion (CanStand bs) (block_instrs index p o i)
+  option_stands index small None i s h = (h, tt)
+  option_stands index small (Some o) i s h = block_stands index small o i (s o refl) h
 
-stand_for : (names : Names) (p : ℕ) (ops : List Op) (n : ℕ) (is : List Instr) → StandFor (blocks_from names p ops n is) is
-stand_for names p ops n [] = tt
-stand_for names p ops n (i ∷ is) = (refl, stand_for names p ops (n + 1) is)
+  each_stands : (calls : List ℕ) → AreIndexes calls → (ops : List Op) (n : ℕ) (is : List Instr) → ((j : ℕ) (o : Op) → slice_get ops j ≡ Some o → IsSmallOp o) → AllByRecursion (CanStand bs) is → EachInstr (CanStand bs) (blocks_from calls p ops n is)
+  each_stands calls small ops n [] s h = tt
+  each_stands calls small ops n (i ∷ is) s h = (option_stands (slice_index calls n) (small n) (slice_get ops n) i (λ o e. s n o e) h.0, each_stands calls small ops (n + 1) is s h.1)
+
+stand_for : (calls : List ℕ) (p : ℕ) (ops : List Op) (n : ℕ) (is : List Instr) → StandFor (blocks_from calls p ops n is) is
+stand_for calls p ops n [] = tt
+stand_for calls p ops n (i ∷ is) = (refl, stand_for calls p ops (n + 1) is)
 
 all_stand : (bs : List Block) (is : List Instr) → AllByRecursion IsShaped is → AllByRecursion (λ (i : Instr). ArePcs bs (targets_of i.operands)) is → AllByRecursion (CanStand bs) is
 all_stand bs [] h k = tt
@@ -146,14 +148,14 @@ all_at Q [] i x h e = absurd cc
 all_at {A} Q (a ∷ xs) zero x h e = let s : a ≡ x = cc in subst Q s h.0
 all_at Q (a ∷ xs) (suc i) x h e = all_at Q xs i x h.1 e
 
-pub duplicate_laid : (names : Names) → AreSmallNames names → (p : ℕ) → p < 60000 → (ops : List Op) → AllByRecursion IsSmallOp ops → (pool : Pool) (code : List ℕ) (is : List Instr) → SpellsInstrs pool [] code is
-    → (conflict : ℕ) → AreBlocks (blocks_from names p ops 0 is) [] (Some conflict) stub
-duplicate_laid names small p few ops each pool code is spelled conflict =
-    let bs = blocks_from names p ops 0 is in
-    let o = origin_is pool [] code is (blocks_from names p ops 0 is) spelled (stand_for names p ops 0 is) in
-    let stands = all_stand (blocks_from names p ops 0 is) is o.each (pcs_of (blocks_from names p ops 0 is) is is o.pcs spelled.instrs.targets) in
-    let both = parted IsShaped (λ (i : Instr). ArePcs (blocks_from names p ops 0 is) (targets_of i.operands)) (blocks_from names p ops 0 is)
-    (each_stands names small p few (blocks_from names p ops 0 is) ops 0 is (λ j x e. all_at IsSmallOp ops j x each e) stands) in
+pub duplicate_laid : (calls : List ℕ) → AreIndexes calls → (p : ℕ) → p < 60000 → (ops : List Op) → AllByRecursion IsSmallOp ops → (pool : Pool) (code : List ℕ) (is : List Instr) → SpellsInstrs pool [] code is
+    → (conflict : ℕ) → AreBlocks (blocks_from calls p ops 0 is) [] (Some conflict) stub
+duplicate_laid calls small p few ops each pool code is spelled conflict =
+    let bs = blocks_from calls p ops 0 is in
+    let o = origin_is pool [] code is (blocks_from calls p ops 0 is) spelled (stand_for calls p ops 0 is) in
+    let stands = all_stand (blocks_from calls p ops 0 is) is o.each (pcs_of (blocks_from calls p ops 0 is) is is o.pcs spelled.instrs.targets) in
+    let both = parted IsShaped (λ (i : Instr). ArePcs (blocks_from calls p ops 0 is) (targets_of i.operands)) (blocks_from calls p ops 0 is)
+    (each_stands p few (blocks_from calls p ops 0 is) calls small ops 0 is (λ j x e. all_at IsSmallOp ops j x each e) stands) in
     record {
       ascend = o.ascend;
       each = both.0;
@@ -196,8 +198,8 @@ small_ops s0 is0 locals gives (o ∷ os) (i ∷ is) few h = (small_op s0 is0 loc
 small_method : (s0 : Symbols) (m : Member) (k : Method) → IsOld s0 m k → IsSmallMethod k
 small_method s0 m k h = let r = h.room in let l = h.locals in let f = h.few in omega (arith, r, l, f)
 
-can_be_made : (s0 : Symbols) (names : Names) → AreSmallNames names → (m : Member) (k : Method) → IsOld s0 m k → CanBeMade s0.class names (k, m)
-can_be_made s0 names small m k h = (
+can_be_made : (s0 : Symbols) (m : Member) (k : Method) → IsOld s0 m k → CanBeMade s0.class (k, m)
+can_be_made s0 m k h = (
   small_method s0 m k h,
   λ coded e spelled.
       let same : h.coded ≡ coded = ok_is h.coded coded (sym h.decodes ∙ e) in
@@ -211,17 +213,17 @@ can_be_made s0 names small m k h = (
       let spelled2 = subst (λ (hs : List Handler). SpellsInstrs s0.class.pool hs coded.code.code coded.instrs) none spelled in
       record {
         ops = each;
-        blocks = λ conflict. subst (λ (hs : List Handler). AreBlocks (blocks_from names k.params k.ops 0 coded.instrs) hs (Some conflict) stub) (sym none)
-            (duplicate_laid names small k.params (small_method s0 m k h) k.ops each s0.class.pool coded.code.code coded.instrs spelled2 conflict);
+        blocks = λ calls small conflict. subst (λ (hs : List Handler). AreBlocks (blocks_from calls k.params k.ops 0 coded.instrs) hs (Some conflict) stub) (sym none)
+            (duplicate_laid calls small k.params (small_method s0 m k h) k.ops each s0.class.pool coded.code.code coded.instrs spelled2 conflict);
       },
 )
 
 -- what is made of a class's methods
-pub all_made : (s0 : Symbols) (names : Names) → AreSmallNames names → (ms : List Member) (ks : List Method) → AllOld s0 ms ks → AllByRecursion (CanBeMade s0.class names) (zip ks ms)
-all_made s0 names small [] [] h = tt
-all_made s0 names small [] (k ∷ ks) h = absurd h
-all_made s0 names small (m ∷ ms) [] h = absurd h
-all_made s0 names small (m ∷ ms) (k ∷ ks) h = (can_be_made s0 names small m k h.0, all_made s0 names small ms ks h.1)
+pub all_made : (s0 : Symbols) (ms : List Member) (ks : List Method) → AllOld s0 ms ks → AllByRecursion (CanBeMade s0.class) (zip ks ms)
+all_made s0 [] [] h = tt
+all_made s0 [] (k ∷ ks) h = absurd h
+all_made s0 (m ∷ ms) [] h = absurd h
+all_made s0 (m ∷ ms) (k ∷ ks) h = (can_be_made s0 m k h.0, all_made s0 ms ks h.1)
 
 pub all_small : (s0 : Symbols) (ms : List Member) (ks : List Method) → AllOld s0 ms ks → AllByRecursion IsSmallMethod ks
 all_small s0 [] [] h = tt
@@ -231,22 +233,10 @@ all_small s0 (m ∷ ms) (k ∷ ks) h = (small_method s0 m k h.0, all_small s0 ms
 
 -- ---- what duplicates name
 
-needed_small : (b : Bool) (class name descriptor : List ℕ) (pool : Pool) (r : ℕ × Pool) → method_if_needed b class name descriptor pool ≡ Ok r → r.0 < 65536
-unfolding method_if_needed
-needed_small true class name descriptor pool r e = let a = method_added class name descriptor pool r e in omega (arith, a.few)
-needed_small false class name descriptor pool r e = let is = ok_is (0, pool) r e in let z = ap (λ (x : ℕ × Pool). x.0) is in omega (arith, z)
-
--- a call of accessors has two bytes in both
-abbrev IsSmallCalls : Calls → Type 0
-IsSmallCalls x = (x.getter < 65536) × (x.setter < 65536)
-
-calls_small : (own : List Method) (n : ℕ) (f : Field) (pool : Pool) (r : Calls × Pool) → calls_of (uses_of own) n f pool ≡ Ok r → IsSmallCalls r.0
-unfolding calls_of getter_call setter_call
-calls_small own n f pool r e =
-    let a = bind_ok (getter_call (uses_of own) n f pool) (λ getter. setter_call (uses_of own) n f getter.1 >>= λ setter. Ok (record { getter = getter.0; setter = setter.0 }, setter.1)) r e in
-    let b = bind_ok (setter_call (uses_of own) n f a.0.1) (λ setter. Ok (record { getter = a.0.0; setter = setter.0 }, setter.1)) r a.2 in
-    let is = ok_is (record { getter = a.0.0; setter = b.0.0 }, b.0.1) r b.2 in
-    subst (λ (x : Calls × Pool). IsSmallCalls x.0) is (needed_small _ _ _ _ pool a.0 a.1, needed_small _ _ _ _ a.0.1 b.0 b.1)
+call_small : (o : Option MethodName) (pool : Pool) (r : ℕ × Pool) → call_index o pool ≡ Ok r → r.0 < 65536
+unfolding call_index
+call_small (Some k) pool r e = let a = method_added k.class k.name k.descriptor pool r e in omega (arith, a.few)
+call_small None pool r e = let is = ok_is (0, pool) r e in let z = ap (λ (x : ℕ × Pool). x.0) is in omega (arith, z)
 
 grown_small : {A B : Type 0} (Q : B → Type 0) (f : ℕ → A → Pool → Result (B × Pool) Refusal) → ((n : ℕ) (x : A) (pool : Pool) (r : B × Pool) → f n x pool ≡ Ok r → Q r.0)
     → (n : ℕ) (xs : List A) (pool : Pool) (r : List B × Pool) → grow_from f n xs pool ≡ Ok r → AllByRecursion Q r.0
@@ -257,34 +247,20 @@ grown_small {A} {B} Q f one n (x ∷ xs) pool r e =
     let is = ok_is (a.0.0 ∷ b.0.0, b.0.1) r b.2 in
     subst (λ (x : List B × Pool). AllByRecursion Q x.0) is (one n x pool a.0 a.1, grown_small Q f one (n + 1) xs a.0.1 b.0 b.1)
 
-getters_small : (cs : List Calls) → AllByRecursion IsSmallCalls cs → (f : ℕ) → getter_in (slice_get cs f) < 65536
-getters_small [] h f = omega arith
-getters_small (c ∷ cs) h zero = h.0.0
-getters_small (c ∷ cs) h (suc f) = getters_small cs h.1 f
-
-setters_small : (cs : List Calls) → AllByRecursion IsSmallCalls cs → (f : ℕ) → setter_in (slice_get cs f) < 65536
-setters_small [] h f = omega arith
-setters_small (c ∷ cs) h zero = h.0.1
-setters_small (c ∷ cs) h (suc f) = setters_small cs h.1 f
-
-indexes_small : (is : List ℕ) → AllByRecursion (λ i. i < 65536) is → (m : ℕ) → slice_index is m < 65536
+indexes_small : (is : List ℕ) → AllByRecursion (λ i. i < 65536) is → AreIndexes is
 indexes_small [] h m = omega arith
 indexes_small (i ∷ is) h zero = h.0
 indexes_small (i ∷ is) h (suc m) = indexes_small is h.1 m
 
-duplicates_small : (own : List Method) (n : ℕ) (k : Method) (pool : Pool) (r : ℕ × Pool) → duplicate_call (uses_of own) n k pool ≡ Ok r → r.0 < 65536
-unfolding duplicate_call
-duplicates_small own n k pool r e = needed_small _ _ _ _ pool r e
-
-pub names_small : (P : Program) (own : List Method) (pool : Pool) (r : Names × Pool) → names_of P own pool ≡ Ok r → AreSmallNames r.0
-unfolding names_of
-names_small P own pool r e =
-    let a = bind_ok (grow_from (calls_of (uses_of own)) 0 P.fields pool) (λ calls. grow_from (duplicate_call (uses_of own)) 0 P.methods calls.1 >>= λ copies. Ok (record { accessors = calls.0; duplicates = copies.0 }, copies.1)) r e in
-    let b = bind_ok (grow_from (duplicate_call (uses_of own)) 0 P.methods a.0.1) (λ copies. Ok (record { accessors = a.0.0; duplicates = copies.0 }, copies.1)) r a.2 in
-    let is = ok_is (record { accessors = a.0.0; duplicates = b.0.0 }, b.0.1) r b.2 in
-    let cs = grown_small IsSmallCalls (calls_of (uses_of own)) (λ n f q s h. calls_small own n f q s h) 0 P.fields pool a.0 a.1 in
-    let ds = grown_small (λ i. i < 65536) (duplicate_call (uses_of own)) (λ n k q s h. duplicates_small own n k q s h) 0 P.methods a.0.1 b.0 b.1 in
-    subst (λ (x : Names × Pool). AreSmallNames x.0) is (record { getters = getters_small a.0.0 cs; setters = setters_small a.0.0 cs; duplicates = indexes_small b.0.0 ds })
+-- what a duplicate calls has two bytes
+pub refs_small : (P : Program) (k : Method) (pool : Pool) (r : (List ℕ × ℕ) × Pool) → duplicate_refs P k pool ≡ Ok r → AreIndexes r.0.0
+unfolding duplicate_refs
+refs_small P k pool r e =
+    let a = bind_ok (calls_of P k.ops pool) (λ calls. add_class (codes "org/deuce/transaction/TransactionException") calls.1 >>= λ conflict. Ok ((calls.0, conflict.0), conflict.1)) r e in
+    let b = bind_ok (add_class (codes "org/deuce/transaction/TransactionException") a.0.1) (λ conflict. Ok ((a.0.0, conflict.0), conflict.1)) r a.2 in
+    let is = ok_is ((a.0.0, b.0.0), b.0.1) r b.2 in
+    let small = grown_small (λ i. i < 65536) (λ n (o : Op). call_index (callee P o)) (λ n o q t h. call_small (callee P o) q t h) 0 k.ops pool a.0 a.1 in
+    subst (λ (x : (List ℕ × ℕ) × Pool). AreIndexes x.0.0) is (indexes_small a.0.0 small)
 
 -- ---- wrappers
 

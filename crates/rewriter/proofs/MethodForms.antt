@@ -16,7 +16,7 @@ use Rattle.jmodel.specs.Rewriting.{with_context, duplicate_name}
 use Rattle.const_pool.proofs.Signatures.{is_method}
 use Rattle.rewriter.specs.declared.accessors.Accessors.{Accessors}
 use Rattle.rewriter.specs.Meaning.{HasBytes, AreFiled}
-use Rattle.rewriter.specs.Members.{Names, added_method, duplicate_flags, getter_name, setter_name, getter_type, setter_type}
+use Rattle.rewriter.specs.Members.{added_method, duplicate_flags, getter_name, setter_name, getter_type, setter_type}
 use Rattle.rewriter.specs.Part.{Part, own_members}
 use Rattle.rewriter.specs.Rewritten.{both_of}
 use Rattle.rewriter.proofs.Became.{IsWrapper, Became, EachBecame, became}
@@ -34,7 +34,7 @@ use Rattle.rewriter.proofs.StillForms.{method_still}
 use Rattle.rewriter.proofs.Tables.{Known}
 use Rattle.rewriter.proofs.Tied.{Tied}
 use Rattle.rewriter.proofs.Texts.{context_method}
-use Rattle.rewriter.proofs.Whole.{Each, AreNames, IsCopyOf}
+use Rattle.rewriter.proofs.Whole.{Each, IsCopyOf}
 use Rattle.rewriter.proofs.Wraps.{loop, loop_rules}
 
 module _ (s0 s : Symbols) (P : Program) (part : Part) (K : Known s0 s P part) (T : Tied s0 s P) (p : IsPool s.class.pool) where
@@ -116,13 +116,13 @@ module _ (s0 s : Symbols) (P : Program) (part : Part) (K : Known s0 s P part) (T
 
   -- ---- duplicates
 
-  module _ (O : IsSource P) (names : Names) (N : AreNames P part.methods new.pool names) where
+  module _ (O : IsSource P) where
     -- a duplicate is a method
-    copy_form : (n i : ℕ) (m x : Member) (k : Method) → slice_get P.methods n ≡ Some k → slice_get part.methods i ≡ Some k → IsMethod c.pool m → IsOld s0 m k → HasBytes m → IsCopyOf c names new.pool (k, m) x → IsMethod new.pool x
-    copy_form n i m x k at mine rules h held w =
+    copy_form : (n : ℕ) (m x : Member) (k : Method) → slice_get P.methods n ≡ Some k → IsMethod c.pool m → IsOld s0 m k → HasBytes m → IsCopyOf P c new.pool (k, m) x → IsMethod new.pool x
+    copy_form n m x k at rules h held w =
         let t = the_some (utf8 c.pool m.name) rules.member.named in
         let d = the_and (utf8 c.pool m.descriptor) _ rules.member.typed in
-        let A = copy s0 s P part K T O names N n i m x k t.0 t.1 at mine h held w d.0 d.1 in
+        let A = copy s0 s P part K T O n m x k t.0 t.1 at h held w d.0 d.1 in
         let old = (decoded_is c m h.coded h.decodes).code in
         let type_is : k.name.descriptor ≡ descriptor_of c.pool m = ap (λ (y : MethodName). y.descriptor) h.name in
         let fits = subst (λ (y : List ℕ). IsMethodDescriptor (with_context y)) (sym type_is) (context_method (descriptor_of c.pool m) h.shape h.shaped (few_params s0 m k h)) in
@@ -135,21 +135,21 @@ module _ (s0 s : Symbols) (P : Program) (part : Part) (K : Known s0 s P part) (T
           named = A.named;
           typed = A.typed;
           coded = A.coded_is;
-          rules = code_rules s0 s P part K T O names N n i m x k t.0 t.1 at mine h held w d.0 d.1;
-          alone = code_alone s0 s P part K T O names N n i m x k t.0 t.1 at mine h held w d.0 d.1;
+          rules = code_rules s0 s P part K T O n m x k t.0 t.1 at h held w d.0 d.1;
+          alone = code_alone s0 s P part K T O n m x k t.0 t.1 at h held w d.0 d.1;
         }) (duplicate_two m.flags) (duplicate_coded m.flags (coded_flags c.pool m h.coded.code rules old)) fits
 
     -- the duplicates are methods
-    copies_forms : (e n i : ℕ) (ms D : List Member) (ks : List Method) → Each (λ Z n p x. IsCopyOf c names Z p x) new.pool e (zip ks ms) D → AllOld s0 ms ks → AllByRecursion (IsMethod c.pool) ms
-        → AllByRecursion HasBytes ms → StandsAt P.methods n ks → StandsAt part.methods i ks → AllByRecursion (IsMethod new.pool) D
-    copies_forms e n i [] [] [] w h a b r q = tt
-    copies_forms e n i [] D (k ∷ ks) w h a b r q = absurd h
-    copies_forms e n i [] (x ∷ D) [] w h a b r q = absurd w
-    copies_forms e n i (m ∷ ms) D [] w h a b r q = absurd h
-    copies_forms e n i (m ∷ ms) [] (k ∷ ks) w h a b r q = absurd w
-    copies_forms e n i (m ∷ ms) (x ∷ D) (k ∷ ks) w h a b r q = (
-      copy_form n i m x k (here P.methods n k ks r) (here part.methods i k ks q) a.0 h.0 b.0 w.0,
-      copies_forms (e + 1) (n + 1) (i + 1) ms D ks w.1 h.1 a.1 b.1 (behind P.methods n k ks r) (behind part.methods i k ks q),
+    copies_forms : (e n : ℕ) (ms D : List Member) (ks : List Method) → Each (λ Z n p x. IsCopyOf P c Z p x) new.pool e (zip ks ms) D → AllOld s0 ms ks → AllByRecursion (IsMethod c.pool) ms
+        → AllByRecursion HasBytes ms → StandsAt P.methods n ks → AllByRecursion (IsMethod new.pool) D
+    copies_forms e n [] [] [] w h a b r = tt
+    copies_forms e n [] D (k ∷ ks) w h a b r = absurd h
+    copies_forms e n [] (x ∷ D) [] w h a b r = absurd w
+    copies_forms e n (m ∷ ms) D [] w h a b r = absurd h
+    copies_forms e n (m ∷ ms) [] (k ∷ ks) w h a b r = absurd w
+    copies_forms e n (m ∷ ms) (x ∷ D) (k ∷ ks) w h a b r = (
+      copy_form n m x k (here P.methods n k ks r) a.0 h.0 b.0 w.0,
+      copies_forms (e + 1) (n + 1) ms D ks w.1 h.1 a.1 b.1 (behind P.methods n k ks r),
     )
 
   -- the old methods, with wrappers among them, and those that are added
@@ -161,6 +161,6 @@ module _ (s0 s : Symbols) (P : Program) (part : Part) (K : Known s0 s P part) (T
       let a = accessors_forms 0 part.fields N.accessors N.each in
       let rules = all_where (IsMethod c.pool) part.is_taken c.methods K.rules.methods in
       let held = all_where HasBytes part.is_taken c.methods F in
-      let d = copies_forms O N.copied.names N.copied.are_names 0 part.first 0 (own_members c part) N.copies part.methods N.copied.each K.olds rules held K.methods_at (from_first part.methods) in
+      let d = copies_forms O 0 part.first (own_members c part) N.copies part.methods N.copied K.olds rules held K.methods_at in
       let added = subst (AllByRecursion (IsMethod new.pool)) (sym N.are) (all_append (IsMethod new.pool) (flat_map both_of N.accessors) N.copies a d) in
       subst (AllByRecursion (IsMethod new.pool)) (sym M.are) (all_append (IsMethod new.pool) M.olds M.added front added)

@@ -1,15 +1,18 @@
 -- The pool of a rewritten class keeps the rules of every pool.
-use Rattle.std.proofs.Common.{◌≡◌, ℕ, zero, suc, ◌+◌, ◌<◌, ◌≤◌, Bool, true, false, List, [], ◌∷◌, ◌++◌, Option, Some, None, Result, Ok, refl, subst, arith, length, sym}
-use Rattle.std.specs.Prelude.{codes, pos, nat_lt, nat_eq, map, slice_get, zip, bytes_eq, if◌then◌else◌, ℤ, FitsSigned}
+use Rattle.std.proofs.Common.{◌≡◌, ℕ, zero, suc, ◌+◌, ◌-◌, ◌<◌, ◌≤◌, Bool, true, false, List, [], ◌∷◌, ◌++◌, Option, Some, None, Result, Ok, refl, subst, arith, length, sym}
+use Rattle.std.specs.Prelude.{codes, pos, nat_lt, option_map, map, slice_get, zip, bytes_eq, if◌then◌else◌, ℤ, FitsSigned}
 use Rattle.std.specs.Int.{w64, cast_signed, w32}
 use Rattle.std.specs.List.{flat_map, AllByRecursion}
 use Rattle.std.proofs.lemmas.Bool.Decides.{nat_tests}
 use Rattle.jmodel.specs.declared.refusal.Refusal.{Refusal}
+use Rattle.jmodel.specs.declared.op.Op.{Op}
+use Rattle.jmodel.specs.declared.op.Op.TheVariants as op
 use Rattle.jmodel.specs.ClassFile.{Pool, Attribute, Member, ClassFile, Code}
 use Rattle.jmodel.specs.ClassRules.{IsPool}
 use Rattle.jmodel.specs.Program.{Field, Method, Program}
 use Rattle.jmodel.specs.Decoding.{Symbols, own_name}
 use Rattle.jmodel.specs.Name.{printed}
+use Rattle.jmodel.specs.Reading.{◌>>=◌}
 use Rattle.jmodel.specs.Relocation.{Block}
 use Rattle.jmodel.specs.Rewriting.{with_context, duplicate_name}
 use Rattle.jmodel.specs.Linking.{Coded, decoded, descriptor_of, retries_of}
@@ -19,12 +22,11 @@ use Rattle.jmodel.specs.Layout.{text_or_none, is_static, statics, fields_from}
 use Rattle.jmodel.proofs.ClassesTaken.{filter_few}
 use Rattle.const_pool.proofs.Takes.{bind_ok, guard_ok, fine}
 use Rattle.rewriter.specs.declared.accessors.Accessors.{Accessors}
-use Rattle.rewriter.specs.declared.names.Calls.{Calls}
 use Rattle.rewriter.specs.declared.wrappers.Opening.{Opening}
 use Rattle.rewriter.specs.declared.wrappers.Ending.{Ending}
 use Rattle.jmodel.specs.WordTypes.{type_descriptor, read_descriptor, write_descriptor}
-use Rattle.rewriter.specs.Members.{uses_of, high, low, typed_name, constant_value, address_name, address_member, base_member, place_refs, look_refs, read_refs, getter_code, getter_body, setter_code, setter_body, straight_bytes, accessor, added_method, getter_of, setter_of, accessors_of, getter_name, setter_name, getter_type, setter_type, context_class, Names, gets, puts, calls, some_op, method_if_needed, getter_call, setter_call, calls_of, duplicate_call, blocks_from, stub, laid_bytes, of_method, duplicate_body, duplicate_flags, coded_duplicate, duplicate_of, opening_of, ending_of, wrapper_bytes, with_code, wrapper_of}
-use Rattle.rewriter.specs.Rewritten.{grow_from, wrapper_if, replaced, number_behind, id_behind, old_from, bases, both_of, added_fields, names_of, duplicates, added_methods, new_methods, rewritten_share, rewritten_part}
+use Rattle.rewriter.specs.Members.{high, low, typed_name, constant_value, address_name, address_member, base_member, place_refs, look_refs, read_refs, getter_code, getter_body, setter_code, setter_body, straight_bytes, accessor, added_method, getter_of, setter_of, accessors_of, getter_name, setter_name, getter_type, setter_type, context_class, calls_of, blocks_from, duplicate_flags, coded_duplicate, duplicate_of, opening_of, ending_of, wrapper_bytes, with_code, wrapper_of, getter_named, setter_named, duplicate_named, room_for, few_places, callee, call_index, duplicate_refs, duplicate_texts, duplicate_bytes, made_duplicate}
+use Rattle.rewriter.specs.Rewritten.{grow_from, wrapper_if, replaced, number_behind, id_behind, old_from, bases, both_of, added_fields, room_in, duplicates, added_methods, new_methods, rewritten_share, rewritten_part}
 use Rattle.rewriter.specs.Part.{Part, own_members, share_of}
 use Rattle.rewriter.proofs.Lawful.{IsText, pool_is, utf8_pool, integer_pool, long_pool, IsClassText, class_pool, IsMethodText, field_pool, method_pool}
 use Rattle.rewriter.proofs.Texts.{text_good, text_append, conflict_lawful, long_field, word_field, object_field, before_method, read_method, write_method, instance_method, init_method, commit_method, rollback_method, getter_method, setter_method, place_fits, number_fits, pool_text, pool_class, context_text, context_method}
@@ -129,43 +131,28 @@ module _ (own : List ℕ) (O : IsClassText own) (f : Field) (F : IsLawfulField f
       let d = bind_ok (straight_bytes 5 2 (setter_code a.0.0 b.0.0)) (λ bytes. Ok (bytes, b.0.1)) r b.2 in
       pool_is d.0 b.0.1 r d.2 (method_pool context_class (codes "onWriteAccess") (write_descriptor f.type) a.0.1 b.0 (write_method f.type) b.1 (places_pool pool a.0 a.1 p))
 
-  getter_pool : (pool : Pool) (r : Member × Pool) → getter_of own f pool ≡ Ok r → IsPool pool → IsPool r.1
+  getter_pool : (room : ℕ) (pool : Pool) (r : Member × Pool) → getter_of room own f pool ≡ Ok r → IsPool pool → IsPool r.1
   unfolding getter_of
-  getter_pool pool r e p =
-      let a = bind_ok _ _ r e in
+  getter_pool room pool r e p =
+      let g = bind_ok (room_for room (getter_named f)) (λ fits. getter_body own f pool >>= λ body. accessor (getter_name f) (getter_type f.type) body.0 body.1) r e in
+      let a = bind_ok _ _ r g.2 in
       let m = getter_method f.type own (getter_name f) O (getter_text f F) in
       accessor_pool (getter_name f) (getter_type f.type) a.0.0 a.0.1 r m.named m.text a.2 (getter_body_pool pool a.0 a.1 p)
 
-  setter_pool : (pool : Pool) (r : Member × Pool) → setter_of own f pool ≡ Ok r → IsPool pool → IsPool r.1
+  setter_pool : (room : ℕ) (pool : Pool) (r : Member × Pool) → setter_of room own f pool ≡ Ok r → IsPool pool → IsPool r.1
   unfolding setter_of
-  setter_pool pool r e p =
-      let a = bind_ok _ _ r e in
+  setter_pool room pool r e p =
+      let g = bind_ok (room_for room (setter_named f)) (λ fits. setter_body own f pool >>= λ body. accessor (setter_name f) (setter_type f.type) body.0 body.1) r e in
+      let a = bind_ok _ _ r g.2 in
       let m = setter_method f.type own (setter_name f) O (setter_text f F) in
       accessor_pool (setter_name f) (setter_type f.type) a.0.0 a.0.1 r m.named m.text a.2 (setter_body_pool pool a.0 a.1 p)
 
-  accessors_pool : (pool : Pool) (r : Accessors × Pool) → accessors_of own f pool ≡ Ok r → IsPool pool → IsPool r.1
+  accessors_pool : (room : ℕ) (pool : Pool) (r : Accessors × Pool) → accessors_of room own f pool ≡ Ok r → IsPool pool → IsPool r.1
   unfolding accessors_of
-  accessors_pool pool r e p =
+  accessors_pool room pool r e p =
       let a = bind_ok _ _ r e in
       let b = bind_ok _ _ r a.2 in
-      pool_is (record { getter = a.0.0; setter = b.0.0 }) b.0.1 r b.2 (setter_pool a.0.1 b.0 b.1 (getter_pool pool a.0 a.1 p))
-
--- ---- calls
-
-needed_pool : (b : Bool) (class name descriptor : List ℕ) (pool : Pool) (r : ℕ × Pool) → IsMethodText class name descriptor → method_if_needed b class name descriptor pool ≡ Ok r
-    → IsPool pool → IsPool r.1
-unfolding method_if_needed
-needed_pool true class name descriptor pool r m e p = method_pool class name descriptor pool r m e p
-needed_pool false class name descriptor pool r m e p = pool_is 0 pool r e p
-
-calls_pool : (own : List Method) (n : ℕ) (f : Field) (pool : Pool) (r : Calls × Pool) → IsLawfulField f → calls_of (uses_of own) n f pool ≡ Ok r → IsPool pool → IsPool r.1
-unfolding calls_of getter_call setter_call
-calls_pool own n f pool r F e p =
-    let a = bind_ok _ _ r e in
-    let b = bind_ok _ _ r a.2 in
-    pool_is (record { getter = a.0.0; setter = b.0.0 }) b.0.1 r b.2
-    (needed_pool (some_op (puts n) own) f.class (setter_name f) (setter_type f.type) a.0.1 b.0 (setter_method f.type f.class (setter_name f) F.owner (setter_text f F)) b.1
-    (needed_pool (some_op (gets n) own) f.class (getter_name f) (getter_type f.type) pool a.0 (getter_method f.type f.class (getter_name f) F.owner (getter_text f F)) a.1 p))
+      pool_is (record { getter = a.0.0; setter = b.0.0 }) b.0.1 r b.2 (setter_pool (room - 1) a.0.1 b.0 b.1 (getter_pool room pool a.0 a.1 p))
 
 -- the name of a duplicate is a text
 renamed_text : (n : List ℕ) → IsText n → IsText (duplicate_name n)
@@ -179,40 +166,93 @@ renamed_text n own = go (bytes_eq n (codes "<clinit>"))
 abbrev pub IsLawfulMethod : Method → Type 0
 IsLawfulMethod k = IsMethodText k.name.class (duplicate_name k.name.name) (with_context k.name.descriptor)
 
-duplicate_call_pool : (own : List Method) (n : ℕ) (k : Method) (pool : Pool) (r : ℕ × Pool) → IsLawfulMethod k → duplicate_call (uses_of own) n k pool ≡ Ok r → IsPool pool → IsPool r.1
-unfolding duplicate_call
-duplicate_call_pool own n k pool r K e p = needed_pool (some_op (calls n) own) k.name.class (duplicate_name k.name.name) (with_context k.name.descriptor) pool r K e p
+-- ---- lists of what is put
 
--- ---- duplicates
+-- where each item keeps the rules, all of them do
+module _ {A B : Type 0} (Good : A → Type 0) (f : ℕ → A → Pool → Result (B × Pool) Refusal)
+    (one : (n : ℕ) (x : A) (pool : Pool) (r : B × Pool) → Good x → f n x pool ≡ Ok r → IsPool pool → IsPool r.1) where
+  grow_pool : (n : ℕ) (xs : List A) (pool : Pool) (r : List B × Pool) → AllByRecursion Good xs → grow_from f n xs pool ≡ Ok r → IsPool pool → IsPool r.1
+  grow_pool n [] pool r all e p = pool_is [] pool r e p
+  grow_pool n (x ∷ xs) pool r all e p =
+      let a = bind_ok _ _ r e in
+      let b = bind_ok _ _ r a.2 in
+      pool_is (a.0.0 ∷ b.0.0) b.0.1 r b.2 (grow_pool (n + 1) xs a.0.1 b.0 all.1 b.1 (one n x pool a.0 all.0 a.1 p))
 
-copy_body_pool : (name : List ℕ) (k : Code) (blocks : List Block) (pool : Pool) (r : List ℕ × Pool) → duplicate_body name k blocks pool ≡ Ok r → IsPool pool → IsPool r.1
-unfolding duplicate_body
-copy_body_pool name k blocks pool r e p =
-    let x = guard_ok (nat_eq k.max_locals 65535) _ _ r e in
-    let y = guard_ok (nat_eq k.max_stack 65535) _ _ r x.1 in
-    let a = bind_ok _ _ r y.1 in
-    let b = bind_ok (of_method name (laid_bytes (k.max_stack + 1) (k.max_locals + 1) blocks k.handlers (Some a.0.0) stub)) (λ bytes. Ok (bytes, a.0.1)) r a.2 in
-    pool_is b.0 a.0.1 r b.2 (class_pool (codes "org/deuce/transaction/TransactionException") pool a.0 conflict_lawful a.1 p)
+-- ---- calls
 
-copy_pool : (names : Names) (k : Method) (m : Member) (coded : Coded) (pool : Pool) (r : Member × Pool) → IsLawfulMethod k → coded_duplicate names k m coded pool ≡ Ok r → IsPool pool → IsPool r.1
-unfolding coded_duplicate
-copy_pool names k m coded pool r K e p =
-    let a = bind_ok _ _ r e in
-    let n = bind_ok _ _ r a.2 in
-    let b = bind_ok _ _ r n.2 in
-    let c = bind_ok _ _ r b.2 in
-    pool_is (added_method (duplicate_flags m.flags) n.0.0 b.0.0 c.0.0 a.0.0) c.0.1 r c.2
-    (utf8_pool (codes "Code") b.0.1 c.0 (text_good (codes "Code") refl) c.1
-    (utf8_pool (with_context k.name.descriptor) n.0.1 b.0 K.text b.1
-    (utf8_pool (duplicate_name k.name.name) a.0.1 n.0 K.named n.1 (copy_body_pool (printed k.name) coded.code (blocks_from names k.params k.ops 0 coded.instrs) pool a.0 a.1 p))))
+-- the texts of a method that is called, if any is
+abbrev IsCallText : Option MethodName → Type 0
+IsCallText None = Unit {0}
+IsCallText (Some k) = IsMethodText k.class k.name k.descriptor
 
-copy_of_pool : (c : ClassFile) (names : Names) (k : Method) (m : Member) (pool : Pool) (r : Member × Pool) → IsLawfulMethod k → duplicate_of c names k m pool ≡ Ok r → IsPool pool → IsPool r.1
-unfolding duplicate_of
-copy_of_pool c names k m pool r K e p = let a = bind_ok (decoded c m) (λ coded. coded_duplicate names k m coded pool) r e in copy_pool names k m a.0 pool r K a.2 p
+call_pool : (o : Option MethodName) (pool : Pool) (r : ℕ × Pool) → IsCallText o → call_index o pool ≡ Ok r → IsPool pool → IsPool r.1
+unfolding call_index
+call_pool (Some k) pool r m e p = method_pool k.class k.name k.descriptor pool r m e p
+call_pool None pool r m e p = pool_is 0 pool r e p
+
+-- what holds of each holds of the one at a place
+all_at : {A : Type 0} (Q : A → Type 0) (xs : List A) (i : ℕ) (x : A) → AllByRecursion Q xs → slice_get xs i ≡ Some x → Q x
+all_at Q [] i x h e = absurd cc
+all_at {A} Q (y ∷ xs) zero x h e = let s : y ≡ x = cc in subst Q s h.0
+all_at Q (y ∷ xs) (suc i) x h e = all_at Q xs i x h.1 e
+
+-- what is called of an item, where there is one
+item_text : {A : Type 0} (Q : A → Type 0) (name : A → MethodName) → ((x : A) → Q x → IsCallText (Some (name x))) → (xs : List A) (i : ℕ) → AllByRecursion Q xs → IsCallText (option_map name (slice_get xs i))
+item_text {A} Q name f xs i all = go (slice_get xs i) refl where
+  go : (o : Option A) → slice_get xs i ≡ o → IsCallText (option_map name o)
+  go None e = tt
+  go (Some x) e = f x (all_at Q xs i x all e)
+
+module _ (P : Program) (fields : AllByRecursion IsLawfulField P.fields) (methods : AllByRecursion IsLawfulMethod P.methods) where
+  callee_text : (o : Op) → IsCallText (callee P o)
+  callee_text (op.GetStatic f) = item_text IsLawfulField getter_named (λ x F. getter_method x.type x.class (getter_name x) F.owner (getter_text x F)) P.fields f fields
+  callee_text (op.PutStatic f) = item_text IsLawfulField setter_named (λ x F. setter_method x.type x.class (setter_name x) F.owner (setter_text x F)) P.fields f fields
+  callee_text (op.InvokeStatic m) = item_text IsLawfulMethod duplicate_named (λ x K. K) P.methods m methods
+  callee_text o = tt
+
+  all_texts : (os : List Op) → AllByRecursion (λ (o : Op). IsCallText (callee P o)) os
+  all_texts [] = tt
+  all_texts (o ∷ os) = (callee_text o, all_texts os)
+
+  calls_pool : (os : List Op) (pool : Pool) (r : List ℕ × Pool) → calls_of P os pool ≡ Ok r → IsPool pool → IsPool r.1
+  calls_pool os pool r e p =
+      grow_pool (λ (o : Op). IsCallText (callee P o)) (λ n (o : Op). call_index (callee P o)) (λ n o pool r g. call_pool (callee P o) pool r g) 0 os pool r (all_texts os) e p
+
+  -- ---- duplicates
+
+  refs_pool : (k : Method) (pool : Pool) (r : (List ℕ × ℕ) × Pool) → duplicate_refs P k pool ≡ Ok r → IsPool pool → IsPool r.1
+  unfolding duplicate_refs
+  refs_pool k pool r e p =
+      let a = bind_ok _ _ r e in
+      let b = bind_ok _ _ r a.2 in
+      pool_is (a.0.0, b.0.0) b.0.1 r b.2 (class_pool (codes "org/deuce/transaction/TransactionException") a.0.1 b.0 conflict_lawful b.1 (calls_pool k.ops pool a.0 a.1 p))
+
+  texts_pool : (k : Method) (pool : Pool) (r : ((ℕ × ℕ) × ℕ) × Pool) → IsLawfulMethod k → duplicate_texts k pool ≡ Ok r → IsPool pool → IsPool r.1
+  unfolding duplicate_texts
+  texts_pool k pool r K e p =
+      let a = bind_ok _ _ r e in
+      let b = bind_ok _ _ r a.2 in
+      pool_is (a.0.0, b.0.0) b.0.1 r b.2 (utf8_pool (codes "Code") a.0.1 b.0 (text_good (codes "Code") refl) b.1 (typed_pool (duplicate_name k.name.name) (with_context k.name.descriptor) pool a.0 K.named K.text a.1 p))
+
+  made_pool : (k : Method) (m : Member) (coded : Coded) (pool : Pool) (r : Member × Pool) → IsLawfulMethod k → made_duplicate P k m coded pool ≡ Ok r → IsPool pool → IsPool r.1
+  unfolding made_duplicate
+  made_pool k m coded pool r K e p =
+      let a = bind_ok _ _ r e in
+      let b = bind_ok _ _ r a.2 in
+      let d = bind_ok (duplicate_bytes (printed k.name) coded.code (blocks_from a.0.0.0 k.params k.ops 0 coded.instrs) a.0.0.1) (λ bytes. Ok (added_method (duplicate_flags m.flags) b.0.0.0.0 b.0.0.0.1 b.0.0.1 bytes, b.0.1)) r b.2 in
+      pool_is (added_method (duplicate_flags m.flags) b.0.0.0.0 b.0.0.0.1 b.0.0.1 d.0) b.0.1 r d.2 (texts_pool k a.0.1 b.0 K b.1 (refs_pool k pool a.0 a.1 p))
+
+  copy_of_pool : (c : ClassFile) (room : ℕ) (k : Method) (m : Member) (pool : Pool) (r : Member × Pool) → IsLawfulMethod k → duplicate_of P c room k m pool ≡ Ok r → IsPool pool → IsPool r.1
+  unfolding duplicate_of coded_duplicate
+  copy_of_pool c room k m pool r K e p =
+      let a = bind_ok (decoded c m) (λ coded. coded_duplicate P room k m coded pool) r e in
+      let x = bind_ok (room_for room (duplicate_named k)) (λ fits. few_places (printed k.name) a.0.code >>= λ few. made_duplicate P k m a.0 pool) r a.2 in
+      let y = bind_ok (few_places (printed k.name) a.0.code) (λ few. made_duplicate P k m a.0 pool) r x.2 in
+      made_pool k m a.0 pool r K y.2 p
 
 -- ---- wrappers
 
-opening_pool : (n : ℕ) (attempts : ℤ) (pool : Pool) (r : Opening × Pool) → n ≤ 65535 → FitsSigned w32 attempts → opening_of n attempts pool ≡ Ok r → IsPool pool → IsPool r.1
+opening_pool : (n : ℕ) (attempts : ℤ) (pool : Pool) (r : Opening × Pool) → n ≤ 2147483647 → FitsSigned w32 attempts → opening_of n attempts pool ≡ Ok r → IsPool pool → IsPool r.1
 unfolding opening_of
 opening_pool n attempts pool r few fits e p =
     let a = bind_ok _ _ r e in
@@ -241,37 +281,19 @@ ending_pool k pool r K e p =
 wrapper_pool : (c : ClassFile) (n : ℕ) (attempts : ℤ) (k : Method) (m : Member) (pool : Pool) (r : Member × Pool) → IsLawfulMethod k → FitsSigned w32 attempts → wrapper_of c n attempts k m pool ≡ Ok r → IsPool pool → IsPool r.1
 unfolding wrapper_of
 wrapper_pool c n attempts k m pool r K fits e p =
-    let x = guard_ok (nat_lt 65535 n) _ _ r e in
+    let x = guard_ok (nat_lt 2147483647 n) _ _ r e in
     let t = x.0 in
-    let few : n ≤ 65535 = grind (arith, nat_tests) in
+    let few : n ≤ 2147483647 = grind (arith, nat_tests) in
     let a = bind_ok _ _ r x.1 in
     let b = bind_ok _ _ r a.2 in
     let d = bind_ok (wrapper_bytes k a.0.0 b.0.0) (λ bytes. Ok (with_code c.pool bytes m, b.0.1)) r b.2 in
     pool_is (with_code c.pool d.0 m) b.0.1 r d.2 (ending_pool k a.0.1 b.0 K b.1 (opening_pool n attempts pool a.0 few fits a.1 p))
-
--- ---- lists of what is put
-
--- where each item keeps the rules, all of them do
-module _ {A B : Type 0} (Good : A → Type 0) (f : ℕ → A → Pool → Result (B × Pool) Refusal)
-    (one : (n : ℕ) (x : A) (pool : Pool) (r : B × Pool) → Good x → f n x pool ≡ Ok r → IsPool pool → IsPool r.1) where
-  grow_pool : (n : ℕ) (xs : List A) (pool : Pool) (r : List B × Pool) → AllByRecursion Good xs → grow_from f n xs pool ≡ Ok r → IsPool pool → IsPool r.1
-  grow_pool n [] pool r all e p = pool_is [] pool r e p
-  grow_pool n (x ∷ xs) pool r all e p =
-      let a = bind_ok _ _ r e in
-      let b = bind_ok _ _ r a.2 in
-      pool_is (a.0.0 ∷ b.0.0) b.0.1 r b.2 (grow_pool (n + 1) xs a.0.1 b.0 all.1 b.1 (one n x pool a.0 all.0 a.1 p))
 
 -- what holds of each of a list holds of the firsts of its pairs
 all_first : {A B : Type 0} (Q : A → Type 0) (xs : List A) (ys : List B) → AllByRecursion Q xs → AllByRecursion (λ (p : A × B). Q p.0) (zip xs ys)
 all_first Q [] ys h = tt
 all_first Q (x ∷ xs) [] h = tt
 all_first Q (x ∷ xs) (y ∷ ys) h = (h.0, all_first Q xs ys h.1)
-
--- what holds of each holds of the one at a place
-all_at : {A : Type 0} (Q : A → Type 0) (xs : List A) (i : ℕ) (x : A) → AllByRecursion Q xs → slice_get xs i ≡ Some x → Q x
-all_at Q [] i x h e = absurd cc
-all_at {A} Q (y ∷ xs) zero x h e = let s : y ≡ x = cc in subst Q s h.0
-all_at Q (y ∷ xs) (suc i) x h e = all_at Q xs i x h.1 e
 
 -- ---- all of them
 
@@ -296,21 +318,10 @@ pub record AreLawful (P : Program) (c : ClassFile) (part : Part) : Type 0 where
   pub methods : AllByRecursion IsLawfulMethod P.methods
 
 module _ (P : Program) (c : ClassFile) (part : Part) (L : AreLawful P c part) where
-  names_pool : (pool : Pool) (r : Names × Pool) → names_of P part.methods pool ≡ Ok r → IsPool pool → IsPool r.1
-  unfolding names_of
-  names_pool pool r e p =
-      let a = bind_ok _ _ r e in
-      let b = bind_ok _ _ r a.2 in
-      pool_is (record { accessors = a.0.0; duplicates = b.0.0 }) b.0.1 r b.2
-      (grow_pool IsLawfulMethod (duplicate_call (uses_of part.methods)) (λ n k pool r g. duplicate_call_pool part.methods n k pool r g) 0 P.methods a.0.1 b.0 L.methods b.1
-      (grow_pool IsLawfulField (calls_of (uses_of part.methods)) (λ n f pool r g. calls_pool part.methods n f pool r g) 0 P.fields pool a.0 L.fields a.1 p))
-
-  copies_pool : (pool : Pool) (r : List Member × Pool) → duplicates P c (share_of c part) pool ≡ Ok r → IsPool pool → IsPool r.1
-  unfolding duplicates
-  copies_pool pool r e p =
-      let a = bind_ok _ _ r e in
-      grow_pool (λ (x : Method × Member). IsLawfulMethod x.0) (λ n (x : Method × Member). duplicate_of c a.0.0 x.0 x.1) (λ n x pool r g. copy_of_pool c a.0.0 x.0 x.1 pool r g)
-      0 (zip part.methods (own_members c part)) a.0.1 r (all_first IsLawfulMethod part.methods (own_members c part) L.own_methods) a.2 (names_pool pool a.0 a.1 p)
+  copies_pool : (room : ℕ) (pool : Pool) (r : List Member × Pool) → duplicates P c (share_of c part) room pool ≡ Ok r → IsPool pool → IsPool r.1
+  copies_pool room pool r e p =
+      grow_pool (λ (x : Method × Member). IsLawfulMethod x.0) (λ n (x : Method × Member). duplicate_of P c (room - n) x.0 x.1) (λ n x pool r g. copy_of_pool P L.fields L.methods c (room - n) x.0 x.1 pool r g)
+      0 (zip part.methods (own_members c part)) pool r (all_first IsLawfulMethod part.methods (own_members c part) L.own_methods) e p
 
   added_pool : (pool : Pool) (r : List Member × Pool) → added_methods P c (share_of c part) pool ≡ Ok r → IsPool pool → IsPool r.1
   unfolding added_methods
@@ -318,7 +329,8 @@ module _ (P : Program) (c : ClassFile) (part : Part) (L : AreLawful P c part) wh
       let a = bind_ok _ _ r e in
       let b = bind_ok _ _ r a.2 in
       pool_is (flat_map both_of a.0.0 ++ b.0.0) b.0.1 r b.2
-      (copies_pool a.0.1 b.0 b.1 (grow_pool IsLawfulField (λ n f. accessors_of (own_name c) f) (λ n f pool r g. accessors_pool (own_name c) L.own f g pool r) 0 part.fields pool a.0 L.own_fields a.1 p))
+      (copies_pool (room_in c - length part.fields - length part.fields) a.0.1 b.0 b.1
+      (grow_pool IsLawfulField (λ n f. accessors_of (room_in c - n - n) (own_name c) f) (λ n f pool r g. accessors_pool (own_name c) L.own f g (room_in c - n - n) pool r) 0 part.fields pool a.0 L.own_fields a.1 p))
 
   replaced_pool : (n id : ℕ) (m : Member) (pool : Pool) (r : Member × Pool) → replaced P c n id m pool ≡ Ok r → IsPool pool → IsPool r.1
   replaced_pool n id m pool r e p = go (retries_of c.pool m) refl (slice_get P.methods n) refl e

@@ -1,10 +1,11 @@
 -- What members name is in every pool that is grown from the one that was left.
-use Rattle.std.proofs.Common.{◌≡◌, ℕ, ℤ, ◌<◌, ◌≤◌, List, [], ◌∷◌, length, Some, Ok, refl, ap, ◌∙◌, subst, arith}
+use Rattle.std.proofs.Common.{◌≡◌, ℕ, ℤ, ◌-◌, ◌<◌, ◌≤◌, List, [], ◌∷◌, length, Some, Ok, refl, ap, ◌∙◌, subst, arith}
 use Rattle.std.specs.Prelude.{codes, pos, option_and_then}
 use Rattle.std.specs.Int.{w64, cast_signed}
 use Rattle.std.proofs.lemmas.Int.{ints}
 use Rattle.jmodel.specs.ClassFile.{Pool, Attribute, Member}
 use Rattle.jmodel.specs.Pool.{utf8}
+use Rattle.jmodel.specs.Reading.{◌>>=◌}
 use Rattle.jmodel.specs.Program.{Field, Method}
 use Rattle.jmodel.specs.Rewriting.{with_context, duplicate_name}
 use Rattle.jmodel.specs.Constants.{pair_number, as_int, integer, long_in, named_entry, long_value}
@@ -15,7 +16,7 @@ use Rattle.rewriter.specs.declared.wrappers.Opening.{Opening}
 use Rattle.rewriter.specs.declared.wrappers.Ending.{Ending}
 use Rattle.rewriter.specs.Adding.{add_utf8, add_integer, add_long, add_class, add_field, add_method}
 use Rattle.jmodel.specs.WordTypes.{type_descriptor, read_descriptor, write_descriptor}
-use Rattle.rewriter.specs.Members.{high, low, typed_name, constant_value, address_name, address_member, base_member, place_refs, look_refs, read_refs, getter_code, getter_body, setter_code, setter_body, straight_bytes, accessor, added_method, getter_of, setter_of, accessors_of, getter_name, setter_name, getter_type, setter_type, context_class, opening_of, ending_of}
+use Rattle.rewriter.specs.Members.{high, low, typed_name, constant_value, address_name, address_member, base_member, place_refs, look_refs, read_refs, getter_code, getter_body, setter_code, setter_body, straight_bytes, accessor, added_method, room_for, getter_named, setter_named, getter_of, setter_of, accessors_of, getter_name, setter_name, getter_type, setter_type, context_class, opening_of, ending_of}
 use Rattle.rewriter.proofs.Grown.{Grown, grown_trans, utf8_grown, class_grown, field_grown, method_grown, integer_grown, long_grown}
 use Rattle.rewriter.proofs.Added.{Says, utf8_added, Counts, integer_added, Measures, long_added, NamesClass, class_added, IsFieldName, field_added, IsMethodName, method_added}
 
@@ -212,10 +213,11 @@ module _ (own : List ℕ) (f : Field) where
     pub body : IsGetterBody own f Z bytes
     pub method : IsAccessor (getter_name f) (getter_type f.type) bytes Z m
 
-  getter_puts : (pool : Pool) (r : Member × Pool) → getter_of own f pool ≡ Ok r → Puts IsGetter pool r
+  getter_puts : (room : ℕ) (pool : Pool) (r : Member × Pool) → getter_of room own f pool ≡ Ok r → Puts IsGetter pool r
   unfolding getter_of
-  getter_puts pool r e =
-      let a = bind_ok _ _ r e in
+  getter_puts room pool r e =
+      let g = bind_ok (room_for room (getter_named f)) (λ fits. getter_body own f pool >>= λ body. accessor (getter_name f) (getter_type f.type) body.0 body.1) r e in
+      let a = bind_ok _ _ r g.2 in
       let p = puts_more (IsGetterBody own f) (IsAccessor (getter_name f) (getter_type f.type) a.0.0) pool a.0 r (getter_body_puts own f pool a.0 a.1) (accessor_puts (getter_name f) (getter_type f.type) a.0.0 a.0.1 r a.2) in
       record { grown = p.grown; facts = λ Z g. let h = p.facts Z g in record { bytes = a.0.0; body = h.0; method = h.1 } }
 
@@ -224,10 +226,11 @@ module _ (own : List ℕ) (f : Field) where
     pub body : IsSetterBody own f Z bytes
     pub method : IsAccessor (setter_name f) (setter_type f.type) bytes Z m
 
-  setter_puts : (pool : Pool) (r : Member × Pool) → setter_of own f pool ≡ Ok r → Puts IsSetter pool r
+  setter_puts : (room : ℕ) (pool : Pool) (r : Member × Pool) → setter_of room own f pool ≡ Ok r → Puts IsSetter pool r
   unfolding setter_of
-  setter_puts pool r e =
-      let a = bind_ok _ _ r e in
+  setter_puts room pool r e =
+      let g = bind_ok (room_for room (setter_named f)) (λ fits. setter_body own f pool >>= λ body. accessor (setter_name f) (setter_type f.type) body.0 body.1) r e in
+      let a = bind_ok _ _ r g.2 in
       let p = puts_more (IsSetterBody own f) (IsAccessor (setter_name f) (setter_type f.type) a.0.0) pool a.0 r (setter_body_puts own f pool a.0 a.1) (accessor_puts (setter_name f) (setter_type f.type) a.0.0 a.0.1 r a.2) in
       record { grown = p.grown; facts = λ Z g. let h = p.facts Z g in record { bytes = a.0.0; body = h.0; method = h.1 } }
 
@@ -235,13 +238,13 @@ module _ (own : List ℕ) (f : Field) where
     pub getter : IsGetter Z a.getter
     pub setter : IsSetter Z a.setter
 
-  pub accessors_put : (pool : Pool) (r : Accessors × Pool) → accessors_of own f pool ≡ Ok r → Puts AreAccessors pool r
+  pub accessors_put : (room : ℕ) (pool : Pool) (r : Accessors × Pool) → accessors_of room own f pool ≡ Ok r → Puts AreAccessors pool r
   unfolding accessors_of
-  accessors_put pool r e =
+  accessors_put room pool r e =
       let a = bind_ok _ _ r e in
       let b = bind_ok _ _ r a.2 in
       puts_end _ AreAccessors pool b.0 (record { getter = a.0.0; setter = b.0.0 }) r (λ Z h. record { getter = h.0; setter = h.1 })
-      (puts_more IsGetter IsSetter pool a.0 b.0 (getter_puts pool a.0 a.1) (setter_puts a.0.1 b.0 b.1)) b.2
+      (puts_more IsGetter IsSetter pool a.0 b.0 (getter_puts room pool a.0 a.1) (setter_puts (room - 1) a.0.1 b.0 b.1)) b.2
 
 -- ---- what wrappers name
 
@@ -256,14 +259,14 @@ pub record IsOpening (n : ℕ) (attempts : ℤ) (Z : Pool) (a : Opening) : Type 
 small_number : (n : ℕ) → n ≤ 2147483647 → as_int (pos n) ≡ pos n
 small_number n h = narrow (pos n) (omega (arith, ints, h))
 
-pub opening_puts : (n : ℕ) (attempts : ℤ) (pool : Pool) (r : Opening × Pool) → n ≤ 65535 → opening_of n attempts pool ≡ Ok r → Puts (IsOpening n (as_int attempts)) pool r
+pub opening_puts : (n : ℕ) (attempts : ℤ) (pool : Pool) (r : Opening × Pool) → n ≤ 2147483647 → opening_of n attempts pool ≡ Ok r → Puts (IsOpening n (as_int attempts)) pool r
 unfolding opening_of
 opening_puts n attempts pool r few e =
     let a = bind_ok _ _ r e in
     let b = bind_ok _ _ r a.2 in
     let c = bind_ok _ _ r b.2 in
     let d = bind_ok _ _ r c.2 in
-    puts_end _ (IsOpening n (as_int attempts)) pool d.0 (record { get = a.0.0; number = b.0.0; retries = c.0.0; init = d.0.0 }) r (λ Z h. record { get_is = h.0; number_is = h.1.0.0 ∙ ap Some (small_number n (omega (arith, few))); number_few = h.1.0.1; retries_is = h.1.1.0.0; retries_few = h.1.1.0.1; init_is = h.1.1.1 })
+    puts_end _ (IsOpening n (as_int attempts)) pool d.0 (record { get = a.0.0; number = b.0.0; retries = c.0.0; init = d.0.0 }) r (λ Z h. record { get_is = h.0; number_is = h.1.0.0 ∙ ap Some (small_number n few); number_few = h.1.0.1; retries_is = h.1.1.0.0; retries_few = h.1.1.0.1; init_is = h.1.1.1 })
     (puts_more (IsMethodAt (codes "org/deuce/transaction/ContextDelegator") (codes "getInstance") (codes "()Lorg/deuce/transaction/Context;")) _ pool a.0 d.0 (method_puts _ _ _ pool a.0 a.1)
     (puts_more (IsCountAt (pos n)) _ a.0.1 b.0 d.0 (integer_puts _ a.0.1 b.0 b.1)
     (puts_more (IsCountAt attempts) (IsMethodAt context_class (codes "init") (codes "(II)V")) b.0.1 c.0 d.0 (integer_puts _ b.0.1 c.0 c.1) (method_puts _ _ _ c.0.1 d.0 d.1)))) d.2

@@ -166,7 +166,7 @@ module _ (cs : List ClassFile) (P : Program) (links : linked cs ≡ Some P) (sin
         let first : rest.first < 2 ^ 63 = omega (arith, U.count, few) in
         record {
           small = subst (AllByRecursion IsSmallMethod) (sym (methods_are cs P O other).1) (small_of cs P cs (methods_are cs P O other).0);
-          made = λ names small. all_made (original_symbols cs c) names small (taken_of cs c) (own_methods P c) (olds_at i c item);
+          made = all_made (original_symbols cs c) (taken_of cs c) (own_methods P c) (olds_at i c item);
           number = first;
           wrapper = omega (arith, first, U.wrapper);
         }

@@ -22,7 +22,7 @@ use Rattle.jmodel.specs.Decoding.{Symbols, own_name, name_of, get_op, is_member}
 use Rattle.jmodel.specs.Linking.{is_form_constant, descriptor_of, has_context, has_part, takes_context, is_name, is_context, is_reserved, is_root, retries_of}
 use Rattle.jmodel.specs.ClassesLinking.{is_rewritten_method as is_method_of}
 use Rattle.rewriter.specs.declared.accessors.Accessors.{Accessors}
-use Rattle.rewriter.specs.Members.{Names, getter_name, setter_name, getter_type, setter_type, address_name}
+use Rattle.rewriter.specs.Members.{getter_name, setter_name, getter_type, setter_type, address_name}
 use Rattle.rewriter.proofs.Contexts.{marker, context_taken, no_context, field_of, getter_signature, setter_signature}
 use Rattle.rewriter.specs.Part.{Part, own_members}
 use Rattle.rewriter.specs.Rewritten.{number_behind, id_behind, both_of}
@@ -409,15 +409,15 @@ module _ (s0 s : Symbols) (P : Program) (part : Part) (K : Known s0 s P part) wh
       let d : k.name.descriptor ≡ descriptor_of c.pool m = ap (λ (x : MethodName). x.descriptor) h.name in
       ap (λ (t : List ℕ). has_context (signature_of (with_context t))) d ∙ context_taken (descriptor_of c.pool m) h.shape h.shaped (few_params s0 m k h)
 
-  copies_in : (names : Names) (n : ℕ) (ms D : List Member) (ks : List Method) → AllOld s0 ms ks → Each (λ Z n p x. IsCopyOf c names Z p x) new.pool n (zip ks ms) D → list_all (is_rewritten_method P new) D ≡ true
-  copies_in names n [] [] [] a h = refl
-  copies_in names n [] D (k ∷ ks) a h = absurd a
-  copies_in names n [] (x ∷ D) [] a h = absurd h
-  copies_in names n (m ∷ ms) D [] a h = absurd a
-  copies_in names n (m ∷ ms) [] (k ∷ ks) a h = absurd h
-  copies_in names n (m ∷ ms) (x ∷ D) (k ∷ ks) a h =
+  copies_in : (n : ℕ) (ms D : List Member) (ks : List Method) → AllOld s0 ms ks → Each (λ Z n p x. IsCopyOf P c Z p x) new.pool n (zip ks ms) D → list_all (is_rewritten_method P new) D ≡ true
+  copies_in n [] [] [] a h = refl
+  copies_in n [] D (k ∷ ks) a h = absurd a
+  copies_in n [] (x ∷ D) [] a h = absurd h
+  copies_in n (m ∷ ms) D [] a h = absurd a
+  copies_in n (m ∷ ms) [] (k ∷ ks) a h = absurd h
+  copies_in n (m ∷ ms) (x ∷ D) (k ∷ ks) a h =
       let typed = ap (λ (y : Member). utf8 new.pool y.descriptor) h.0.copy.is ∙ h.0.copy.typed in
-      and_true _ _ (taker_in x (rw typed (takes_it m k a.0))) (copies_in names (n + 1) ms D ks a.1 h.1)
+      and_true _ _ (taker_in x (rw typed (takes_it m k a.0))) (copies_in (n + 1) ms D ks a.1 h.1)
 
   abbrev pub olds_now : List Member
   olds_now = filter (is_rewritten_method P new) K.rewritten.methods.olds
@@ -430,7 +430,7 @@ module _ (s0 s : Symbols) (P : Program) (part : Part) (K : Known s0 s P part) wh
       let M = K.rewritten.methods in
       let N = M.new in
       let a = accessors_in 0 part.fields N.accessors N.each in
-      let d = copies_in N.copied.names 0 (own_members c part) N.copies part.methods K.olds N.copied.each in
+      let d = copies_in 0 (own_members c part) N.copies part.methods K.olds N.copied in
       let both : list_all (is_rewritten_method P new) (flat_map both_of N.accessors ++ N.copies) ≡ true = list_all-append (is_rewritten_method P new) (flat_map both_of N.accessors) N.copies ∙ and_true _ _ a d in
       let behind : filter (is_rewritten_method P new) M.added ≡ flat_map both_of N.accessors ++ N.copies = ap (filter (is_rewritten_method P new)) N.are ∙ all_in (flat_map both_of N.accessors ++ N.copies) both in
       ap (filter (is_rewritten_method P new)) M.are ∙ filter-append (is_rewritten_method P new) M.olds M.added ∙ ap (λ (l : List Member). filter (is_rewritten_method P new) M.olds ++ l) behind
@@ -471,18 +471,18 @@ module _ (s0 s : Symbols) (P : Program) (part : Part) (K : Known s0 s P part) wh
       ∙ ap (λ (t : MethodName). name_as f.class (getter_name f) (getter_type f.type) ∷ t ∷ map (name_of new) (flat_map both_of A)) (as_names _ _ _ _ _ class sn st)
       ∙ ap (λ (l : List MethodName). name_as f.class (getter_name f) (getter_type f.type) ∷ name_as f.class (setter_name f) (setter_type f.type) ∷ l) rest)
 
-  copies_names : (names : Names) (n : ℕ) (ms D : List Member) (ks : List Method) → Each (λ Z n p x. IsCopyOf c names Z p x) new.pool n (zip ks ms) D → AllOld s0 ms ks → AreNamed c.pool ms
+  copies_names : (n : ℕ) (ms D : List Member) (ks : List Method) → Each (λ Z n p x. IsCopyOf P c Z p x) new.pool n (zip ks ms) D → AllOld s0 ms ks → AreNamed c.pool ms
       → map (name_of new) D ≡ copy_names ks
-  copies_names names n [] [] [] w h a = refl
-  copies_names names n [] D (k ∷ ks) w h a = absurd h
-  copies_names names n [] (x ∷ D) [] w h a = absurd w
-  copies_names names n (m ∷ ms) D [] w h a = absurd h
-  copies_names names n (m ∷ ms) [] (k ∷ ks) w h a = absurd w
-  copies_names names n (m ∷ ms) (x ∷ D) (k ∷ ks) w h a =
+  copies_names n [] [] [] w h a = refl
+  copies_names n [] D (k ∷ ks) w h a = absurd h
+  copies_names n [] (x ∷ D) [] w h a = absurd w
+  copies_names n (m ∷ ms) D [] w h a = absurd h
+  copies_names n (m ∷ ms) [] (k ∷ ks) w h a = absurd w
+  copies_names n (m ∷ ms) (x ∷ D) (k ∷ ks) w h a =
       let x_name : text_or_none (utf8 new.pool x.name) ≡ duplicate_name k.name.name = ap (λ (y : Member). text_or_none (utf8 new.pool y.name)) w.0.copy.is ∙ ap text_or_none w.0.copy.named in
       let x_type : text_or_none (utf8 new.pool x.descriptor) ≡ with_context k.name.descriptor = ap (λ (y : Member). text_or_none (utf8 new.pool y.descriptor)) w.0.copy.is ∙ ap text_or_none w.0.copy.typed in
       let first = as_names _ _ _ _ _ (own_same ∙ sym (ap (λ (y : MethodName). y.class) h.0.name)) x_name x_type in
-      ap (λ (t : MethodName). t ∷ map (name_of new) D) first ∙ ap (λ (l : List MethodName). copy_name k ∷ l) (copies_names names (n + 1) ms D ks w.1 h.1 a.1)
+      ap (λ (t : MethodName). t ∷ map (name_of new) D) first ∙ ap (λ (l : List MethodName). copy_name k ∷ l) (copies_names (n + 1) ms D ks w.1 h.1 a.1)
 
   -- the names of the class's methods in the program of the rewritten classes: those of the originals, the accessors, the duplicates
   pub olds_named : map (name_of new) olds_now ≡ old_names part.methods
@@ -492,7 +492,7 @@ module _ (s0 s : Symbols) (P : Program) (part : Part) (K : Known s0 s P part) wh
   accessors_named = accessors_names 0 part.fields K.rewritten.methods.new.accessors K.rewritten.methods.new.each K.owned
 
   pub copies_named : map (name_of new) K.rewritten.methods.new.copies ≡ copy_names part.methods
-  copies_named = copies_names K.rewritten.methods.new.copied.names 0 (own_members c part) K.rewritten.methods.new.copies part.methods K.rewritten.methods.new.copied.each K.olds named
+  copies_named = copies_names 0 (own_members c part) K.rewritten.methods.new.copies part.methods K.rewritten.methods.new.copied K.olds named
 
   -- ---- the constants of address fields
 

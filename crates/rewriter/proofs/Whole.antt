@@ -1,29 +1,31 @@
 -- What the members of a rewritten class name in its pool.
-use Rattle.std.proofs.Common.{◌≡◌, ℕ, ℤ, ◌+◌, ◌≤◌, Bool, true, false, List, [], ◌∷◌, ◌++◌, Option, Some, None, Result, Ok, Err, ◌≢◌, refl, sym, ◌∙◌, subst, arith, eq-eqb}
-use Rattle.std.specs.Prelude.{codes, nat_lt, nat_eq, map, slice_get, zip}
+use Rattle.std.proofs.Common.{◌≡◌, ℕ, ℤ, ◌+◌, ◌-◌, ◌≤◌, Bool, true, false, List, [], ◌∷◌, ◌++◌, Option, Some, None, Result, Ok, Err, ◌≢◌, refl, sym, ◌∙◌, subst, arith, eq-eqb}
+use Rattle.std.specs.Prelude.{codes, nat_lt, nat_eq, length, map, slice_get, zip}
 use Rattle.std.specs.List.{flat_map}
 use Rattle.std.proofs.lemmas.Bool.Decides.{nat_tests}
 use Rattle.jmodel.specs.declared.refusal.Refusal.{Refusal}
+use Rattle.jmodel.specs.declared.name.MethodName.{MethodName}
+use Rattle.jmodel.specs.declared.op.Op.{Op}
 use Rattle.jmodel.specs.ClassFile.{Pool, Member, ClassFile, Code, code_spelling}
 use Rattle.jmodel.specs.Pool.{utf8}
 use Rattle.jmodel.specs.Program.{Field, Method, Program}
 use Rattle.jmodel.specs.Constants.{as_int}
 use Rattle.jmodel.specs.Decoding.{own_name}
 use Rattle.jmodel.specs.Name.{printed}
+use Rattle.jmodel.specs.Reading.{◌>>=◌}
 use Rattle.jmodel.specs.Relocation.{Block}
 use Rattle.jmodel.specs.Rewriting.{with_context, duplicate_name}
 use Rattle.jmodel.specs.Linking.{Coded, decoded, retries_of}
 use Rattle.const_pool.proofs.Takes.{bind_ok, guard_ok, ok_is, fine}
 use Rattle.rewriter.specs.declared.accessors.Accessors.{Accessors}
-use Rattle.rewriter.specs.declared.names.Calls.{Calls}
 use Rattle.rewriter.specs.declared.wrappers.Opening.{Opening}
 use Rattle.rewriter.specs.declared.wrappers.Ending.{Ending}
-use Rattle.rewriter.specs.Members.{uses_of, added_method, address_member, accessors_of, getter_name, setter_name, getter_type, setter_type, Names, gets, puts, calls, some_op, method_if_needed, getter_call, setter_call, calls_of, duplicate_call, blocks_from, plain, stub, laid_code, laid_bytes, of_method, duplicate_body, duplicate_flags, coded_duplicate, duplicate_of, wrapper_bytes, with_code, wrapper_of}
-use Rattle.rewriter.specs.Rewritten.{grow_from, wrapper_if, replaced, number_behind, id_behind, old_from, bases, both_of, added_fields, names_of, duplicates, added_methods, new_methods, rewritten_share, rewritten_part}
+use Rattle.rewriter.specs.Members.{added_method, address_member, accessors_of, duplicate_named, callee, call_index, calls_of, blocks_from, plain, stub, laid_code, laid_bytes, of_method, room_for, few_places, duplicate_refs, duplicate_texts, duplicate_bytes, duplicate_flags, made_duplicate, coded_duplicate, duplicate_of, wrapper_bytes, with_code, wrapper_of}
+use Rattle.rewriter.specs.Rewritten.{grow_from, wrapper_if, replaced, number_behind, id_behind, old_from, bases, both_of, added_fields, room_in, duplicates, added_methods, new_methods, rewritten_share, rewritten_part}
 use Rattle.rewriter.specs.Part.{Part, own_members, share_of}
 use Rattle.rewriter.proofs.Grown.{Grown, grown_refl}
 use Rattle.rewriter.proofs.Added.{Says}
-use Rattle.rewriter.proofs.Puts.{Puts, puts_more, puts_end, utf8_puts, class_puts, method_puts, IsClassAt, IsMethodAt, IsAddress, address_puts, IsBase, base_puts, AreAccessors, accessors_put, IsOpening, opening_puts, IsEnding, ending_puts}
+use Rattle.rewriter.proofs.Puts.{Puts, puts_more, puts_end, IsTyped, utf8_puts, typed_puts, class_puts, method_puts, IsClassAt, IsMethodAt, IsAddress, address_puts, IsBase, base_puts, AreAccessors, accessors_put, IsOpening, opening_puts, IsEnding, ending_puts}
 
 -- ---- lists of what is put
 
@@ -45,29 +47,47 @@ module _ {A B : Type 0} (Facts : Pool → ℕ → A → B → Type 0) where
 
 -- ---- calls
 
-needed_puts : (b : Bool) (class name descriptor : List ℕ) (pool : Pool) (r : ℕ × Pool) → method_if_needed b class name descriptor pool ≡ Ok r → Puts (λ Z i. b ≡ true → IsMethodAt class name descriptor Z i) pool r
-unfolding method_if_needed
-needed_puts true class name descriptor pool r e = let p = method_puts class name descriptor pool r e in record { grown = p.grown; facts = λ Z g t. p.facts Z g }
-needed_puts false class name descriptor pool r e =
-    subst (Puts (λ Z i. false ≡ true → IsMethodAt class name descriptor Z i) pool) (ok_is (0, pool) r e) (record { grown = grown_refl pool; facts = λ Z g t. absurd cc })
+-- an index names the method that is called, if any is
+abbrev pub IsCallOf : Option MethodName → Pool → ℕ → Type 0
+IsCallOf None Z i = Unit {0}
+IsCallOf (Some k) Z i = IsMethodAt k.class k.name k.descriptor Z i
 
-pub record AreCalls (own : List Method) (n : ℕ) (f : Field) (Z : Pool) (c : Calls) : Type 0 where
-  pub getter : some_op (gets n) own ≡ true → IsMethodAt f.class (getter_name f) (getter_type f.type) Z c.getter
-  pub setter : some_op (puts n) own ≡ true → IsMethodAt f.class (setter_name f) (setter_type f.type) Z c.setter
+call_puts : (o : Option MethodName) (pool : Pool) (r : ℕ × Pool) → call_index o pool ≡ Ok r → Puts (λ Z i. IsCallOf o Z i) pool r
+unfolding call_index
+call_puts (Some k) pool r e = let p = method_puts k.class k.name k.descriptor pool r e in record { grown = p.grown; facts = λ Z g. p.facts Z g }
+call_puts None pool r e = subst (Puts (λ Z i. IsCallOf None Z i) pool) (ok_is (0, pool) r e) (record { grown = grown_refl pool; facts = λ Z g. tt })
 
-calls_put : (own : List Method) (n : ℕ) (f : Field) (pool : Pool) (r : Calls × Pool) → calls_of (uses_of own) n f pool ≡ Ok r → Puts (λ Z c. AreCalls own n f Z c) pool r
-unfolding calls_of getter_call setter_call
-calls_put own n f pool r e =
+-- the methods that the blocks of instructions call
+abbrev pub AreCallsOf : Program → List Op → Pool → List ℕ → Type 0
+AreCallsOf P os Z is = Each (λ Z n o i. IsCallOf (callee P o) Z i) Z 0 os is
+
+calls_put : (P : Program) (os : List Op) (pool : Pool) (r : List ℕ × Pool) → calls_of P os pool ≡ Ok r → Puts (λ Z is. AreCallsOf P os Z is) pool r
+calls_put P os pool r e = grow_puts (λ Z n o i. IsCallOf (callee P o) Z i) (λ n o. call_index (callee P o)) (λ n o pool r. call_puts (callee P o) pool r) 0 os pool r e
+
+-- what the code of a duplicate names
+pub record AreRefs (P : Program) (k : Method) (Z : Pool) (x : List ℕ × ℕ) : Type 0 where
+  pub calls : AreCallsOf P k.ops Z x.0
+  pub conflict : IsClassAt (codes "org/deuce/transaction/TransactionException") Z x.1
+
+refs_put : (P : Program) (k : Method) (pool : Pool) (r : (List ℕ × ℕ) × Pool) → duplicate_refs P k pool ≡ Ok r → Puts (λ Z x. AreRefs P k Z x) pool r
+unfolding duplicate_refs
+refs_put P k pool r e =
     let a = bind_ok _ _ r e in
     let b = bind_ok _ _ r a.2 in
-    puts_end _ (λ Z c. AreCalls own n f Z c) pool b.0 (record { getter = a.0.0; setter = b.0.0 }) r (λ Z h. record { getter = h.0; setter = h.1 })
-    (puts_more (λ Z i. some_op (gets n) own ≡ true → IsMethodAt f.class (getter_name f) (getter_type f.type) Z i) (λ Z i. some_op (puts n) own ≡ true → IsMethodAt f.class (setter_name f) (setter_type f.type) Z i) pool a.0 b.0
-    (needed_puts (some_op (gets n) own) _ _ _ pool a.0 a.1) (needed_puts (some_op (puts n) own) _ _ _ a.0.1 b.0 b.1)) b.2
+    puts_end _ (λ Z x. AreRefs P k Z x) pool b.0 (a.0.0, b.0.0) r (λ Z h. record { calls = h.0; conflict = h.1 })
+    (puts_more (λ Z is. AreCallsOf P k.ops Z is) (IsClassAt (codes "org/deuce/transaction/TransactionException")) pool a.0 b.0 (calls_put P k.ops pool a.0 a.1) (class_puts _ a.0.1 b.0 b.1)) b.2
 
-duplicate_call_puts : (own : List Method) (n : ℕ) (k : Method) (pool : Pool) (r : ℕ × Pool) → duplicate_call (uses_of own) n k pool ≡ Ok r
-    → Puts (λ Z i. some_op (calls n) own ≡ true → IsMethodAt k.name.class (duplicate_name k.name.name) (with_context k.name.descriptor) Z i) pool r
-unfolding duplicate_call
-duplicate_call_puts own n k pool r e = needed_puts (some_op (calls n) own) k.name.class (duplicate_name k.name.name) (with_context k.name.descriptor) pool r e
+-- what else a duplicate names
+abbrev pub AreTexts : Method → Pool → (ℕ × ℕ) × ℕ → Type 0
+AreTexts k Z x = IsTyped (duplicate_name k.name.name) (with_context k.name.descriptor) Z x.0 × Says (codes "Code") Z x.1
+
+texts_put : (k : Method) (pool : Pool) (r : ((ℕ × ℕ) × ℕ) × Pool) → duplicate_texts k pool ≡ Ok r → Puts (λ Z x. AreTexts k Z x) pool r
+unfolding duplicate_texts
+texts_put k pool r e =
+    let a = bind_ok _ _ r e in
+    let b = bind_ok _ _ r a.2 in
+    puts_end _ (λ Z x. AreTexts k Z x) pool b.0 (a.0.0, b.0.0) r (λ Z h. h)
+    (puts_more (IsTyped (duplicate_name k.name.name) (with_context k.name.descriptor)) (Says (codes "Code")) pool a.0 b.0 (typed_puts _ _ pool a.0 a.1) (utf8_puts _ a.0.1 b.0 b.1)) b.2
 
 -- ---- duplicates
 
@@ -88,53 +108,76 @@ of_method_ok name (Err r) x h = cc
 unlike : (n : ℕ) → nat_eq n 65535 ≡ false → n ≢ 65535
 unlike n h e = let t : nat_eq n 65535 ≡ true = eq-eqb n 65535 e in absurd cc
 
-copy_body_puts : (name : List ℕ) (k : Code) (blocks : List Block) (pool : Pool) (r : List ℕ × Pool) → duplicate_body name k blocks pool ≡ Ok r → Puts (λ Z bytes. IsCopyBody name k blocks Z bytes) pool r
-unfolding duplicate_body
-copy_body_puts name k blocks pool r e =
-    let x = guard_ok (nat_eq k.max_locals 65535) _ _ r e in
-    let y = guard_ok (nat_eq k.max_stack 65535) _ _ r x.1 in
-    let a = bind_ok _ _ r y.1 in
-    let b = bind_ok (of_method name (laid_bytes (k.max_stack + 1) (k.max_locals + 1) blocks k.handlers (Some a.0.0) stub)) (λ bytes. Ok (bytes, a.0.1)) r a.2 in
-    let laid = of_method_ok name (laid_bytes (k.max_stack + 1) (k.max_locals + 1) blocks k.handlers (Some a.0.0) stub) b.0 b.1 in
-    let d = bind_ok (laid_code (k.max_stack + 1) (k.max_locals + 1) blocks k.handlers (Some a.0.0) stub) (λ code. Ok (code_spelling code)) b.0 laid in
-    puts_end _ (λ Z bytes. IsCopyBody name k blocks Z bytes) pool a.0 b.0 r
-    (λ Z h. record { conflict = a.0.0; conflict_is = h; code = d.0; laid = d.1; is = sym {a = code_spelling d.0} (ok_is (code_spelling d.0) b.0 d.2); stack = unlike k.max_stack y.0; locals = unlike k.max_locals x.0 }) (class_puts _ pool a.0 a.1) b.2
+-- one more local and one more place on the stack can be counted
+few_ok : (name : List ℕ) (k : Code) (u : Unit {0}) → few_places name k ≡ Ok u → (k.max_locals ≢ 65535) × (k.max_stack ≢ 65535)
+unfolding few_places
+few_ok name k u e =
+    let x = guard_ok (nat_eq k.max_locals 65535) _ _ u e in
+    let y = guard_ok (nat_eq k.max_stack 65535) _ _ u x.1 in
+    (unlike k.max_locals x.0, unlike k.max_stack y.0)
 
-pub record IsCopy (names : Names) (k : Method) (m : Member) (coded : Coded) (Z : Pool) (x : Member) : Type 0 where
+-- laid code, and what it names
+body_laid : (name : List ℕ) (k : Code) (blocks : List Block) (conflict : ℕ) (bytes : List ℕ) (Z : Pool) → duplicate_bytes name k blocks conflict ≡ Ok bytes → IsClassAt (codes "org/deuce/transaction/TransactionException") Z conflict
+    → (k.max_locals ≢ 65535) × (k.max_stack ≢ 65535) → IsCopyBody name k blocks Z bytes
+body_laid name k blocks conflict bytes Z e there few =
+    let laid = of_method_ok name (laid_bytes (k.max_stack + 1) (k.max_locals + 1) blocks k.handlers (Some conflict) stub) bytes e in
+    let d = bind_ok (laid_code (k.max_stack + 1) (k.max_locals + 1) blocks k.handlers (Some conflict) stub) (λ code. Ok (code_spelling code)) bytes laid in
+    record { conflict = conflict; conflict_is = there; code = d.0; laid = d.1; is = sym {a = code_spelling d.0} (ok_is (code_spelling d.0) bytes d.2); stack = few.1; locals = few.0 }
+
+pub record IsCopy (P : Program) (k : Method) (m : Member) (coded : Coded) (Z : Pool) (x : Member) : Type 0 where
+  pub calls : List ℕ
+  pub called : AreCallsOf P k.ops Z calls
   pub bytes : List ℕ
   pub n : ℕ
   pub t : ℕ
   pub c : ℕ
   pub is : x ≡ added_method (duplicate_flags m.flags) n t c bytes
-  pub body : IsCopyBody (printed k.name) coded.code (blocks_from names k.params k.ops 0 coded.instrs) Z bytes
+  pub body : IsCopyBody (printed k.name) coded.code (blocks_from calls k.params k.ops 0 coded.instrs) Z bytes
   pub named : utf8 Z n ≡ Some (duplicate_name k.name.name)
   pub typed : utf8 Z t ≡ Some (with_context k.name.descriptor)
   pub coded_is : utf8 Z c ≡ Some (codes "Code")
 
-copy_puts : (names : Names) (k : Method) (m : Member) (coded : Coded) (pool : Pool) (r : Member × Pool) → coded_duplicate names k m coded pool ≡ Ok r → Puts (λ Z x. IsCopy names k m coded Z x) pool r
-unfolding coded_duplicate
-copy_puts names k m coded pool r e =
+made_puts : (P : Program) (k : Method) (m : Member) (coded : Coded) (pool : Pool) (r : Member × Pool) → (coded.code.max_locals ≢ 65535) × (coded.code.max_stack ≢ 65535) → made_duplicate P k m coded pool ≡ Ok r
+    → Puts (λ Z x. IsCopy P k m coded Z x) pool r
+unfolding made_duplicate
+made_puts P k m coded pool r few e =
     let a = bind_ok _ _ r e in
-    let n = bind_ok _ _ r a.2 in
-    let b = bind_ok _ _ r n.2 in
-    let c = bind_ok _ _ r b.2 in
-    puts_end _ (λ Z x. IsCopy names k m coded Z x) pool c.0 (added_method (duplicate_flags m.flags) n.0.0 b.0.0 c.0.0 a.0.0) r
-    (λ Z h. record { bytes = a.0.0; n = n.0.0; t = b.0.0; c = c.0.0; is = refl; body = h.0; named = h.1.0; typed = h.1.1.0; coded_is = h.1.1.1 })
-    (puts_more (λ Z bytes. IsCopyBody (printed k.name) coded.code (blocks_from names k.params k.ops 0 coded.instrs) Z bytes) _ pool a.0 c.0 (copy_body_puts _ _ _ pool a.0 a.1)
-    (puts_more (Says (duplicate_name k.name.name)) _ a.0.1 n.0 c.0 (utf8_puts _ a.0.1 n.0 n.1)
-    (puts_more (Says (with_context k.name.descriptor)) (Says (codes "Code")) n.0.1 b.0 c.0 (utf8_puts _ n.0.1 b.0 b.1) (utf8_puts _ b.0.1 c.0 c.1)))) c.2
+    let b = bind_ok _ _ r a.2 in
+    let d = bind_ok (duplicate_bytes (printed k.name) coded.code (blocks_from a.0.0.0 k.params k.ops 0 coded.instrs) a.0.0.1) (λ bytes. Ok (added_method (duplicate_flags m.flags) b.0.0.0.0 b.0.0.0.1 b.0.0.1 bytes, b.0.1)) r b.2 in
+    puts_end _ (λ Z x. IsCopy P k m coded Z x) pool b.0 (added_method (duplicate_flags m.flags) b.0.0.0.0 b.0.0.0.1 b.0.0.1 d.0) r
+    (λ Z h. record {
+      calls = a.0.0.0;
+      called = h.0.calls;
+      bytes = d.0;
+      n = b.0.0.0.0;
+      t = b.0.0.0.1;
+      c = b.0.0.1;
+      is = refl;
+      body = body_laid (printed k.name) coded.code (blocks_from a.0.0.0 k.params k.ops 0 coded.instrs) a.0.0.1 d.0 Z d.1 h.0.conflict few;
+      named = h.1.0.0;
+      typed = h.1.0.1;
+      coded_is = h.1.1;
+    })
+    (puts_more (λ Z x. AreRefs P k Z x) (λ Z x. AreTexts k Z x) pool a.0 b.0 (refs_put P k pool a.0 a.1) (texts_put k a.0.1 b.0 b.1)) d.2
+
+copy_puts : (P : Program) (room : ℕ) (k : Method) (m : Member) (coded : Coded) (pool : Pool) (r : Member × Pool) → coded_duplicate P room k m coded pool ≡ Ok r → Puts (λ Z x. IsCopy P k m coded Z x) pool r
+unfolding coded_duplicate
+copy_puts P room k m coded pool r e =
+    let x = bind_ok (room_for room (duplicate_named k)) (λ fits. few_places (printed k.name) coded.code >>= λ few. made_duplicate P k m coded pool) r e in
+    let y = bind_ok (few_places (printed k.name) coded.code) (λ few. made_duplicate P k m coded pool) r x.2 in
+    made_puts P k m coded pool r (few_ok (printed k.name) coded.code y.0 y.1) y.2
 
 -- the duplicate of a method, by its member
-pub record IsCopyOf (c : ClassFile) (names : Names) (Z : Pool) (p : Method × Member) (x : Member) : Type 0 where
+pub record IsCopyOf (P : Program) (c : ClassFile) (Z : Pool) (p : Method × Member) (x : Member) : Type 0 where
   pub coded : Coded
   pub decodes : decoded c p.1 ≡ Ok coded
-  pub copy : IsCopy names p.0 p.1 coded Z x
+  pub copy : IsCopy P p.0 p.1 coded Z x
 
-copy_of_puts : (c : ClassFile) (names : Names) (p : Method × Member) (pool : Pool) (r : Member × Pool) → duplicate_of c names p.0 p.1 pool ≡ Ok r → Puts (λ Z x. IsCopyOf c names Z p x) pool r
+copy_of_puts : (P : Program) (c : ClassFile) (room : ℕ) (p : Method × Member) (pool : Pool) (r : Member × Pool) → duplicate_of P c room p.0 p.1 pool ≡ Ok r → Puts (λ Z x. IsCopyOf P c Z p x) pool r
 unfolding duplicate_of
-copy_of_puts c names p pool r e =
-    let a = bind_ok (decoded c p.1) (λ coded. coded_duplicate names p.0 p.1 coded pool) r e in
-    let q = copy_puts names p.0 p.1 a.0 pool r a.2 in
+copy_of_puts P c room p pool r e =
+    let a = bind_ok (decoded c p.1) (λ coded. coded_duplicate P room p.0 p.1 coded pool) r e in
+    let q = copy_puts P room p.0 p.1 a.0 pool r a.2 in
     record { grown = q.grown; facts = λ Z g. record { coded = a.0; decodes = a.1; copy = q.facts Z g } }
 
 -- ---- wrappers
@@ -151,9 +194,9 @@ pub record IsWrapped (c : ClassFile) (Z : Pool) (n : ℕ) (attempts : ℤ) (k : 
 wrapped_puts : (c : ClassFile) (n : ℕ) (attempts : ℤ) (k : Method) (m : Member) (pool : Pool) (r : Member × Pool) → wrapper_of c n attempts k m pool ≡ Ok r → Puts (λ Z x. IsWrapped c Z n attempts k m x) pool r
 unfolding wrapper_of
 wrapped_puts c n attempts k m pool r e =
-    let x = guard_ok (nat_lt 65535 n) _ _ r e in
+    let x = guard_ok (nat_lt 2147483647 n) _ _ r e in
     let t = x.0 in
-    let few : n ≤ 65535 = grind (arith, nat_tests) in
+    let few : n ≤ 2147483647 = grind (arith, nat_tests) in
     let a = bind_ok _ _ r x.1 in
     let b = bind_ok _ _ r a.2 in
     let d = bind_ok (wrapper_bytes k a.0.0 b.0.0) (λ bytes. Ok (with_code c.pool bytes m, b.0.1)) r b.2 in
@@ -242,34 +285,13 @@ fields_put fs pool r e =
     (puts_more (λ Z ys. Each (λ Z n f m. IsAddress f Z m) Z 0 fs ys) (λ Z ms. AreBases Z ms) pool a.0 b.0
     (grow_puts (λ Z n f m. IsAddress f Z m) (λ n f. address_member f) (λ n f pool r. address_puts f pool r) 0 fs pool a.0 a.1) (bases_put fs a.0.1 b.0 b.1)) b.2
 
--- what the duplicates of a class with these methods of the program name
-pub record AreNames (P : Program) (own : List Method) (Z : Pool) (names : Names) : Type 0 where
-  pub accessors : Each (λ Z n f x. AreCalls own n f Z x) Z 0 P.fields names.accessors
-  pub duplicates : Each (λ Z n k i. some_op (calls n) own ≡ true → IsMethodAt k.name.class (duplicate_name k.name.name) (with_context k.name.descriptor) Z i) Z 0 P.methods names.duplicates
+-- the duplicates of a class with its part of the program
+abbrev pub AreCopies : Program → ClassFile → Part → Pool → List Member → Type 0
+AreCopies P c part Z ms = Each (λ Z n p x. IsCopyOf P c Z p x) Z 0 (zip part.methods (own_members c part)) ms
 
-names_put : (P : Program) (own : List Method) (pool : Pool) (r : Names × Pool) → names_of P own pool ≡ Ok r → Puts (λ Z names. AreNames P own Z names) pool r
-unfolding names_of
-names_put P own pool r e =
-    let a = bind_ok _ _ r e in
-    let b = bind_ok _ _ r a.2 in
-    puts_end _ (λ Z names. AreNames P own Z names) pool b.0 (record { accessors = a.0.0; duplicates = b.0.0 }) r (λ Z h. record { accessors = h.0; duplicates = h.1 })
-    (puts_more (λ Z ys. Each (λ Z n f x. AreCalls own n f Z x) Z 0 P.fields ys) (λ Z ys. Each (λ Z n k i. some_op (calls n) own ≡ true → IsMethodAt k.name.class (duplicate_name k.name.name) (with_context k.name.descriptor) Z i) Z 0 P.methods ys) pool a.0 b.0
-    (grow_puts (λ Z n f x. AreCalls own n f Z x) (calls_of (uses_of own)) (λ n f pool r. calls_put own n f pool r) 0 P.fields pool a.0 a.1)
-    (grow_puts (λ Z n k i. some_op (calls n) own ≡ true → IsMethodAt k.name.class (duplicate_name k.name.name) (with_context k.name.descriptor) Z i) (duplicate_call (uses_of own)) (λ n k pool r. duplicate_call_puts own n k pool r) 0 P.methods a.0.1 b.0 b.1)) b.2
-
-pub record AreCopies (P : Program) (c : ClassFile) (part : Part) (Z : Pool) (ms : List Member) : Type 0 where
-  pub names : Names
-  pub are_names : AreNames P part.methods Z names
-  pub each : Each (λ Z n p x. IsCopyOf c names Z p x) Z 0 (zip part.methods (own_members c part)) ms
-
-copies_put : (P : Program) (c : ClassFile) (part : Part) (pool : Pool) (r : List Member × Pool) → duplicates P c (share_of c part) pool ≡ Ok r → Puts (λ Z ms. AreCopies P c part Z ms) pool r
-unfolding duplicates
-copies_put P c part pool r e =
-    let a = bind_ok _ _ r e in
-    let p = puts_more (λ Z names. AreNames P part.methods Z names) (λ Z ys. Each (λ Z n p x. IsCopyOf c a.0.0 Z p x) Z 0 (zip part.methods (own_members c part)) ys) pool a.0 r
-    (names_put P part.methods pool a.0 a.1)
-    (grow_puts (λ Z n p x. IsCopyOf c a.0.0 Z p x) (λ n (p : Method × Member). duplicate_of c a.0.0 p.0 p.1) (λ n p pool r. copy_of_puts c a.0.0 p pool r) 0 (zip part.methods (own_members c part)) a.0.1 r a.2) in
-    record { grown = p.grown; facts = λ Z g. let h = p.facts Z g in record { names = a.0.0; are_names = h.0; each = h.1 } }
+copies_put : (P : Program) (c : ClassFile) (part : Part) (room : ℕ) (pool : Pool) (r : List Member × Pool) → duplicates P c (share_of c part) room pool ≡ Ok r → Puts (λ Z ms. AreCopies P c part Z ms) pool r
+copies_put P c part room pool r e =
+    grow_puts (λ Z n p x. IsCopyOf P c Z p x) (λ n (p : Method × Member). duplicate_of P c (room - n) p.0 p.1) (λ n p pool r. copy_of_puts P c (room - n) p pool r) 0 (zip part.methods (own_members c part)) pool r e
 
 pub record AreNewMethods (P : Program) (c : ClassFile) (part : Part) (Z : Pool) (ms : List Member) : Type 0 where
   pub accessors : List Accessors
@@ -285,7 +307,8 @@ added_put P c part pool r e =
     let b = bind_ok _ _ r a.2 in
     puts_end _ (λ Z ms. AreNewMethods P c part Z ms) pool b.0 (flat_map both_of a.0.0 ++ b.0.0) r (λ Z h. record { accessors = a.0.0; copies = b.0.0; are = refl; each = h.0; copied = h.1 })
     (puts_more (λ Z ys. Each (λ Z n f a. AreAccessors (own_name c) f Z a) Z 0 part.fields ys) (λ Z ms. AreCopies P c part Z ms) pool a.0 b.0
-    (grow_puts (λ Z n f a. AreAccessors (own_name c) f Z a) (λ n f. accessors_of (own_name c) f) (λ n f pool r. accessors_put (own_name c) f pool r) 0 part.fields pool a.0 a.1) (copies_put P c part a.0.1 b.0 b.1)) b.2
+    (grow_puts (λ Z n f a. AreAccessors (own_name c) f Z a) (λ n f. accessors_of (room_in c - n - n) (own_name c) f) (λ n f pool r. accessors_put (own_name c) f (room_in c - n - n) pool r) 0 part.fields pool a.0 a.1)
+    (copies_put P c part (room_in c - length part.fields - length part.fields) a.0.1 b.0 b.1)) b.2
 
 pub record AreMethods (P : Program) (c : ClassFile) (part : Part) (Z : Pool) (ms : List Member) : Type 0 where
   pub olds : List Member

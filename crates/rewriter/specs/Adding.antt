@@ -17,6 +17,14 @@ abbrev pub Grows : {X Y : Type 0} → (X → Y) → Result X Halt → Pool → R
 Grows view (Ok x) pool added = added ≡ Ok (view x, pool)
 Grows view (Err e) pool added = Fails e added
 
+-- what each item gives, the first with number n, one after another
+abbrev pub grow_from : {A B : Type 0} → (ℕ → A → Pool → Result (B × Pool) Refusal) → ℕ → List A → Pool → Result (List B × Pool) Refusal
+grow_from f n [] pool = Ok ([], pool)
+grow_from f n (x ∷ xs) pool = do
+  first ← f n x pool
+  others ← grow_from f (n + 1) xs first.1
+  Ok (first.0 ∷ others.0, others.1)
+
 -- the index of an entry that is counted from 0
 unfoldable pub index_of : ℕ → Result ℕ Refusal
 index_of i = if nat_lt i 65534 then Ok (i + 1) else Err (PoolFull [])

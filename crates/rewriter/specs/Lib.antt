@@ -1,6 +1,5 @@
 pub mod Adding
 pub mod Members
-pub mod Gathered
 pub mod Part
 pub mod Rewritten
 pub mod RewrittenClasses

@@ -1,5 +1,5 @@
 -- What can be made of a method: that its duplicate and its wrapper can be laid.
-use Rattle.std.specs.Prelude.{◌≡◌, ℕ, ◌<◌, ◌^◌, zip, slice_get, slice_index, Some, Ok, FitsSigned}
+use Rattle.std.specs.Prelude.{◌≡◌, ℕ, ◌<◌, ◌^◌, List, zip, slice_index, Some, Ok, FitsSigned}
 use Rattle.std.specs.List.{AllByRecursion}
 use Rattle.std.specs.Int.{w16}
 use Rattle.jmodel.specs.declared.op.Op.{Op}
@@ -9,7 +9,7 @@ use Rattle.jmodel.specs.Program.{Method, Program}
 use Rattle.jmodel.specs.Instruction.{SpellsInstrs}
 use Rattle.jmodel.specs.Linking.{Coded, decoded}
 use Rattle.jmodel.specs.Relocation.{AreBlocks}
-use Rattle.rewriter.specs.Members.{Names, getter_in, setter_in, stub, blocks_from}
+use Rattle.rewriter.specs.Members.{stub, blocks_from}
 use Rattle.rewriter.specs.Part.{Share}
 
 -- a local, where there is one, still has two bytes when it is moved, and so has what is added
@@ -22,24 +22,22 @@ IsSmallOp o = Unit {0}
 abbrev pub IsSmallMethod : Method → Type 0
 IsSmallMethod k = k.params < 60000
 
--- the duplicate of a method with this code can be laid
-pub record IsMade (names : Names) (k : Method) (coded : Coded) : Type 0 where
-  pub ops : AllByRecursion IsSmallOp k.ops
-  pub blocks : (conflict : ℕ) → AreBlocks (blocks_from names k.params k.ops 0 coded.instrs) coded.code.handlers (Some conflict) stub
+-- indexes of two bytes
+abbrev pub AreIndexes : List ℕ → Type 0
+AreIndexes calls = (n : ℕ) → slice_index calls n < 65536
 
--- what duplicates name has two bytes
-pub record AreSmallNames (names : Names) : Type 0 where
-  pub getters : (f : ℕ) → getter_in (slice_get names.accessors f) < 65536
-  pub setters : (f : ℕ) → setter_in (slice_get names.accessors f) < 65536
-  pub duplicates : (m : ℕ) → slice_index names.duplicates m < 65536
+-- the duplicate of a method with this code can be laid, whatever its blocks call
+pub record IsMade (k : Method) (coded : Coded) : Type 0 where
+  pub ops : AllByRecursion IsSmallOp k.ops
+  pub blocks : (calls : List ℕ) → AreIndexes calls → (conflict : ℕ) → AreBlocks (blocks_from calls k.params k.ops 0 coded.instrs) coded.code.handlers (Some conflict) stub
 
 -- The same of a method by its member, where the code spells its instructions.
-abbrev pub CanBeMade : ClassFile → Names → Method × Member → Type 0
-CanBeMade c names p = IsSmallMethod p.0 × ((coded : Coded) → decoded c p.1 ≡ Ok coded → SpellsInstrs c.pool coded.code.handlers coded.code.code coded.instrs → IsMade names p.0 coded)
+abbrev pub CanBeMade : ClassFile → Method × Member → Type 0
+CanBeMade c p = IsSmallMethod p.0 × ((coded : Coded) → decoded c p.1 ≡ Ok coded → SpellsInstrs c.pool coded.code.handlers coded.code.code coded.instrs → IsMade p.0 coded)
 
--- The same of all methods of a class's share, whatever duplicates name.
+-- The same of all methods of a class's share.
 abbrev pub AreMade : ClassFile → Share → Type 0
-AreMade c share = (names : Names) → AreSmallNames names → AllByRecursion (CanBeMade c names) (zip share.methods share.members)
+AreMade c share = AllByRecursion (CanBeMade c) (zip share.methods share.members)
 
 -- With its share of a program a class can be rewritten: the numbers of methods and wrappers fit.
 pub record CanBeRewritten (P : Program) (c : ClassFile) (share : Share) : Type 0 where

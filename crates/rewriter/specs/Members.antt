@@ -1,11 +1,11 @@
 -- The members that rewriting adds to a class and replaces in it (Korland, Shavit, Felber, MULTIPROG 2010, in this project's
 -- form), with the entries that they name. Methods are static, take values of one word and give one or nothing.
-use Rattle.std.specs.Prelude.{ℕ, ℤ, zero, suc, pos, negsuc, ◌+◌, ◌/◌, ◌%◌, max, List, [], ◌∷◌, ◌++◌, map, Option, Some, None, Result, Ok, Err, Bool, true, false, ◌&&◌, ◌||◌, nat_eq, nat_lt, int_le, if◌then◌else◌, codes, bit_and, bit_or, slice_get, slice_index}
-use Rattle.std.specs.List.{list_any}
+use Rattle.std.specs.Prelude.{ℕ, ℤ, zero, suc, pos, negsuc, ◌+◌, ◌-◌, ◌/◌, ◌%◌, max, List, [], ◌∷◌, ◌++◌, map, Option, Some, None, option_map, Result, Ok, Err, Bool, true, false, ◌&&◌, nat_eq, nat_lt, int_le, if◌then◌else◌, codes, bit_and, bit_or, slice_get, slice_index}
 use Rattle.std.specs.Int.{w64, cast_signed}
 use Rattle.jmodel.specs.declared.class_file.Handler.{Handler}
 use Rattle.jmodel.specs.declared.refusal.Refusal.{Refusal}
-use Rattle.jmodel.specs.declared.refusal.Refusal.TheVariants.{CodeTooLarge, BranchTooFar, TooManyPlaces}
+use Rattle.jmodel.specs.declared.name.MethodName.{MethodName}
+use Rattle.jmodel.specs.declared.refusal.Refusal.TheVariants.{CodeTooLarge, BranchTooFar, TooManyPlaces, PoolFull}
 use Rattle.jmodel.specs.declared.instruction.Operands.{Operands}
 use Rattle.jmodel.specs.declared.instruction.Operands.TheVariants as operands
 use Rattle.jmodel.specs.declared.instruction.Instr.{Instr}
@@ -15,7 +15,7 @@ use Rattle.jmodel.specs.declared.op.Op.TheVariants.{Load, Store, Increment, GetS
 use Rattle.jmodel.specs.ClassFile.{Attribute, Member, Pool, ClassFile, Code, code_spelling}
 use Rattle.jmodel.specs.ClassRules.{is_named}
 use Rattle.jmodel.specs.Name.{printed}
-use Rattle.jmodel.specs.Program.{Field, Method}
+use Rattle.jmodel.specs.Program.{Field, Method, Program}
 use Rattle.jmodel.specs.Linking.{Coded, decoded}
 use Rattle.jmodel.specs.Reading.{◌>>=◌}
 use Rattle.jmodel.specs.Relocation.{Block, relocate}
@@ -23,10 +23,9 @@ use Rattle.jmodel.specs.Rewriting.{context_type, moved, with_context, duplicate_
 use Rattle.jmodel.specs.WordTypes.{type_descriptor, read_descriptor, write_descriptor}
 pub use Rattle.jmodel.specs.TypeOrder.{context_class}
 use Rattle.rewriter.specs.declared.accessors.Accessors.{Accessors}
-use Rattle.rewriter.specs.declared.names.Calls.{Calls}
 use Rattle.rewriter.specs.declared.wrappers.Opening.{Opening}
 use Rattle.rewriter.specs.declared.wrappers.Ending.{Ending}
-use Rattle.rewriter.specs.Adding.{add_utf8, add_integer, add_long, add_class, add_field, add_method}
+use Rattle.rewriter.specs.Adding.{grow_from, add_utf8, add_integer, add_long, add_class, add_field, add_method}
 
 -- ---- names
 
@@ -45,6 +44,36 @@ setter_name f = f.name ++ codes "__Setter$"
 
 abbrev pub address_name : Field → List ℕ
 address_name f = f.name ++ codes "__ADDRESS__"
+
+-- the accessors of a field, and the duplicate of a method, as calls and refusals name them
+abbrev pub getter_named : Field → MethodName
+getter_named f = record { class = f.class; name = getter_name f; descriptor = getter_type f.type }
+
+abbrev pub setter_named : Field → MethodName
+setter_named f = record { class = f.class; name = setter_name f; descriptor = setter_type f.type }
+
+abbrev pub duplicate_named : Method → MethodName
+duplicate_named k = record { class = k.name.class; name = duplicate_name k.name.name; descriptor = with_context k.name.descriptor }
+
+-- ---- refusals
+
+-- that a method has too many places of a kind
+abbrev pub too_many : List ℕ → List ℕ → Refusal
+too_many name kind = TooManyPlaces name kind
+
+-- a fault of a method's code, with the method's printed name
+abbrev pub fault_of : List ℕ → Refusal → Refusal
+fault_of name (CodeTooLarge n) = CodeTooLarge name
+fault_of name (BranchTooFar n pc) = BranchTooFar name pc
+fault_of name r = r
+
+abbrev pub of_method : {A : Type 0} → List ℕ → Result A Refusal → Result A Refusal
+of_method name (Ok x) = Ok x
+of_method name (Err r) = Err (fault_of name r)
+
+-- A method of this name is added to a class that has room for so many more methods.
+unfoldable pub room_for : ℕ → MethodName → Result (Unit {0}) Refusal
+room_for room name = if nat_eq room 0 then Err (too_many (printed name) (codes "Methods")) else Ok tt
 
 -- the higher and the lower byte of an index
 abbrev pub high : ℕ → ℕ
@@ -203,155 +232,111 @@ accessor name type bytes pool = do
   code ← add_utf8 (codes "Code") named.1
   Ok (added_method 0x1009 named.0.0 named.0.1 code.0 bytes, code.1)
 
-unfoldable pub getter_of : List ℕ → Field → Pool → Result (Member × Pool) Refusal
-getter_of own f pool = do
+unfoldable pub getter_of : ℕ → List ℕ → Field → Pool → Result (Member × Pool) Refusal
+getter_of room own f pool = do
+  fits ← room_for room (getter_named f)
   body ← getter_body own f pool
   accessor (getter_name f) (getter_type f.type) body.0 body.1
 
-unfoldable pub setter_of : List ℕ → Field → Pool → Result (Member × Pool) Refusal
-setter_of own f pool = do
+unfoldable pub setter_of : ℕ → List ℕ → Field → Pool → Result (Member × Pool) Refusal
+setter_of room own f pool = do
+  fits ← room_for room (setter_named f)
   body ← setter_body own f pool
   accessor (setter_name f) (setter_type f.type) body.0 body.1
 
-unfoldable pub accessors_of : List ℕ → Field → Pool → Result (Accessors × Pool) Refusal
-accessors_of own f pool = do
-  getter ← getter_of own f pool
-  setter ← setter_of own f getter.1
+-- both, in a class that has room for so many more methods
+unfoldable pub accessors_of : ℕ → List ℕ → Field → Pool → Result (Accessors × Pool) Refusal
+accessors_of room own f pool = do
+  getter ← getter_of room own f pool
+  setter ← setter_of (room - 1) own f getter.1
   Ok (record { getter = getter.0; setter = setter.0 }, setter.1)
 
 -- ---- what duplicates name
 
-abbrev pub gets : ℕ → Op → Bool
-gets n (GetStatic f) = nat_eq f n
-gets n o = false
+-- the method that the block of an instruction calls: an accessor, or another duplicate
+abbrev pub callee : Program → Op → Option MethodName
+callee P (GetStatic f) = option_map getter_named (slice_get P.fields f)
+callee P (PutStatic f) = option_map setter_named (slice_get P.fields f)
+callee P (InvokeStatic m) = option_map duplicate_named (slice_get P.methods m)
+callee P o = None
 
-abbrev pub puts : ℕ → Op → Bool
-puts n (PutStatic f) = nat_eq f n
-puts n o = false
+-- its index, 0 where there is none
+unfoldable pub call_index : Option MethodName → Pool → Result (ℕ × Pool) Refusal
+call_index (Some k) pool = add_method k.class k.name k.descriptor pool
+call_index None pool = Ok (0, pool)
 
-abbrev pub calls : ℕ → Op → Bool
-calls n (InvokeStatic m) = nat_eq m n
-calls n o = false
-
--- which fields of a program code reads and writes, and which of its methods it calls, by their numbers
-pub record Uses : Type 0 where
-  pub read : ℕ → Bool
-  pub written : ℕ → Bool
-  pub called : ℕ → Bool
-
--- whether some method has an instruction of a kind
-abbrev pub some_op : (Op → Bool) → List Method → Bool
-some_op p ks = list_any (λ (k : Method). list_any p k.ops) ks
-
--- what an instruction uses, what instructions use, and what those of methods do
-abbrev pub op_uses : Op → Uses
-op_uses o = record { read = λ n. gets n o; written = λ n. puts n o; called = λ n. calls n o }
-
-abbrev pub ops_use : List Op → Uses
-ops_use os = record { read = λ n. list_any (gets n) os; written = λ n. list_any (puts n) os; called = λ n. list_any (calls n) os }
-
-abbrev pub uses_of : List Method → Uses
-uses_of ks = record { read = λ n. some_op (gets n) ks; written = λ n. some_op (puts n) ks; called = λ n. some_op (calls n) ks }
-
--- what either of two uses
-abbrev pub both_use : Uses → Uses → Uses
-both_use a b = record { read = λ n. a.read n || b.read n; written = λ n. a.written n || b.written n; called = λ n. a.called n || b.called n }
-
--- an entry is added where it is needed, else 0 stands for it
-unfoldable pub method_if_needed : Bool → List ℕ → List ℕ → List ℕ → Pool → Result (ℕ × Pool) Refusal
-method_if_needed needed class name descriptor pool = if needed then add_method class name descriptor pool else Ok (0, pool)
-
--- the accessors of a field of a number that duplicates call, which use these, in the class that declares the field
-unfoldable pub getter_call : Uses → ℕ → Field → Pool → Result (ℕ × Pool) Refusal
-getter_call uses n f pool = method_if_needed (uses.read n) f.class (getter_name f) (getter_type f.type) pool
-
-unfoldable pub setter_call : Uses → ℕ → Field → Pool → Result (ℕ × Pool) Refusal
-setter_call uses n f pool = method_if_needed (uses.written n) f.class (setter_name f) (setter_type f.type) pool
-
-unfoldable pub calls_of : Uses → ℕ → Field → Pool → Result (Calls × Pool) Refusal
-calls_of uses n f pool = do
-  getter ← getter_call uses n f pool
-  setter ← setter_call uses n f getter.1
-  Ok (record { getter = getter.0; setter = setter.0 }, setter.1)
-
--- the duplicate of a method of a number, where duplicates call it
-unfoldable pub duplicate_call : Uses → ℕ → Method → Pool → Result (ℕ × Pool) Refusal
-duplicate_call uses n k pool = method_if_needed (uses.called n) k.name.class (duplicate_name k.name.name) (with_context k.name.descriptor) pool
+-- the index for each instruction
+abbrev pub calls_of : Program → List Op → Pool → Result (List ℕ × Pool) Refusal
+calls_of P ops pool = grow_from (λ n o. call_index (callee P o)) 0 ops pool
 
 -- ---- duplicates
 
-abbrev pub getter_in : Option Calls → ℕ
-getter_in None = 0
-getter_in (Some c) = c.getter
-
-abbrev pub setter_in : Option Calls → ℕ
-setter_in None = 0
-setter_in (Some c) = c.setter
-
--- what the duplicates of a class name: accessors by the fields of the program, and duplicates by its methods
-pub record Names : Type 0 where
-  pub accessors : List Calls
-  pub duplicates : List ℕ
-
--- What stands in the duplicate for an instruction, which means this; the context stands in local p.
-abbrev pub block_instrs : Names → ℕ → Option Op → Instr → List Instr
-block_instrs names p (Some (GetStatic f)) i = load_reference p ∷ call_static (getter_in (slice_get names.accessors f)) ∷ []
-block_instrs names p (Some (PutStatic f)) i = load_reference p ∷ call_static (setter_in (slice_get names.accessors f)) ∷ []
-block_instrs names p (Some (InvokeStatic m)) i = load_reference p ∷ call_static (slice_index names.duplicates m) ∷ []
-block_instrs names p (Some (Load n)) i = load_int (moved p n) ∷ []
-block_instrs names p (Some (Store n)) i = store_int (moved p n) ∷ []
-block_instrs names p (Some (Increment n x)) i = increment (moved p n) x ∷ []
-block_instrs names p o i = i ∷ []
+-- What stands in the duplicate for an instruction, which means this: the index is that of the method that its block calls, and the context
+-- stands in local p.
+abbrev pub block_instrs : ℕ → ℕ → Option Op → Instr → List Instr
+block_instrs index p (Some (GetStatic f)) i = load_reference p ∷ call_static index ∷ []
+block_instrs index p (Some (PutStatic f)) i = load_reference p ∷ call_static index ∷ []
+block_instrs index p (Some (InvokeStatic m)) i = load_reference p ∷ call_static index ∷ []
+block_instrs index p (Some (Load n)) i = load_int (moved p n) ∷ []
+block_instrs index p (Some (Store n)) i = store_int (moved p n) ∷ []
+block_instrs index p (Some (Increment n x)) i = increment (moved p n) x ∷ []
+block_instrs index p o i = i ∷ []
 
 -- the blocks of instructions, the first of which has number n
-abbrev pub blocks_from : Names → ℕ → List Op → ℕ → List Instr → List Block
-blocks_from names p ops n [] = []
-blocks_from names p ops n (i ∷ is) = block i.pc (block_instrs names p (slice_get ops n) i) ∷ blocks_from names p ops (n + 1) is
-
--- that a method has too many places of a kind
-abbrev pub too_many : List ℕ → List ℕ → Refusal
-too_many name kind = TooManyPlaces name kind
-
--- a fault of a method's code, with the method's printed name
-abbrev pub fault_of : List ℕ → Refusal → Refusal
-fault_of name (CodeTooLarge n) = CodeTooLarge name
-fault_of name (BranchTooFar n pc) = BranchTooFar name pc
-fault_of name r = r
-
-abbrev pub of_method : {A : Type 0} → List ℕ → Result A Refusal → Result A Refusal
-of_method name (Ok x) = Ok x
-of_method name (Err r) = Err (fault_of name r)
+abbrev pub blocks_from : List ℕ → ℕ → List Op → ℕ → List Instr → List Block
+blocks_from calls p ops n [] = []
+blocks_from calls p ops n (i ∷ is) = block i.pc (block_instrs (slice_index calls n) p (slice_get ops n) i) ∷ blocks_from calls p ops (n + 1) is
 
 -- athrow, 191, that throws on
 abbrev pub stub : List Instr
 stub = plain 191 ∷ []
 
--- The duplicate's code: the blocks, and behind them the stub that throws a conflict on, past every entry of the method's
--- own. One more place on the stack and among the locals.
-unfoldable pub duplicate_body : List ℕ → Code → List Block → Pool → Result (List ℕ × Pool) Refusal
-duplicate_body name k blocks pool =
+-- one more local and one more place on the stack can be counted
+unfoldable pub few_places : List ℕ → Code → Result (Unit {0}) Refusal
+few_places name k =
     if nat_eq k.max_locals 65535 then Err (too_many name (codes "Locals"))
     else if nat_eq k.max_stack 65535 then Err (too_many name (codes "Stack"))
-    else do
-      conflict ← add_class (codes "org/deuce/transaction/TransactionException") pool
-      bytes ← of_method name (laid_bytes (k.max_stack + 1) (k.max_locals + 1) blocks k.handlers (Some conflict.0) stub)
-      Ok (bytes, conflict.1)
+    else Ok tt
+
+-- what the code of a duplicate names: the methods that its blocks call, and the class of conflicts
+unfoldable pub duplicate_refs : Program → Method → Pool → Result ((List ℕ × ℕ) × Pool) Refusal
+duplicate_refs P k pool = do
+  calls ← calls_of P k.ops pool
+  conflict ← add_class (codes "org/deuce/transaction/TransactionException") calls.1
+  Ok ((calls.0, conflict.0), conflict.1)
+
+-- what else a duplicate names: its name and its descriptor, and the text Code
+unfoldable pub duplicate_texts : Method → Pool → Result (((ℕ × ℕ) × ℕ) × Pool) Refusal
+duplicate_texts k pool = do
+  named ← typed_name (duplicate_name k.name.name) (with_context k.name.descriptor) pool
+  code ← add_utf8 (codes "Code") named.1
+  Ok ((named.0, code.0), code.1)
+
+-- The duplicate's code: the blocks, and behind them the stub that throws a conflict on, past every entry of the method's
+-- own. One more place on the stack and among the locals.
+abbrev pub duplicate_bytes : List ℕ → Code → List Block → ℕ → Result (List ℕ) Refusal
+duplicate_bytes name k blocks conflict = of_method name (laid_bytes (k.max_stack + 1) (k.max_locals + 1) blocks k.handlers (Some conflict) stub)
 
 -- the flags without VARARGS and with SYNTHETIC
 abbrev pub duplicate_flags : ℕ → ℕ
 duplicate_flags flags = bit_or (bit_and flags 0xff7f) 0x1000
 
-unfoldable pub coded_duplicate : Names → Method → Member → Coded → Pool → Result (Member × Pool) Refusal
-coded_duplicate names k m coded pool = do
-  body ← duplicate_body (printed k.name) coded.code (blocks_from names k.params k.ops 0 coded.instrs) pool
-  named ← add_utf8 (duplicate_name k.name.name) body.1
-  typed ← add_utf8 (with_context k.name.descriptor) named.1
-  code ← add_utf8 (codes "Code") typed.1
-  Ok (added_method (duplicate_flags m.flags) named.0 typed.0 code.0 body.0, code.1)
+unfoldable pub made_duplicate : Program → Method → Member → Coded → Pool → Result (Member × Pool) Refusal
+made_duplicate P k m coded pool = do
+  refs ← duplicate_refs P k pool
+  texts ← duplicate_texts k refs.1
+  bytes ← duplicate_bytes (printed k.name) coded.code (blocks_from refs.0.0 k.params k.ops 0 coded.instrs) refs.0.1
+  Ok (added_method (duplicate_flags m.flags) texts.0.0.0 texts.0.0.1 texts.0.1 bytes, texts.1)
 
--- the duplicate of a method, which the class's file has as this member
-unfoldable pub duplicate_of : ClassFile → Names → Method → Member → Pool → Result (Member × Pool) Refusal
-duplicate_of c names k m pool = decoded c m >>= λ coded. coded_duplicate names k m coded pool
+unfoldable pub coded_duplicate : Program → ℕ → Method → Member → Coded → Pool → Result (Member × Pool) Refusal
+coded_duplicate P room k m coded pool = do
+  fits ← room_for room (duplicate_named k)
+  few ← few_places (printed k.name) coded.code
+  made_duplicate P k m coded pool
+
+-- the duplicate of a method, which the class's file has as this member, where the class has room for so many more methods
+unfoldable pub duplicate_of : Program → ClassFile → ℕ → Method → Member → Pool → Result (Member × Pool) Refusal
+duplicate_of P c room k m pool = decoded c m >>= λ coded. coded_duplicate P room k m coded pool
 
 -- ---- wrappers
 
@@ -423,9 +408,9 @@ with_bytes pool bytes a = if is_named pool (codes "Code") a then record { name =
 abbrev pub with_code : Pool → List ℕ → Member → Member
 with_code pool bytes m = record { flags = m.flags; name = m.name; descriptor = m.descriptor; attributes = map (with_bytes pool bytes) m.attributes }
 
--- the wrapper of a method, with its number among the wrappers, for so many attempts
+-- The wrapper of a method, with its number among the wrappers, for so many attempts. No Integer of the pool holds a number of over 31 bits.
 unfoldable pub wrapper_of : ClassFile → ℕ → ℤ → Method → Member → Pool → Result (Member × Pool) Refusal
-wrapper_of c n attempts k m pool = if nat_lt 65535 n then Err (too_many (printed k.name) (codes "Methods")) else do
+wrapper_of c n attempts k m pool = if nat_lt 2147483647 n then Err (PoolFull []) else do
   opening ← opening_of n attempts pool
   ending ← ending_of k opening.1
   bytes ← wrapper_bytes k opening.0 ending.0

@@ -1,5 +1,5 @@
 -- The rewriting of a class with its part of a program, step after step.
-use Rattle.std.specs.Prelude.{◌≡◌, ℕ, ℤ, ◌+◌, Bool, List, [], ◌∷◌, ◌++◌, zip, Option, Some, None, Result, Ok, slice_get, if◌then◌else◌}
+use Rattle.std.specs.Prelude.{◌≡◌, ℕ, ℤ, ◌+◌, ◌-◌, Bool, List, [], ◌∷◌, ◌++◌, length, zip, Option, Some, None, Result, Ok, slice_get, if◌then◌else◌}
 use Rattle.std.specs.List.{flat_map}
 use Rattle.jmodel.specs.declared.refusal.Refusal.{Refusal}
 use Rattle.jmodel.specs.ClassFile.{Member, Pool, ClassFile}
@@ -7,17 +7,10 @@ use Rattle.jmodel.specs.Program.{Field, Method, Program}
 use Rattle.jmodel.specs.Decoding.{own_name}
 use Rattle.jmodel.specs.Linking.{is_root, retries_of}
 use Rattle.jmodel.specs.Reading.{◌>>=◌}
-use Rattle.rewriter.specs.Members.{Names, uses_of, address_member, base_member, accessors_of, calls_of, duplicate_call, duplicate_of, wrapper_of}
+pub use Rattle.rewriter.specs.Adding.{grow_from}
+use Rattle.rewriter.specs.Members.{address_member, base_member, accessors_of, duplicate_of, wrapper_of}
 use Rattle.rewriter.specs.Part.{Part, Share, share_of}
 use Rattle.rewriter.specs.declared.accessors.Accessors.{Accessors}
-
--- what each item gives, the first with number n, one after another
-abbrev pub grow_from : {A B : Type 0} → (ℕ → A → Pool → Result (B × Pool) Refusal) → ℕ → List A → Pool → Result (List B × Pool) Refusal
-grow_from f n [] pool = Ok ([], pool)
-grow_from f n (x ∷ xs) pool = do
-  first ← f n x pool
-  others ← grow_from f (n + 1) xs first.1
-  Ok (first.0 ∷ others.0, others.1)
 
 -- the field for the static base, where the class has a static field
 abbrev pub bases : List Field → Pool → Result (List Member × Pool) Refusal
@@ -34,24 +27,19 @@ added_fields fs pool = do
   base ← bases fs addresses.1
   Ok (addresses.0 ++ base.0, base.1)
 
--- what the duplicates of a class with these methods of the program name
-unfoldable pub names_of : Program → List Method → Pool → Result (Names × Pool) Refusal
-names_of P own pool = do
-  calls ← grow_from (calls_of (uses_of own)) 0 P.fields pool
-  copies ← grow_from (duplicate_call (uses_of own)) 0 P.methods calls.1
-  Ok (record { accessors = calls.0; duplicates = copies.0 }, copies.1)
+-- how many more methods a class has room for
+abbrev pub room_in : ClassFile → ℕ
+room_in c = 65535 - length c.methods
 
--- the duplicates, with the methods that they call
-unfoldable pub duplicates : Program → ClassFile → Share → Pool → Result (List Member × Pool) Refusal
-duplicates P c share pool = do
-  names ← names_of P share.methods pool
-  grow_from (λ n (p : Method × Member). duplicate_of c names.0 p.0 p.1) 0 (zip share.methods share.members) names.1
+-- the duplicates, in a class that has room for so many more methods
+abbrev pub duplicates : Program → ClassFile → Share → ℕ → Pool → Result (List Member × Pool) Refusal
+duplicates P c share room pool = grow_from (λ n (p : Method × Member). duplicate_of P c (room - n) p.0 p.1) 0 (zip share.methods share.members) pool
 
 -- the methods that are added: accessors, then duplicates
 unfoldable pub added_methods : Program → ClassFile → Share → Pool → Result (List Member × Pool) Refusal
 added_methods P c share pool = do
-  accessors ← grow_from (λ n f. accessors_of (own_name c) f) 0 share.fields pool
-  copies ← duplicates P c share accessors.1
+  accessors ← grow_from (λ n f. accessors_of (room_in c - n - n) (own_name c) f) 0 share.fields pool
+  copies ← duplicates P c share (room_in c - length share.fields - length share.fields) accessors.1
   Ok (flat_map both_of accessors.0 ++ copies.0, copies.1)
 
 -- a method of the program that may make so many attempts gets its wrapper, any other stays as it is

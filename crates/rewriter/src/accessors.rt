@@ -13,7 +13,8 @@ use crate::adding::{add_field, add_method, add_utf8};
 use crate::fields::{address_name, getter_name, getter_type, setter_name, setter_type, typed_name};
 use crate::instrs::{call_virtual, get_static, load_int, load_reference, plain};
 use crate::laying::straight_bytes;
-use bytecode::Instr;
+use crate::places::want_room;
+use bytecode::{Instr, opcodes};
 use const_pool::{Attribute, Member, Pool};
 use hierarchy::Field;
 use hierarchy::word_types::{read_descriptor, type_descriptor, write_descriptor};
@@ -100,7 +101,7 @@ fn getter_code(
         get_static(field),
         get_static(p.1),
         call_virtual(after),
-        plain(172),
+        plain(opcodes::IRETURN),
     ]?)
 }
 
@@ -152,7 +153,7 @@ fn setter_code(alloc: Global, p: (u16, u16), write: u16) -> Result<Vec<Instr>, A
         load_int(0),
         get_static(p.1),
         call_virtual(write),
-        plain(177),
+        plain(opcodes::RETURN),
     ]?)
 }
 
@@ -183,36 +184,63 @@ fn accessor(
 }
 
 #[tactic(auto, unfolding(crate::specs::Members::getter_of))]
-fn getter_of(alloc: Global, pool: &mut Pool, own: &[u8], field: &Field) -> Result<Member, Halt>
-    ensures { Grows (λ m. m) result pool.new (getter own.now field.now pool.old) }
+fn getter_of(
+    alloc: Global,
+    pool: &mut Pool,
+    room: usize,
+    own: &[u8],
+    field: &Field,
+) -> Result<Member, Halt>
+    ensures { Grows (λ m. m) result pool.new (getter room own.now field.now pool.old) }
 {
     let name = getter_name(alloc, field)?;
+    want_room(
+        alloc,
+        room,
+        field.class().as_slice(),
+        name.as_slice(),
+        getter_type(field),
+    )?;
     let body = getter_body(alloc, pool, own, field)?;
     let descriptor = getter_type(field);
     accessor(alloc, pool, name.as_slice(), descriptor, body)
 }
 
 #[tactic(auto, unfolding(crate::specs::Members::setter_of))]
-fn setter_of(alloc: Global, pool: &mut Pool, own: &[u8], field: &Field) -> Result<Member, Halt>
-    ensures { Grows (λ m. m) result pool.new (setter own.now field.now pool.old) }
+fn setter_of(
+    alloc: Global,
+    pool: &mut Pool,
+    room: usize,
+    own: &[u8],
+    field: &Field,
+) -> Result<Member, Halt>
+    ensures { Grows (λ m. m) result pool.new (setter room own.now field.now pool.old) }
 {
     let name = setter_name(alloc, field)?;
+    want_room(
+        alloc,
+        room,
+        field.class().as_slice(),
+        name.as_slice(),
+        setter_type(field),
+    )?;
     let body = setter_body(alloc, pool, own, field)?;
     let descriptor = setter_type(field);
     accessor(alloc, pool, name.as_slice(), descriptor, body)
 }
 
-/// The getter and the setter of a field of the class `own`.
+/// The getter and the setter of a field of the class `own`, which has room for so many more methods.
 #[tactic(auto, unfolding(crate::specs::Members::accessors_of))]
 pub fn accessors_of(
     alloc: Global,
     pool: &mut Pool,
+    room: usize,
     own: &[u8],
     field: &Field,
 ) -> Result<Accessors, Halt>
-    ensures { Grows (λ a. a) result pool.new (both own.now field.now pool.old) }
+    ensures { Grows (λ a. a) result pool.new (both room own.now field.now pool.old) }
 {
-    let getter = getter_of(alloc, pool, own, field)?;
-    let setter = setter_of(alloc, pool, own, field)?;
+    let getter = getter_of(alloc, pool, room, own, field)?;
+    let setter = setter_of(alloc, pool, room.saturating_sub(1), own, field)?;
     Ok(Accessors { getter, setter })
 }

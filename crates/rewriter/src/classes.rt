@@ -71,8 +71,8 @@ fn rewrite_each<'a>(
 /// named in the class that declares their field, and the wrappers of all classes numbered from 0. Refused at the first class that can't be
 /// rewritten, as
 ///
-/// - `TooManyPlaces` with an old method's printed name and `Locals` or `Stack`, where its duplicate would have more than two
-///   bytes count, or `Methods`, where it would get the wrapper of number 65536 or more;
+/// - `TooManyPlaces` with an added method's printed name and `Methods`, where its class would have more than 65535 methods, or with an old
+///   method's and `Locals` or `Stack`, where its duplicate would have more of them than two bytes count;
 /// - else `PoolFull` with the class's name, where the count of its pool would pass 65535;
 /// - else `CodeTooLarge` or `BranchTooFar` with an old method's printed name, where the code of its duplicate or wrapper
 ///   can't be laid; the pc is that of the jump in the old method.

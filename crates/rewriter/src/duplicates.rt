@@ -1,54 +1,31 @@
 //! Duplicates: methods that take the context, read and write fields over it, and call duplicates.
-ghost use Rattle.std.specs.Prelude.{◌≡◌, ◌+◌, ◌<◌, ℕ, Some, slice_get, slice_index, IfOk};
+ghost use Rattle.std.specs.Prelude.{◌≡◌, ◌<◌, Some, slice_get, slice_index, IfOk};
 ghost use Rattle.std.specs.List.{AllByRecursion};
 ghost use Rattle.jmodel.specs.Name.{printed};
 ghost use Rattle.jmodel.specs.Relocation.{AreBlocks};
 ghost use Rattle.jmodel.specs.Rewriting.{moved as moved_local};
-ghost use Rattle.jmodel.specs.declared.refusal.Halt.TheVariants as halts;
-ghost use Rattle.jmodel.specs.declared.refusal.Refusal.TheVariants as refusals;
+ghost use Rattle.jmodel.specs.Reading.{Gives};
 ghost use Rattle.rewriter.specs.Adding.{Grows};
 ghost use Rattle.rewriter.specs.Made.{IsSmallOp, IsMade, CanBeMade};
-ghost use Rattle.rewriter.specs.Members.{getter_in as getter_among, setter_in as setter_among, block_instrs as instrs_of_block, blocks_from, stub as stub_of, duplicate_body as body, duplicate_flags as flags_of_duplicate, coded_duplicate as coded_copy, duplicate_of as duplicate};
+ghost use Rattle.rewriter.specs.Members.{block_instrs as instrs_of_block, blocks_from, stub as stub_of, room_for, duplicate_named, duplicate_refs as refs, duplicate_texts as texts, duplicate_bytes as bytes_of_duplicate, duplicate_flags as flags_of_duplicate, made_duplicate as made_copy, coded_duplicate as coded_copy, duplicate_of as duplicate};
 
 use crate::accessors::added_method;
 use crate::adding::{add_class, add_utf8};
 use crate::descriptors::with_context;
+use crate::fields::typed_name;
 use crate::instrs::{
     alone, call_static, increment, load_int, load_reference, pair, plain, store_int,
 };
 use crate::laying::bytes_of_method;
-use crate::names::{Calls, Names, duplicate_name};
-use bytecode::{Block, Instr};
+use crate::names::{calls_of, duplicate_name};
+use crate::places::{want_places, want_room};
+use bytecode::{Block, Instr, opcodes};
 use const_pool::{ClassFile, Code, Member, Pool};
-use hierarchy::Method;
 use hierarchy::code::{Coded, decoded};
+use hierarchy::{Method, Program};
 use jmodel::op::Op;
-use jmodel::{Bytes, Halt, MethodName, Refusal};
+use jmodel::{Bytes, Halt, MethodName};
 use std::alloc::{AllocError, Global};
-
-fn getter_in(calls: &[Calls], field: usize) -> u16
-    ensures { result ≡ getter_among (slice_get calls.now field) }
-{
-    match calls.get(field) {
-        Some(c) => c.getter,
-        None => 0,
-    }
-}
-
-fn setter_in(calls: &[Calls], field: usize) -> u16
-    ensures { result ≡ setter_among (slice_get calls.now field) }
-{
-    match calls.get(field) {
-        Some(c) => c.setter,
-        None => 0,
-    }
-}
-
-fn duplicate_in(duplicates: &[u16], method: usize) -> u16
-    ensures { result ≡ slice_index duplicates.now method }
-{
-    duplicates.get(method).copied().unwrap_or(0)
-}
 
 // The local that stands for one of the original, where the context is local `p`.
 fn moved(p: u16, local: usize) -> u16
@@ -72,21 +49,19 @@ fn call(alloc: Global, p: u16, method: u16) -> Result<Vec<Instr>, AllocError>
 ghost use Rattle.std.specs.Prelude.{[], ◌∷◌};
 ghost use Rattle.rewriter.specs.Members.{load_reference as load_reference_of, call_static as call_static_of};
 
-// What stands in the duplicate for an instruction that means this.
+// What stands in the duplicate for an instruction that means this, where its block calls the method of an index.
 fn block_instrs(
     alloc: Global,
-    names: &Names,
+    index: u16,
     p: u16,
     op: Option<&Op>,
     i: &Instr,
 ) -> Result<Vec<Instr>, AllocError>
     requires { IfSome (option_copied op) IsSmallOp }
-    ensures { IfOk result (λ v. v.items ≡ instrs_of_block names.now p (option_copied op.entry) i.now) }
+    ensures { IfOk result (λ v. v.items ≡ instrs_of_block index p (option_copied op.entry) i.now) }
 {
     match op {
-        Some(Op::GetStatic(f)) => call(alloc, p, getter_in(names.accessors(), *f)),
-        Some(Op::PutStatic(f)) => call(alloc, p, setter_in(names.accessors(), *f)),
-        Some(Op::InvokeStatic(m)) => call(alloc, p, duplicate_in(names.duplicates(), *m)),
+        Some(Op::GetStatic(_) | Op::PutStatic(_) | Op::InvokeStatic(_)) => call(alloc, p, index),
         Some(Op::Load(n)) => alone(alloc, load_int(moved(p, *n))),
         Some(Op::Store(n)) => alone(alloc, store_int(moved(p, *n))),
         Some(Op::Increment(n, add)) => alone(alloc, increment(moved(p, *n), *add)),
@@ -104,19 +79,25 @@ fn op_at(ops: &[Op], n: usize) -> Option<&Op>
     ops.get(n)
 }
 
+fn call_at(calls: &[u16], n: usize) -> u16
+    ensures { result ≡ slice_index calls.now n }
+{
+    calls.get(n).copied().unwrap_or(0)
+}
+
 fn blocks_of(
     alloc: Global,
-    names: &Names,
+    calls: &[u16],
     p: u16,
     ops: &[Op],
     instrs: &[Instr],
 ) -> Result<Vec<Block>, AllocError>
     requires { AllByRecursion IsSmallOp ops.now }
-    ensures { IfOk result (λ v. v.items ≡ blocks_from names.now p ops.now 0 instrs.now) }
+    ensures { IfOk result (λ v. v.items ≡ blocks_from calls.now p ops.now 0 instrs.now) }
 {
     let mut blocks = Vec::new(alloc);
     for (n, i) in instrs.iter().enumerate() {
-        let block = block_instrs(alloc, names, p, op_at(ops, n), i)?;
+        let block = block_instrs(alloc, call_at(calls, n), p, op_at(ops, n), i)?;
         blocks.push(Block {
             pc: i.pc,
             instrs: block,
@@ -125,33 +106,50 @@ fn blocks_of(
     Ok(blocks)
 }
 
-/// That the method of this name has too many places of a kind.
-pub fn too_many(alloc: Global, name: &MethodName, kind: &[u8]) -> Result<Halt, AllocError>
-    ensures { IfOk result (λ h. h ≡ halts.Refused (refusals.TooManyPlaces (printed name.now) kind.now)) }
+// What the code of a duplicate names: the methods that its blocks call, and the class of conflicts.
+#[tactic(auto, unfolding(crate::specs::Members::duplicate_refs))]
+fn duplicate_refs(
+    alloc: Global,
+    pool: &mut Pool,
+    original: &Program,
+    method: &Method,
+) -> Result<(Vec<u16>, u16), Halt>
+    ensures { Grows (λ x. (x.0.items, x.1)) result pool.new (refs original.now method.now pool.old) }
 {
-    let kind = Bytes::from_slice(alloc, kind)?;
-    Ok(Halt::Refused(Refusal::TooManyPlaces(name.printed(alloc)?, kind)))
+    let calls = calls_of(alloc, pool, original, method.ops())?;
+    let conflict = add_class(pool, b"org/deuce/transaction/TransactionException")?;
+    Ok((calls, conflict))
+}
+
+// What else a duplicate names: its name and its descriptor, and the text Code.
+#[tactic(auto, unfolding(crate::specs::Members::duplicate_texts))]
+fn duplicate_texts(
+    alloc: Global,
+    pool: &mut Pool,
+    method: &Method,
+) -> Result<((u16, u16), u16), Halt>
+    ensures { Grows (λ x. x) result pool.new (texts method.now pool.old) }
+{
+    let name = duplicate_name(method.name().name.as_slice());
+    let descriptor = with_context(alloc, method.name().descriptor.as_slice())?;
+    let named = typed_name(pool, name, descriptor.as_slice())?;
+    let code = add_utf8(pool, b"Code")?;
+    Ok((named, code))
 }
 
 // The blocks, and behind them the stub that throws a conflict on, past every entry of the method's own.
-#[tactic(auto, unfolding(crate::specs::Members::duplicate_body))]
-fn duplicate_body(
+fn duplicate_bytes(
     alloc: Global,
-    pool: &mut Pool,
     name: &MethodName,
     code: &Code,
     blocks: &[Block],
+    conflict: u16,
 ) -> Result<Bytes, Halt>
-    requires { (conflict : ℕ) → AreBlocks blocks.now code.now.handlers (Some conflict) stub_of }
-    ensures { Grows (λ b. b) result pool.new (body (printed name.now) code.now blocks.now pool.old) }
+    requires blocks { AreBlocks blocks.now code.now.handlers (Some conflict) stub_of }
+    requires locals { code.now.max_locals < 65535 }
+    requires stack { code.now.max_stack < 65535 }
+    ensures { Gives (λ b. b) result (bytes_of_duplicate (printed name.now) code.now blocks.now conflict) }
 {
-    if code.max_locals == 65535 {
-        return Err(too_many(alloc, name, b"Locals")?);
-    }
-    if code.max_stack == 65535 {
-        return Err(too_many(alloc, name, b"Stack")?);
-    }
-    let conflict = add_class(pool, b"org/deuce/transaction/TransactionException")?;
     bytes_of_method(
         alloc,
         name,
@@ -160,7 +158,7 @@ fn duplicate_body(
         blocks,
         code.handlers.as_slice(),
         Some(conflict),
-        &[plain(191)],
+        &[plain(opcodes::ATHROW)],
     )
 }
 
@@ -171,47 +169,84 @@ fn duplicate_flags(flags: u16) -> u16
     flags & 0xff7f | 0x1000
 }
 
-#[tactic(auto, unfolding(crate::specs::Members::coded_duplicate))]
-fn coded_duplicate(
+#[tactic(auto, unfolding(crate::specs::Members::made_duplicate))]
+fn made_duplicate(
     alloc: Global,
     pool: &mut Pool,
-    names: &Names,
+    original: &Program,
     method: &Method,
     member: &Member,
     coded: &Coded,
 ) -> Result<Member, Halt>
     requires small { IsSmallMethod method.now }
-    requires made { IsMade names.now method.now coded.now }
-    ensures { Grows (λ m. m) result pool.new (coded_copy names.now method.now member.now coded.now pool.old) }
+    requires made { IsMade method.now coded.now }
+    requires locals { coded.now.code.max_locals < 65535 }
+    requires stack { coded.now.code.max_stack < 65535 }
+    ensures { Grows (λ m. m) result pool.new (made_copy original.now method.now member.now coded.now pool.old) }
 {
+    let (calls, conflict) = duplicate_refs(alloc, pool, original, method)?;
+    let ((name, descriptor), text) = duplicate_texts(alloc, pool, method)?;
     let p = method.entry().params as u16;
-    let blocks = blocks_of(alloc, names, p, method.ops(), coded.instrs.as_slice())?;
-    let bytes = duplicate_body(alloc, pool, method.name(), &coded.code, blocks.as_slice())?;
-    let name = duplicate_name(method.name().name.as_slice());
-    let named = add_utf8(pool, name)?;
-    let descriptor = with_context(alloc, method.name().descriptor.as_slice())?;
-    let typed = add_utf8(pool, descriptor.as_slice())?;
-    let text = add_utf8(pool, b"Code")?;
+    let instrs = coded.instrs.as_slice();
+    let blocks = blocks_of(alloc, calls.as_slice(), p, method.ops(), instrs)?;
+    let blocks = blocks.as_slice();
+    let bytes = duplicate_bytes(alloc, method.name(), &coded.code, blocks, conflict)?;
     let flags = duplicate_flags(member.flags);
-    Ok(added_method(alloc, flags, named, typed, text, bytes)?)
+    Ok(added_method(alloc, flags, name, descriptor, text, bytes)?)
 }
 
 ghost use Rattle.rewriter.specs.Made.{IsSmallMethod};
 
-/// The duplicate of a method, which the class's file has as this member. Refused as TooManyPlaces, PoolFull, CodeTooLarge or
-/// BranchTooFar, as duplicates are.
+// Refuses the duplicate of a method where its class has room for no more methods.
+fn want_duplicate(alloc: Global, room: usize, method: &Method) -> Result<(), Halt>
+    ensures { Gives (λ x. x) result (room_for room (duplicate_named method.now)) }
+{
+    let name = method.name();
+    let descriptor = with_context(alloc, name.descriptor.as_slice())?;
+    let class = name.class.as_slice();
+    want_room(
+        alloc,
+        room,
+        class,
+        duplicate_name(name.name.as_slice()),
+        descriptor.as_slice(),
+    )
+}
+
+#[tactic(auto, unfolding(crate::specs::Members::coded_duplicate))]
+fn coded_duplicate(
+    alloc: Global,
+    pool: &mut Pool,
+    original: &Program,
+    room: usize,
+    method: &Method,
+    member: &Member,
+    coded: &Coded,
+) -> Result<Member, Halt>
+    requires small { IsSmallMethod method.now }
+    requires made { IsMade method.now coded.now }
+    ensures { Grows (λ m. m) result pool.new (coded_copy original.now room method.now member.now coded.now pool.old) }
+{
+    want_duplicate(alloc, room, method)?;
+    want_places(alloc, method.name(), &coded.code)?;
+    made_duplicate(alloc, pool, original, method, member, coded)
+}
+
+/// The duplicate of a method, which the class's file has as this member, where the class has room for so many more methods. Refused as
+/// TooManyPlaces, PoolFull, CodeTooLarge or BranchTooFar, in this order.
 #[tactic(auto, unfolding(crate::specs::Members::duplicate_of))]
 pub fn duplicate_of(
     alloc: Global,
     pool: &mut Pool,
+    original: &Program,
     class: &ClassFile,
-    names: &Names,
+    room: usize,
     method: &Method,
     member: &Member,
 ) -> Result<Member, Halt>
-    requires { CanBeMade class.now names.now (method.now, member.now) }
-    ensures { Grows (λ m. m) result pool.new (duplicate class.now names.now method.now member.now pool.old) }
+    requires { CanBeMade class.now (method.now, member.now) }
+    ensures { Grows (λ m. m) result pool.new (duplicate original.now class.now room method.now member.now pool.old) }
 {
     let coded = decoded(alloc, class, member)?;
-    coded_duplicate(alloc, pool, names, method, member, &coded)
+    coded_duplicate(alloc, pool, original, room, method, member, &coded)
 }

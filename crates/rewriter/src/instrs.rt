@@ -3,7 +3,7 @@ ghost use Rattle.std.specs.Prelude.{◌≡◌, ◌+◌, ◌<◌, ◌≤◌, [], 
 ghost use Rattle.std.specs.Int.{w16};
 ghost use Rattle.rewriter.specs.Members.{instr as instr_of, plain as plain_of, naming as naming_of, jump as jump_of, local_instr as local_of, load_int as load_int_of, store_int as store_int_of, load_reference as load_reference_of, store_reference as store_reference_of, increment as increment_of, call_static as call_static_of, call_virtual as call_virtual_of, get_static as get_static_of};
 
-use bytecode::{Instr, Operands};
+use bytecode::{Instr, Operands, opcodes};
 use std::alloc::{AllocError, Global};
 
 fn instr(op: u8, operands: Operands) -> Instr
@@ -48,7 +48,7 @@ fn local_instr(op: u8, short: u8, local: u16) -> Instr
         instr(op, Operands::Local(local))
     } else {
         let wide = Operands::Wide { op, local, add: 0 };
-        instr(196, wide)
+        instr(opcodes::WIDE, wide)
     }
 }
 
@@ -56,28 +56,28 @@ fn local_instr(op: u8, short: u8, local: u16) -> Instr
 pub fn load_int(local: u16) -> Instr
     ensures { result ≡ load_int_of local }
 {
-    local_instr(21, 26, local)
+    local_instr(opcodes::ILOAD, opcodes::ILOAD_0, local)
 }
 
 /// istore.
 pub fn store_int(local: u16) -> Instr
     ensures { result ≡ store_int_of local }
 {
-    local_instr(54, 59, local)
+    local_instr(opcodes::ISTORE, opcodes::ISTORE_0, local)
 }
 
 /// aload.
 pub fn load_reference(local: u16) -> Instr
     ensures { result ≡ load_reference_of local }
 {
-    local_instr(25, 42, local)
+    local_instr(opcodes::ALOAD, opcodes::ALOAD_0, local)
 }
 
 /// astore.
 pub fn store_reference(local: u16) -> Instr
     ensures { result ≡ store_reference_of local }
 {
-    local_instr(58, 75, local)
+    local_instr(opcodes::ASTORE, opcodes::ASTORE_0, local)
 }
 
 /// iinc.
@@ -86,14 +86,14 @@ pub fn increment(local: u16, add: i32) -> Instr
     ensures { result ≡ increment_of local add }
 {
     if local < 256 && -128 <= add && add <= 127 {
-        instr(132, Operands::LocalAdd(local, add as i16))
+        instr(opcodes::IINC, Operands::LocalAdd(local, add as i16))
     } else {
         let wide = Operands::Wide {
-            op: 132,
+            op: opcodes::IINC,
             local,
             add: add as i16,
         };
-        instr(196, wide)
+        instr(opcodes::WIDE, wide)
     }
 }
 
@@ -101,21 +101,21 @@ pub fn increment(local: u16, add: i32) -> Instr
 pub fn call_static(method: u16) -> Instr
     ensures { result ≡ call_static_of method }
 {
-    naming(184, method)
+    naming(opcodes::INVOKESTATIC, method)
 }
 
 /// invokevirtual.
 pub fn call_virtual(method: u16) -> Instr
     ensures { result ≡ call_virtual_of method }
 {
-    naming(182, method)
+    naming(opcodes::INVOKEVIRTUAL, method)
 }
 
 /// getstatic.
 pub fn get_static(field: u16) -> Instr
     ensures { result ≡ get_static_of field }
 {
-    naming(178, field)
+    naming(opcodes::GETSTATIC, field)
 }
 
 /// A list of one instruction.

@@ -15,10 +15,10 @@ mod laying;
 mod loops;
 mod meaning;
 mod names;
+mod places;
 mod rewriting;
 mod share;
 mod typed;
-mod uses;
 mod wrappers;
 
 pub use classes::rewrite_classes;

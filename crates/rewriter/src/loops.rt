@@ -9,7 +9,7 @@ use crate::instrs::{
     store_reference,
 };
 use crate::wrappers::{Ending, Opening};
-use bytecode::{Block, Instr};
+use bytecode::{Block, Instr, opcodes};
 use std::alloc::{AllocError, Global};
 
 fn entry(alloc: Global, p: u16, a: Opening) -> Result<Vec<Instr>, AllocError>
@@ -24,8 +24,8 @@ fn begin(alloc: Global, p: u16, a: Opening) -> Result<Vec<Instr>, AllocError>
 {
     Ok(vec![in alloc;
         load_reference(p),
-        naming(19, a.number),
-        naming(19, a.retries),
+        naming(opcodes::LDC_W, a.number),
+        naming(opcodes::LDC_W, a.retries),
         call_virtual(a.init),
     ]?)
 }
@@ -50,7 +50,7 @@ fn push_commit(instrs: &mut Vec<Instr>, p: u16, e: Ending) -> Result<(), AllocEr
 {
     instrs.push(load_reference(p))?;
     instrs.push(call_virtual(e.commit))?;
-    instrs.push(jump(153, 1))?;
+    instrs.push(jump(opcodes::IFEQ, 1))?;
     Ok(())
 }
 
@@ -67,10 +67,10 @@ fn end(alloc: Global, p: u16, gives: bool, e: Ending) -> Result<Vec<Instr>, Allo
         instrs.push(store_int(p + 1))?;
         push_commit(&mut instrs, p, e)?;
         instrs.push(load_int(p + 1))?;
-        instrs.push(plain(172))?;
+        instrs.push(plain(opcodes::IRETURN))?;
     } else {
         push_commit(&mut instrs, p, e)?;
-        instrs.push(plain(177))?;
+        instrs.push(plain(opcodes::RETURN))?;
     }
     Ok(instrs)
 }
@@ -80,10 +80,10 @@ fn conflict(alloc: Global, p: u16, e: Ending) -> Result<Vec<Instr>, AllocError>
     ensures { IfOk result (λ v. v.items ≡ conflict_instrs p e) }
 {
     Ok(vec![in alloc;
-        plain(87),
+        plain(opcodes::POP),
         load_reference(p),
         call_virtual(e.rollback),
-        jump(167, 1),
+        jump(opcodes::GOTO, 1),
     ]?)
 }
 
@@ -96,9 +96,9 @@ fn exception(alloc: Global, p: u16, e: Ending) -> Result<Vec<Instr>, AllocError>
         store_reference(p + 1),
         load_reference(p),
         call_virtual(e.commit),
-        jump(153, 1),
+        jump(opcodes::IFEQ, 1),
         load_reference(p + 1),
-        plain(191),
+        plain(opcodes::ATHROW),
     ]?)
 }
 

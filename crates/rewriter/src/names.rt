@@ -2,79 +2,17 @@
 ghost use Rattle.std.specs.Prelude.{◌≡◌};
 ghost use Rattle.jmodel.specs.Rewriting.{duplicate_name as name_of_duplicate};
 ghost use Rattle.rewriter.specs.Adding.{Grows};
-ghost use Rattle.rewriter.specs.Gathered.{told_by};
-ghost use Rattle.rewriter.specs.Members.{getter_call as get_call, setter_call as set_call, calls_of as calls_for, duplicate_call as call_of_duplicate};
-ghost use Rattle.rewriter.specs.Rewritten.{grow_from, names_of as all_names};
+ghost use Rattle.rewriter.specs.Members.{callee, call_index, calls_of as calls_for, getter_named, setter_named, duplicate_named};
 
 use crate::adding::add_method;
 use crate::descriptors::with_context;
 use crate::fields::{getter_name, getter_type, setter_name, setter_type};
-use crate::uses::{Uses, uses_of};
 use const_pool::Pool;
 use hierarchy::symbols::equal;
 use hierarchy::{Field, Method, Program};
 use jmodel::Halt;
+use jmodel::op::Op;
 use std::alloc::Global;
-use std::marker::Model;
-
-/// The methods that duplicates call for a field; 0 where no duplicate does.
-#[derive(Clone, Copy, Debug)]
-pub struct Calls {
-    pub getter: u16,
-    pub setter: u16,
-}
-
-#[tactic(auto, unfolding(crate::specs::Members::getter_call, crate::specs::Members::method_if_needed))]
-fn getter_call(
-    alloc: Global,
-    pool: &mut Pool,
-    uses: &Uses,
-    number: usize,
-    field: &Field,
-) -> Result<u16, Halt>
-    ensures { Grows (λ n. n) result pool.new (get_call (told_by uses.now) number field.now pool.old) }
-{
-    if !uses.reads(number) {
-        return Ok(0);
-    }
-    let class = field.class().as_slice();
-    let name = getter_name(alloc, field)?;
-    add_method(pool, class, name.as_slice(), getter_type(field))
-}
-
-#[tactic(auto, unfolding(crate::specs::Members::setter_call, crate::specs::Members::method_if_needed))]
-fn setter_call(
-    alloc: Global,
-    pool: &mut Pool,
-    uses: &Uses,
-    number: usize,
-    field: &Field,
-) -> Result<u16, Halt>
-    ensures { Grows (λ n. n) result pool.new (set_call (told_by uses.now) number field.now pool.old) }
-{
-    if !uses.writes(number) {
-        return Ok(0);
-    }
-    let class = field.class().as_slice();
-    let name = setter_name(alloc, field)?;
-    add_method(pool, class, name.as_slice(), setter_type(field))
-}
-
-// The accessors of the field of a number that duplicates call.
-#[tactic(auto, unfolding(crate::specs::Members::calls_of))]
-fn calls_of(
-    alloc: Global,
-    pool: &mut Pool,
-    uses: &Uses,
-    number: usize,
-    field: &Field,
-) -> Result<Calls, Halt>
-    ensures { Grows (λ c. c) result pool.new (calls_for (told_by uses.now) number field.now pool.old) }
-{
-    let getter = getter_call(alloc, pool, uses, number, field)?;
-    let setter = setter_call(alloc, pool, uses, number, field)?;
-    Ok(Calls { getter, setter })
-}
 
 /// The name of a method's duplicate: its own. A method with the name of static initialisers can't be called, so that duplicate has another.
 pub fn duplicate_name(name: &[u8]) -> &[u8]
@@ -87,20 +25,33 @@ pub fn duplicate_name(name: &[u8]) -> &[u8]
     }
 }
 
-// The duplicate of the method of a number, where duplicates call it.
-#[tactic(auto, unfolding(crate::specs::Members::duplicate_call, crate::specs::Members::method_if_needed))]
-fn duplicate_call(
-    alloc: Global,
-    pool: &mut Pool,
-    uses: &Uses,
-    number: usize,
-    method: &Method,
-) -> Result<u16, Halt>
-    ensures { Grows (λ n. n) result pool.new (call_of_duplicate (told_by uses.now) number method.now pool.old) }
+// The index of a field's getter, which the class that declares the field has.
+#[tactic(auto, unfolding(crate::specs::Members::call_index))]
+fn getter_index(alloc: Global, pool: &mut Pool, field: &Field) -> Result<u16, Halt>
+    ensures { Grows (λ n. n) result pool.new (call_index (Some (getter_named field.now)) pool.old) }
 {
-    if !uses.calls(number) {
-        return Ok(0);
-    }
+    let class = field.class().as_slice();
+    let name = getter_name(alloc, field)?;
+    add_method(pool, class, name.as_slice(), getter_type(field))
+}
+
+// The index of its setter.
+#[tactic(auto, unfolding(crate::specs::Members::call_index))]
+fn setter_index(alloc: Global, pool: &mut Pool, field: &Field) -> Result<u16, Halt>
+    ensures { Grows (λ n. n) result pool.new (call_index (Some (setter_named field.now)) pool.old) }
+{
+    let class = field.class().as_slice();
+    let name = setter_name(alloc, field)?;
+    add_method(pool, class, name.as_slice(), setter_type(field))
+}
+
+ghost use Rattle.std.specs.Prelude.{Some};
+
+// The index of a method's duplicate.
+#[tactic(auto, unfolding(crate::specs::Members::call_index))]
+fn duplicate_index(alloc: Global, pool: &mut Pool, method: &Method) -> Result<u16, Halt>
+    ensures { Grows (λ n. n) result pool.new (call_index (Some (duplicate_named method.now)) pool.old) }
+{
     let name = method.name();
     let class = name.class.as_slice();
     let descriptor = with_context(alloc, name.descriptor.as_slice())?;
@@ -108,82 +59,40 @@ fn duplicate_call(
     add_method(pool, class, name, descriptor.as_slice())
 }
 
-fn all_calls(
-    alloc: Global,
-    pool: &mut Pool,
-    uses: &Uses,
-    fields: &[Field],
-) -> Result<Vec<Calls>, Halt>
-    ensures { Grows (λ v. v.items) result pool.new (grow_from (calls_for (told_by uses.now)) 0 fields.now pool.old) }
+// The index of the method that the block of an instruction calls, 0 where it calls none.
+#[tactic(auto, unfolding(crate::specs::Members::call_index))]
+fn index_of(alloc: Global, pool: &mut Pool, original: &Program, op: &Op) -> Result<u16, Halt>
+    ensures { Grows (λ n. n) result pool.new (call_index (callee original.now op.now) pool.old) }
 {
-    let mut calls = Vec::new(alloc);
-    for (number, field) in fields.iter().enumerate() {
-        calls.push(calls_of(alloc, pool, uses, number, field)?)?;
-    }
-    Ok(calls)
-}
-
-fn all_duplicates(
-    alloc: Global,
-    pool: &mut Pool,
-    uses: &Uses,
-    methods: &[Method],
-) -> Result<Vec<u16>, Halt>
-    ensures { Grows (λ v. v.items) result pool.new (grow_from (call_of_duplicate (told_by uses.now)) 0 methods.now pool.old) }
-{
-    let mut duplicates = Vec::new(alloc);
-    for (number, method) in methods.iter().enumerate() {
-        duplicates.push(duplicate_call(alloc, pool, uses, number, method)?)?;
-    }
-    Ok(duplicates)
-}
-
-/// The indexes of what duplicates name, by the numbers of fields and methods.
-#[derive(Debug, Drop)]
-pub struct Names {
-    accessors: Vec<Calls>,
-    duplicates: Vec<u16>,
-}
-
-impl Model for Names {
-    ghost use Rattle.rewriter.specs.Members.{Names as Form};
-
-    ghost Value = { Form };
-
-    ghost view = { λ n. record { accessors = n.accessors.items; duplicates = n.duplicates.items } };
-}
-
-impl Names {
-    /// The accessors of fields.
-    pub fn accessors(&self) -> &[Calls]
-        ensures { result.now ≡ self.now.accessors }
-    {
-        self.accessors.as_slice()
-    }
-
-    /// The duplicates of methods.
-    pub fn duplicates(&self) -> &[u16]
-        ensures { result.now ≡ self.now.duplicates }
-    {
-        self.duplicates.as_slice()
+    match op {
+        Op::GetStatic(f) => match original.fields().get(*f) {
+            Some(field) => getter_index(alloc, pool, field),
+            None => Ok(0),
+        },
+        Op::PutStatic(f) => match original.fields().get(*f) {
+            Some(field) => setter_index(alloc, pool, field),
+            None => Ok(0),
+        },
+        Op::InvokeStatic(m) => match original.methods().get(*m) {
+            Some(method) => duplicate_index(alloc, pool, method),
+            None => Ok(0),
+        },
+        _ => Ok(0),
     }
 }
 
-/// What the duplicates of a class with these methods of a program name. Refused as PoolFull.
-#[tactic(auto, unfolding(crate::specs::Rewritten::names_of))]
-pub fn names_of(
+/// The index of the method that the block of each instruction calls, 0 for one that calls none.
+pub fn calls_of(
     alloc: Global,
     pool: &mut Pool,
     original: &Program,
-    own: &[Method],
-) -> Result<Names, Halt>
-    ensures { Grows (λ n. n) result pool.new (all_names original.now own.now pool.old) }
+    ops: &[Op],
+) -> Result<Vec<u16>, Halt>
+    ensures { Grows (λ v. v.items) result pool.new (calls_for original.now ops.now pool.old) }
 {
-    let uses = uses_of(alloc, own)?;
-    let accessors = all_calls(alloc, pool, &uses, original.fields())?;
-    let duplicates = all_duplicates(alloc, pool, &uses, original.methods())?;
-    Ok(Names {
-        accessors,
-        duplicates,
-    })
+    let mut calls = Vec::new(alloc);
+    for op in ops {
+        calls.push(index_of(alloc, pool, original, op)?)?;
+    }
+    Ok(calls)
 }

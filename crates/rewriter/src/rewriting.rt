@@ -1,19 +1,18 @@
 //! The rewriting of a class, part after part.
-ghost use Rattle.std.specs.Prelude.{◌≡◌, ◌<◌, ◌^◌, map, zip, option_copied, IfOk, IfSome};
-ghost use Rattle.std.specs.List.{flat_map, AllByRecursion};
+ghost use Rattle.std.specs.Prelude.{◌≡◌, ◌<◌, ◌-◌, ◌^◌, map, zip, option_copied, IfOk, IfSome};
 ghost use Rattle.jmodel.specs.ClassFile.{Member as MemberForm};
 ghost use Rattle.jmodel.specs.Program.{Method as MethodForm};
+ghost use Rattle.std.specs.List.{flat_map, AllByRecursion};
 ghost use Rattle.jmodel.specs.Reading.{Gives};
 ghost use Rattle.rewriter.specs.Adding.{Grows};
 ghost use Rattle.rewriter.specs.Made.{IsSmallMethod, CanBeMade, AreMade, CanBeRewritten};
 ghost use Rattle.rewriter.specs.Members.{address_member as address, accessors_of as accessors, duplicate_of as duplicate};
-ghost use Rattle.rewriter.specs.Rewritten.{grow_from, wrapper_if as wrapper_of_some, replaced as replaced_method, old_from, bases as base_of, both_of, added_fields as all_fields, duplicates as all_duplicates, added_methods as all_added, new_methods as all_methods, rewritten_share};
+ghost use Rattle.rewriter.specs.Rewritten.{grow_from, wrapper_if as wrapper_of_some, replaced as replaced_method, old_from, bases as base_of, both_of, added_fields as all_fields, room_in as room_of, duplicates as all_duplicates, added_methods as all_added, new_methods as all_methods, rewritten_share};
 
 use crate::accessors::{Accessors, accessors_of};
 use crate::copies::{copy_attributes, copy_member, copy_members, copy_pool};
 use crate::duplicates::duplicate_of;
 use crate::fields::{address_member, base_member};
-use crate::names::{Names, names_of};
 use crate::share::Share;
 use crate::wrappers::wrapper_of;
 use const_pool::{ClassFile, Member, Pool};
@@ -53,53 +52,65 @@ fn added_fields(alloc: Global, pool: &mut Pool, fields: &[Field]) -> Result<Vec<
     Ok(members)
 }
 
+// How many more methods a class has room for.
+fn room_in(class: &ClassFile) -> usize
+    ensures { result ≡ room_of class.now }
+{
+    65535usize.saturating_sub(class.methods.len())
+}
+
 fn all_accessors(
     alloc: Global,
     pool: &mut Pool,
+    room: usize,
     own: &[u8],
     fields: &[Field],
 ) -> Result<Vec<Accessors>, Halt>
-    ensures { Grows (λ v. v.items) result pool.new (grow_from (λ n f. accessors own.now f) 0 fields.now pool.old) }
+    ensures { Grows (λ v. v.items) result pool.new (grow_from (λ n f. accessors (room - n - n) own.now f) 0 fields.now pool.old) }
 {
     let mut members = Vec::new(alloc);
-    for field in fields {
-        members.push(accessors_of(alloc, pool, own, field)?)?;
+    for (n, field) in fields.iter().enumerate() {
+        let left = room.saturating_sub(n).saturating_sub(n);
+        members.push(accessors_of(alloc, pool, left, own, field)?)?;
     }
     Ok(members)
 }
 
+// The duplicates of methods, each with its member, in a class that has room for so many more methods.
 fn duplicate_each(
     alloc: Global,
     pool: &mut Pool,
+    original: &Program,
     class: &ClassFile,
-    names: &Names,
+    room: usize,
     methods: &[Method],
     members: &[&Member],
 ) -> Result<Vec<Member>, Halt>
-    requires { AllByRecursion (CanBeMade class.now names.now) (zip methods.now (map (λ m. m.now) members.now)) }
-    ensures { Grows (λ v. v.items) result pool.new (grow_from (λ n (p : MethodForm × MemberForm). duplicate class.now names.now p.0 p.1) 0 (zip methods.now (map (λ m. m.now) members.now)) pool.old) }
+    requires { AllByRecursion (CanBeMade class.now) (zip methods.now (map (λ m. m.now) members.now)) }
+    ensures { Grows (λ v. v.items) result pool.new (grow_from (λ n (p : MethodForm × MemberForm). duplicate original.now class.now (room - n) p.0 p.1) 0 (zip methods.now (map (λ m. m.now) members.now)) pool.old) }
 {
     let mut copies = Vec::new(alloc);
     for (method, member) in methods.iter().zip(members) {
-        copies.push(duplicate_of(alloc, pool, class, names, method, member)?)?;
+        let left = room.saturating_sub(copies.len());
+        copies.push(duplicate_of(alloc, pool, original, class, left, method, member)?)?;
     }
     Ok(copies)
 }
 
-// The duplicates, with the methods that they call.
-#[tactic(auto, unfolding(crate::specs::Rewritten::duplicates))]
+// The duplicates, in a class that has room for so many more methods.
 fn duplicates(
     alloc: Global,
     pool: &mut Pool,
     original: &Program,
     class: &ClassFile,
     share: &Share<'_>,
+    room: usize,
 ) -> Result<Vec<Member>, Halt>
     requires { AreMade class.now share.now }
-    ensures { Grows (λ v. v.items) result pool.new (all_duplicates original.now class.now share.now pool.old) }
+    ensures { Grows (λ v. v.items) result pool.new (all_duplicates original.now class.now share.now room pool.old) }
 {
-    let names = names_of(alloc, pool, original, share.methods())?;
-    duplicate_each(alloc, pool, class, &names, share.methods(), share.members())
+    let methods = share.methods();
+    duplicate_each(alloc, pool, original, class, room, methods, share.members())
 }
 
 // A method of the program that may make so many attempts gets its wrapper, any other stays as it is.
@@ -188,8 +199,11 @@ fn added_methods(
     requires { AreMade class.now share.now }
     ensures { Grows (λ v. v.items) result pool.new (all_added original.now class.now share.now pool.old) }
 {
-    let accessors = all_accessors(alloc, pool, own_name(class), share.fields())?;
-    let mut copies = duplicates(alloc, pool, original, class, share)?;
+    let room = room_in(class);
+    let count = share.fields().len();
+    let accessors = all_accessors(alloc, pool, room, own_name(class), share.fields())?;
+    let room = room.saturating_sub(count).saturating_sub(count);
+    let mut copies = duplicates(alloc, pool, original, class, share, room)?;
     let mut members = in_order(alloc, accessors)?;
     members.append(&mut copies)?;
     Ok(members)
@@ -214,11 +228,11 @@ fn new_methods(
 
 /// The rewriting of a class with its share of a program: a field for the place of each static field and one for the static base, accessors,
 /// a duplicate of each method of the program, and a wrapper in the place of each marked one and each static initialiser. Every other method
-/// stays as it is. The old pool is a front of the new one, to which only needed entries are added. Refused, at the first member that can't
-/// be made, as
+/// stays as it is. The old pool is a front of the new one, to which only needed entries are added. Refused at the first member that can't
+/// be made, in the order of places, static base, accessors, duplicates and wrappers, as
 ///
-/// - `TooManyPlaces` with an old method's printed name and `Locals` or `Stack`, where its duplicate would have more than two
-///   bytes count, or `Methods`, where it would get the wrapper of number 65536 or more;
+/// - `TooManyPlaces` with an added method's printed name and `Methods`, where the class would have more than 65535 methods, or with an old
+///   method's and `Locals` or `Stack`, where its duplicate would have more of them than two bytes count;
 /// - else `PoolFull`, whose class the caller names, where the pool's count would pass 65535;
 /// - else `CodeTooLarge` or `BranchTooFar` with an old method's printed name, where the code of its duplicate or wrapper
 ///   can't be laid; the pc is that of the jump in the old method.

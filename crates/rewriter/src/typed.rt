@@ -1,5 +1,5 @@
 //! The rewriting of classes, with the program that they mean and the types of its code.
-ghost use Rattle.std.specs.Prelude.{◌≡◌, ◌<◌, Ok, IfOk, length, map};
+ghost use Rattle.std.specs.Prelude.{◌≡◌, ◌<◌, ◌^◌, Ok, IfOk, length, map};
 ghost use Rattle.std.specs.List.{AllByRecursion, AllZip};
 ghost use Rattle.jmodel.specs.ClassFile.{ClassFile as ClassForm};
 ghost use Rattle.jmodel.specs.ClassRules.{IsClassFile};
@@ -76,8 +76,8 @@ fn rebuilt(
 
 /// The rewriting of typed classes, in the byte order of their names, over the program that they mean: the classes as
 /// `rewrite_classes` makes them, with its refusals; the program that they mean, each method of which has a typing (JVM Specification,
-/// Java SE 7, section 4.10). A class keeps the rules of class files, so it can be written, where it has at most 65535 fields and as many
-/// methods.
+/// Java SE 7, section 4.10). A class has at most 65535 methods, and it keeps the rules of class files, so it can be written, where it has at
+/// most as many fields.
 pub fn rewrite(alloc: Global, classes: &[&ClassFile], original: &Program) -> Result<Rewriting, Halt>
     // The classes are ones that were read, no two of one name, and the program is the one that they mean.
     requires linked { AreLinked (map (λ c. c.now) classes.now) original.now }
@@ -85,6 +85,7 @@ pub fn rewrite(alloc: Global, classes: &[&ClassFile], original: &Program) -> Res
     requires typed { AllByRecursion (IsTypable original.now) original.now.methods }
     ensures classes { Gives (λ r. r.classes.items) result (rewritten_classes (map (λ c. c.now) classes.now) original.now) }
     ensures keeps { IfOk result (λ r. AllZip Keeps (map (λ c. c.now) classes.now) r.classes.items) }
+    ensures few { IfOk result (λ r. AllByRecursion (λ (c : ClassForm). length c.methods < 2 ^ 16) r.classes.items) }
     ensures form { IfOk result (λ r. AllByRecursion (λ (c : ClassForm). HasFewMembers c → IsClassFile c) r.classes.items) }
     ensures program { IfOk result (λ r. r.program ≡ rewritten original.now) }
     ensures typed { IfOk result (λ r. AllByRecursion (IsTypable r.program) r.program.methods) }

@@ -1,5 +1,5 @@
 //! Wrappers: the loop of attempts that takes the place of the code of a marked method or a static initialiser.
-ghost use Rattle.std.specs.Prelude.{◌≡◌, ◌<◌, IfOk, map};
+ghost use Rattle.std.specs.Prelude.{◌≡◌, ◌<◌, ◌^◌, IfOk, map};
 ghost use Rattle.jmodel.specs.Name.{printed};
 ghost use Rattle.rewriter.specs.Adding.{Grows};
 ghost use Rattle.jmodel.specs.Reading.{Gives};
@@ -10,14 +10,13 @@ use crate::accessors::add_context_call;
 use crate::adding::{add_class, add_integer, add_method};
 use crate::copies::copy_attribute;
 use crate::descriptors::with_context;
-use crate::duplicates::too_many;
 use crate::laying::bytes_of_method;
 use crate::loops::wrapper_blocks;
 use crate::names::duplicate_name;
 use const_pool::{Attribute, ClassFile, Handler, Member, Pool};
 use hierarchy::Method;
 use hierarchy::symbols::is_named;
-use jmodel::{Bytes, Halt};
+use jmodel::{Bytes, Halt, Refusal};
 use std::alloc::{AllocError, Global};
 
 /// What a wrapper names to begin an attempt.
@@ -39,13 +38,14 @@ pub struct Ending {
 }
 
 #[tactic(auto, unfolding(crate::specs::Members::opening_of))]
-fn opening_of(pool: &mut Pool, number: u16, attempts: i32) -> Result<Opening, Halt>
+fn opening_of(pool: &mut Pool, number: u32, attempts: i32) -> Result<Opening, Halt>
+    requires { number < 2 ^ 31 }
     ensures { Grows (λ o. o) result pool.new (opening number attempts pool.old) }
 {
     let class = b"org/deuce/transaction/ContextDelegator";
     let descriptor = b"()Lorg/deuce/transaction/Context;";
     let get = add_method(pool, class, b"getInstance", descriptor)?;
-    let number = add_integer(pool, i32::from(number))?;
+    let number = add_integer(pool, number as i32)?;
     let retries = add_integer(pool, attempts)?;
     let init = add_context_call(pool, b"init", b"(II)V")?;
     Ok(Opening {
@@ -169,8 +169,8 @@ fn with_code(
     })
 }
 
-/// The wrapper of a method, with its number among the wrappers, for so many attempts. Refused as TooManyPlaces where the number has more than two
-/// bytes, else as PoolFull, CodeTooLarge or BranchTooFar.
+/// The wrapper of a method, with its number among the wrappers, for so many attempts. Refused as PoolFull, also where the number has more than
+/// 31 bits, which no Integer of a pool holds, else as CodeTooLarge or BranchTooFar.
 #[tactic(auto, unfolding(crate::specs::Members::wrapper_of))]
 pub fn wrapper_of(
     alloc: Global,
@@ -184,10 +184,10 @@ pub fn wrapper_of(
     requires { IsSmallMethod method.now }
     ensures { Grows (λ m. m) result pool.new (wrapper class.now number attempts method.now member.now pool.old) }
 {
-    if number > 65535 {
-        return Err(too_many(alloc, method.name(), b"Methods")?);
+    if number > 2_147_483_647 {
+        return Err(Halt::Refused(Refusal::PoolFull(Bytes::new(alloc))));
     }
-    let opening = opening_of(pool, number as u16, attempts)?;
+    let opening = opening_of(pool, number as u32, attempts)?;
     let ending = ending_of(alloc, pool, method)?;
     let bytes = wrapper_bytes(alloc, method, opening, ending)?;
     Ok(with_code(alloc, &class.pool, &bytes, member)?)

@@ -1,8 +1,0 @@
-use Rattle.std.proofs.Common.{◌≡◌, ◌-◌}
-use Rattle.jmodel.specs.Reading.{items_at}
-use Rattle.jmodel.specs.ClassFileReading.{field_at}
-use Rattle.const_pool.proofs.Loops.{with_front}
-use Rattle.class_reader.proofs.members.field_list.Given as goal
-
-abbrev pub invariant-loop : goal.invariant-loop
-invariant-loop l = with_front l.items.items (items_at (field_at l.pool l.bytes) (l.count - l.counter) l.at) ≡ items_at (field_at l.pool l.bytes) l.count l.start
