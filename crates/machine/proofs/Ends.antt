@@ -20,7 +20,7 @@ use Rattle.tx_core.specs.declared.engine.TxEnd.{TxEnd}
 use Rattle.tx_core.specs.declared.engine.TxEnd.TheVariants.{Conflict, NoMemory}
 use Rattle.tx_core.specs.Engine.{raised, IsAllowed, IsOfWrites, Adds, MayEnd}
 use Rattle.machine.specs.Machine.{MayRun, MayStart, AddsEntry, AddsNone, AddsBy, AddsRun, Begins, HasTried, TriesBy, TriesRun}
-use Rattle.machine.specs.Running.{at, Holds, Leaves, IsWithin, IsTurn, HasTurned, IsCommit, IsLast, IsStarted, HasAdded, Ends, OnWay, IsEndBy, IsEnd}
+use Rattle.machine.specs.Running.{at, Holds, Leaves, IsWithin, HasTurned, IsCommit, IsLast, IsStarted, HasAdded, Ends, OnWay, IsEndBy, IsEnd}
 use Rattle.machine.proofs.Comes.{comes_on, comes_trans, comes_here}
 
 -- within the attempts the clock stays low

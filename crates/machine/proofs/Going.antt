@@ -1,18 +1,18 @@
 -- Instructions that ask for nothing, one after another.
-use Rattle.std.proofs.Common.{◌≡◌, ℕ, suc, Bool, true, false, ◌&&◌, nat_le, [], ◌∷◌, Result, Ok, Err, Option, Some, None, option_and_then, slice_get, refl, ap, sym, ◌∙◌}
+use Rattle.std.proofs.Common.{◌≡◌, ℕ, suc, Bool, true, false, ◌&&◌, nat_le, ◌∷◌, Result, Ok, Err, Option, Some, None, option_and_then, slice_get, refl, ap, ◌∙◌}
 use Rattle.jmodel.specs.declared.op.Op.{Op}
 use Rattle.jmodel.specs.declared.op.Doing.{Doing}
 use Rattle.jmodel.specs.declared.op.Doing.TheVariants.{Next, Jump}
 use Rattle.jmodel.specs.declared.op.Phase.{Phase}
 use Rattle.jmodel.specs.declared.op.Phase.TheVariants.{Open}
 use Rattle.jmodel.specs.Program.{Program, Method, method_at, op_at, is_counted, is_counted_in}
-use Rattle.jmodel.specs.Step.{Frame, Frames, Did, Asked, Does, Wrong, Fails, step, acts, does, next, at as at_place, jumps, goes, on_did, on_doing}
+use Rattle.jmodel.specs.Step.{Frame, Frames, Asked, Does, Wrong, Fails, step, acts, does, next, at as at_place, jumps, goes, on_did, on_doing}
 use Rattle.jmodel.specs.Attempt.{Log, Bounds, Meter, Run, On, Gives, on_asked, next_run, with_turns, Comes}
 use Rattle.machine.specs.declared.failure.Failure.{Failure}
 use Rattle.machine.specs.declared.failure.Failure.TheVariants as failure
 use Rattle.machine.specs.declared.running.Running.{Running}
 use Rattle.machine.specs.Meets.{Meets, IsDone}
-use Rattle.machine.specs.Running.{at, meter, phase_of, HasJumped}
+use Rattle.machine.specs.Running.{at, meter, phase_of}
 use Rattle.machine.proofs.Comes.{comes_on}
 
 -- the instruction that a frame stands at

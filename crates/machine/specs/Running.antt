@@ -3,7 +3,6 @@ use Rattle.std.specs.Prelude.{◌≡◌, ℕ, ◌+◌, ◌≤◌, Bool, List, []
 use Rattle.jmodel.specs.declared.value.Value.{Value}
 use Rattle.jmodel.specs.declared.value.Answer.{Answer}
 use Rattle.jmodel.specs.declared.value.Answer.TheVariants as answer
-use Rattle.jmodel.specs.declared.value.Stamp.{Stamp}
 use Rattle.jmodel.specs.declared.op.Phase.{Phase}
 use Rattle.jmodel.specs.declared.op.Phase.TheVariants as phase
 use Rattle.jmodel.specs.declared.op.Doing.{Doing}
