@@ -20,7 +20,7 @@ use Rattle.jmodel.specs.Name.{printed}
 use Rattle.jmodel.specs.Decoding.{own_name}
 use Rattle.rewriter.specs.Adding.{index_of, put, put_wide, is_utf8, put_utf8, utf8_if, add_utf8, is_integer, integer_if, add_integer, is_long, long_if, add_long, is_class, put_class, class_if, add_class, is_pair, put_pair, pair_if, add_pair, is_field, put_field, field_if, add_field, is_method, put_method, method_if, add_method}
 use Rattle.jmodel.specs.WordTypes.{type_descriptor, read_descriptor, write_descriptor}
-use Rattle.rewriter.specs.Members.{added_method, context_class, getter_type, setter_type, getter_name, setter_name, address_name, typed_name, constant_value, address_member, base_member, place_refs, look_refs, read_refs, getter_body, setter_body, accessor, getter_of, setter_of, accessors_of, getter_code, setter_code, straight_bytes, calls_of, blocks_from, coded_duplicate, duplicate_of, opening_of, ending_of, wrapper_bytes, wrapper_of, with_code, getter_named, setter_named, duplicate_named, room_for, few_places, callee, call_index, duplicate_refs, duplicate_texts, duplicate_bytes, made_duplicate}
+use Rattle.rewriter.specs.Members.{added_method, duplicate_flags, context_class, getter_type, setter_type, getter_name, setter_name, address_name, typed_name, constant_value, address_member, base_member, place_refs, look_refs, read_refs, getter_body, setter_body, accessor, getter_of, setter_of, accessors_of, getter_code, setter_code, straight_bytes, calls_of, blocks_from, coded_duplicate, duplicate_of, opening_of, ending_of, wrapper_bytes, wrapper_of, with_code, getter_named, setter_named, duplicate_named, room_for, few_places, callee, call_index, duplicate_refs, duplicate_texts, duplicate_bytes, made_duplicate}
 use Rattle.rewriter.specs.Rewritten.{grow_from, wrapper_if, replaced, number_behind, id_behind, old_from, bases, added_fields, room_in, duplicates, added_methods, new_methods, rewritten_share, Keeps}
 use Rattle.rewriter.specs.Part.{Share}
 
