@@ -1,7 +1,7 @@
 use Rattle.std.specs.Vec.Iter.{into_iter_items}
 use Rattle.std.specs.Iterator.Adapters.{zip_first, zip_second}
 use Rattle.driver.proofs.Zipped.{joined_more, joined_all, zip_more, zip_end}
-use Rattle.driver.proofs.journal.Journal.add_phase.Goals as goal
+use Rattle.driver.proofs.journal.Records.add_phase.Goals as goal
 
 pub returns-clause-unplaced : goal.returns-clause-unplaced
 returns-clause-unplaced c =

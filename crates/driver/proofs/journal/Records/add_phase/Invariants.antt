@@ -2,7 +2,7 @@ use Rattle.std.proofs.Common.{◌≡◌, ◌++◌}
 use Rattle.std.specs.Vec.Iter.{into_iter_items}
 use Rattle.std.specs.Iterator.Adapters.{zip_first, zip_second}
 use Rattle.driver.specs.Sides.{unplaced_of, joined}
-use Rattle.driver.proofs.journal.Journal.add_phase.Given as goal
+use Rattle.driver.proofs.journal.Records.add_phase.Given as goal
 
 abbrev pub invariant-loop-one : goal.invariant-loop-one
 invariant-loop-one l = record {
