@@ -231,6 +231,8 @@ impl Ruled for OneLane {
     ghost rule = { λ e. ⊤ };
 
     ghost keeps = { λ s e r. r };
+
+    ghost ruled = { λ s e r. r };
 }
 
 #[test]

@@ -177,6 +177,8 @@ impl Engine for Refusing {
 
     ghost allows = { λ e. Unit {0} };
 
+    ghost begins = { λ first opened. ⊥ };
+
     ghost is_shared = { ⊥ };
 
     ghost clock = { λ s. s.solo.clock };
@@ -224,6 +226,8 @@ impl Engine for Refusing {
     fn ticks(&self) -> u64 {
         self.solo.ticks()
     }
+
+    ghost snapshot = { λ e h n r w c used stands opens awaits leads. absurd stands };
 }
 
 /// A region of 8 words, which begins at address 8.

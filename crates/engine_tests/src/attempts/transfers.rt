@@ -37,6 +37,8 @@ impl Ruled for Accounts {
     ghost rule = { λ e. ⊤ };
 
     ghost keeps = { λ s e r. r };
+
+    ghost ruled = { λ s e r. r };
 }
 
 /// A lane's number, and the pass that it starts with.
