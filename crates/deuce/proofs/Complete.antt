@@ -1,5 +1,5 @@
 -- What can be run is run, and what can be rewritten is rewritten.
-use Rattle.std.proofs.Common.{◌≡◌, ◌≤◌, ◌⊎◌, ℕ, zero, suc, List, [], ◌∷◌, ◌++◌, length, take, Option, Some, None, Result, Ok, Err, inl, inr, refl, sym, ap, ◌∙◌, subst, arith}
+use Rattle.std.proofs.Common.{◌≡◌, ◌≤◌, ◌+◌, ◌⊎◌, ℕ, zero, suc, List, [], ◌∷◌, ◌++◌, length, take, Option, Some, None, Result, Ok, Err, inl, inr, refl, sym, ap, ◌∙◌, subst, arith}
 use Rattle.std.specs.Prelude.{String, string_bytes, option_map, Contains}
 use Rattle.std.specs.declared.alloc.Global.{Global}
 use Rattle.std.specs.List.{AllByRecursion, AllZip}
@@ -21,14 +21,15 @@ use Rattle.class_reader.proofs.ClassLaws.{class_again}
 use Rattle.rewriter.specs.Meaning.{HasFewMembers}
 use Rattle.rewriter.specs.RewrittenClasses.{rewritten_classes}
 use Rattle.deuce.specs.Command.{NamesFolder}
-use Rattle.script.specs.Script.{Script, script_in, IsScript}
+use Rattle.script.specs.Script.{Script, script_in, script_limit, IsScript}
 use Rattle.deuce.specs.Headline.{linked_files, IsRunnable, CanRun}
 use Rattle.deuce.specs.Rewritten.{CanRewrite}
 use Rattle.deuce.specs.declared.outcome.Outcome.{Outcome}
 use Rattle.deuce.specs.declared.outcome.Outcome.TheVariants.{Journal, Rewritten, Usage, BadClass, BadProgram, Untyped, BadScript, Unopened, Outside, NotPut, NotBuilt}
-use Rattle.deuce.specs.Folder.{HoldsClasses, IsTooDeep, HasManyClasses, IsOverfull, IsGoodFile, HasClasses, IsBadClass}
+use Rattle.deuce.specs.Folder.{class_limit, HoldsClasses, IsTooDeep, HasManyClasses, IsOverfull, IsGoodFile, HasClasses, IsBadClass}
 use Rattle.deuce.specs.Ending.{IsBadProgram, HasBadProgram, IsUntypable, IsBadScript, HasBadScript, IsUnopened, HasUnopened, IsOutsideForm, IsNotRewritten, CanRunIn, CanRewriteIn}
-use Rattle.deuce.specs.Outcomes.{Seen, Says, IsBadProgramOfWords, IsUntypableOfWords, IsNotBuilt, IsBadClassOfWords, IsBadScriptOfWords, IsUnopenedOfWords, CanRunWords, CanRewriteWords, status_of}
+use Rattle.deuce_io.specs.Seen.{Seen}
+use Rattle.deuce.specs.Outcomes.{Says, IsBadProgramOfWords, IsUntypableOfWords, IsNotBuilt, IsBadClassOfWords, IsBadScriptOfWords, IsUnopenedOfWords, CanRunWords, CanRewriteWords, status_of}
 use Rattle.deuce.proofs.Folders.{same_paths}
 use Rattle.deuce.proofs.Lists.{all_at}
 use Rattle.deuce.proofs.Asked.{one_run, one_rewriting, apart, run_folder, rewriting_folder}
@@ -109,10 +110,10 @@ module _ (told : Files) (dir : List ℕ) where
         let good = one.1 in
         let within = good.is_file.0 in
         let holds : told path ≡ Some good.bytes = rw bad.class_path (good.holds told refl) in
-        let bytes : bad.bytes ≡ good.bytes = front_is (told path) 1048577 good.bytes bad.bytes holds (bad.front told refl) (omega (arith, within)) in
+        let bytes : bad.bytes ≡ good.bytes = front_is (told path) (class_limit + 1) good.bytes bad.bytes holds (bad.front told refl) (omega (arith, within)) in
         elim (bad.fault) as (λ _. ⊥) [
           | inl long ↦ let size : length bad.bytes ≡ length good.bytes = ap length bytes in omega (arith, long.0, size, within)
-          | inr none ↦ none.0 one.0 (subst (λ (b : List ℕ). Spells b one.0) (sym bytes) good.is_file.1)
+          | inr none ↦ none.1.0 one.0 (subst (λ (b : List ℕ). Spells b one.0) (sym bytes) good.is_file.1)
         ]
 
 -- ---- classes that can be run
@@ -194,7 +195,7 @@ good_script told dir script r can bad =
     let has = can.of_classes in
     let run = has.holding in
     let is = run.is_script in
-    let front : bad.script_bytes ≡ can.script_bytes = front_is (told script) 16777217 can.script_bytes bad.script_bytes can.script_holds (bad.script_front told refl) (let few = is.fits in omega (arith, few)) in
+    let front : bad.script_bytes ≡ can.script_bytes = front_is (told script) (script_limit + 1) can.script_bytes bad.script_bytes can.script_holds (bad.script_front told refl) (let few = is.fits in omega (arith, few)) in
     let of_classes : IsBadScript can.script_bytes r has.classes = subst (λ (b : List ℕ). IsBadScript b r has.classes) front (held told dir (CanRunOn can.script_bytes) has (IsBadScript bad.script_bytes r) bad.of_classes) in
     let same = one_program has.classes run.program of_classes.0 run.runnable.links of_classes.1.links in
     of_classes.2.none run.script (subst (λ (p : Program). IsScript (in_order has.classes) p can.script_bytes run.script) same is)

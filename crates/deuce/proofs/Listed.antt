@@ -6,6 +6,7 @@ use Rattle.std.specs.List.{AllByRecursion}
 use Rattle.std.proofs.lemmas.List.{length-map, get_or-map, map-append, take_more}
 use Rattle.deuce_io.specs.Fault.{Call, HasFailed, rose_since}
 use Rattle.deuce_io.specs.Files.{Files}
+use Rattle.deuce_io.specs.Seen.{Seen}
 use Rattle.deuce_io.specs.declared.end.IoEnd.{IoEnd}
 use Rattle.deuce_io.specs.declared.end.IoEnd.TheVariants as io
 use Rattle.jmodel.specs.declared.refusal.Refusal.TheVariants.{OverLimit}
@@ -26,19 +27,19 @@ read_more paths i e old new input more so_far lt is =
     ∙ ap (λ (l : List (List ℕ)). l ++ path ∷ []) so_far ∙ ap (λ (n : List ℕ). take i (seen_texts paths) ++ n ∷ []) (sym at) ∙ sym (take_more (seen_texts paths) i path (omega (arith, length-map paths string_bytes, lt)))
 
 -- what is asked later is asked since, and is more that may be asked
-module _ (Asks Other : Call → Type 0) (first before now : ℕ) (last : Option Call) (later : first ≤ before) (as_other : (call : Call) → Asks call → Other call) where
-  failed_as : (path : List ℕ) → Failed Asks path before now last → Failed Other path first now last
-  failed_as path h = record { rose = rose_since first before now later h.rose; call = h.call; is_last = h.is_last; asked = as_other h.call h.asked; at_path = h.at_path }
+module _ (Asks Other : Call → Type 0) (first before now : Seen) (later : first.faults ≤ before.faults) (as_other : (call : Call) → Asks call → Other call) where
+  failed_as : (path : List ℕ) → Failed Asks path before now → Failed Other path first now
+  failed_as path h = record { rose = rose_since first.faults before.faults now.faults later h.rose; call = h.call; is_last = h.is_last; asked = as_other h.call h.asked; at_path = h.at_path }
 
-  pub reads_as : (e : InputEnd) → EndsReads Asks before now last e → EndsReads Other first now last e
+  pub reads_as : (e : InputEnd) → EndsReads Asks before now e → EndsReads Other first now e
   reads_as (ends.Outside p) h = failed_as (string_bytes p) h
   reads_as (ends.BadClass p r) h = absurd h
   reads_as (ends.Refused r) h = absurd h
   reads_as ends.NoMemory h = tt
 
 -- a call of the folder that failed, where this may be asked
-module _ (Asks : Call → Type 0) (before now : ℕ) (last : Option Call) (call : Call) (asked : Asks call) where
-  pub failed_at : (end : IoEnd) (e : InputEnd) → (end ≡ io.Failed → HasFailed before now last call) → IsOutsideAt end call.path e → EndsReads Asks before now last e
+module _ (Asks : Call → Type 0) (old new : Seen) (call : Call) (asked : Asks call) where
+  pub failed_at : (end : IoEnd) (e : InputEnd) → (end ≡ io.Failed → HasFailed old.faults new.faults new.failed call) → IsOutsideAt end call.path e → EndsReads Asks old new e
   failed_at io.Failed (ends.Outside p) h is = let failed = h refl in record { rose = failed.rose; call = call; is_last = failed.is_last; asked = asked; at_path = sym is }
   failed_at io.NoMemory (ends.Outside p) h is = absurd is
   failed_at io.Failed (ends.BadClass p r) h is = absurd is
@@ -48,38 +49,37 @@ module _ (Asks : Call → Type 0) (before now : ℕ) (last : Option Call) (call 
   failed_at end ends.NoMemory h is = tt
 
 -- what is asked is more that may be asked
-pub inputs_as : (Asks Other : Call → Type 0) (files : Option Files) (dir : List ℕ) (before now : ℕ) (last : Option Call) → ((call : Call) → Asks call → Other call) → (e : InputEnd)
-    → EndsInputs Asks files dir before now last e → EndsInputs Other files dir before now last e
-inputs_as Asks Other files dir before now last as_other (ends.Outside p) h = record { rose = h.rose; call = h.call; is_last = h.is_last; asked = as_other h.call h.asked; at_path = h.at_path }
-inputs_as Asks Other files dir before now last as_other (ends.BadClass p r) h = absurd h
-inputs_as Asks Other files dir before now last as_other (ends.Refused r) h = h
-inputs_as Asks Other files dir before now last as_other ends.NoMemory h = tt
+pub inputs_as : (Asks Other : Call → Type 0) (dir : List ℕ) (old new : Seen) → ((call : Call) → Asks call → Other call) → (e : InputEnd) → EndsInputs Asks dir old new e → EndsInputs Other dir old new e
+inputs_as Asks Other dir old new as_other (ends.Outside p) h = record { rose = h.rose; call = h.call; is_last = h.is_last; asked = as_other h.call h.asked; at_path = h.at_path }
+inputs_as Asks Other dir old new as_other (ends.BadClass p r) h = absurd h
+inputs_as Asks Other dir old new as_other (ends.Refused r) h = h
+inputs_as Asks Other dir old new as_other ends.NoMemory h = tt
 
-module _ (files : Option Files) (dir : List ℕ) (before now : ℕ) (last : Option Call) where
+module _ (dir : List ℕ) (old new : Seen) where
   -- a folder that can't be listed
-  pub unlisted : (e : InputEnd) → EndsReads (IsCallOfFolder files dir) before now last e → EndsListing files dir before now last e
+  pub unlisted : (e : InputEnd) → EndsReads (IsCallOfFolder old.files dir) old new e → EndsListing dir old new e
   unlisted (ends.Outside p) h = h
   unlisted (ends.BadClass p r) h = absurd h
   unlisted (ends.Refused r) h = absurd h
   unlisted ends.NoMemory h = tt
 
   -- or one that lies too deep
-  pub too_deep : (e : InputEnd) → HasDeepFolder files dir → IsOverLimitAs (codes "depth") 17 e → EndsListing files dir before now last e
+  pub too_deep : (e : InputEnd) → HasDeepFolder old.files dir → IsOverLimitAs (codes "depth") 17 e → EndsListing dir old new e
   too_deep (ends.Outside p) deep is = absurd is
   too_deep (ends.BadClass p r) deep is = absurd is
   too_deep (ends.Refused r) deep is = record { deep = deep; refusal = is }
   too_deep ends.NoMemory deep is = tt
 
   -- a folder without paths of class files has none that are read
-  pub unread : (e : InputEnd) → EndsListing files dir before now last e → EndsInputs (IsCallOfFolder files dir) files dir before now last e
+  pub unread : (e : InputEnd) → EndsListing dir old new e → EndsInputs (IsCallOfFolder old.files dir) dir old new e
   unread (ends.Outside p) h = h
   unread (ends.BadClass p r) h = absurd h
   unread (ends.Refused r) h = inl h
   unread ends.NoMemory h = tt
 
   -- a folder of too many class files
-  pub too_many : (Asks : Call → Type 0) (paths : List (List ℕ)) (count : ℕ) (e : InputEnd) → HoldsClasses files dir paths → count ≡ length paths → 256 < count → IsOverLimitAs (codes "classes") count e
-      → EndsInputs Asks files dir before now last e
+  pub too_many : (Asks : Call → Type 0) (paths : List (List ℕ)) (count : ℕ) (e : InputEnd) → HoldsClasses old.files dir paths → count ≡ length paths → 256 < count → IsOverLimitAs (codes "classes") count e
+      → EndsInputs Asks dir old new e
   too_many Asks paths count (ends.Outside p) held many over is = absurd is
   too_many Asks paths count (ends.BadClass p r) held many over is = absurd is
   too_many Asks paths count (ends.Refused r) held many over is =
@@ -87,7 +87,7 @@ module _ (files : Option Files) (dir : List ℕ) (before now : ℕ) (last : Opti
   too_many Asks paths count ends.NoMemory held many over is = tt
 
   -- a class file that can't be read
-  pub not_read : (Asks : Call → Type 0) (e : InputEnd) → EndsReads Asks before now last e → EndsInputs Asks files dir before now last e
+  pub not_read : (Asks : Call → Type 0) (e : InputEnd) → EndsReads Asks old new e → EndsInputs Asks dir old new e
   not_read Asks (ends.Outside p) h = h
   not_read Asks (ends.BadClass p r) h = absurd h
   not_read Asks (ends.Refused r) h = absurd h

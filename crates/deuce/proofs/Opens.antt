@@ -12,6 +12,7 @@ use Rattle.jmodel.specs.Meaning.{header, Represents}
 use Rattle.jmodel.specs.ClassesLinking.{linked}
 use Rattle.jmodel.proofs.ClassesLinked.{links}
 use Rattle.jmodel.proofs.Opening.{opens}
+use Rattle.script.specs.Script.{region_limit}
 use Rattle.driver.specs.declared.memory.Memory.{Memory}
 use Rattle.driver.specs.Memory.{used_at_first, Holds}
 
@@ -71,5 +72,5 @@ opening_holds cs P size n memory h words used room =
 pub room_for : (size lanes n : ℕ) → n ≤ size → n ≤ size * (lanes + 1)
 room_for size lanes n small = let more : 1 * size ≤ (lanes + 1) * size = mul-le-mul_right size (omega arith) in omega (arith, more, small)
 
-pub few_words : (size lanes : ℕ) → size ≤ 1048576 → lanes ≤ 16 → size * (lanes + 1) ≤ 17825792
-few_words size lanes small few = let more : size * (lanes + 1) ≤ 1048576 * (lanes + 1) = mul-le-mul_right (lanes + 1) small in omega (arith, more, few)
+pub few_words : (size lanes : ℕ) → size ≤ region_limit → lanes ≤ 16 → size * (lanes + 1) ≤ 17825792
+few_words size lanes small few = let more : size * (lanes + 1) ≤ region_limit * (lanes + 1) = mul-le-mul_right (lanes + 1) small in omega (arith, more, few)

@@ -1,8 +1,10 @@
 -- The outcomes of commands.
-use Rattle.std.proofs.Common.{◌≡◌, ◌≤◌, ℕ, List, inl, inr}
+use Rattle.std.proofs.Common.{◌≡◌, ◌≤◌, ℕ, List, Option, inl, inr, subst}
 use Rattle.std.specs.Prelude.{String, string_bytes}
 use Rattle.std.specs.declared.alloc.Global.{Global}
 use Rattle.deuce_io.specs.Fault.{Call, rose_since}
+use Rattle.deuce_io.specs.Files.{Files}
+use Rattle.deuce_io.specs.Seen.{Seen}
 use Rattle.jmodel.specs.declared.refusal.Refusal.{Refusal}
 use Rattle.jmodel.specs.declared.value.Answer.{Answer}
 use Rattle.jmodel.specs.ClassFile.{ClassFile}
@@ -16,16 +18,16 @@ use Rattle.deuce.specs.declared.run.RunEnd.{RunEnd}
 use Rattle.deuce.specs.declared.run.RunEnd.TheVariants as run_ends
 use Rattle.deuce.specs.declared.outcome.Outcome.{Outcome}
 use Rattle.deuce.specs.declared.outcome.Outcome.TheVariants as outcomes
-use Rattle.deuce.specs.Folder.{HasClasses, placed_in}
+use Rattle.deuce.specs.Folder.{HasClasses, placed_in, ArePutUpTo}
 use Rattle.deuce.specs.Ending.{Failed, paths_of, AreRewritten, EndsPuts, AreClassInputs, AreClassesOf, EndsInputs, EndsClasses, EndsOnClasses, IsBadProgram, IsUntypable}
-use Rattle.deuce.specs.Outcomes.{Seen, Says, ArePut, IsUnreadAs, IsRefusedAs, IsNotPutAs, IsOutcome, IsNotBuilt, FailedOutside}
+use Rattle.deuce.specs.Outcomes.{Says, ArePut, IsUnreadAs, IsRefusedAs, IsNotPutAs, IsOutcome, IsNotBuilt, FailedOutside}
 use Rattle.deuce.proofs.Reading.{bad_class, has_classes, stopped_at}
 
 module _ (words : List (String Global)) (old new : Seen) (dir : List ℕ) (kept : new.files ≡ old.files) (names : NamesFolder words dir) (Unbuilt : List ClassFile → Type 0)
     (unbuilt : HasClasses old.files dir Unbuilt → IsNotBuilt words old.files) where
   -- of a command whose inputs weren't there
-  pub unread : (Asks : Call → Type 0) (end : InputEnd) (o : Outcome) → ((path : List ℕ) → Failed Asks path old.faults new.faults new.failed → FailedOutside words old.files path old.faults new.faults new.failed)
-      → EndsInputs Asks old.files dir old.faults new.faults new.failed end → IsUnreadAs end o → IsOutcome words old new o
+  pub unread : (Asks : Call → Type 0) (end : InputEnd) (o : Outcome) → ((path : List ℕ) → Failed Asks path old new → FailedOutside words path old new)
+      → EndsInputs Asks dir old new end → IsUnreadAs end o → IsOutcome words old new o
   unread Asks (ends.Outside path) o fails h is = rw is (kept, fails (string_bytes path) h)
   unread Asks (ends.BadClass path r) o fails h is = absurd h
   unread Asks (ends.Refused r) o fails h is = rw is (kept, (dir, names, inl h))
@@ -54,8 +56,12 @@ module _ (words : List (String Global)) (old new : Seen) (dir : List ℕ) (kept 
 -- ---- puts that stopped
 
 module _ (words : List (String Global)) (old new : Seen) (dir out : List ℕ) (w : seen_words words ≡ rewrite_words dir out) (inputs : List ClassInput) (news : List (List ℕ)) (taken marked : ℕ)
-    (made : AreRewritten old.files dir (paths_of inputs) news taken marked) (puts : List (List ℕ × List ℕ)) (are : puts ≡ placed_in out (paths_of inputs) news) (before : ℕ) (later : old.put_faults ≤ before) where
-  pub not_put : (end : PutEnd) (o : Outcome) → EndsPuts puts old.files new.files before new.put_faults new.failed end → IsNotPutAs end o → IsOutcome words old new o
+    (made : AreRewritten old.files dir (paths_of inputs) news taken marked) (puts : List (List ℕ × List ℕ)) (are : puts ≡ placed_in out (paths_of inputs) news) (before : Seen) (kept : before.files ≡ old.files) (later : old.put_faults ≤ before.put_faults) where
+  -- the files that were put since the folder was read were put since before
+  since : (path : List ℕ) → ArePutUpTo puts before.files new.files path → ArePutUpTo puts old.files new.files path
+  since path h = subst (λ (f : Option Files). ArePutUpTo puts f new.files path) kept h
+
+  pub not_put : (end : PutEnd) (o : Outcome) → EndsPuts puts before new end → IsNotPutAs end o → IsOutcome words old new o
   not_put (put_ends.Failed path) o h is = rw is (
     tt,
     (
@@ -63,14 +69,14 @@ module _ (words : List (String Global)) (old new : Seen) (dir out : List ℕ) (w
       out,
       w,
       record {
-        stopped = stopped_at old.files new.files dir out inputs news taken marked made puts are (string_bytes path) h.0;
-        rose = rose_since old.put_faults before new.put_faults later h.1.rose;
+        stopped = stopped_at old.files new.files dir out inputs news taken marked made puts are (string_bytes path) (since (string_bytes path) h.0);
+        rose = rose_since old.put_faults before.put_faults new.put_faults later h.1.rose;
         is_last = h.1.is_last;
       },
     ),
   )
   not_put put_ends.NoMemory o h is = absurd is
 
-  pub stopped : (end : PutEnd) → EndsPuts puts old.files new.files before new.put_faults new.failed end → ArePut words old.files new.files
-  stopped (put_ends.Failed path) h = inr (dir, out, w, inr (string_bytes path, stopped_at old.files new.files dir out inputs news taken marked made puts are (string_bytes path) h.0))
-  stopped put_ends.NoMemory h = inr (dir, out, w, inr (h.0, stopped_at old.files new.files dir out inputs news taken marked made puts are h.0 h.1))
+  pub stopped : (end : PutEnd) → EndsPuts puts before new end → ArePut words old.files new.files
+  stopped (put_ends.Failed path) h = inr (dir, out, w, inr (string_bytes path, stopped_at old.files new.files dir out inputs news taken marked made puts are (string_bytes path) (since (string_bytes path) h.0)))
+  stopped put_ends.NoMemory h = inr (dir, out, w, inr (h.0, stopped_at old.files new.files dir out inputs news taken marked made puts are h.0 (since h.0 h.1)))

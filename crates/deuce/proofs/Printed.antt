@@ -10,7 +10,8 @@ use Rattle.deuce.specs.Rewritten.{counts_text}
 use Rattle.deuce.specs.declared.outcome.Outcome.{Outcome}
 use Rattle.deuce.specs.declared.outcome.Outcome.TheVariants.{Journal, Rewritten, Usage, BadClass, BadProgram, Untyped, BadScript, Unopened, Outside, NotPut, NotBuilt}
 use Rattle.deuce.specs.Ending.{IsJournalOf, IsRewritingOf}
-use Rattle.deuce.specs.Outcomes.{Seen, Keeps, IsRefusal, Says, IsTextOf, Appends, status_of, IsBadClassOfWords, IsBadProgramOfWords, IsUntypableOfWords, IsBadScriptOfWords, IsUnopenedOfWords}
+use Rattle.deuce_io.specs.Seen.{Seen}
+use Rattle.deuce.specs.Outcomes.{Keeps, IsRefusal, Says, IsTextOf, Appends, status_of, IsBadClassOfWords, IsBadProgramOfWords, IsUntypableOfWords, IsBadScriptOfWords, IsUnopenedOfWords}
 use Rattle.deuce.proofs.Asked.{one_run, one_rewriting, apart}
 
 module _ (words : List (String Global)) (old new : Seen) (printed : List ℕ) (before now : Option (List ℕ)) (status : ℕ) where

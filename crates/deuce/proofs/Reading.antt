@@ -1,5 +1,5 @@
 -- Files that were read whole.
-use Rattle.std.proofs.Common.{◌≡◌, ◌∙◌, ℕ, suc, ◌≤◌, List, [], ◌∷◌, ◌++◌, length, map, min, Option, Some, None, refl, sym, subst, ap, take, arith}
+use Rattle.std.proofs.Common.{◌≡◌, ◌∙◌, ℕ, suc, ◌+◌, ◌≤◌, List, [], ◌∷◌, ◌++◌, length, map, min, Option, Some, None, refl, sym, subst, ap, take, arith}
 use Rattle.std.specs.Prelude.{option_map, string_bytes}
 use Rattle.std.specs.List.{AllByRecursion, AllZip}
 use Rattle.std.proofs.lemmas.List.{length-map, length-take, take_all, map-append}
@@ -7,12 +7,13 @@ use Rattle.deuce_io.specs.Files.{Files, inside}
 use Rattle.jmodel.specs.declared.refusal.Refusal.{Refusal}
 use Rattle.jmodel.specs.declared.value.Answer.{Answer}
 use Rattle.jmodel.specs.ClassFile.{ClassFile}
-use Rattle.jmodel.specs.ClassRules.{IsClassFile, Spells}
+use Rattle.jmodel.specs.ClassRules.{IsClassFile}
 use Rattle.deuce.specs.declared.inputs.ClassInput.{ClassInput}
 use Rattle.deuce.specs.declared.inputs.Inputs.{Inputs}
 use Rattle.deuce.specs.Headline.{IsRun}
 use Rattle.deuce.specs.Rewritten.{IsRewriting}
-use Rattle.deuce.specs.Folder.{HoldsClasses, HoldsContents, IsFrontOf, Holds, IsFileOf, IsGoodFile, HasClasses, IsBadClass, with_files, placed_in, ArePutUpTo}
+use Rattle.script.specs.Script.{script_limit}
+use Rattle.deuce.specs.Folder.{class_limit, HoldsClasses, HoldsContents, IsFrontOf, Holds, IsFileOf, IsGoodFile, HasClasses, IsBadClass, with_files, placed_in, ArePutUpTo}
 use Rattle.deuce.specs.Ending.{IsClassInput, AreClassInputs, AreInputs, paths_of, AreClassesOf, IsFirstFault, IsJournalOf, AreRewritten, IsRewritingOf, StopsAt, IsUnopened, HasUnopened}
 
 whole : (most limit : ℕ) (o : Option (List ℕ)) (bytes : List ℕ) → most ≡ suc limit → option_map (take most) o ≡ Some bytes → length bytes ≤ limit → o ≡ Some bytes
@@ -37,18 +38,18 @@ all_form (i ∷ inputs) (c ∷ cs) good = (good.0.1.class, all_form inputs cs go
 abbrev pub contents_of : List ClassInput → List (List ℕ)
 contents_of inputs = map (λ (i : ClassInput). i.bytes) inputs
 
-pub all_spell : (inputs : List ClassInput) (cs : List ClassFile) → AreClassesOf inputs cs → AllZip Spells (contents_of inputs) cs
-all_spell [] [] good = tt
-all_spell [] (c ∷ cs) good = absurd good
-all_spell (i ∷ inputs) [] good = absurd good
-all_spell (i ∷ inputs) (c ∷ cs) good = (good.0.1, all_spell inputs cs good.1)
+pub are_files : (inputs : List ClassInput) (cs : List ClassFile) → AreClassesOf inputs cs → AllZip IsFileOf (contents_of inputs) cs
+are_files [] [] good = tt
+are_files [] (c ∷ cs) good = absurd good
+are_files (i ∷ inputs) [] good = absurd good
+are_files (i ∷ inputs) (c ∷ cs) good = (good.0, are_files inputs cs good.1)
 
 module _ (files : Option Files) (dir : List ℕ) where
   -- a class file that is good
   good_file : (input : ClassInput) (c : ClassFile) → IsClassInput files dir input → IsFileOf input.bytes c → IsGoodFile files dir (string_bytes input.relative) c
   good_file input c a is = record {
     bytes = input.bytes;
-    holds = holds files (inside dir (string_bytes input.relative)) 1048577 1048576 input.bytes refl a.class is.0;
+    holds = holds files (inside dir (string_bytes input.relative)) (class_limit + 1) class_limit input.bytes refl a.class is.0;
     is_file = is;
   }
 
@@ -87,7 +88,7 @@ module _ (files : Option Files) (dir : List ℕ) where
         good = good_files fault.before fault.classes (those_before fault.before (fault.input ∷ fault.behind) each) fault.good;
         class_path = at_path;
         bytes = fault.input.bytes;
-        front = subst (λ (p : List ℕ). IsFrontOf files p 1048577 fault.input.bytes) (sym at_path) input.class;
+        front = subst (λ (p : List ℕ). IsFrontOf files p (class_limit + 1) fault.input.bytes) (sym at_path) input.class;
         fault = fault.fault;
       }
     where
@@ -107,33 +108,33 @@ module _ (files : Option Files) (dir : List ℕ) where
   all_hold (i ∷ inputs) (c ∷ cs) a good = ((good_file i c a.0 good.0).holds, all_hold inputs cs a.1 good.1)
 
   pub read_whole : (inputs : List ClassInput) (cs : List ClassFile) → AreClassInputs files dir inputs → AreClassesOf inputs cs → HoldsContents files dir (paths_of inputs) (contents_of inputs)
-  read_whole inputs cs a good = record { class_files = a.class_files; each = all_hold inputs cs a.each good }
+  read_whole inputs cs a good = record { class_files = a.class_files; few = a.few; each = all_hold inputs cs a.each good }
 
 -- a run of what was read whole
 pub journal_of : (files : Option Files) (dir script : List ℕ) (inputs : Inputs) (cs : List ClassFile) (text : List ℕ) → AreInputs files dir script inputs → AreClassesOf inputs.classes.items cs
-    → ((contents : List (List ℕ)) → AllZip Spells contents cs → IsRun contents inputs.script text) → IsJournalOf files dir script text
+    → ((contents : List (List ℕ)) → AllZip IsFileOf contents cs → IsRun contents inputs.script text) → IsJournalOf files dir script text
 journal_of files dir script inputs cs text a good ran =
-    let run = ran (contents_of inputs.classes.items) (all_spell inputs.classes.items cs good) in
+    let run = ran (contents_of inputs.classes.items) (are_files inputs.classes.items cs good) in
     record {
       paths = paths_of inputs.classes.items;
       contents = contents_of inputs.classes.items;
       class_files = read_whole files dir inputs.classes.items cs a.of_classes good;
       script_bytes = inputs.script;
-      script_holds = holds files script 16777217 16777216 inputs.script refl a.script_bytes run.is_script.fits;
+      script_holds = holds files script (script_limit + 1) script_limit inputs.script refl a.script_bytes run.is_script.fits;
       run = run;
     }
 
 -- a run that doesn't begin, of what was read whole
-pub unopened_of : (files : Option Files) (dir script bytes name : List ℕ) (x : Answer) → IsFrontOf files script 16777217 bytes → length bytes ≤ 16777216 → HasClasses files dir (IsUnopened bytes name x) → HasUnopened files dir script name x
-unopened_of files dir script bytes name x front fits h = record { script_bytes = bytes; script_holds = holds files script 16777217 16777216 bytes refl front fits; of_classes = h }
+pub unopened_of : (files : Option Files) (dir script bytes name : List ℕ) (x : Answer) → IsFrontOf files script (script_limit + 1) bytes → length bytes ≤ script_limit → HasClasses files dir (IsUnopened bytes name x) → HasUnopened files dir script name x
+unopened_of files dir script bytes name x front fits h = record { script_bytes = bytes; script_holds = holds files script (script_limit + 1) script_limit bytes refl front fits; of_classes = h }
 
 -- a rewriting of what was read whole
 pub rewritten_of : (files : Option Files) (dir : List ℕ) (inputs : List ClassInput) (cs : List ClassFile) (news : List (List ℕ)) (taken marked : ℕ) → AreClassInputs files dir inputs → AreClassesOf inputs cs
-    → ((contents : List (List ℕ)) → AllZip Spells contents cs → IsRewriting contents news taken marked) → AreRewritten files dir (paths_of inputs) news taken marked
+    → ((contents : List (List ℕ)) → AllZip IsFileOf contents cs → IsRewriting contents news taken marked) → AreRewritten files dir (paths_of inputs) news taken marked
 rewritten_of files dir inputs cs news taken marked a good made = record {
   contents = contents_of inputs;
   class_files = read_whole files dir inputs cs a good;
-  rewriting = made (contents_of inputs) (all_spell inputs cs good);
+  rewriting = made (contents_of inputs) (are_files inputs cs good);
 }
 
 module _ (files files' : Option Files) (dir out : List ℕ) (inputs : List ClassInput) (news : List (List ℕ)) (taken marked : ℕ) (made : AreRewritten files dir (paths_of inputs) news taken marked)

@@ -4,7 +4,6 @@ use Rattle.std.specs.Prelude.{IfErr, slice_get}
 use Rattle.std.specs.List.{AllByRecursion, AllZip}
 use Rattle.jmodel.specs.declared.refusal.Refusal.{Refusal}
 use Rattle.jmodel.specs.ClassFile.{ClassFile}
-use Rattle.jmodel.specs.ClassRules.{Spells}
 use Rattle.jmodel.specs.Program.{Method, Program}
 use Rattle.jmodel.specs.declared.value.Answer.{Answer}
 use Rattle.jmodel.specs.Layout.{opening_state}
@@ -33,6 +32,7 @@ use Rattle.driver.specs.declared.setting_up.SetUpEnd.{SetUpEnd}
 use Rattle.driver.specs.declared.setting_up.SetUpEnd.TheVariants as set_ends
 use Rattle.deuce.specs.declared.run.RunEnd.{RunEnd}
 use Rattle.deuce.specs.declared.run.RunEnd.TheVariants as run_ends
+use Rattle.deuce.specs.Folder.{IsFileOf}
 use Rattle.deuce.specs.Headline.{line_of, name_in, linked_files, AreCalls, IsRun, IsRunnable}
 use Rattle.deuce.specs.Lines.{line_in}
 use Rattle.deuce.proofs.Initialisers.{is_method}
@@ -81,15 +81,14 @@ are_calls P size budget phases memory journal σ text run stands is = record {
       ∙ ap (journal_text (map (line_of P) (map made_of run.placed))) (lines_same P run.unplaced);
 }
 
-pub is_run : (contents : List (List ℕ)) (bytes : List ℕ) (files : List ClassFile) (P : Program) (s : Script) (seen : List ScriptPhase) (text : List ℕ) → AllZip Spells contents files → linked_files files ≡ Some P
-    → AllByRecursion (IsTypable P) P.methods → IsScript (in_order files) P bytes s → seen ≡ s.phases → (τ : State)
+pub is_run : (contents : List (List ℕ)) (bytes : List ℕ) (files : List ClassFile) (P : Program) (s : Script) (seen : List ScriptPhase) (text : List ℕ) → AllZip IsFileOf contents files → IsRunnable files P
+    → IsScript (in_order files) P bytes s → seen ≡ s.phases → (τ : State)
     → Opening P s.region s.budget (opening_state (in_order files)) (initialisers_in (in_order files) P) τ → AreCalls P s.region s.budget τ seen text → IsRun contents bytes text
-is_run contents bytes files P s seen text spell is typed is_script same τ opens are = record {
+is_run contents bytes files P s seen text are_files is is_script same τ opens are = record {
   files = files;
-  spell = spell;
+  are_files = are_files;
   program = P;
-  links = is;
-  typed = typed;
+  runnable = is;
   script = s;
   is_script = is_script;
   opening = τ;

@@ -22,7 +22,7 @@ use Rattle.jmodel.specs.Reading.{◌>>=◌}
 use Rattle.jmodel.specs.Schedule.{Known, Phase, ScriptPhase, Lanes, Bag, takes, lists_in, lane_calls, phase_calls, script_calls}
 use Rattle.script.specs.declared.head.Head.{Head}
 use Rattle.script.specs.Json.{under, at, bad_shape, must, or_refused, each_from, as_list, as_whole, is_object_of, is_object_with, wanted}
-use Rattle.script.specs.Script.{script_keys, within, Listed, InLanes, InBag, lanes_path, bag_path, list_in, lists_of_lanes, lanes_at, lists_at, lists_of_phase, head_of, lists_of, numbers_within, is_within, number_named, not_callable, as_value, types_of, value_in, values_of, known_at, call_in, lane_in, lanes_of, bag_of, phase_of, calls_of, Script, script_with, script_of, IsScript, least, greatest, truth_value, as_number_of}
+use Rattle.script.specs.Script.{script_keys, region_limit, within, Listed, InLanes, InBag, lanes_path, bag_path, list_in, lists_of_lanes, lanes_at, lists_at, lists_of_phase, head_of, lists_of, numbers_within, is_within, number_named, not_callable, as_value, types_of, value_in, values_of, known_at, call_in, lane_in, lanes_of, bag_of, phase_of, calls_of, Script, script_with, script_of, IsScript, least, greatest, truth_value, as_number_of}
 use Rattle.session.specs.Rule.{IsCallOf}
 use Rattle.driver.specs.Runs.{AreScripted, HasLanes}
 
@@ -78,10 +78,10 @@ some n h = grind (arith, ints, nat_tests)
 few : (n : ℤ) → (int_le (pos 1) n && int_le n (pos 1000000)) ≡ true → unsigned_abs n ≤ 1000000
 few n h = grind (arith, ints, nat_tests)
 
-room : (m : ℕ) (n : ℤ) → (int_le (pos m) n && int_le n (pos 1048576)) ≡ true → m ≤ unsigned_abs n
+room : (m : ℕ) (n : ℤ) → (int_le (pos m) n && int_le n (pos region_limit)) ≡ true → m ≤ unsigned_abs n
 room m n h = grind (arith, ints, nat_tests)
 
-most_words : (m : ℕ) (n : ℤ) → (int_le (pos m) n && int_le n (pos 1048576)) ≡ true → unsigned_abs n ≤ 1048576
+most_words : (m : ℕ) (n : ℤ) → (int_le (pos m) n && int_le n (pos region_limit)) ≡ true → unsigned_abs n ≤ region_limit
 most_words m n h = grind (arith, ints, nat_tests)
 
 few_lanes : (m : ℕ) (n : ℤ) → int_le (pos m) n ≡ true → (int_le (pos 1) n && int_le n (pos 16)) ≡ true → m ≤ 16
@@ -273,7 +273,7 @@ record HasParts (cs : List ClassFile) (P : Program) (s : Script) : Type 0 where
   phases : each_from (phase_of cs P (unsigned_abs head.lanes)) 0 lists ≡ Ok s.phases
   calls : nat_le (sum_by calls_of s.phases) 100000 ≡ true
   attempts_are : s.attempts ≡ unsigned_abs head.attempts
-  region : (int_le (pos (length (opening_words cs))) head.region && int_le head.region (pos 1048576)) ≡ true
+  region : (int_le (pos (length (opening_words cs))) head.region && int_le head.region (pos region_limit)) ≡ true
   region_is : s.region ≡ unsigned_abs head.region
   lanes_is : s.lanes ≡ unsigned_abs head.lanes
 
@@ -281,13 +281,13 @@ module _ (cs : List ClassFile) (P : Program) (s : Script) where
   parts_of : (d : Data) (head : Head) (lists : List Listed) → lists_of head.lanes d ≡ Ok lists → script_of cs P head lists ≡ Ok s → HasParts cs P s
   parts_of d head lists are h =
       let ended : Head → Result Script Refusal = λ k. each_from (phase_of cs P (unsigned_abs head.lanes)) 0 lists >>= script_with k in
-      let region : Head → Result Head Refusal = λ k. within (codes "region") (pos (length (opening_words cs))) (pos 1048576) k.region (within (codes "phases") (pos 0) (pos 10000) (pos (length lists)) (Ok k)) in
+      let region : Head → Result Head Refusal = λ k. within (codes "region") (pos (length (opening_words cs))) (pos region_limit) k.region (within (codes "phases") (pos 0) (pos 10000) (pos (length lists)) (Ok k)) in
       let a = bound (is_within cs head (length lists)) ended s h in
       let b = bound (numbers_within head) region a.0 a.1 in
       let lanes = inside (codes "lanes") (pos 1) (pos 16) head.lanes (within (codes "budget") (pos 1) (pos 1000000) head.budget (within (codes "attempts") (pos 1) (pos 1000000) head.attempts (Ok head))) b.0 b.1 in
       let budget = inside (codes "budget") (pos 1) (pos 1000000) head.budget (within (codes "attempts") (pos 1) (pos 1000000) head.attempts (Ok head)) b.0 lanes.1 in
       let attempts = inside (codes "attempts") (pos 1) (pos 1000000) head.attempts (Ok head) b.0 budget.1 in
-      let words = inside (codes "region") (pos (length (opening_words cs))) (pos 1048576) b.0.region (within (codes "phases") (pos 0) (pos 10000) (pos (length lists)) (Ok b.0)) a.0 b.2 in
+      let words = inside (codes "region") (pos (length (opening_words cs))) (pos region_limit) b.0.region (within (codes "phases") (pos 0) (pos 10000) (pos (length lists)) (Ok b.0)) a.0 b.2 in
       let many = inside (codes "phases") (pos 0) (pos 10000) (pos (length lists)) (Ok b.0) a.0 words.1 in
       let same_head : b.0 ≡ head = let x = attempts.1 in cc in
       let kept : head ≡ a.0 = let x = attempts.1 in let y = many.1 in cc in
@@ -305,7 +305,7 @@ module _ (cs : List ClassFile) (P : Program) (s : Script) where
         phases = c.1 ∙ ap (λ (ps : List ScriptPhase). Ok ps) (sym phases);
         calls = ap (λ (ps : List ScriptPhase). nat_le (sum_by calls_of ps) 100000) phases ∙ e.0;
         attempts_are = ap (λ (t : Script). t.attempts) is ∙ ap (λ (k : Head). unsigned_abs k.attempts) (sym kept);
-        region = subst (λ (k : Head). (int_le (pos (length (opening_words cs))) k.region && int_le k.region (pos 1048576)) ≡ true) same_head words.0;
+        region = subst (λ (k : Head). (int_le (pos (length (opening_words cs))) k.region && int_le k.region (pos region_limit)) ≡ true) same_head words.0;
         lanes_is = ap (λ (t : Script). t.lanes) is ∙ ap (λ (k : Head). unsigned_abs k.lanes) (sym kept);
         region_is = ap (λ (t : Script). t.region) is ∙ ap (λ (k : Head). unsigned_abs k.region) (sym kept);
       }
@@ -341,7 +341,7 @@ module _ (cs : List ClassFile) (P : Program) (s : Script) where
       rw p.attempts_are (some p.head.attempts p.attempts, few p.head.attempts p.attempts)
 
   -- a region has room for the words that a run begins with
-  pub region_fits : (bytes : List ℕ) → IsScript cs P bytes s → (length (opening_words cs) ≤ s.region) × (s.region ≤ 1048576)
+  pub region_fits : (bytes : List ℕ) → IsScript cs P bytes s → (length (opening_words cs) ≤ s.region) × (s.region ≤ region_limit)
   region_fits bytes is =
       let p = parts bytes is in
       rw p.region_is (room (length (opening_words cs)) p.head.region p.region, most_words (length (opening_words cs)) p.head.region p.region)

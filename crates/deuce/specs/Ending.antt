@@ -1,11 +1,12 @@
 -- What the program writes, and why it ends as it does.
-use Rattle.std.specs.Prelude.{◌≡◌, ◌⊎◌, ℕ, ◌<◌, ◌≤◌, pos, List, ◌∷◌, ◌++◌, length, map, bytes_eq, Option, Some, IsSome, None, Ok, Err, slice_get, string_bytes, option_map, take}
+use Rattle.std.specs.Prelude.{◌≡◌, ◌⊎◌, ℕ, ◌+◌, ◌<◌, ◌≤◌, pos, List, ◌∷◌, ◌++◌, length, map, bytes_eq, Option, Some, IsSome, None, Ok, Err, slice_get, string_bytes, option_map, take}
 use Rattle.std.specs.Option.{ForSome}
 use Rattle.std.specs.List.{AllByRecursion, AllZip}
 use Rattle.std.specs.Borrow.{Bor}
 use Rattle.std.specs.Map.{lookup}
 use Rattle.deuce_io.specs.Fault.{Call, list_of, read_of, put_of, Rose, HasFailed}
 use Rattle.deuce_io.specs.Files.{Files, inside}
+use Rattle.deuce_io.specs.Seen.{Seen}
 use Rattle.deuce_io.specs.declared.end.IoEnd.{IoEnd}
 use Rattle.deuce_io.specs.declared.end.IoEnd.TheVariants as io
 use Rattle.jmodel.specs.declared.refusal.Refusal.{Refusal}
@@ -26,8 +27,8 @@ use Rattle.jmodel.specs.Classes.{in_order, doubled_class}
 use Rattle.jmodel.specs.ClassesLinking.{linking, linking_files, pc_of, initialisers_in}
 use Rattle.jmodel.specs.Typing.{IsTypable, IsUntypableAt}
 use Rattle.rewriter.specs.RewrittenClasses.{rewritten_classes}
-use Rattle.script.specs.Script.{Script, IsScript, IsFault}
-use Rattle.deuce.specs.Folder.{IsClassFileName, depth, IsFolder, HoldsClasses, IsTooDeep, IsOverfull, IsFrontOf, Holds, HoldsContents, IsFileFault, IsFileOf, HasClasses, with_files, placed_in, ArePutUpTo}
+use Rattle.script.specs.Script.{Script, IsScript, IsFault, script_limit}
+use Rattle.deuce.specs.Folder.{IsClassFileName, depth, class_limit, IsFolder, HoldsClasses, IsTooDeep, IsOverfull, IsFrontOf, Holds, HoldsContents, IsFileFault, IsFileOf, HasClasses, with_files, placed_in, ArePutUpTo}
 use Rattle.deuce.specs.Headline.{name_in, linked_files, IsRun, CanRun, IsRunnable}
 use Rattle.deuce.specs.Rewritten.{IsRewriting, CanRewrite, HasManyMembers}
 use Rattle.deuce.specs.declared.inputs.ClassInput.{ClassInput}
@@ -58,17 +59,17 @@ abbrev pub IsCallOfRun : Option Files → List ℕ → List ℕ → Call → Typ
 IsCallOfRun files dir script call = (call ≡ read_of script) ⊎ IsCallOfFolder files dir call
 
 -- the folder's count of lists and reads rose, and its last failed call is one of these, at this path
-pub record Failed (Asks : Call → Type 0) (path : List ℕ) (before now : ℕ) (last : Option Call) : Type 0 where
-  pub rose : Rose before now
+pub record Failed (Asks : Call → Type 0) (path : List ℕ) (old new : Seen) : Type 0 where
+  pub rose : Rose old.faults new.faults
   pub call : Call
-  pub is_last : last ≡ Some call
+  pub is_last : new.failed ≡ Some call
   pub asked : Asks call
   pub at_path : call.path ≡ path
 
 -- what was read of a class file under a folder: its path, and its bytes, with at most one over the limit
 pub record IsClassInput (files : Option Files) (dir : List ℕ) (input : ClassInput) : Type 0 where
   pub class_path : string_bytes input.path ≡ inside dir (string_bytes input.relative)
-  pub class : IsFrontOf files (inside dir (string_bytes input.relative)) 1048577 input.bytes
+  pub class : IsFrontOf files (inside dir (string_bytes input.relative)) (class_limit + 1) input.bytes
 
 -- the paths from the folder to the class files that were read
 abbrev pub paths_of : List ClassInput → List (List ℕ)
@@ -83,7 +84,7 @@ pub record AreClassInputs (files : Option Files) (dir : List ℕ) (inputs : List
 -- what a run has read: that, and the script's bytes, with at most one over the limit
 pub record AreInputs (files : Option Files) (dir script : List ℕ) (inputs : Inputs) : Type 0 where
   pub of_classes : AreClassInputs files dir inputs.classes.items
-  pub script_bytes : IsFrontOf files script 16777217 inputs.script
+  pub script_bytes : IsFrontOf files script (script_limit + 1) inputs.script
 
 -- The text is that of a run of the script at a path on the class files of a folder.
 pub record IsJournalOf (files : Option Files) (dir script text : List ℕ) : Type 0 where
@@ -118,10 +119,10 @@ pub record StopsAt (files files' : Option Files) (dir out path : List ℕ) : Typ
   pub put : ArePutUpTo (placed_in out paths news) files files' path
 
 -- the count of failed puts rose, and the last failed call is the put of this path, where the puts of a rewriting stopped
-pub record FailedPut (files files' : Option Files) (dir out path : List ℕ) (before now : ℕ) (last : Option Call) : Type 0 where
-  pub stopped : StopsAt files files' dir out path
-  pub rose : Rose before now
-  pub is_last : last ≡ Some (put_of path)
+pub record FailedPut (old new : Seen) (dir out path : List ℕ) : Type 0 where
+  pub stopped : StopsAt old.files new.files dir out path
+  pub rose : Rose old.put_faults new.put_faults
+  pub is_last : new.failed ≡ Some (put_of path)
 
 -- this is the first limit that the rewriting of a program's classes passes
 abbrev pub PassesLimit : Program → List ClassFile → Refusal → Type 0
@@ -193,7 +194,7 @@ IsNotRewritten files = IsOutsideForm files ⊎ HasManyMembers files
 -- A folder has good class files, for which the script, of which at most one byte over the limit is looked at, has this fault.
 pub record HasBadScript (files : Option Files) (dir script : List ℕ) (r : Refusal) : Type 0 where
   pub script_bytes : List ℕ
-  pub script_front : IsFrontOf files script 16777217 script_bytes
+  pub script_front : IsFrontOf files script (script_limit + 1) script_bytes
   pub of_classes : HasClasses files dir (IsBadScript script_bytes r)
 
 -- A folder has good class files, and a script for them, but a run of it doesn't begin.
@@ -213,24 +214,24 @@ abbrev pub CanRewriteIn : Files → List ℕ → Type 0
 CanRewriteIn told dir = HasClasses (Some told) dir CanRewrite
 
 -- a command that ended before its inputs were there: where it failed outside, the folder says so
-abbrev pub EndsInputs : (Call → Type 0) → Option Files → List ℕ → ℕ → ℕ → Option Call → InputEnd → Type 0
-EndsInputs Asks files dir before now last (ends.Outside path) = Failed Asks (string_bytes path) before now last
-EndsInputs Asks files dir before now last (ends.BadClass path r) = ⊥
-EndsInputs Asks files dir before now last (ends.Refused r) = IsOverfull files dir r
-EndsInputs Asks files dir before now last ends.NoMemory = Unit {0}
+abbrev pub EndsInputs : (Call → Type 0) → List ℕ → Seen → Seen → InputEnd → Type 0
+EndsInputs Asks dir old new (ends.Outside path) = Failed Asks (string_bytes path) old new
+EndsInputs Asks dir old new (ends.BadClass path r) = ⊥
+EndsInputs Asks dir old new (ends.Refused r) = IsOverfull old.files dir r
+EndsInputs Asks dir old new ends.NoMemory = Unit {0}
 
 -- why a folder has no paths of class files
-abbrev pub EndsListing : Option Files → List ℕ → ℕ → ℕ → Option Call → InputEnd → Type 0
-EndsListing files dir before now last (ends.Outside path) = Failed (IsCallOfFolder files dir) (string_bytes path) before now last
-EndsListing files dir before now last (ends.BadClass path r) = ⊥
-EndsListing files dir before now last (ends.Refused r) = IsTooDeep files dir r
-EndsListing files dir before now last ends.NoMemory = Unit {0}
+abbrev pub EndsListing : List ℕ → Seen → Seen → InputEnd → Type 0
+EndsListing dir old new (ends.Outside path) = Failed (IsCallOfFolder old.files dir) (string_bytes path) old new
+EndsListing dir old new (ends.BadClass path r) = ⊥
+EndsListing dir old new (ends.Refused r) = IsTooDeep old.files dir r
+EndsListing dir old new ends.NoMemory = Unit {0}
 
 -- why folders weren't listed, or class files weren't read
-abbrev pub EndsReads : (Call → Type 0) → ℕ → ℕ → Option Call → InputEnd → Type 0
-EndsReads Asks before now last (ends.Outside path) = Failed Asks (string_bytes path) before now last
-EndsReads Asks before now last ends.NoMemory = Unit {0}
-EndsReads Asks before now last end = ⊥
+abbrev pub EndsReads : (Call → Type 0) → Seen → Seen → InputEnd → Type 0
+EndsReads Asks old new (ends.Outside path) = Failed Asks (string_bytes path) old new
+EndsReads Asks old new ends.NoMemory = Unit {0}
+EndsReads Asks old new end = ⊥
 
 -- the end of a command over a folder that passes this limit by this number
 abbrev pub IsOverLimitAs : List ℕ → ℕ → InputEnd → Type 0
@@ -274,10 +275,10 @@ abbrev pub seen_files : List NewFile → List (List ℕ × List ℕ)
 seen_files fs = map (λ (f : NewFile). (string_bytes f.path, f.bytes)) fs
 
 -- Files were put up to one; where its put failed, the folder says so.
-abbrev pub EndsPuts : List (List ℕ × List ℕ) → Option Files → Option Files → ℕ → ℕ → Option Call → PutEnd → Type 0
-EndsPuts fs files files' before now last (put_ends.Failed path) =
-    ArePutUpTo fs files files' (string_bytes path) × HasFailed before now last (put_of (string_bytes path))
-EndsPuts fs files files' before now last put_ends.NoMemory = (path : List ℕ) × ArePutUpTo fs files files' path
+abbrev pub EndsPuts : List (List ℕ × List ℕ) → Seen → Seen → PutEnd → Type 0
+EndsPuts fs old new (put_ends.Failed path) =
+    ArePutUpTo fs old.files new.files (string_bytes path) × HasFailed old.put_faults new.put_faults new.failed (put_of (string_bytes path))
+EndsPuts fs old new put_ends.NoMemory = (path : List ℕ) × ArePutUpTo fs old.files new.files path
 
 -- a command without a script has none that is refused
 abbrev pub NoScript : Refusal → List ClassFile → Type 0

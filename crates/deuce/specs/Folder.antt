@@ -1,5 +1,5 @@
 -- What a folder of class files is: the paths of the class files under it in their order, the classes that these spell, and the first file that is none.
-use Rattle.std.specs.Prelude.{◌≡◌, ◌==◌, ◌⊎◌, ◌↔◌, ℕ, ◌<◌, ◌≤◌, pos, List, [], ◌∷◌, ◌++◌, length, map, zip, count_by, true, Option, Some, IsSome, Err, Contains, codes, option_map, slice_get, take}
+use Rattle.std.specs.Prelude.{◌≡◌, ◌==◌, ◌⊎◌, ◌↔◌, ℕ, ◌+◌, ◌<◌, ◌≤◌, pos, List, [], ◌∷◌, ◌++◌, length, map, zip, count_by, true, Option, Some, IsSome, Err, Contains, codes, option_map, slice_get, take}
 use Rattle.std.specs.Option.{ForSome}
 use Rattle.std.specs.List.{AllPairs, AllZip}
 use Rattle.deuce_io.specs.Files.{Files, inside, with_content}
@@ -65,20 +65,28 @@ IsFrontOf files path most bytes = ForSome files (λ told. option_map (take most)
 abbrev pub Holds : Option Files → List ℕ → List ℕ → Type 0
 Holds files path bytes = ForSome files (λ told. told path ≡ Some bytes)
 
--- Why bytes are no class file: there are more than 1048576 of them, or no class is spelled by them, and this is the first
--- fault that reading them meets.
-abbrev pub IsFileFault : List ℕ → Refusal → Type 0
-IsFileFault bytes r = ((1048576 < length bytes) × (r ≡ OverLimit (codes "file") (pos (length bytes))))
-    ⊎ (((c : ClassFile) → Spells bytes c → ⊥) × (class_file_of bytes ≡ Err r))
-
--- Under a folder, where it tells its files, the class files have these paths, in ascending order, and these bytes.
-pub record HoldsContents (files : Option Files) (dir : List ℕ) (paths contents : List (List ℕ)) : Type 0 where
-  pub class_files : HoldsClasses files dir paths
-  pub each : AllZip (λ path. Holds files (inside dir path)) paths contents
+-- the most bytes of a class file
+abbrev pub class_limit : ℕ
+class_limit = 1048576
 
 -- bytes are a class file, within its limit, and spell this class
 abbrev pub IsFileOf : List ℕ → ClassFile → Type 0
-IsFileOf bytes c = (length bytes ≤ 1048576) × Spells bytes c
+IsFileOf bytes c = (length bytes ≤ class_limit) × Spells bytes c
+
+-- bytes spell no class, and this is the first fault that reading them meets
+abbrev pub IsNoClass : List ℕ → Refusal → Type 0
+IsNoClass bytes r = ((c : ClassFile) → Spells bytes c → ⊥) × (class_file_of bytes ≡ Err r)
+
+-- Why bytes are no class file: there are more of them than its limit, or no more, and they spell no class.
+abbrev pub IsFileFault : List ℕ → Refusal → Type 0
+IsFileFault bytes r = ((class_limit < length bytes) × (r ≡ OverLimit (codes "file") (pos (length bytes))))
+    ⊎ ((length bytes ≤ class_limit) × IsNoClass bytes r)
+
+-- Under a folder, where it tells its files, the class files, no more than 256, have these paths, in ascending order, and these bytes.
+pub record HoldsContents (files : Option Files) (dir : List ℕ) (paths contents : List (List ℕ)) : Type 0 where
+  pub class_files : HoldsClasses files dir paths
+  pub few : length paths ≤ 256
+  pub each : AllZip (λ path. Holds files (inside dir path)) paths contents
 
 -- The class file at this path from a folder is good, and spells this class.
 pub record IsGoodFile (files : Option Files) (dir path : List ℕ) (c : ClassFile) : Type 0 where
@@ -107,7 +115,7 @@ pub record IsBadClass (files : Option Files) (dir path : List ℕ) (r : Refusal)
   pub good : AllZip (IsGoodFile files dir) before classes
   pub class_path : path ≡ inside dir relative
   pub bytes : List ℕ
-  pub front : IsFrontOf files path 1048577 bytes
+  pub front : IsFrontOf files path (class_limit + 1) bytes
   pub fault : IsFileFault bytes r
 
 -- ---- what is put

@@ -3,7 +3,6 @@ use Rattle.std.specs.Prelude.{◌≡◌, Ok, ℕ, List, [], map, Option, Some, N
 use Rattle.std.specs.List.{AllByRecursion, AllZip}
 use Rattle.jmodel.specs.declared.name.MethodName.{MethodName}
 use Rattle.jmodel.specs.ClassFile.{ClassFile}
-use Rattle.jmodel.specs.ClassRules.{Spells}
 use Rattle.jmodel.specs.Program.{Method, Program, method_at}
 use Rattle.jmodel.specs.State.{State}
 use Rattle.jmodel.specs.Layout.{opening_state}
@@ -15,6 +14,7 @@ use Rattle.jmodel.specs.Typing.{IsTypable}
 use Rattle.jmodel.specs.Output.{Line, journal_text}
 use Rattle.rewriter.specs.RewrittenClasses.{rewritten_classes}
 use Rattle.script.specs.Script.{Script, IsScript}
+use Rattle.deuce.specs.Folder.{IsFileOf}
 
 abbrev pub no_name : MethodName
 no_name = record { class = []; name = []; descriptor = [] }
@@ -56,14 +56,13 @@ pub record CanRun (files : List ClassFile) (bytes : List ℕ) : Type 0 where
   pub opening : State
   pub opens : Opening program script.region script.budget (opening_state (in_order files)) (initialisers_in (in_order files) program) opening
 
--- The text is the journal of a run of a script on class files, each given by its bytes, each of whose methods has a typing: each call of the
+-- The text is the journal of a run of a script on class files, each given by its bytes and within its limit, that can be run: each call of the
 -- script once, in an order that keeps the phases' and each lane's, from the state that the static initialisers leave.
 pub record IsRun (class_files : List (List ℕ)) (bytes text : List ℕ) : Type 0 where
   pub files : List ClassFile
-  pub spell : AllZip Spells class_files files
+  pub are_files : AllZip IsFileOf class_files files
   pub program : Program
-  pub links : linked_files files ≡ Some program
-  pub typed : AllByRecursion (IsTypable program) program.methods
+  pub runnable : IsRunnable files program
   pub script : Script
   pub is_script : IsScript (in_order files) program bytes script
   pub opening : State

@@ -2,8 +2,8 @@
 use Rattle.std.specs.Prelude.{◌≡◌, ◌⊎◌, ℕ, List, Option, Some, codes, string_bytes, String, take}
 use Rattle.std.specs.Io.KnownBytes.{append_known}
 use Rattle.std.specs.declared.alloc.Global.{Global}
-use Rattle.deuce_io.specs.Fault.{Call}
 use Rattle.deuce_io.specs.Files.{Files}
+use Rattle.deuce_io.specs.Seen.{Seen}
 use Rattle.jmodel.specs.declared.refusal.Refusal.{Refusal}
 use Rattle.jmodel.specs.declared.value.Answer.{Answer}
 use Rattle.jmodel.specs.Output.{◌and◌, answer_text, refusal_text, error_text}
@@ -118,15 +118,15 @@ abbrev pub CanRewriteWords : List (String Global) → Option Files → Type 0
 CanRewriteWords words files = (dir : List ℕ) × (out : List ℕ) × (told : Files) × (seen_words words ≡ rewrite_words dir out) × (files ≡ Some told) × CanRewriteIn told dir
 
 -- a list or a read of the command that the words ask for failed, at this path
-abbrev pub FailedOutside : List (String Global) → Option Files → List ℕ → ℕ → ℕ → Option Call → Type 0
-FailedOutside words files path before now last = (dir : List ℕ) × (other : List ℕ)
-    × (((seen_words words ≡ run_words dir other) × Failed (IsCallOfRun files dir other) path before now last)
-    ⊎ ((seen_words words ≡ rewrite_words dir other) × Failed (IsCallOfFolder files dir) path before now last))
+abbrev pub FailedOutside : List (String Global) → List ℕ → Seen → Seen → Type 0
+FailedOutside words path old new = (dir : List ℕ) × (other : List ℕ)
+    × (((seen_words words ≡ run_words dir other) × Failed (IsCallOfRun old.files dir other) path old new)
+    ⊎ ((seen_words words ≡ rewrite_words dir other) × Failed (IsCallOfFolder old.files dir) path old new))
 
 -- a put of the rewriting that the words ask for failed, at this path
-abbrev pub FailedPutOfWords : List (String Global) → Option Files → Option Files → List ℕ → ℕ → ℕ → Option Call → Type 0
-FailedPutOfWords words files files' path before now last =
-    (dir : List ℕ) × (out : List ℕ) × (seen_words words ≡ rewrite_words dir out) × FailedPut files files' dir out path before now last
+abbrev pub FailedPutOfWords : List (String Global) → List ℕ → Seen → Seen → Type 0
+FailedPutOfWords words path old new =
+    (dir : List ℕ) × (out : List ℕ) × (seen_words words ≡ rewrite_words dir out) × FailedPut old new dir out path
 
 -- what puts made of a folder's files: they put each file of a rewriting, or stopped at one
 abbrev pub IsPutInto : Option Files → Option Files → List ℕ → List ℕ → Type 0
@@ -137,19 +137,22 @@ IsPutInto files files' dir out =
 abbrev pub ArePut : List (String Global) → Option Files → Option Files → Type 0
 ArePut words files files' = (files' ≡ files) ⊎ ((dir : List ℕ) × (out : List ℕ) × (seen_words words ≡ rewrite_words dir out) × IsPutInto files files' dir out)
 
--- what a folder tells: its files, its counts of faults, and its last failed call
-pub record Seen : Type 0 where
-  pub files : Option Files
-  pub faults : ℕ
-  pub put_faults : ℕ
-  pub failed : Option Call
-
-abbrev pub seen : Option Files → ℕ → ℕ → Option Call → Seen
-seen files faults put_faults failed = record { files = files; faults = faults; put_faults = put_faults; failed = failed }
-
 -- the statuses of refusals: nothing was put before them
 abbrev pub IsRefusal : ℕ → Type 0
 IsRefusal status = (status ≡ 2) ⊎ ((status ≡ 3) ⊎ ((status ≡ 4) ⊎ ((status ≡ 5) ⊎ ((status ≡ 6) ⊎ ((status ≡ 7) ⊎ ((status ≡ 8) ⊎ (status ≡ 12)))))))
+
+-- the statuses of a run that can be made: done, or a list, a read or the sink failed, or memory ran out
+abbrev pub IsRunOrFailed : ℕ → Type 0
+IsRunOrFailed status = (status ≡ 0) ⊎ ((status ≡ 8) ⊎ ((status ≡ 9) ⊎ (status ≡ 10)))
+
+-- the statuses of a rewriting that can be made: those, or a put failed
+abbrev pub IsRewrittenOrFailed : ℕ → Type 0
+IsRewrittenOrFailed status = (status ≡ 0) ⊎ ((status ≡ 8) ⊎ ((status ≡ 9) ⊎ ((status ≡ 10) ⊎ (status ≡ 11))))
+
+-- all statuses
+abbrev pub IsStatus : ℕ → Type 0
+IsStatus status = (status ≡ 0) ⊎ ((status ≡ 2) ⊎ ((status ≡ 3) ⊎ ((status ≡ 4) ⊎ ((status ≡ 5) ⊎ ((status ≡ 6) ⊎ ((status ≡ 7)
+    ⊎ ((status ≡ 8) ⊎ ((status ≡ 9) ⊎ ((status ≡ 10) ⊎ ((status ≡ 11) ⊎ (status ≡ 12)))))))))))
 
 -- an outcome before which nothing is put
 abbrev pub Keeps : Outcome → Seen → Seen → Type 0
@@ -167,8 +170,8 @@ Says words old new (BadProgram refusal) = IsBadProgramOfWords words old.files re
 Says words old new (Untyped refusal) = IsUntypableOfWords words old.files refusal
 Says words old new (BadScript refusal) = IsBadScriptOfWords words old.files refusal
 Says words old new (Unopened class answer) = IsUnopenedOfWords words old.files class answer
-Says words old new (Outside path) = FailedOutside words old.files (string_bytes path) old.faults new.faults new.failed
-Says words old new (NotPut path) = FailedPutOfWords words old.files new.files (string_bytes path) old.put_faults new.put_faults new.failed
+Says words old new (Outside path) = FailedOutside words (string_bytes path) old new
+Says words old new (NotPut path) = FailedPutOfWords words (string_bytes path) old new
 Says words old new NotBuilt = IsNotBuilt words old.files
 
 abbrev pub IsOutcome : List (String Global) → Seen → Seen → Outcome → Type 0

@@ -14,6 +14,7 @@ use Rattle.jmodel.specs.Typing.{IsTypable}
 use Rattle.jmodel.specs.Output.{◌and◌, line}
 use Rattle.rewriter.specs.Meaning.{HasFewMembers}
 use Rattle.rewriter.specs.RewrittenClasses.{rewritten_classes}
+use Rattle.deuce.specs.Folder.{IsFileOf}
 use Rattle.deuce.specs.Headline.{linked_files, IsRunnable}
 
 -- what is printed: how many class files the folder has, how many of their methods are taken, and how many are marked
@@ -32,18 +33,15 @@ pub record IsNewOf (instrumented : List ClassFile) (file : ClassFile) (new : Lis
   pub named : class_named instrumented (own_name file) ≡ Some class
   pub spelled : Spells new class
 
--- New bytes, some for each class file, spell the rewriting of class files each of whose methods has a typing: classes that mean the rewritten
--- program, each of whose methods has one too.
+-- New bytes, some for each class file, spell the rewriting of class files, each within its limit, that can be run: classes that mean the rewritten
+-- program, each of whose methods has a typing too.
 pub record IsRewriting (class_files news : List (List ℕ)) (taken marked : ℕ) : Type 0 where
   pub files : List ClassFile
-  pub spell : AllZip Spells class_files files
+  pub are_files : AllZip IsFileOf class_files files
   pub program : Program
-  pub links : linked_files files ≡ Some program
-  pub typed : AllByRecursion (IsTypable program) program.methods
-  pub instrumented : List ClassFile
-  pub rewrites : rewritten_classes (in_order files) program ≡ Ok instrumented
-  pub spelled : AllZip (IsNewOf instrumented) files news
-  pub means : relinked program instrumented ≡ Some (rewritten program)
+  pub runnable : IsRunnable files program
+  pub spelled : AllZip (IsNewOf runnable.instrumented) files news
+  pub means : relinked program runnable.instrumented ≡ Some (rewritten program)
   pub stays_typed : AllByRecursion (IsTypable (rewritten program)) (rewritten program).methods
   pub counts : AreCountsOf program taken marked
 

@@ -2,7 +2,7 @@
 ghost use Rattle.std.specs.Prelude.{◌≡◌, List, String, IfOk};
 ghost use Rattle.std.specs.declared.alloc.Global.{Global};
 ghost use Rattle.deuce.specs.Command.{seen_words, run_words, rewrite_words};
-ghost use Rattle.deuce.specs.Outcomes.{IsUnreadAs, IsRefusedAs, IsNotPutAs, IsOutcome, ArePut, seen};
+ghost use Rattle.deuce.specs.Outcomes.{IsUnreadAs, IsRefusedAs, IsNotPutAs, IsOutcome, ArePut};
 
 use crate::classes::classes_of;
 use crate::inputs::{InputEnd, read_classes, read_inputs};
@@ -24,8 +24,8 @@ pub fn run_command<R: Threads + Sync, F: Folder>(
     script: &str,
 ) -> Result<Outcome, NoMemory>
     ensures outcome { IfOk result (λ o. (words : List (String Global)) → seen_words words ≡ run_words dir.now script.now
-        → IsOutcome words (seen (F.files folder.old) (F.faults folder.old) (F.put_faults folder.old) (F.failed folder.old)) (seen (F.files folder.new) (F.faults folder.new) (F.put_faults folder.new) (F.failed folder.new)) o) }
-    ensures files_kept { F.files folder.new ≡ F.files folder.old }
+        → IsOutcome words (F.seen folder.old) (F.seen folder.new) o) }
+    ensures files_kept { (F.seen folder.new).files ≡ (F.seen folder.old).files }
 {
     let inputs = match read_inputs(alloc, folder, dir, script) {
         Ok(inputs) => inputs,
@@ -49,8 +49,8 @@ pub fn rewrite_command<F: Folder>(
     out: &str,
 ) -> Result<Outcome, NoMemory>
     ensures outcome { IfOk result (λ o. (words : List (String Global)) → seen_words words ≡ rewrite_words dir.now out.now
-        → IsOutcome words (seen (F.files folder.old) (F.faults folder.old) (F.put_faults folder.old) (F.failed folder.old)) (seen (F.files folder.new) (F.faults folder.new) (F.put_faults folder.new) (F.failed folder.new)) o) }
-    ensures put { (words : List (String Global)) → seen_words words ≡ rewrite_words dir.now out.now → ArePut words (F.files folder.old) (F.files folder.new) }
+        → IsOutcome words (F.seen folder.old) (F.seen folder.new) o) }
+    ensures put { (words : List (String Global)) → seen_words words ≡ rewrite_words dir.now out.now → ArePut words (F.seen folder.old).files (F.seen folder.new).files }
 {
     let inputs = match read_classes(alloc, folder, dir) {
         Ok(inputs) => inputs,

@@ -75,11 +75,11 @@ pub fn read_classes<F: Folder>(
     folder: &mut F,
     dir: &str,
 ) -> Result<Vec<ClassInput>, InputEnd>
-    ensures inputs { IfOk result (λ v. AreClassInputs (F.files folder.old) dir.now v.items) }
-    ensures files_kept { F.files folder.new ≡ F.files folder.old }
-    ensures counts { F.faults folder.old ≤ F.faults folder.new }
-    ensures put_counts { F.put_faults folder.old ≤ F.put_faults folder.new }
-    ensures cause { IfErr result (EndsInputs (IsCallOfFolder (F.files folder.old) dir.now) (F.files folder.old) dir.now (F.faults folder.old) (F.faults folder.new) (F.failed folder.new)) }
+    ensures inputs { IfOk result (λ v. AreClassInputs (F.seen folder.old).files dir.now v.items) }
+    ensures files_kept { (F.seen folder.new).files ≡ (F.seen folder.old).files }
+    ensures counts { (F.seen folder.old).faults ≤ (F.seen folder.new).faults }
+    ensures put_counts { (F.seen folder.old).put_faults ≤ (F.seen folder.new).put_faults }
+    ensures cause { IfErr result (EndsInputs (IsCallOfFolder (F.seen folder.old).files dir.now) dir.now (F.seen folder.old) (F.seen folder.new)) }
 {
     let paths = class_paths(alloc, folder, dir)?;
     if paths.len() > CLASSES_LIMIT {
@@ -95,9 +95,9 @@ pub fn read_inputs<F: Folder>(
     dir: &str,
     script: &str,
 ) -> Result<Inputs, InputEnd>
-    ensures inputs { IfOk result (AreInputs (F.files folder.old) dir.now script.now) }
-    ensures files_kept { F.files folder.new ≡ F.files folder.old }
-    ensures cause { IfErr result (EndsInputs (IsCallOfRun (F.files folder.old) dir.now script.now) (F.files folder.old) dir.now (F.faults folder.old) (F.faults folder.new) (F.failed folder.new)) }
+    ensures inputs { IfOk result (AreInputs (F.seen folder.old).files dir.now script.now) }
+    ensures files_kept { (F.seen folder.new).files ≡ (F.seen folder.old).files }
+    ensures cause { IfErr result (EndsInputs (IsCallOfRun (F.seen folder.old).files dir.now script.now) dir.now (F.seen folder.old) (F.seen folder.new)) }
 {
     let classes = read_classes(alloc, folder, dir)?;
     match folder.read(script, SCRIPT_LIMIT + 1) {
@@ -113,13 +113,13 @@ fn read_each<F: Folder>(
     dir: &str,
     paths: &[String],
 ) -> Result<Vec<ClassInput>, InputEnd>
-    requires { All (λ (path : String Global). IsRead (F.files folder.old) dir.now (string_bytes path)) paths.now }
+    requires { All (λ (path : String Global). IsRead (F.seen folder.old).files dir.now (string_bytes path)) paths.now }
     ensures paths { IfOk result (λ v. paths_of v.items ≡ seen_texts paths.now) }
-    ensures inputs { IfOk result (λ v. AllByRecursion (IsClassInput (F.files folder.old) dir.now) v.items) }
-    ensures files_kept { F.files folder.new ≡ F.files folder.old }
-    ensures counts { F.faults folder.old ≤ F.faults folder.new }
-    ensures put_counts { F.put_faults folder.old ≤ F.put_faults folder.new }
-    ensures cause { IfErr result (EndsReads (IsCallOfFolder (F.files folder.old) dir.now) (F.faults folder.old) (F.faults folder.new) (F.failed folder.new)) }
+    ensures inputs { IfOk result (λ v. AllByRecursion (IsClassInput (F.seen folder.old).files dir.now) v.items) }
+    ensures files_kept { (F.seen folder.new).files ≡ (F.seen folder.old).files }
+    ensures counts { (F.seen folder.old).faults ≤ (F.seen folder.new).faults }
+    ensures put_counts { (F.seen folder.old).put_faults ≤ (F.seen folder.new).put_faults }
+    ensures cause { IfErr result (EndsReads (IsCallOfFolder (F.seen folder.old).files dir.now) (F.seen folder.old) (F.seen folder.new)) }
 {
     let mut inputs = Vec::new(alloc);
     for relative in paths {
@@ -135,13 +135,13 @@ fn read_class_file<F: Folder>(
     dir: &str,
     relative: &str,
 ) -> Result<ClassInput, InputEnd>
-    requires { IsRead (F.files folder.old) dir.now relative.now }
+    requires { IsRead (F.seen folder.old).files dir.now relative.now }
     ensures relative { IfOk result (λ input. string_bytes input.relative ≡ relative.now) }
-    ensures input { IfOk result (IsClassInput (F.files folder.old) dir.now) }
-    ensures files_kept { F.files folder.new ≡ F.files folder.old }
-    ensures counts { F.faults folder.old ≤ F.faults folder.new }
-    ensures put_counts { F.put_faults folder.old ≤ F.put_faults folder.new }
-    ensures cause { IfErr result (EndsReads (IsCallOfFolder (F.files folder.old) dir.now) (F.faults folder.old) (F.faults folder.new) (F.failed folder.new)) }
+    ensures input { IfOk result (IsClassInput (F.seen folder.old).files dir.now) }
+    ensures files_kept { (F.seen folder.new).files ≡ (F.seen folder.old).files }
+    ensures counts { (F.seen folder.old).faults ≤ (F.seen folder.new).faults }
+    ensures put_counts { (F.seen folder.old).put_faults ≤ (F.seen folder.new).put_faults }
+    ensures cause { IfErr result (EndsReads (IsCallOfFolder (F.seen folder.old).files dir.now) (F.seen folder.old) (F.seen folder.new)) }
 {
     let path = format!(in alloc; "{dir}/{relative}")?;
     match folder.read(path.as_str(), CLASS_LIMIT + 1) {

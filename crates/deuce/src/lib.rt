@@ -5,7 +5,7 @@
 mod classes;
 mod commands;
 mod inputs;
-mod listing;
+pub mod listing;
 mod outcome;
 mod print;
 mod putting;

@@ -24,12 +24,12 @@ pub fn class_paths<F: Folder>(
     folder: &mut F,
     dir: &str,
 ) -> Result<Vec<String>, InputEnd>
-    ensures paths { IfOk result (λ v. HoldsClasses (F.files folder.old) dir.now (seen_texts v.items)) }
+    ensures paths { IfOk result (λ v. HoldsClasses (F.seen folder.old).files dir.now (seen_texts v.items)) }
     ensures named { IfOk result (λ v. All (λ (path : String Global). IsClassFileName (string_bytes path)) v.items) }
-    ensures files_kept { F.files folder.new ≡ F.files folder.old }
-    ensures counts { F.faults folder.old ≤ F.faults folder.new }
-    ensures put_counts { F.put_faults folder.old ≤ F.put_faults folder.new }
-    ensures cause { IfErr result (EndsListing (F.files folder.old) dir.now (F.faults folder.old) (F.faults folder.new) (F.failed folder.new)) }
+    ensures files_kept { (F.seen folder.new).files ≡ (F.seen folder.old).files }
+    ensures counts { (F.seen folder.old).faults ≤ (F.seen folder.new).faults }
+    ensures put_counts { (F.seen folder.old).put_faults ≤ (F.seen folder.new).put_faults }
+    ensures cause { IfErr result (EndsListing dir.now (F.seen folder.old) (F.seen folder.new)) }
 {
     let mut classes = BTreeSet::new(alloc);
     let mut level = list_folder(alloc, folder, dir, "", &mut classes)?;
@@ -52,14 +52,14 @@ fn list_level<F: Folder>(
     level: &[String],
     classes: &mut BTreeSet<String>,
 ) -> Result<Vec<String>, InputEnd>
-    requires { All (λ (path : String Global). IsListed (F.files folder.old) dir.now (string_bytes path)) level.now }
-    ensures found { ForSome (F.files folder.old) (λ told. IfOk result (λ next. (levels : ℕ) → AreFound told dir.now levels (seen_texts classes.old.keys) (seen_texts level.now)
+    requires { All (λ (path : String Global). IsListed (F.seen folder.old).files dir.now (string_bytes path)) level.now }
+    ensures found { ForSome (F.seen folder.old).files (λ told. IfOk result (λ next. (levels : ℕ) → AreFound told dir.now levels (seen_texts classes.old.keys) (seen_texts level.now)
         → AreFound told dir.now (levels + 1) (seen_texts classes.new.keys) (seen_texts next.items))) }
     ensures named { OnOk result (All IsClassFileName (seen_texts classes.old.keys) → All IsClassFileName (seen_texts classes.new.keys)) }
-    ensures files_kept { F.files folder.new ≡ F.files folder.old }
-    ensures counts { F.faults folder.old ≤ F.faults folder.new }
-    ensures put_counts { F.put_faults folder.old ≤ F.put_faults folder.new }
-    ensures cause { IfErr result (EndsReads (IsCallOfFolder (F.files folder.old) dir.now) (F.faults folder.old) (F.faults folder.new) (F.failed folder.new)) }
+    ensures files_kept { (F.seen folder.new).files ≡ (F.seen folder.old).files }
+    ensures counts { (F.seen folder.old).faults ≤ (F.seen folder.new).faults }
+    ensures put_counts { (F.seen folder.old).put_faults ≤ (F.seen folder.new).put_faults }
+    ensures cause { IfErr result (EndsReads (IsCallOfFolder (F.seen folder.old).files dir.now) (F.seen folder.old) (F.seen folder.new)) }
 {
     let mut next = Vec::new(alloc);
     for relative in level {
@@ -80,12 +80,12 @@ fn list_folder<F: Folder>(
     front: &str,
     classes: &mut BTreeSet<String>,
 ) -> Result<Vec<String>, InputEnd>
-    ensures found { ForSome (F.files folder.old) (λ told. IfOk result (λ folders. TakesIn (StandsIn told path.now) front.now (seen_texts classes.old.keys) (seen_texts classes.new.keys) (seen_texts folders.items))) }
+    ensures found { ForSome (F.seen folder.old).files (λ told. IfOk result (λ folders. TakesIn (StandsIn told path.now) front.now (seen_texts classes.old.keys) (seen_texts classes.new.keys) (seen_texts folders.items))) }
     ensures named { OnOk result (All IsClassFileName (seen_texts classes.old.keys) → All IsClassFileName (seen_texts classes.new.keys)) }
-    ensures files_kept { F.files folder.new ≡ F.files folder.old }
-    ensures counts { F.faults folder.old ≤ F.faults folder.new }
-    ensures put_counts { F.put_faults folder.old ≤ F.put_faults folder.new }
-    ensures cause { IfErr result (EndsReads (λ call. call ≡ list_of path.now) (F.faults folder.old) (F.faults folder.new) (F.failed folder.new)) }
+    ensures files_kept { (F.seen folder.new).files ≡ (F.seen folder.old).files }
+    ensures counts { (F.seen folder.old).faults ≤ (F.seen folder.new).faults }
+    ensures put_counts { (F.seen folder.old).put_faults ≤ (F.seen folder.new).put_faults }
+    ensures cause { IfErr result (EndsReads (λ call. call ≡ list_of path.now) (F.seen folder.old) (F.seen folder.new)) }
 {
     match folder.list(path) {
         Ok(items) => Ok(take_in(alloc, &items, front, classes)?),

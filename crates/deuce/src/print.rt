@@ -9,6 +9,7 @@ use deuce_io::{IoEnd, Sink};
 pub fn print<O: Sink>(out: &mut O, text: &[u8]) -> Result<(), IoEnd>
     ensures written { OnOk result (O.written out.new ≡ append_known (O.written out.old) text.now) }
     ensures front { OnErr result ((n : ℕ) × (O.written out.new ≡ append_known (O.written out.old) (take n text.now))) }
+    ensures shortage { IsErrOf result IoEnd.NoMemory → Rose (O.shortages out.old) (O.shortages out.new) }
     ensures failed { IsErrOf result IoEnd.Failed → Rose (O.faults out.old) (O.faults out.new) }
 {
     let mut at = 0;

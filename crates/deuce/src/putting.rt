@@ -44,8 +44,8 @@ pub fn new_files(
 /// Puts new files, one after another. After an error those before the one at which it came were put, nothing is known of the path of that one, and
 /// the others are as before.
 pub fn put_each<F: Folder>(folder: &mut F, files: Vec<NewFile>) -> Result<(), PutEnd>
-    ensures put { OnOk result (F.files folder.new ≡ option_map (with_files (seen_files files.items)) (F.files folder.old)) }
-    ensures cause { IfErr result (EndsPuts (seen_files files.items) (F.files folder.old) (F.files folder.new) (F.put_faults folder.old) (F.put_faults folder.new) (F.failed folder.new)) }
+    ensures put { OnOk result ((F.seen folder.new).files ≡ option_map (with_files (seen_files files.items)) (F.seen folder.old).files) }
+    ensures cause { IfErr result (EndsPuts (seen_files files.items) (F.seen folder.old) (F.seen folder.new)) }
 {
     for file in files {
         match folder.put(file.path.as_str(), file.bytes.as_slice()) {

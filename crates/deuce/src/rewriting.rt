@@ -2,11 +2,12 @@
 ghost use Rattle.std.specs.Prelude.{◌≡◌, ◌↔◌, ℕ, List, Some, length, filter, map, option_map, IfOk, IfErr, IsSome, IsTrue};
 ghost use Rattle.std.specs.List.{AllByRecursion, AllZip};
 ghost use Rattle.jmodel.specs.ClassFile.{ClassFile as Form};
-ghost use Rattle.jmodel.specs.ClassRules.{IsClassFile, Spells};
+ghost use Rattle.jmodel.specs.ClassRules.{IsClassFile};
 ghost use Rattle.jmodel.specs.Superclasses.{own_name as own_name_of, class_named};
 ghost use Rattle.rewriter.specs.Meaning.{AreFiled, HasFewMembers};
 ghost use Rattle.jmodel.specs.Schedule.{is_marked};
 ghost use Rattle.deuce.specs.Ending.{EndsOnClasses, NoScript, NoOpening, IsNotRewritten, AreUnderNames};
+ghost use Rattle.deuce.specs.Folder.{IsFileOf};
 ghost use Rattle.deuce.specs.Rewritten.{IsNewOf, IsRewriting};
 
 use crate::run::{RunEnd, prepare};
@@ -44,7 +45,7 @@ impl From<NoMemory> for RunEnd {
 pub fn write_rewriting(alloc: Global, files: &[ClassFile]) -> Result<WrittenClasses, RunEnd>
     requires form { AllByRecursion IsClassFile files.now }
     requires filed { AllByRecursion AreFiled files.now }
-    ensures rewriting { IfOk result (λ r. (contents : List (List ℕ)) → AllZip Spells contents files.now → IsRewriting contents r.files.items r.taken r.marked) }
+    ensures rewriting { IfOk result (λ r. (contents : List (List ℕ)) → AllZip IsFileOf contents files.now → IsRewriting contents r.files.items r.taken r.marked) }
     ensures cause { IfErr result (EndsOnClasses files.now NoScript NoOpening IsNotRewritten) }
 {
     let prepared = prepare(alloc, files)?;

@@ -11,9 +11,10 @@ ghost use Rattle.rewriter.specs.Meaning.{AreFiled, HasFewMembers};
 ghost use Rattle.rewriter.specs.ClassesMeaning.{AreLinked};
 ghost use Rattle.rewriter.specs.Rewritten.{Keeps};
 ghost use Rattle.rewriter.specs.RewrittenClasses.{rewritten_classes};
-ghost use Rattle.deuce.specs.Headline.{linked_files, IsRun};
+ghost use Rattle.deuce.specs.Folder.{IsFileOf, class_limit};
+ghost use Rattle.deuce.specs.Headline.{IsRunnable, IsRun};
 ghost use Rattle.deuce.specs.Ending.{EndsReading, EndsOnClasses, EndsOrder, EndsBuild, EndsRewriting, EndsScript, EndsOpening, IsOpened, IsNumbered, IsUnopenedAs, IsBadScript, IsUnopened, NoScript, NoOpening, IsOutsideForm};
-ghost use Rattle.script.specs.Script.{IsScript};
+ghost use Rattle.script.specs.Script.{IsScript, region_limit};
 ghost use Rattle.jmodel.specs.Layout.{opening_words as first_words, opening_state};
 ghost use Rattle.jmodel.specs.Program.{Program as Meant};
 ghost use Rattle.session.specs.Rule.{IsReady};
@@ -61,7 +62,7 @@ impl From<AllocError> for RunEnd {
 
 /// The class of a class file.
 pub fn class_of(alloc: Global, bytes: &[u8]) -> Result<ClassFile, RunEnd>
-    ensures within { OnOk result (length bytes.now ≤ 1048576) }
+    ensures within { OnOk result (length bytes.now ≤ class_limit) }
     ensures class { IfOk result (Spells bytes.now) }
     ensures filed { IfOk result AreFiled }
     ensures cause { IfErr result (EndsReading bytes.now) }
@@ -86,7 +87,7 @@ pub fn run_files<R: Threads + Sync>(
 ) -> Result<Bytes, RunEnd>
     requires form { AllByRecursion IsClassFile files.now }
     requires filed { AllByRecursion AreFiled files.now }
-    ensures run { IfOk result (λ text. (contents : List (List ℕ)) → AllZip Spells contents files.now → IsRun contents script.now text) }
+    ensures run { IfOk result (λ text. (contents : List (List ℕ)) → AllZip IsFileOf contents files.now → IsRun contents script.now text) }
     ensures cause { IfErr result (EndsOnClasses files.now (IsBadScript script.now) (IsUnopened script.now) IsOutsideForm) }
 {
     let prepared = prepare(alloc, files)?;
@@ -207,7 +208,7 @@ fn first_memory(
     size: u64,
 ) -> Result<Memory, AllocError>
     requires lanes { lanes ≤ 16 }
-    requires room { (length (first_words (map (λ c. c.now) classes.now)) ≤ size) × (size ≤ 1048576) }
+    requires room { (length (first_words (map (λ c. c.now) classes.now)) ≤ size) × (size ≤ region_limit) }
     ensures holds { (P : Meant) → linked (map (λ c. c.now) classes.now) ≡ Some P → IfOk result (λ m. Holds P size m (opening_state (map (λ c. c.now) classes.now))) }
     ensures size { IfOk result (λ m. length m.words.items + 4097 < 2 ^ 32) }
 {
@@ -233,7 +234,7 @@ fn opened(
     requires ready { IsReady original.now rewritten.now }
     requires attempts { (1 ≤ limits.attempts) × (limits.attempts ≤ 1000000) }
     requires lanes { lanes ≤ 16 }
-    requires room { (length (first_words (map (λ c. c.now) classes.now)) ≤ limits.size) × (limits.size ≤ 1048576) }
+    requires room { (length (first_words (map (λ c. c.now) classes.now)) ≤ limits.size) × (limits.size ≤ region_limit) }
     ensures opens { IfOk result (IsOpened original.now (map (λ c. c.now) classes.now) limits.size limits.budget) }
     ensures size { IfOk result (λ m. length m.words.items + 4097 < 2 ^ 32) }
     ensures cause { IfErr result (EndsOpening original.now (map (λ c. c.now) classes.now) limits.size limits.budget) }
@@ -273,8 +274,8 @@ fn run_script<R: Threads + Sync>(
 ) -> Result<Bytes, RunEnd>
     requires links { linked (map (λ c. c.now) classes.now) ≡ Some original.now }
     requires ready { IsReady original.now rewritten.now }
-    ensures run { IfOk result (λ text. (files : List Form) (contents : List (List ℕ)) → order_of_classes files ≡ map (λ c. c.now) classes.now → linked_files files ≡ Some original.now
-        → AllZip Spells contents files → IsRun contents script.now text) }
+    ensures run { IfOk result (λ text. (files : List Form) (contents : List (List ℕ)) → order_of_classes files ≡ map (λ c. c.now) classes.now → IsRunnable files original.now
+        → AllZip IsFileOf contents files → IsRun contents script.now text) }
     ensures cause { IfErr result (EndsScript original.now (map (λ c. c.now) classes.now) script.now) }
 {
     let wanted = script_of(alloc, classes, original, script)?;

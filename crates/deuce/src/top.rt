@@ -6,7 +6,7 @@ ghost use Rattle.jmodel.specs.declared.value.Answer.{Answer};
 ghost use Rattle.jmodel.specs.Output.{◌and◌, answer_text, refusal_text, error_text};
 ghost use Rattle.deuce.specs.Command.{seen_words, run_words, rewrite_words, IsNoRewriting, IsNoCommand};
 ghost use Rattle.deuce.specs.Ending.{IsJournalOf, IsRewritingOf};
-ghost use Rattle.deuce.specs.Outcomes.{IsOutcome, IsBadClassOfWords, IsBadProgramOfWords, IsUntypableOfWords, IsBadScriptOfWords, IsUnopenedOfWords, IsNotBuilt, CanRunWords, CanRewriteWords, FailedOutside, FailedPutOfWords, ArePut, IsRefusal, Appends, IsCut, seen};
+ghost use Rattle.deuce.specs.Outcomes.{IsOutcome, IsBadClassOfWords, IsBadProgramOfWords, IsUntypableOfWords, IsBadScriptOfWords, IsUnopenedOfWords, IsNotBuilt, CanRunWords, CanRewriteWords, FailedOutside, FailedPutOfWords, ArePut, IsRefusal, IsStatus, IsRunOrFailed, IsRewrittenOrFailed, Appends, IsCut};
 ghost use Rattle.deuce.specs.Rewritten.{counts_text};
 
 use crate::commands::{rewrite_command, run_command};
@@ -44,68 +44,97 @@ pub fn deuce<R: Threads + Sync, F: Folder, O: Sink>(
     // Where the words are of no form, that is said, unless it can't be written or memory runs out.
     ensures no_form { IsNoCommand words.now → (result ≡ 2) ⊎ ((result ≡ 9) ⊎ (result ≡ 10)) }
     ensures usage { result ≡ 2 → IsNoCommand words.now }
-    ensures usage_line { result ≡ 2 → Appends (O.written out.old) (O.written out.new) (error_text (codes "2") (codes "usage")) }
+    ensures usage_line { result ≡ 2
+        → Appends (O.written out.old) (O.written out.new) (error_text (codes "2") (codes "usage")) }
 
     // `run DIR SCRIPT`: what was written, where the sink tells it.
-    ensures journal { result ≡ 0 → (dir script : List ℕ) → seen_words words.now ≡ run_words dir script
-        → (text : List ℕ) × IsJournalOf (F.files folder.old) dir script text × Appends (O.written out.old) (O.written out.new) text }
+    ensures journal { result ≡ 0
+        → (dir script : List ℕ) → seen_words words.now ≡ run_words dir script
+        → (text : List ℕ) × IsJournalOf (F.seen folder.old).files dir script text
+        × Appends (O.written out.old) (O.written out.new) text }
 
-    // `rewrite DIR OUT`: what was put, where the folder tells its files, and the counts that were written.
-    ensures rewriting { result ≡ 0 → (dir to : List ℕ) → seen_words words.now ≡ rewrite_words dir to
-        → (classes : ℕ) × (taken : ℕ) × (marked : ℕ) × IsRewritingOf (F.files folder.old) (F.files folder.new) dir to classes taken marked
+    // `rewrite DIR OUT`: what was put, where the folder tells its files, and the counts that were
+    // written.
+    ensures rewriting { result ≡ 0
+        → (dir to : List ℕ) → seen_words words.now ≡ rewrite_words dir to
+        → (classes : ℕ) × (taken : ℕ) × (marked : ℕ)
+        × IsRewritingOf (F.seen folder.old).files (F.seen folder.new).files dir to classes taken marked
         × Appends (O.written out.old) (O.written out.new) (counts_text classes taken marked) }
 
     // This class file is the first, in the order of the paths, that isn't good, and has this fault.
     ensures bad_class { result ≡ 3 → (path : List ℕ) × (refusal : Refusal)
-        × IsBadClassOfWords words.now (F.files folder.old) path refusal
-        × Appends (O.written out.old) (O.written out.new) (error_text (codes "3") (path and refusal_text refusal)) }
+        × IsBadClassOfWords words.now (F.seen folder.old).files path refusal
+        × Appends (O.written out.old) (O.written out.new)
+        (error_text (codes "3") (path and refusal_text refusal)) }
 
-    // A folder lies 17 levels down, or there are more class files than 256, as this says; or they are good, and their classes have this fault, or their
-    // rewriting passes this limit.
-    ensures bad_program { result ≡ 4 → (refusal : Refusal) × IsBadProgramOfWords words.now (F.files folder.old) refusal
-        × Appends (O.written out.old) (O.written out.new) (error_text (codes "4") (refusal_text refusal)) }
+    // A folder lies 17 levels down, or there are more class files than 256, as this says; or they
+    // are good, and their classes have this fault, or their rewriting passes this limit.
+    ensures bad_program { result ≡ 4 → (refusal : Refusal)
+        × IsBadProgramOfWords words.now (F.seen folder.old).files refusal
+        × Appends (O.written out.old) (O.written out.new)
+        (error_text (codes "4") (refusal_text refusal)) }
 
-    // The class files are good and of the form, and this method of their classes is the first that has no typing.
-    ensures untypable { result ≡ 5 → (refusal : Refusal) × IsUntypableOfWords words.now (F.files folder.old) refusal
-        × Appends (O.written out.old) (O.written out.new) (error_text (codes "5") (refusal_text refusal)) }
+    // The class files are good and of the form, and this method of their classes is the first that
+    // has no typing.
+    ensures untypable { result ≡ 5 → (refusal : Refusal)
+        × IsUntypableOfWords words.now (F.seen folder.old).files refusal
+        × Appends (O.written out.old) (O.written out.new)
+        (error_text (codes "5") (refusal_text refusal)) }
 
-    // They can be run, and the script, of which at most one byte over its limit is looked at, is none for them: this is the first rule that it breaks.
-    ensures bad_script { result ≡ 6 → (refusal : Refusal) × IsBadScriptOfWords words.now (F.files folder.old) refusal
-        × Appends (O.written out.old) (O.written out.new) (error_text (codes "6") (refusal_text refusal)) }
+    // They can be run, and the script, of which at most one byte over its limit is looked at, is
+    // none for them: this is the first rule that it breaks.
+    ensures bad_script { result ≡ 6 → (refusal : Refusal)
+        × IsBadScriptOfWords words.now (F.seen folder.old).files refusal
+        × Appends (O.written out.old) (O.written out.new)
+        (error_text (codes "6") (refusal_text refusal)) }
 
-    // They can be run, and the script is one for them, but a static initialiser, the first such, run alone within the script's turns, doesn't return: it ends so.
-    ensures unopened { result ≡ 7 → (class : List ℕ) × (answer : Answer) × IsUnopenedOfWords words.now (F.files folder.old) class answer
-        × Appends (O.written out.old) (O.written out.new) (error_text (codes "7") (class and answer_text answer)) }
+    // They can be run, and the script is one for them, but a static initialiser, the first such,
+    // run alone within the script's turns, doesn't return: it ends so.
+    ensures unopened { result ≡ 7 → (class : List ℕ) × (answer : Answer)
+        × IsUnopenedOfWords words.now (F.seen folder.old).files class answer
+        × Appends (O.written out.old) (O.written out.new)
+        (error_text (codes "7") (class and answer_text answer)) }
 
-    // The class files are good and their classes without a fault, but not of the form, or a rewritten class would have too many members.
-    ensures not_built { result ≡ 12 → IsNotBuilt words.now (F.files folder.old) }
-    ensures not_built_line { result ≡ 12 → Appends (O.written out.old) (O.written out.new) (error_text (codes "12") (codes "NotBuilt")) }
+    // The class files are good and their classes without a fault, but not of the form, or a
+    // rewritten class would have too many members.
+    ensures not_built { result ≡ 12 → IsNotBuilt words.now (F.seen folder.old).files }
+    ensures not_built_line { result ≡ 12
+        → Appends (O.written out.old) (O.written out.new)
+        (error_text (codes "12") (codes "NotBuilt")) }
 
-    // A fault of the folder is one of this command's calls, and its path is printed; the new files before one whose put failed were put whole. A fault of
-    // the sink is the sink's.
+    // A fault of the folder is one of this command's calls, and its path is printed; the new files
+    // before one whose put failed were put whole. A fault of the sink is the sink's.
     ensures outside { result ≡ 8 → (path : List ℕ)
-        × FailedOutside words.now (F.files folder.old) path (F.faults folder.old) (F.faults folder.new) (F.failed folder.new)
+        × FailedOutside words.now path (F.seen folder.old) (F.seen folder.new)
         × Appends (O.written out.old) (O.written out.new) (error_text (codes "8") path) }
     ensures not_put { result ≡ 11 → (path : List ℕ)
-        × FailedPutOfWords words.now (F.files folder.old) (F.files folder.new) path (F.put_faults folder.old) (F.put_faults folder.new) (F.failed folder.new)
+        × FailedPutOfWords words.now path (F.seen folder.old) (F.seen folder.new)
         × Appends (O.written out.old) (O.written out.new) (error_text (codes "11") path) }
     ensures sink { result ≡ 9 → Rose (O.faults out.old) (O.faults out.new) }
 
-    // What a sink took that failed is a front of what was to be printed; where memory ran out, it took that or nothing.
-    ensures cut { result ≡ 9 → IsCut words.now (seen (F.files folder.old) (F.faults folder.old) (F.put_faults folder.old) (F.failed folder.old)) (seen (F.files folder.new) (F.faults folder.new) (F.put_faults folder.new) (F.failed folder.new)) (O.written out.old) (O.written out.new) }
+    // What a sink took that failed is a front of what was to be printed. Where memory ran out, it
+    // took nothing, or such a front before a write that ended for want of memory.
+    ensures cut { result ≡ 9
+        → IsCut words.now (F.seen folder.old) (F.seen folder.new) (O.written out.old) (O.written out.new) }
     ensures cut_or_none { result ≡ 10 → (O.written out.new ≡ O.written out.old)
-        ⊎ IsCut words.now (seen (F.files folder.old) (F.faults folder.old) (F.put_faults folder.old) (F.failed folder.old)) (seen (F.files folder.new) (F.faults folder.new) (F.put_faults folder.new) (F.failed folder.new)) (O.written out.old) (O.written out.new) }
+        ⊎ (Rose (O.shortages out.old) (O.shortages out.new)
+        × IsCut words.now (F.seen folder.old) (F.seen folder.new) (O.written out.old) (O.written out.new)) }
 
-    // What can be run is run, and what can be rewritten is rewritten, unless the folder or the sink fails or memory runs out.
-    ensures complete { CanRunWords words.now (F.files folder.old) → (result ≡ 0) ⊎ ((result ≡ 8) ⊎ ((result ≡ 9) ⊎ (result ≡ 10))) }
-    ensures complete_rewriting { CanRewriteWords words.now (F.files folder.old) → (result ≡ 0) ⊎ ((result ≡ 8) ⊎ ((result ≡ 9) ⊎ ((result ≡ 10) ⊎ (result ≡ 11)))) }
+    // What can be run is run, and what can be rewritten is rewritten, unless the folder or the sink
+    // fails or memory runs out.
+    ensures complete { CanRunWords words.now (F.seen folder.old).files → IsRunOrFailed result }
+    ensures complete_rewriting { CanRewriteWords words.now (F.seen folder.old).files
+        → IsRewrittenOrFailed result }
 
-    // The folder's files stay as they were, but for those that a rewriting puts, all of them or the first up to one of which nothing is known.
-    ensures files_kept { IsNoRewriting words.now → F.files folder.new ≡ F.files folder.old }
-    ensures refused_keeps { IsRefusal result → F.files folder.new ≡ F.files folder.old }
-    ensures put { ArePut words.now (F.files folder.old) (F.files folder.new) }
+    // The folder's files stay as they were, but for those that a rewriting puts, all of them or the
+    // first up to one of which nothing is known.
+    ensures files_kept { IsNoRewriting words.now
+        → (F.seen folder.new).files ≡ (F.seen folder.old).files }
+    ensures refused_keeps { IsRefusal result
+        → (F.seen folder.new).files ≡ (F.seen folder.old).files }
+    ensures put { ArePut words.now (F.seen folder.old).files (F.seen folder.new).files }
 
-    ensures statuses { (result ≡ 0) ⊎ ((result ≡ 2) ⊎ ((result ≡ 3) ⊎ ((result ≡ 4) ⊎ ((result ≡ 5) ⊎ ((result ≡ 6) ⊎ ((result ≡ 7) ⊎ ((result ≡ 8) ⊎ ((result ≡ 9) ⊎ ((result ≡ 10) ⊎ ((result ≡ 11) ⊎ (result ≡ 12))))))))))) }
+    ensures statuses { IsStatus result }
 {
     let Ok(outcome) = outcome_of(rt, alloc, words, folder) else {
         return 10;
@@ -128,9 +157,9 @@ fn outcome_of<R: Threads + Sync, F: Folder>(
     words: &[String],
     folder: &mut F,
 ) -> Result<Outcome, NoMemory>
-    ensures outcome { IfOk result (IsOutcome words.now (seen (F.files folder.old) (F.faults folder.old) (F.put_faults folder.old) (F.failed folder.old)) (seen (F.files folder.new) (F.faults folder.new) (F.put_faults folder.new) (F.failed folder.new))) }
-    ensures files_kept { IsNoRewriting words.now → F.files folder.new ≡ F.files folder.old }
-    ensures put { ArePut words.now (F.files folder.old) (F.files folder.new) }
+    ensures outcome { IfOk result (IsOutcome words.now (F.seen folder.old) (F.seen folder.new)) }
+    ensures files_kept { IsNoRewriting words.now → (F.seen folder.new).files ≡ (F.seen folder.old).files }
+    ensures put { ArePut words.now (F.seen folder.old).files (F.seen folder.new).files }
 {
     match command_of(words) {
         Some(Command::Run { dir, script }) => run_command(rt, alloc, folder, dir, script),

@@ -68,13 +68,7 @@ fn start_of(alloc: Global, whole: &[u8], most: usize) -> Result<Bytes, AllocErro
 }
 
 impl Folder for MemFolder {
-    ghost faults = { λ f. f.faults };
-
-    ghost put_faults = { λ f. f.put_faults };
-
-    ghost failed = { λ f. option_map seen_call f.failed };
-
-    ghost files = { λ f. Some (get_by_text f.files) };
+    ghost seen = { λ f. record { files = Some (get_by_text f.files); faults = f.faults; put_faults = f.put_faults; failed = option_map seen_call f.failed } };
 
     fn list(&mut self, dir: &str) -> Result<Vec<Item>, IoEnd>
         // as of every folder

@@ -9,15 +9,16 @@ use crate::folder::{Folder, Item};
 use crate::std_sink::end_of;
 use jmodel::Bytes;
 use std::alloc::Global;
-use std::io::Read;
+use std::io::{ErrorKind, Read};
 use std::rt::Files;
 use std::{fs, io};
 
 /// How many bytes are read at once.
 const PIECE: usize = 4096;
 
-/// The machine's files, of which it tells nothing. A link counts as what it leads to, and as a file where that
-/// is missing. A name that isn't UTF-8 is a fault of the list.
+/// The machine's files, of which it tells nothing. A link counts as a file: what it leads to is read through it,
+/// and a folder that it leads to isn't listed. A name that isn't UTF-8 and an item that can't be looked at are
+/// faults of the list. Regular files alone are read: a pipe, a device or a folder is a fault, told at once.
 #[derive(Drop)]
 pub struct RealFolder<R: Files + AllocGlobal + Clone + Drop> {
     rt: R,
@@ -49,22 +50,22 @@ impl<R: Files + AllocGlobal + Clone + Drop> RealFolder<R> {
         let mut items = Vec::new(self.alloc);
         for entry in fs::read_dir(&self.rt, dir)? {
             let entry = entry?;
-            let folder = match fs::metadata(&self.rt, entry.path()) {
-                Ok(metadata) => metadata.is_dir(),
-                Err(_) => false,
-            };
             items.push(Item {
                 name: String::from_str(self.alloc, entry.file_name())?,
-                folder,
+                folder: entry.metadata()?.is_dir(),
             })?;
         }
         Ok(items)
     }
 
-    /// The first `most` bytes of a file, or all where there are fewer.
+    /// The first `most` bytes of a regular file, or all where there are fewer. What else stands at the path isn't
+    /// opened, since a pipe would wait for a writer.
     fn start_of(&self, path: &str, most: usize) -> io::Result<Bytes>
         ensures { IfOk result (λ bytes. length bytes ≤ most) }
     {
+        if !fs::metadata(&self.rt, path)?.is_file() {
+            return Err(io::Error::from(ErrorKind::InvalidInput));
+        }
         let mut file = fs::open(&self.rt, path)?;
         let mut bytes = Vec::new(self.alloc);
         let mut piece = [0u8; PIECE];
@@ -117,13 +118,7 @@ fn fail_by(
 }
 
 impl<R: Files + AllocGlobal + Clone + Drop> Folder for RealFolder<R> {
-    ghost faults = { λ f. f.faults };
-
-    ghost put_faults = { λ f. f.put_faults };
-
-    ghost failed = { λ f. option_map seen_call f.failed };
-
-    ghost files = { λ f. None };
+    ghost seen = { λ f. record { files = None; faults = f.faults; put_faults = f.put_faults; failed = option_map seen_call f.failed } };
 
     fn list(&mut self, dir: &str) -> Result<Vec<Item>, IoEnd>
         // as of every folder

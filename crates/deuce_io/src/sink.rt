@@ -7,11 +7,14 @@ use crate::end::IoEnd;
 
 /// Where output goes.
 ///
-/// A clause reads its count of faults as `O.faults o`, and the bytes written as `O.written o`, which is `None`
-/// where it doesn't tell them.
+/// A clause reads its count of faults as `O.faults o`, its count of writes that ended for want of memory as
+/// `O.shortages o`, and the bytes written as `O.written o`, which is `None` where it doesn't tell them.
 pub trait Sink {
     /// How often it has failed.
     ghost faults: { Self → ℕ };
+
+    /// How many writes have ended for want of memory.
+    ghost shortages: { Self → ℕ };
 
     /// The bytes written, where they are told.
     ghost written: { Self → Option (List ℕ) };
@@ -23,6 +26,8 @@ pub trait Sink {
         ensures appended { IfOk result (λ n. written self.new ≡ append_known (written self.old) (take n piece.now)) }
         ensures kept { OnErr result (written self.new ≡ written self.old) }
         ensures counts { faults self.old ≤ faults self.new }
+        ensures shortage_counts { shortages self.old ≤ shortages self.new }
+        ensures shortage { IsErrOf result IoEnd.NoMemory → Rose (shortages self.old) (shortages self.new) }
         ensures cause { IsErrOf result IoEnd.Failed → Rose (faults self.old) (faults self.new) }
         ensures none { IfOk result (λ n. n ≡ 0 → piece.now ≢ [] → Rose (faults self.old) (faults self.new)) };
 }

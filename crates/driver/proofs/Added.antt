@@ -8,7 +8,7 @@ use Rattle.jmodel.specs.Schedule.{Phase, Lanes}
 use Rattle.tx_table.specs.declared.shared.Pass.{Pass}
 use Rattle.tx_table.specs.Passes.{book}
 use Rattle.session.specs.declared.record.Record.{Record}
-use Rattle.driver.specs.declared.journal.Journal.{Journal}
+use Rattle.driver.specs.declared.journal.Records.{Records}
 use Rattle.driver.specs.declared.side.Part.{Part}
 use Rattle.driver.specs.declared.side.Side.{Side}
 use Rattle.driver.specs.Sides.{AreWhole, none_made, made_counts, unplaced_of, joined}
@@ -18,7 +18,7 @@ use Rattle.driver.specs.Passing.{call_count, IsMidway, IsResting}
 use Rattle.driver.proofs.Phased.{itself, phase_over, placed_is, unplaced_is, order, rest_of}
 use Rattle.driver.proofs.Resting.{whole_next}
 
-pub phase_added : (t : TableId) (phase : ℕ) (b : Book) (lanes : Phase) (side : Side) (rest sorted : List Record) (behind : List Part) (q r : Pass) (old new : Journal)
+pub phase_added : (t : TableId) (phase : ℕ) (b : Book) (lanes : Phase) (side : Side) (rest sorted : List Record) (behind : List Part) (q r : Pass) (old new : Records)
     → length lanes ≤ 16 → IsMidway t b phase lanes side q
     → IsResting t (book q) phase (call_count lanes) lanes (made_counts side.parts.items) rest behind r
     → AreWhole lanes (made_counts side.parts.items) behind → IsPermutation (side.placed.items ++ rest) sorted → IsSortedBy stands_before sorted

@@ -15,7 +15,7 @@ use Rattle.jmodel.specs.Schedule.{Known, Lanes, Bag, AreDealt, phase_calls, asce
 use Rattle.session.specs.declared.record.Record.{Record}
 use Rattle.session.specs.Rule.{calls_of}
 use Rattle.session.specs.Lane.{record_of}
-use Rattle.driver.specs.declared.journal.Journal.{Journal}
+use Rattle.driver.specs.declared.journal.Records.{Records}
 use Rattle.driver.specs.Bags.{as_lanes, AreTaken, index_in, in_bag, told_in_bag, numbered, IsOfWorker}
 use Rattle.driver.specs.Over.{Shown, as_shown, made_in, shown_in, KeepsLane, IsOfRegion, StandsBehind, IsPhaseOver, AddsPhase}
 use Rattle.driver.specs.Passing.{call_count}
@@ -120,7 +120,7 @@ count_in_bag cs taken are =
     count_taken cs taken ∙ sym (length_permutation (flat_map (λ (l : List ℕ). l) taken) (below (length cs)) are.each_once) ∙ length-range_with_len 0 (length cs)
 
 -- a journal with the calls of a bag added, which workers took
-pub adds_bag : (phase count lanes : ℕ) (cs : List Known) (taken : List (List ℕ)) (b v : Book) (none made old new : Journal)
+pub adds_bag : (phase count lanes : ℕ) (cs : List Known) (taken : List (List ℕ)) (b v : Book) (none made old new : Records)
     → AreTaken (length cs) taken → length taken ≤ min lanes (length cs) → none.placed.items ≡ [] → none.unplaced.items ≡ []
     → AddsPhase phase count (Lanes (as_lanes cs taken)) b v none made
     → new.placed.items ≡ old.placed.items ++ map (numbered taken) made.placed.items
@@ -142,7 +142,7 @@ adds_bag phase count lanes cs taken b v none made old new are few no_placed no_u
     }
 
 -- each record of a phase is of a call that a worker took
-pub made_inside : (phase count : ℕ) (cs : List Known) (taken : List (List ℕ)) (b v : Book) (none made : Journal)
+pub made_inside : (phase count : ℕ) (cs : List Known) (taken : List (List ℕ)) (b v : Book) (none made : Records)
     → AreTaken (length cs) taken → none.placed.items ≡ [] → none.unplaced.items ≡ []
     → AddsPhase phase count (Lanes (as_lanes cs taken)) b v none made
     → All (IsOfWorker taken) made.placed.items × All (IsOfWorker taken) made.unplaced.items
@@ -154,7 +154,7 @@ made_inside phase count cs taken b v none made are no_placed no_unplaced adds =
     )
 
 -- a bag whose calls one worker makes, as a lane's
-pub adds_alone : (phase count lanes : ℕ) (cs : List Known) (b v : Book) (old new : Journal) → 1 ≤ lanes → AddsPhase phase count (Lanes (cs ∷ [])) b v old new
+pub adds_alone : (phase count lanes : ℕ) (cs : List Known) (b v : Book) (old new : Records) → 1 ≤ lanes → AddsPhase phase count (Lanes (cs ∷ [])) b v old new
     → AddsPhase phase count (Bag lanes cs) b v old new
 adds_alone phase count lanes cs b v old new some adds =
     let k = adds.is_phase in

@@ -19,6 +19,7 @@ pub mod Renumbered
 pub mod Giving
 pub mod Bags
 pub mod Working
+pub mod Ordered
 pub mod Over
 pub mod Phased
 pub mod Passing

@@ -23,19 +23,21 @@ use Rattle.driver.proofs.Telling.{told_in_order}
 use Rattle.session.specs.Rule.{IsRuled, IsStretch, calls_of, answers_of}
 use Rattle.session.specs.Lane.{record_of}
 use Rattle.driver.specs.declared.journal.Journal.{Journal}
+use Rattle.driver.specs.declared.journal.Records.{Records}
 use Rattle.driver.specs.declared.memory.Memory.{Memory}
 use Rattle.driver.specs.Memory.{used_at_first, Holds}
 use Rattle.driver.specs.Stories.{story_of, lane_regions, first_regions}
 use Rattle.driver.specs.Runs.{HasRun}
 use Rattle.driver.specs.Over.{Shown, as_shown, made_in, shown_in, KeepsLane, IsOfRegion, StandsBehind, IsPhaseOver, AddsPhase}
+use Rattle.driver.proofs.Ordered.{order_shown, behind_first}
 use Rattle.driver.proofs.Lists.{all_from_map, pairs_nil, pairs_append, pairs_map, pairs_from_map, sorted_out}
 use Rattle.driver.proofs.Places.{IsOfPhase, IsBefore, all_dealt, all_script, script_append, ascends_phase}
 use Rattle.driver.proofs.Stretching.{stretch_of}
-use Rattle.driver.proofs.Journals.{calls_append, of_both, run_all}
+use Rattle.driver.proofs.Journals.{HasRunTo, calls_append, of_both, run_all}
 
 -- What a journal has after the first phases over a table, of which a pass with this book holds every number: the same of all their calls as of those
 -- of one phase, with the order of the phases.
-pub record HasRunOver (phases : List ScriptPhase) (b : Book) (journal : Journal) : Type 0 where
+pub record HasRunOver (phases : List ScriptPhase) (b : Book) (journal : Records) : Type 0 where
   pub placed : List Shown
   pub unplaced : List Told
   pub placed_are : journal.placed.items ≡ map record_of (shown_in placed)
@@ -53,7 +55,7 @@ pub record HasRunOver (phases : List ScriptPhase) (b : Book) (journal : Journal)
   pub known : All (λ (s : Shown). s.made.stamp.at ≤ b.seen) placed
 
 -- no phase
-pub run_none : (b : Book) (journal : Journal) → b.entries ≡ [] → journal.placed.items ≡ [] → journal.unplaced.items ≡ [] → HasRunOver [] b journal
+pub run_none : (b : Book) (journal : Records) → b.entries ≡ [] → journal.placed.items ≡ [] → journal.unplaced.items ≡ [] → HasRunOver [] b journal
 run_none b journal none placed unplaced = record {
   placed = [];
   unplaced = [];
@@ -119,7 +121,7 @@ stays_behind phase seen d e before after = go e.stamp.update d.stamp.update afte
 shown_append : (ss rs : List Shown) → shown_in (ss ++ rs) ≡ shown_in ss ++ shown_in rs
 shown_append ss rs = map-append as_shown ss rs
 
-module _ (phases : List ScriptPhase) (p : ScriptPhase) (count : ℕ) (b v : Book) (old new : Journal) (h : HasRunOver phases b old)
+module _ (phases : List ScriptPhase) (p : ScriptPhase) (count : ℕ) (b v : Book) (old new : Records) (h : HasRunOver phases b old)
     (adds : AddsPhase (length phases) count p b v old new) where
   abbrev n : ℕ
   n = length phases
@@ -239,8 +241,8 @@ opens_with used zero = refl
 opens_with used (suc region) =
     ap or_zero (ne_cond 0 (suc region) (some used) (lookup (lane_regions 16) (suc region)) (λ e. omega (arith, e))) ∙ none_at_first 16 (suc region)
 
-module _ (P : Program) (size budget : ℕ) (memory : Memory) (after : List ℕ) (rule : Entry → Type 0) (ruled : (e : Entry) → rule e → IsRuled P size budget e) (b : Book)
-    (phases : List ScriptPhase) (journal : Journal) (h : HasRunOver phases b journal) (ends : Ends (story_of rule memory.words.items memory.used) b after) where
+module _ (P : Program) (size budget attempts : ℕ) (memory : Memory) (after : List ℕ) (rule : Entry → Type 0) (ruled : (e : Entry) → rule e → IsRuled P size budget attempts e) (b : Book)
+    (phases : List ScriptPhase) (records : Records) (h : HasRunOver phases b records) (ends : Ends (story_of rule memory.words.items memory.used) b after) where
   -- the used words of a region as the table opened, and as it closed
   abbrev first : ℕ → ℕ
   first region = or_zero (lookup (first_regions memory.used) region)
@@ -255,7 +257,7 @@ module _ (P : Program) (size budget : ℕ) (memory : Memory) (after : List ℕ) 
   stretch : (σ : State) → Holds P size memory σ → IsStretch P size budget σ after last (shown_in h.placed)
   stretch σ state =
       let s = subst (IsStretch P size budget σ after last) told_is
-      (stretch_of P size budget memory.words.items after first (used_at_first memory.used) last ends.history (opens_with memory.used) ends.legal.entries
+      (stretch_of P size budget attempts memory.words.items after first (used_at_first memory.used) last ends.history (opens_with memory.used) ends.legal.entries
       (λ e i. ruled e (ends.runs e i)) ends.heap (λ region. refl) σ state) in
       record { after = s.after; serial = serial_shown P size budget σ s.after h.placed s.serial; stands = s.stands }
 
@@ -282,18 +284,44 @@ module _ (P : Program) (size budget : ℕ) (memory : Memory) (after : List ℕ) 
       ))
       (λ other. inl (omega arith))))
 
+  -- of two calls the first in the history
+  made_first : AllPairs (λ (s t : Shown). comes_first s.made t.made ≡ true) h.placed
+  made_first =
+      let First : Told → Told → Type 0 = λ s t. comes_first s t ≡ true in
+      pairs_from_map (λ (s : Shown). s.made) First h.placed (subst (AllPairs First) told_is (pairs_map told First ends.history ends.legal.ordered))
+
+  in_order : AllPairs (λ s t. comes_first s t ≡ true) (shown_in h.placed)
+  in_order =
+      pairs_map as_shown (λ s t. comes_first s t ≡ true) h.placed
+      (λ i j d l inside.
+      order_shown (get_or h.placed i d) (get_or h.placed j d) (h.of_lanes i d (omega arith)) (h.of_lanes j d inside) (h.lanes_kept i j d l inside) (made_first i j d l inside))
+
+  behind : AllPairs (λ (s t : Told). StandsBehind s.stamp.at t) (shown_in h.placed)
+  behind =
+      let Behind : Told → Told → Type 0 = λ s t. StandsBehind s.stamp.at t in
+      let all : AllPairs Behind (map told ends.history) =
+      pairs_map told Behind ends.history
+      (λ i j d l inside. behind_first (told (get_or ends.history i d)) (told (get_or ends.history j d)) (ends.legal.stamps i j d l inside) (ends.legal.ordered i j d l inside)) in
+      pairs_map as_shown Behind h.placed (pairs_from_map (λ (s : Shown). s.made) Behind h.placed (subst (AllPairs Behind) told_is all))
+
   -- so the journal is that of a run
-  pub run_over : HasRun P size budget phases memory journal
-  run_over = run_all P size budget phases memory after last journal (record {
-    placed = shown_in h.placed;
-    unplaced = h.unplaced;
-    placed_are = h.placed_are;
-    unplaced_are = h.unplaced_are;
-    calls = h.calls;
-    are_calls = h.are_calls;
-    each_once = h.each_once;
-    placed_order = order;
-    unplaced_order = h.unplaced_order;
-    no_memory = h.no_memory;
-    stretch = stretch;
-  })
+  pub run_over : (journal : Journal) → journal.placed ≡ records.placed → journal.unplaced ≡ records.unplaced → journal.words.items ≡ after
+      → HasRun P size budget phases memory journal
+  run_over journal placed unplaced words =
+      let Left : List ℕ → Type 0 = λ ws. HasRunTo P size budget phases memory ws last records in
+      run_all P size budget phases memory last records journal placed unplaced
+      (subst Left (sym words) (record {
+        placed = shown_in h.placed;
+        unplaced = h.unplaced;
+        placed_are = h.placed_are;
+        unplaced_are = h.unplaced_are;
+        in_order = in_order;
+        behind = behind;
+        calls = h.calls;
+        are_calls = h.are_calls;
+        each_once = h.each_once;
+        placed_order = order;
+        unplaced_order = h.unplaced_order;
+        no_memory = h.no_memory;
+        stretch = stretch;
+      }))

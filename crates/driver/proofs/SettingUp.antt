@@ -1,5 +1,5 @@
 -- The static initialisers of a program, one after another.
-use Rattle.std.proofs.Common.{◌≡◌, ◌≢◌, ℕ, zero, suc, ◌<◌, slice_index_or, List, [], ◌∷◌, ◌++◌, length, Bool, true, false, Option, refl, sym, ap, ◌∙◌, subst, inl, inr, arith}
+use Rattle.std.proofs.Common.{◌+◌, ◌≡◌, ◌≢◌, ℕ, zero, suc, ◌<◌, slice_index_or, List, [], ◌∷◌, ◌++◌, length, Bool, true, false, Option, refl, sym, ap, ◌∙◌, subst, inl, inr, arith}
 use Rattle.std.specs.List.{AllByRecursion}
 use Rattle.std.specs.Bool.{MatchBool}
 use Rattle.jmodel.specs.declared.value.Value.{Value}
@@ -12,7 +12,7 @@ use Rattle.jmodel.specs.Schedule.{takes}
 use Rattle.jmodel.specs.Opening.{first_region, Opening, is_return, Fails}
 use Rattle.jmodel.specs.declared.op.Access.{Access}
 use Rattle.jmodel.specs.declared.value.Stamp.{Stamp}
-use Rattle.jmodel.specs.Attempt.{Log}
+use Rattle.jmodel.specs.Attempt.{Log, Bounds}
 use Rattle.jmodel.specs.History.{Entry, Told}
 use Rattle.jmodel.specs.Meaning.{region_of}
 use Rattle.jmodel.specs.Region.{Region}
@@ -23,7 +23,7 @@ use Rattle.session.specs.declared.record.Record.{Record}
 use Rattle.session.specs.declared.record.Place.{Place}
 use Rattle.session.specs.Lane.{Takes}
 use Rattle.session.specs.Rule.{IsRuled, IsState, IsStretch}
-use Rattle.session.specs.Adds.{call_of, told_by, is_spent, AddsNothing, AddsCall, AddsEntry}
+use Rattle.session.specs.Adds.{call_of, told_by, is_spent, AddsSpent, AddsNothing, AddsCall, AddsEntry}
 use Rattle.driver.specs.declared.memory.Memory.{Memory}
 use Rattle.driver.specs.Memory.{used_at_first, Holds}
 use Rattle.driver.proofs.Phased.{memory_is}
@@ -85,13 +85,13 @@ at_index Q (x ∷ xs) (suc i) d h l = at_index Q xs i d h.1 (omega (arith, l))
 -- ---- one call
 
 -- how a call over one thread ended that has a place in the history
-pub answered : (S : List Entry → ℕ → Log → Log → Type 0) (before after : ℕ) (t : Told) → ((h : List Entry) (n : ℕ) → S h n [] [] → n ≡ 0)
-    → (t.answer ≡ NoMemory → ⊥) → AddsCall S [] 0 before t after → AddsEntry S [] 0 before t after
-answered S before after t alone placed adds = go (is_spent t.answer) (is_memory t.answer) refl adds
+pub answered : (P : Program) (B : Bounds) (S : List Entry → ℕ → Log → Log → Type 0) (after : ℕ) (t : Told) → ((h : List Entry) (n : ℕ) → S h n [] [] → n ≡ 0)
+    → (t.answer ≡ NoMemory → ⊥) → AddsCall P B S [] 0 t after → AddsEntry S [] 0 B.used t after
+answered P B S after t alone placed adds = go (is_spent t.answer) (is_memory t.answer) refl adds
   where
-    go : (a b : Bool) → is_memory t.answer ≡ b → MatchBool a (AddsNothing (S []) 1 before after) (MatchBool b (AddsNothing (S []) 0 before after) (AddsEntry S [] 0 before t after))
-        → AddsEntry S [] 0 before t after
-    go true b q m = absurd (let n = m.0 in let none = alone [] n.conflicts n.stands in omega (arith, none, n.later))
+    go : (a b : Bool) → is_memory t.answer ≡ b → MatchBool a (AddsSpent P B t.call (S []) 0 after) (MatchBool b (AddsNothing (S []) 0 B.used after) (AddsEntry S [] 0 B.used t after))
+        → AddsEntry S [] 0 B.used t after
+    go true b q m = absurd (let none = alone [] (0 + m.tried) m.stands in let some = m.used_up.some in omega (arith, none, some))
     go false true q m = absurd (placed (memory_is t.answer q))
     go false false q m = m
 
@@ -101,7 +101,7 @@ elsewhere before after zero apart = absurd (apart refl)
 elsewhere before after (suc other) apart = refl
 
 -- a method that is called alone answers so
-module _ (P : Program) (size budget : ℕ) (rule : Entry → Type 0) (ruled : (e : Entry) → rule e → IsRuled P size budget e) where
+module _ (P : Program) (size budget attempts : ℕ) (rule : Entry → Type 0) (ruled : (e : Entry) → rule e → IsRuled P size budget attempts e) where
   pub answers_alone : (first : List ℕ) (memory left : Memory) (clock m : ℕ) (kept : List Access) (x : Answer) (stamp : Stamp) (room : Room) (at : Place)
       → memory.words.items ≡ first → room.region ≡ 0
       → AddsEntry (λ h n r w. StandsFor rule first left.words.items clock kept h n r w) [] 0 memory.used (told_by room at (record { method = m; args = [] }) (record_at at m x stamp)) left.used
@@ -112,7 +112,7 @@ module _ (P : Program) (size budget : ℕ) (rule : Entry → Type 0) (ruled : (e
       let of_region : e.call.region ≡ 0 = ap (λ (t : Told). t.call.region) adds.told_is ∙ region in
       let takes : Takes 0 memory.used (e ∷ []) left.used = (of_region, adds.used_before, sym adds.used_after) in
       let First : List ℕ → Type 0 = λ l. IsState P size l (used_at_first memory.used) σ in
-      let stretch = stretch_of P size budget rule ruled first left.words.items clock kept (e ∷ []) stands 0 memory.used left.used takes (used_at_first memory.used) (used_at_first left.used) refl
+      let stretch = stretch_of P size budget attempts rule ruled first left.words.items clock kept (e ∷ []) stands 0 memory.used left.used takes (used_at_first memory.used) (used_at_first left.used) refl
       (record { here = refl; there = elsewhere memory.used left.used }) σ (subst First same holds) in
       let told : IsStretch P size budget σ left.words.items (used_at_first left.used) (told_by room at (record { method = m; args = [] }) (record_at at m x stamp) ∷ []) =
       subst (λ (t : Told). IsStretch P size budget σ left.words.items (used_at_first left.used) (t ∷ [])) adds.told_is stretch in

@@ -17,6 +17,7 @@ use Rattle.jmodel.proofs.SerialProof.{serial_of}
 use Rattle.tx_core.specs.Serial.{IsSerial, StandsFor, word_in}
 use Rattle.session.specs.Rule.{IsRuled, IsState, IsStretch, calls_of}
 use Rattle.session.specs.Lane.{Takes}
+use Rattle.session.proofs.Marked.{explained, taking}
 
 -- the region of an entry has the used words that it left, and each other those from before
 used_here : (used : ℕ → ℕ) (e : Entry) (region : ℕ) → e.call.region ≡ region → used_with used e region ≡ e.used_after
@@ -42,15 +43,15 @@ pub record IsMoved (region after : ℕ) (u v : ℕ → ℕ) : Type 0 where
   pub here : v region ≡ after
   pub there : (other : ℕ) → other ≢ region → v other ≡ u other
 
-module _ (P : Program) (size budget : ℕ) (rule : Entry → Type 0) (ruled : (e : Entry) → rule e → IsRuled P size budget e) where
+module _ (P : Program) (size budget attempts : ℕ) (rule : Entry → Type 0) (ruled : (e : Entry) → rule e → IsRuled P size budget attempts e) where
   entries_of : (clock : ℕ) (σ : Words) (used : ℕ → ℕ) (region before after : ℕ) (h : List Entry) → Takes region before h after → used region ≡ before
       → IsSerial rule clock σ h → AreEntries σ used h × AllByRecursion (Explains P size budget) h
   entries_of clock σ used region before after [] takes same s = (tt, tt)
   entries_of clock σ used region before after (e ∷ h) takes same s =
       let r = ruled e s.0 in
       let rest = entries_of e.stamp.at (overlaid e.writes σ) (used_with used e) region e.used_after after h takes.2 (used_here used e region takes.0) s.4 in (
-        (record { update = s.1; reads = s.3; used_before = takes.1 ∙ sym (ap used takes.0 ∙ same); stays = r.stays }, rest.0),
-        (r.explained, rest.1),
+        (record { update = s.1; reads = s.3; used_before = takes.1 ∙ sym (ap used takes.0 ∙ same); stays = (taking P size budget attempts e r).stays }, rest.0),
+        (explained P size budget attempts e r, rest.1),
       )
 
   -- what one thread's history of one region tells

@@ -12,6 +12,7 @@ use Rattle.jmodel.specs.Serial.{Serial}
 use Rattle.jmodel.proofs.SerialProof.{serial_of}
 use Rattle.tx_core.specs.Serial.{word_in}
 use Rattle.session.specs.Rule.{IsRuled, IsState, IsStretch, calls_of, answers_of}
+use Rattle.session.proofs.Marked.{explained}
 
 -- what holds of each entry in a list
 pub all_in : {X : Type 0} (Q : X → Type 0) (xs : List X) → ((x : X) → In x xs → Q x) → AllByRecursion Q xs
@@ -43,14 +44,14 @@ told_answers [] = refl
 told_answers (e ∷ h) = ap (λ (xs : List Answer). e.answer ∷ xs) (told_answers h)
 
 -- A legal history of a phase's entries, told in its order, is the original methods, each run alone from what those before it left.
-pub stretch_of : (P : Program) (size budget : ℕ) (words after : List ℕ) (used u v : ℕ → ℕ) (h : List Entry) → ((region : ℕ) → used region ≡ u region)
-    → AreEntries (word_in words) used h → ((e : Entry) → In e h → IsRuled P size budget e) → ((a : ℕ) → slice_index after a ≡ memory_after h (word_in words) a)
+pub stretch_of : (P : Program) (size budget attempts : ℕ) (words after : List ℕ) (used u v : ℕ → ℕ) (h : List Entry) → ((region : ℕ) → used region ≡ u region)
+    → AreEntries (word_in words) used h → ((e : Entry) → In e h → IsRuled P size budget attempts e) → ((a : ℕ) → slice_index after a ≡ memory_after h (word_in words) a)
     → ((region : ℕ) → used_after h region (used region) ≡ v region) → (σ : State) → IsState P size words u σ → IsStretch P size budget σ after v (map told h)
-stretch_of P size budget words after used u v h alike entries ruled heap left σ state =
-    let rules = all_in (IsRuled P size budget) h ruled in
+stretch_of P size budget attempts words after used u v h alike entries ruled heap left σ state =
+    let rules = all_in (IsRuled P size budget attempts) h ruled in
     let moved = entries_alike (word_in words) used σ.used h (λ region. alike region ∙ sym (state.used_are region)) entries in
     let serial = serial_of P size budget h (word_in words) σ.used σ state.represents (λ region. refl) moved
-    (all_weaker (IsRuled P size budget) (Explains P size budget) h (λ e r. r.explained) rules) in
+    (all_weaker (IsRuled P size budget attempts) (Explains P size budget) h (λ e r. explained P size budget attempts e r) rules) in
     let Calls : List Call → Type 0 = λ cs. Serial P size budget σ cs (map (λ (e : Entry). e.answer) h) serial.after in
     let Answers : List Answer → Type 0 = λ xs. Serial P size budget σ (calls_of (map told h)) xs serial.after in
     let words_are : memory_after h (word_in words) ≡ word_in after = λ i a. sym (heap a) i in

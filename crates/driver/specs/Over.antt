@@ -9,7 +9,7 @@ use Rattle.tl2.specs.Standing.{IsBehind}
 use Rattle.session.specs.declared.record.Record.{Record}
 use Rattle.session.specs.Rule.{calls_of}
 use Rattle.session.specs.Lane.{is_placed, record_of}
-use Rattle.driver.specs.declared.journal.Journal.{Journal}
+use Rattle.driver.specs.declared.journal.Records.{Records}
 use Rattle.driver.specs.declared.side.Part.{Part}
 use Rattle.driver.specs.Sides.{AreParts}
 
@@ -74,7 +74,7 @@ pub record HasAdded (count : ℕ) (b v : Book) (added : List Entry) : Type 0 whe
   pub known : (e : Entry) → In e added → e.stamp.at ≤ v.seen
 
 -- a journal with the calls of a phase added, so many, that were made over a table by a pass that had the book b and then v
-pub record AddsPhase (phase count : ℕ) (p : ScriptPhase) (b v : Book) (old new : Journal) : Type 0 where
+pub record AddsPhase (phase count : ℕ) (p : ScriptPhase) (b v : Book) (old new : Records) : Type 0 where
   pub entries : List Entry
   pub placed : List Shown
   pub unplaced : List Told

@@ -6,22 +6,33 @@ use crate::side::Part;
 use session::Record;
 use std::alloc::{AllocError, Global};
 
-/// The calls of a run.
+/// The calls of a run, and the memory that they left.
 #[derive(Drop)]
 pub struct Journal {
     /// Those that have a place in the history, in its order.
     pub placed: Vec<Record>,
     /// Those that ran out of memory, by phase, lane and index.
     pub unplaced: Vec<Record>,
+    /// The words of memory after all of them.
+    pub words: Vec<u64>,
 }
 
-impl Journal {
+/// What is kept of the calls of a run, phase by phase.
+#[derive(Drop)]
+pub(crate) struct Records {
+    /// Those that have a place in the history, in its order.
+    pub placed: Vec<Record>,
+    /// Those that ran out of memory, by phase, lane and index.
+    pub unplaced: Vec<Record>,
+}
+
+impl Records {
     /// No calls.
     pub(crate) fn new(alloc: Global) -> Self
         ensures placed { result.placed.items ≡ [] }
         ensures unplaced { result.unplaced.items ≡ [] }
     {
-        Journal {
+        Records {
             placed: Vec::new(alloc),
             unplaced: Vec::new(alloc),
         }
@@ -45,8 +56,8 @@ impl Journal {
         Ok(())
     }
 
-    /// Adds the calls of another journal behind its own.
-    pub(crate) fn append(&mut self, mut other: Journal) -> Result<(), AllocError>
+    /// Adds other calls behind its own.
+    pub(crate) fn append(&mut self, mut other: Records) -> Result<(), AllocError>
         ensures placed { OnOk result (self.new.placed.items ≡ self.old.placed.items ++ other.placed.items) }
         ensures unplaced { OnOk result (self.new.unplaced.items ≡ self.old.unplaced.items ++ other.unplaced.items) }
     {

@@ -14,7 +14,7 @@ ghost use Rattle.driver.specs.Over.{AddsPhase};
 ghost use Rattle.driver.specs.Passing.{AreUsed, call_count, IsWhole, HasRoom, IsMidway};
 
 use crate::bag::bag_side;
-use crate::journal::Journal;
+use crate::journal::Records;
 use crate::memory::{LANES, Limits};
 use crate::order::sort_placed;
 use crate::rest::one_after_another;
@@ -41,7 +41,7 @@ pub(crate) fn run_phase<R: Threads + Sync, K: Keeping + Sync>(
     number: u32,
     phase: &PhaseCalls,
     used: &mut [u64; LANES],
-    journal: &mut Journal,
+    journal: &mut Records,
 ) -> Result<Pass, AllocError>
     requires ready { IsReady original.now rewritten.now }
     requires calls { AllByRecursion (AllByRecursion (IsCallOf original.now)) (lists_in phase.now) }
@@ -49,7 +49,7 @@ pub(crate) fn run_phase<R: Threads + Sync, K: Keeping + Sync>(
     requires lanes { HasLanes phase.now }
     requires attempts { (1 ≤ limits.attempts) × (limits.attempts ≤ 1000000) }
     requires room_size { limits.size ≤ 1048576 }
-    requires rule { (e : Entry) → IsRuled original.now limits.size limits.budget e → K.rule e }
+    requires rule { (e : Entry) → IsRuled original.now limits.size limits.budget limits.attempts e → K.rule e }
     requires pass { IsWhole shared.now.table.shared.table_id number pass }
     requires room { HasRoom (call_count (lists_in phase.now)) (book pass) }
     requires used { AreUsed used.old (book pass) }
@@ -92,7 +92,7 @@ fn run_bag<R: Threads + Sync, K: Keeping + Sync>(
     lanes: u64,
     calls: &LaneCalls,
     used: &mut [u64; LANES],
-    journal: &mut Journal,
+    journal: &mut Records,
 ) -> Result<Pass, AllocError>
     requires ready { IsReady original.now rewritten.now }
     requires calls { AllByRecursion (IsCallOf original.now) calls.now }
@@ -100,7 +100,7 @@ fn run_bag<R: Threads + Sync, K: Keeping + Sync>(
     requires lanes { (1 ≤ lanes) × (lanes ≤ 16) }
     requires attempts { (1 ≤ limits.attempts) × (limits.attempts ≤ 1000000) }
     requires room_size { limits.size ≤ 1048576 }
-    requires rule { (e : Entry) → IsRuled original.now limits.size limits.budget e → K.rule e }
+    requires rule { (e : Entry) → IsRuled original.now limits.size limits.budget limits.attempts e → K.rule e }
     requires pass { IsWhole shared.now.table.shared.table_id phase pass }
     requires room { HasRoom (call_count (calls.now ∷ [])) (book pass) }
     requires used { AreUsed used.old (book pass) }
@@ -143,7 +143,7 @@ fn work_bag<R: Threads + Sync, K: Keeping + Sync>(
     workers: u8,
     bag: &[Known],
     used: &mut [u64; LANES],
-    journal: &mut Journal,
+    journal: &mut Records,
 ) -> Result<Pass, AllocError>
     requires ready { IsReady original.now rewritten.now }
     requires calls { AllByRecursion (IsCallOf original.now) bag.now }
@@ -151,7 +151,7 @@ fn work_bag<R: Threads + Sync, K: Keeping + Sync>(
     requires workers { (1 ≤ workers) × (workers ≤ 16) × (workers ≤ length bag.now) }
     requires attempts { (1 ≤ limits.attempts) × (limits.attempts ≤ 1000000) }
     requires room_size { limits.size ≤ 1048576 }
-    requires rule { (e : Entry) → IsRuled original.now limits.size limits.budget e → K.rule e }
+    requires rule { (e : Entry) → IsRuled original.now limits.size limits.budget limits.attempts e → K.rule e }
     requires pass { IsWhole shared.now.table.shared.table_id phase pass }
     requires room { HasRoom (length bag.now) (book pass) }
     requires used { AreUsed used.old (book pass) }
@@ -165,7 +165,7 @@ fn work_bag<R: Threads + Sync, K: Keeping + Sync>(
         rt, alloc, original, rewritten, shared, &mut pass, limits, phase, workers, bag, used,
     )?;
     let by_worker = by_lane(alloc, bag, &taken)?;
-    let mut made = Journal::new(alloc);
+    let mut made = Records::new(alloc);
     let left = add_rest(
         alloc, original, rewritten, shared, pass, first, limits, phase, &by_worker, used, &mut made,
     )?;
@@ -187,7 +187,7 @@ fn run_lanes<R: Threads + Sync, K: Keeping + Sync>(
     phase: u32,
     lanes: &[LaneCalls],
     used: &mut [u64; LANES],
-    journal: &mut Journal,
+    journal: &mut Records,
 ) -> Result<Pass, AllocError>
     requires ready { IsReady original.now rewritten.now }
     requires calls { AllByRecursion (AllByRecursion (IsCallOf original.now)) lanes.now }
@@ -195,7 +195,7 @@ fn run_lanes<R: Threads + Sync, K: Keeping + Sync>(
     requires lanes { length lanes.now ≤ 16 }
     requires attempts { (1 ≤ limits.attempts) × (limits.attempts ≤ 1000000) }
     requires room_size { limits.size ≤ 1048576 }
-    requires rule { (e : Entry) → IsRuled original.now limits.size limits.budget e → K.rule e }
+    requires rule { (e : Entry) → IsRuled original.now limits.size limits.budget limits.attempts e → K.rule e }
     requires pass { IsWhole shared.now.table.shared.table_id phase pass }
     requires room { HasRoom (call_count lanes.now) (book pass) }
     requires used { AreUsed used.old (book pass) }
@@ -224,7 +224,7 @@ fn add_rest<K: Keeping>(
     phase: u32,
     lanes: &[LaneCalls],
     used: &mut [u64; LANES],
-    journal: &mut Journal,
+    journal: &mut Records,
 ) -> Result<Pass, AllocError>
     requires ready { IsReady original.now rewritten.now }
     requires calls { AllByRecursion (AllByRecursion (IsCallOf original.now)) lanes.now }
@@ -232,7 +232,7 @@ fn add_rest<K: Keeping>(
     requires lanes { length lanes.now ≤ 16 }
     requires attempts { (1 ≤ limits.attempts) × (limits.attempts ≤ 1000000) }
     requires room_size { limits.size ≤ 1048576 }
-    requires rule { (e : Entry) → IsRuled original.now limits.size limits.budget e → K.rule e }
+    requires rule { (e : Entry) → IsRuled original.now limits.size limits.budget limits.attempts e → K.rule e }
     requires side { (b : Book) × IsMidway shared.now.table.shared.table_id b phase lanes.now first pass }
     requires used { AreUsed used.old (book pass) }
     ensures whole { IfOk result (IsWhole shared.now.table.shared.table_id (suc phase)) }
@@ -270,7 +270,7 @@ fn first_side<R: Threads + Sync, K: Keeping + Sync>(
     requires lanes { length lanes.now ≤ 16 }
     requires attempts { (1 ≤ limits.attempts) × (limits.attempts ≤ 1000000) }
     requires room_size { limits.size ≤ 1048576 }
-    requires rule { (e : Entry) → IsRuled original.now limits.size limits.budget e → K.rule e }
+    requires rule { (e : Entry) → IsRuled original.now limits.size limits.budget limits.attempts e → K.rule e }
     requires pass { IsWhole shared.now.table.shared.table_id phase pass.old }
     requires room { HasRoom (call_count lanes.now) (book pass.old) }
     requires used { AreUsed used.old (book pass.old) }

@@ -39,7 +39,7 @@ pub(crate) fn one_after_another<K: Keeping>(
     requires lanes { length lanes.now ≤ 16 }
     requires attempts { (1 ≤ limits.attempts) × (limits.attempts ≤ 1000000) }
     requires room_size { limits.size ≤ 1048576 }
-    requires rule { (e : Entry) → IsRuled original.now limits.size limits.budget e → K.rule e }
+    requires rule { (e : Entry) → IsRuled original.now limits.size limits.budget limits.attempts e → K.rule e }
     requires firsts { length firsts.now ≡ length lanes.now }
     requires within { AllZip (λ (cs : List Form) (first : ℕ). first ≤ length cs) lanes.now firsts.now }
     requires numbers { (book pass).numbers ≡ 2 ^ 20 }
@@ -106,7 +106,7 @@ fn make_rest<K: Keeping>(
     requires attempts { (1 ≤ limits.attempts) × (limits.attempts ≤ 1000000) }
     requires region { limits.room.region ≡ suc at.lane }
     requires room_size { limits.room.size ≤ 1048576 }
-    requires rule { (e : Entry) → IsRuled original.now limits.room.size limits.budget e → K.rule e }
+    requires rule { (e : Entry) → IsRuled original.now limits.room.size limits.budget limits.attempts e → K.rule e }
     requires within { at.first ≤ length calls.now }
     requires pass { IsStarting shared.now.table.shared.table_id at limits.room.used (length (drop at.first calls.now)) pass }
     ensures made { IfOk result (λ r. let rest = drop at.first calls.now in

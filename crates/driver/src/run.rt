@@ -4,7 +4,7 @@ ghost use Rattle.jmodel.specs.History.{Entry};
 ghost use Rattle.session.specs.Rule.{IsRuled, IsReady};
 ghost use Rattle.driver.specs.Runs.{AreScripted, HasRun};
 
-use crate::journal::Journal;
+use crate::journal::{Journal, Records};
 use crate::memory::{LANES, Limits, Memory};
 use crate::phase::run_phase;
 use crate::table::{Keeping, open_table};
@@ -51,13 +51,13 @@ fn run_over<R: Threads + Sync, K: Keeping + Sync>(
     requires attempts { (1 ≤ limits.attempts) × (limits.attempts ≤ 1000000) }
     requires room_size { limits.size ≤ 1048576 }
     requires size { length memory.words.items + 4097 < 2 ^ 32 }
-    requires rule { (e : Entry) → IsRuled original.now limits.size limits.budget e → K.rule e }
-    requires ruled { (e : Entry) → K.rule e → IsRuled original.now limits.size limits.budget e }
+    requires rule { (e : Entry) → IsRuled original.now limits.size limits.budget limits.attempts e → K.rule e }
+    requires ruled { (e : Entry) → K.rule e → IsRuled original.now limits.size limits.budget limits.attempts e }
     ensures { IfOk result (HasRun original.now limits.size limits.budget phases.now memory) }
 {
     let (shared, mut pass) = open_table::<K>(alloc, memory)?;
     let mut used = [0; LANES];
-    let mut journal = Journal::new(alloc);
+    let mut records = Records::new(alloc);
     for (number, phase) in phases.iter().enumerate() {
         pass = run_phase(
             rt,
@@ -70,11 +70,16 @@ fn run_over<R: Threads + Sync, K: Keeping + Sync>(
             number as u32,
             phase,
             &mut used,
-            &mut journal,
+            &mut records,
         )?;
     }
-    let Ok(_words) = shared.close(alloc, pass) else {
+    let Ok(words) = shared.close(alloc, pass) else {
         return Err(AllocError);
     };
-    Ok(journal)
+    let Records { placed, unplaced } = records;
+    Ok(Journal {
+        placed,
+        unplaced,
+        words,
+    })
 }

@@ -105,8 +105,8 @@ fn call_over<K: Origin>(
     requires attempts { (1 ≤ limits.attempts) × (limits.attempts ≤ 1000000) }
     requires room_size { limits.size ≤ 1048576 }
     requires first { memory.words.items ≡ K.first }
-    requires rule { (e : Entry) → IsRuled original.now limits.size limits.budget e → K.rule e }
-    requires ruled { (e : Entry) → K.rule e → IsRuled original.now limits.size limits.budget e }
+    requires rule { (e : Entry) → IsRuled original.now limits.size limits.budget limits.attempts e → K.rule e }
+    requires ruled { (e : Entry) → K.rule e → IsRuled original.now limits.size limits.budget limits.attempts e }
     ensures answers { IfOk result (λ r. AnswersAlone original.now limits.size limits.budget memory method r.0 r.1) }
     ensures size { IfOk result (λ r. length r.1.words.items ≡ length memory.words.items) }
 {

@@ -38,7 +38,7 @@ pub(crate) fn side_by_side<R: Threads + Sync, K: Keeping + Sync>(
     requires lanes { length lanes.now ≤ 16 }
     requires attempts { (1 ≤ limits.attempts) × (limits.attempts ≤ 1000000) }
     requires room_size { limits.size ≤ 1048576 }
-    requires rule { (e : Entry) → IsRuled original.now limits.size limits.budget e → K.rule e }
+    requires rule { (e : Entry) → IsRuled original.now limits.size limits.budget limits.attempts e → K.rule e }
     requires pass { IsWhole shared.now.table.shared.table_id phase pass.old }
     requires room { HasRoom (call_count lanes.now) (book pass.old) }
     requires used { AreUsed used.old (book pass.old) }

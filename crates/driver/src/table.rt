@@ -38,6 +38,8 @@ impl<K: Keeping> Ruled for Opening<K> {
     ghost rule = { K.rule };
 
     ghost keeps = { λ o e r. r };
+
+    ghost ruled = { λ o e r. r };
 }
 
 /// A lane that is to run: its number, how many words of its region are used, and the pass that it starts with.

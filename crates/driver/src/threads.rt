@@ -37,7 +37,7 @@ fn run_lane<K: Keeping>(
     requires few { AllByRecursion (λ (cs : List Form). length cs ≤ 100000) lanes.now }
     requires attempts { (1 ≤ limits.attempts) × (limits.attempts ≤ 1000000) }
     requires room_size { limits.size ≤ 1048576 }
-    requires rule { (e : Entry) → IsRuled original.now limits.size limits.budget e → K.rule e }
+    requires rule { (e : Entry) → IsRuled original.now limits.size limits.budget limits.attempts e → K.rule e }
     requires lane { start.lane < length lanes.now }
     requires few_lanes { length lanes.now ≤ 16 }
     requires used { start.used ≡ used_of (book start.pass) start.lane }
@@ -80,7 +80,7 @@ pub(crate) fn run_all<R: Threads + Sync, K: Keeping + Sync>(
     requires few { AllByRecursion (λ (cs : List Form). length cs ≤ 100000) lanes.now }
     requires attempts { (1 ≤ limits.attempts) × (limits.attempts ≤ 1000000) }
     requires room_size { limits.size ≤ 1048576 }
-    requires rule { (e : Entry) → IsRuled original.now limits.size limits.budget e → K.rule e }
+    requires rule { (e : Entry) → IsRuled original.now limits.size limits.budget limits.attempts e → K.rule e }
     requires few_lanes { length lanes.now ≤ 16 }
     requires len { length starts.items ≡ length lanes.now }
     requires starts { (seen : ℕ) × AreStarting shared.now.table.shared.table_id seen phase starts.items }

@@ -71,7 +71,7 @@ fn work<K: Keeping>(
     requires few { length calls.now ≤ 100000 }
     requires attempts { (1 ≤ limits.attempts) × (limits.attempts ≤ 1000000) }
     requires room_size { limits.size ≤ 1048576 }
-    requires rule { (e : Entry) → IsRuled original.now limits.size limits.budget e → K.rule e }
+    requires rule { (e : Entry) → IsRuled original.now limits.size limits.budget limits.attempts e → K.rule e }
     requires bag { bag.now.length ≡ length calls.now }
     requires used { worker.start.used ≡ used_of (book worker.start.pass) worker.start.lane }
     requires pass { IsOfOne shared.now.table.shared.table_id (book worker.start.pass).seen (first_of phase worker.start.lane) worker.start.pass }
@@ -118,7 +118,7 @@ fn work_all<R: Threads + Sync, K: Keeping + Sync>(
     requires few { length calls.now ≤ 100000 }
     requires attempts { (1 ≤ limits.attempts) × (limits.attempts ≤ 1000000) }
     requires room_size { limits.size ≤ 1048576 }
-    requires rule { (e : Entry) → IsRuled original.now limits.size limits.budget e → K.rule e }
+    requires rule { (e : Entry) → IsRuled original.now limits.size limits.budget limits.attempts e → K.rule e }
     requires bag { bag.now.length ≡ length calls.now }
     requires workers { (seen : ℕ) × AreWorkers shared.now.table.shared.table_id seen phase bag.now (length calls.now) workers.items }
     ensures { (seen : ℕ) → AreWorkers shared.now.table.shared.table_id seen phase bag.now (length calls.now) workers.items
@@ -192,7 +192,7 @@ pub(crate) fn run_workers<R: Threads + Sync, K: Keeping + Sync>(
     requires few { length calls.now ≤ 100000 }
     requires attempts { (1 ≤ limits.attempts) × (limits.attempts ≤ 1000000) }
     requires room_size { limits.size ≤ 1048576 }
-    requires rule { (e : Entry) → IsRuled original.now limits.size limits.budget e → K.rule e }
+    requires rule { (e : Entry) → IsRuled original.now limits.size limits.budget limits.attempts e → K.rule e }
     requires starts { (seen : ℕ) × AreStarting shared.now.table.shared.table_id seen phase starts.items }
     requires some { (1 ≤ length starts.items) × (length starts.items ≤ 16) }
     ensures len { IfOk result (λ r. length r.1.items ≡ length starts.items) }

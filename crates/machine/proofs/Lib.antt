@@ -2,3 +2,4 @@ pub mod Turn
 pub mod Comes
 pub mod Ends
 pub mod Thrown
+pub mod Going

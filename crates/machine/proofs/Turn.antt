@@ -1,20 +1,26 @@
 -- One turn of a call, from what the engine and the frames do.
-use Rattle.std.proofs.Common.{◌≡◌, ℕ, zero, suc, false, [], Result, Ok, Err, refl, ap, sym, ◌∙◌}
+use Rattle.std.proofs.Common.{◌≡◌, ℕ, zero, suc, false, [], ◌∷◌, Result, Ok, Err, Option, ◌⊎◌, inl, inr, refl, ap, sym, ◌∙◌}
+use Rattle.jmodel.specs.declared.value.Value.{Value}
+use Rattle.jmodel.specs.declared.op.Doing.{Doing}
 use Rattle.jmodel.specs.declared.op.Place.{Place}
 use Rattle.jmodel.specs.declared.op.WordType.{WordType}
 use Rattle.jmodel.specs.declared.op.Asking.{Asking}
+use Rattle.jmodel.specs.declared.op.Asking.TheVariants.{Return, Throw}
 use Rattle.jmodel.specs.declared.op.Phase.{Phase}
 use Rattle.jmodel.specs.declared.op.Phase.TheVariants.{Ready, Open, Doomed, Closed}
 use Rattle.jmodel.specs.Value.{pushed, value_of}
 use Rattle.jmodel.specs.Program.{Program}
-use Rattle.jmodel.specs.Step.{Frames, Asked, Asks, step, resumed}
-use Rattle.jmodel.specs.Attempt.{Log, Bounds, Meter, Run, On, Reply, Gives, address, answered, written, recorded, on_read, on_asking, on_asked, next_run, turned, with_turns, with_depth, entered}
+use Rattle.jmodel.specs.Step.{Frames, Asked, Asks, step, on_doing, resumed}
+use Rattle.jmodel.specs.Attempt.{Log, Bounds, Meter, Run, On, Stuck, Reply, Gives, returned, threw, address, answered, written, recorded, on_read, on_asking, on_asked, next_run, turned, with_turns, with_depth, entered}
 use Rattle.machine.specs.declared.failure.Failure.{Failure}
 use Rattle.machine.specs.declared.failure.Failure.TheVariants as failure
 use Rattle.machine.specs.declared.running.Running.{Running}
 use Rattle.machine.specs.declared.running.Todo.{Todo}
 use Rattle.machine.specs.declared.running.Todo.TheVariants.{Go, Commit, Budget, Depth, Heap, Spent}
-use Rattle.machine.specs.Running.{Lands, IsTurn}
+use Rattle.machine.specs.declared.running.Stage.{Stage}
+use Rattle.machine.specs.declared.running.Stage.TheVariants as stage
+use Rattle.machine.specs.Meets.{IsStep}
+use Rattle.machine.specs.Running.{at, meter, phase_of, Lands, IsTurn, IsPlain, HasTurned}
 
 -- a reply, and what holds after it, make a turn
 pub turn_of : (B : Bounds) (f : Reply → Run) (H : Log → Log → Type 0) (a : Running) (result : Result Todo Failure) (r w : Log) (v : Reply)
@@ -66,3 +72,56 @@ turn_as B f g H a (Ok (Heap k)) e t = (t.0, t.1, t.2, (t.3.0, e t.3.0 ∙ t.3.1)
 turn_as B f g H a (Ok Spent) e t = (t.0, t.1, t.2, (t.3.0, e t.3.0 ∙ t.3.1))
 turn_as B f g H a (Err failure.Wrong) e t = (t.0, t.1, t.2, (t.3.0, e t.3.0 ∙ t.3.1))
 turn_as B f g H a (Err failure.NoMemory) e t = t
+
+-- a turn behind instructions that ask for nothing
+pub plain_turn : (P : Program) (B : Bounds) (a b a' : Running) (d : Doing) (gs : Frames) (x : Asking) (H : Log → Log → Type 0) (result : Result Todo Failure) (w r : Log)
+    → (k : IsPlain P a b (Ok d)) → on_doing P d b.frame b.callers ≡ Asks x gs → IsTurn B (λ v. on_asking P B x (phase_of b.stage) v gs (meter b) w r) H a' result
+    → HasTurned P B (at a w r) H a' result
+plain_turn P B a b a' d gs x H result w r k e t = record {
+  before = On (phase_of b.stage) (k.frame ∷ b.callers) (meter b) w r;
+  comes = k.comes B w r;
+  turn = turn_as B _ (λ v. on_asking P B x (phase_of b.stage) v gs (meter b) w r) H a' result
+      (λ v. asks P B v (phase_of b.stage) (k.frame ∷ b.callers) gs (meter b) w r x (k.does b.callers ∙ e)) t;
+}
+
+-- an error among instructions that ask for nothing
+pub plain_fails : (P : Program) (B : Bounds) (a b a' : Running) (H : Log → Log → Type 0) (e : Failure) (w r : Log)
+    → IsPlain P a b (Err e) → H r w → HasTurned P B (at a w r) H a' (Err e)
+plain_fails P B a b a' H failure.Wrong w r k h = record {
+  before = On (phase_of b.stage) (k.frame ∷ b.callers) (meter b) w r;
+  comes = k.comes B w r;
+  turn = (r, w, h, (Gives 0, ap (λ (x : Asked). on_asked P B x (phase_of b.stage) (Gives 0) (meter b) w r) (k.does b.callers)));
+}
+plain_fails P B a b a' H failure.NoMemory w r k h = record { before = On (phase_of b.stage) (k.frame ∷ b.callers) (meter b) w r; comes = k.comes B w r; turn = (r, w, h) }
+
+-- an error behind them
+pub settle_fails : (P : Program) (B : Bounds) (a b a' : Running) (d : Doing) (gs : Frames) (H : Log → Log → Type 0) (e : Failure) (w r : Log)
+    → (k : IsPlain P a b (Ok d)) → IsStep (Err e) gs (on_doing P d b.frame b.callers) → H r w → HasTurned P B (at a w r) H a' (Err e)
+settle_fails P B a b a' d gs H failure.Wrong w r k s h = record {
+  before = On (phase_of b.stage) (k.frame ∷ b.callers) (meter b) w r;
+  comes = k.comes B w r;
+  turn = (r, w, h, (Gives 0, ap (λ (x : Asked). on_asked P B x (phase_of b.stage) (Gives 0) (meter b) w r) (k.does b.callers ∙ s)));
+}
+settle_fails P B a b a' d gs H failure.NoMemory w r k s h =
+    record { before = On (phase_of b.stage) (k.frame ∷ b.callers) (meter b) w r; comes = k.comes B w r; turn = (r, w, h) }
+
+-- before the commit the last frame gives nothing
+pub gives_early : (s : Stage) (v : Option Value) (m : Meter) (w r : Log) → returned (phase_of s) v m w r ≡ Stuck
+gives_early stage.Ready v m w r = refl
+gives_early stage.Open v m w r = refl
+gives_early stage.Doomed v m w r = refl
+
+-- and throws nothing
+pub throws_early : (s : Stage) (o : ℕ) (m : Meter) (w r : Log) → threw (phase_of s) o m w r ≡ Stuck
+throws_early stage.Ready o m w r = refl
+throws_early stage.Open o m w r = refl
+throws_early stage.Doomed o m w r = refl
+
+-- so a step that gives or throws to nobody is wrong there
+pub plain_early : (P : Program) (B : Bounds) (a b a' : Running) (d : Doing) (gs : Frames) (x : Asking) (H : Log → Log → Type 0) (w r : Log)
+    → IsPlain P a b (Ok d) → IsStep (Ok x) gs (on_doing P d b.frame b.callers) → ((v : Option Value) × (x ≡ Return v)) ⊎ ((o : ℕ) × (x ≡ Throw o)) → H r w
+    → HasTurned P B (at a w r) H a' (Err failure.Wrong)
+plain_early P B a b a' d gs x H w r k s (inl (v, q)) h =
+    plain_turn P B a b a' d [] (Return v) H (Err failure.Wrong) w r k (rw q at s) (r, w, h, (Gives 0, gives_early b.stage v (meter b) w r))
+plain_early P B a b a' d gs x H w r k s (inr (o, q)) h =
+    plain_turn P B a b a' d [] (Throw o) H (Err failure.Wrong) w r k (rw q at s) (r, w, h, (Gives 0, throws_early b.stage o (meter b) w r))

@@ -1,5 +1,5 @@
 -- What a call of the machine adds to the history.
-use Rattle.std.specs.Prelude.{◌≡◌, ◌≢◌, ℕ, ◌+◌, ◌≤◌, List, [], ◌∷◌, ◌++◌, Result, Ok, Err, false}
+use Rattle.std.specs.Prelude.{◌≡◌, ◌≢◌, ℕ, ◌+◌, ◌-◌, ◌≤◌, List, [], ◌∷◌, ◌++◌, Result, Ok, Err, false}
 use Rattle.jmodel.specs.declared.value.Answer.{Answer}
 use Rattle.jmodel.specs.declared.value.Answer.TheVariants.{Spent, NoMemory}
 use Rattle.jmodel.specs.declared.value.Stamp.{Stamp}
@@ -38,13 +38,14 @@ pub record MayStart (P : Program) (B : Bounds) (start : Run) (allows : Entry →
   pub awaits : A call B.used
   pub allowed : (x : Answer) (M : Meter) (r w : Log) → x ≢ Spent → Comes P B start (Ended x M w r) → IsAllowed allows x call B.used M.used r w
 
--- One entry more, of a run that ended so. Conflicts may have come before it.
+-- One entry more, of a run that ended so. Conflicts may have come before it, one for each attempt of the run but the last.
 pub record AddsEntry (P : Program) (B : Bounds) (c : Call) (S : List Entry → ℕ → Log → Log → Type 0) (h : List Entry) (n : ℕ) (e : End) : Type 0 where
   pub conflicts : ℕ
   pub later : n ≤ conflicts
   pub reads : Log
   pub writes : Log
   pub runs : Runs P B c.method c.args e.answer e.used writes reads
+  pub tries : n + runs.meter.tried ≡ conflicts + 1
   pub stamped : IsOfWrites e.stamp writes
   pub stands : S (h ++ made c e.answer B.used e.used e.stamp reads writes ∷ []) conflicts [] []
 
@@ -76,3 +77,26 @@ AddsBy x P B c S h n e = AddsEntry P B c S h n e
 abbrev pub AddsRun : Program → Bounds → Call → (List Entry → ℕ → Log → Log → Type 0) → List Entry → ℕ → Result End IsStuck → Type 0
 AddsRun P B c S h n (Ok e) = AddsBy e.answer P B c S h n e
 AddsRun P B c S h n (Err e) = AddsNone (S h) n × Comes P B (run_start P B c.method c.args) Stuck
+
+-- so many attempts were begun
+abbrev pub Begins : (ℕ → Type 0) → (ℕ → Type 0) → ℕ → Type 0
+Begins A A' n = (k : ℕ) → A k → A' (k + n)
+
+-- So many attempts were begun after k: one for each conflict since n, and so many more.
+pub record HasTried (S : List Entry → ℕ → Log → Log → Type 0) (A : ℕ → Type 0) (n k more : ℕ) : Type 0 where
+  pub history : List Entry
+  pub conflicts : ℕ
+  pub later : n ≤ conflicts
+  pub stands : S history conflicts [] []
+  pub begun : A (k + (conflicts - n) + more)
+
+-- The attempts of a call are those that met a conflict, and the one that ended as an entry.
+abbrev pub TriesBy : Answer → (List Entry → ℕ → Log → Log → Type 0) → (ℕ → Type 0) → ℕ → ℕ → Type 0
+TriesBy Spent S A n k = HasTried S A n k 0
+TriesBy NoMemory S A n k = Unit {0}
+TriesBy x S A n k = HasTried S A n k 1
+
+-- nothing is said where the code isn't well formed
+abbrev pub TriesRun : (List Entry → ℕ → Log → Log → Type 0) → (ℕ → Type 0) → ℕ → ℕ → Result End IsStuck → Type 0
+TriesRun S A n k (Ok e) = TriesBy e.answer S A n k
+TriesRun S A n k (Err e) = Unit {0}

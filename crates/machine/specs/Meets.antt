@@ -1,12 +1,15 @@
 -- What functions of the machine say of an instruction's meaning.
-use Rattle.std.specs.Prelude.{◌≡◌, ◌+◌, ◌<◌, ◌^◌, [], Result, Ok, Err}
+use Rattle.std.specs.Prelude.{◌≡◌, ℕ, ◌+◌, ◌<◌, ◌^◌, List, [], ◌++◌, replicate, Result, Ok, Err}
+use Rattle.jmodel.specs.declared.op.Slot.{Slot}
+use Rattle.jmodel.specs.declared.op.Slot.TheVariants.{Empty}
 use Rattle.jmodel.specs.declared.op.Doing.{Doing}
 use Rattle.jmodel.specs.declared.op.Doing.TheVariants as doing
 use Rattle.jmodel.specs.declared.op.Request.{Request}
 use Rattle.jmodel.specs.declared.op.Request.TheVariants.{Look, Read, Write}
 use Rattle.jmodel.specs.declared.op.Asking.{Asking}
 use Rattle.jmodel.specs.declared.op.Asking.TheVariants.{Return, Throw, Ask}
-use Rattle.jmodel.specs.Step.{Did, Does, Wrong, Frame, Frames, Asked, Asks, Fails}
+use Rattle.jmodel.specs.Program.{Program}
+use Rattle.jmodel.specs.Step.{Did, Does, Wrong, Frame, Frames, Asked, Asks, Fails, Took, TooFew, take_args, on_doing}
 use Rattle.machine.specs.declared.failure.Failure.{Failure}
 use Rattle.machine.specs.declared.failure.Failure.TheVariants as failure
 
@@ -47,3 +50,15 @@ CanDo d = Unit {0}
 abbrev pub CanAsk : Asking → Frame → Type 0
 CanAsk (Ask q) f = HasAddress q × (f.pc + 1 < 2 ^ 64)
 CanAsk a f = Unit {0}
+
+-- what an instruction leaves to be done, seen from the step
+abbrev pub IsDone : Program → Result Doing Failure → Frame → Frames → Asked → Type 0
+IsDone P (Ok d) f fs x = x ≡ on_doing P d f fs
+IsDone P (Err failure.Wrong) f fs x = x ≡ Fails
+IsDone P (Err failure.NoMemory) f fs x = Unit {0}
+
+-- a frame at the start of a method, whose arguments were taken from the slots s and left s'
+abbrev pub IsEntered : ℕ → ℕ → ℕ → List Slot → List Slot → Frame → Result (Unit {0}) Failure → Type 0
+IsEntered m params more s s' f (Ok u) = (args : List Slot) × (take_args params [] s ≡ Took args s') × (f ≡ record { method = m; pc = 0; locals = args ++ replicate more Empty; stack = [] })
+IsEntered m params more s s' f (Err failure.Wrong) = take_args params [] s ≡ TooFew
+IsEntered m params more s s' f (Err failure.NoMemory) = Unit {0}

@@ -1,15 +1,15 @@
 -- A call on its way, as a run of the definitions over an engine.
-use Rattle.std.specs.Prelude.{◌≡◌, ℕ, ◌+◌, ◌≤◌, List, [], ◌∷◌, ◌++◌, Result, Ok, Err, Option, Some, None}
+use Rattle.std.specs.Prelude.{◌≡◌, ℕ, ◌+◌, ◌≤◌, Bool, List, [], ◌∷◌, ◌++◌, Result, Ok, Err, Option, Some, None}
 use Rattle.jmodel.specs.declared.value.Value.{Value}
 use Rattle.jmodel.specs.declared.value.Answer.{Answer}
 use Rattle.jmodel.specs.declared.value.Answer.TheVariants as answer
-use Rattle.jmodel.specs.declared.value.Stamp.{Stamp}
 use Rattle.jmodel.specs.declared.op.Phase.{Phase}
 use Rattle.jmodel.specs.declared.op.Phase.TheVariants as phase
-use Rattle.jmodel.specs.Program.{Program}
-use Rattle.jmodel.specs.Step.{Frames}
+use Rattle.jmodel.specs.declared.op.Doing.{Doing}
+use Rattle.jmodel.specs.Program.{Program, is_counted}
+use Rattle.jmodel.specs.Step.{Frame, Frames, step, jumps, at as at_place}
 use Rattle.jmodel.specs.State.{trap_object}
-use Rattle.jmodel.specs.Attempt.{Thrown as ThrownAs, Log, Bounds, Meter, Run, On, Ended, Stuck, Reply, Gives, Refuses, set_back, on_commit, Comes, run_start}
+use Rattle.jmodel.specs.Attempt.{Thrown as ThrownAs, Log, Bounds, Meter, Run, On, Ended, Stuck, Reply, Gives, Refuses, set_back, on_asked, on_commit, next_run, Comes, run_start}
 use Rattle.jmodel.specs.History.{Call, Entry}
 use Rattle.jmodel.specs.Engine.{made}
 use Rattle.machine.specs.declared.failure.Failure.{Failure}
@@ -22,6 +22,7 @@ use Rattle.machine.specs.declared.room.Thrown.{Thrown}
 use Rattle.machine.specs.declared.running.Running.{Running}
 use Rattle.machine.specs.declared.machine.End.{End}
 use Rattle.machine.specs.Machine.{IsUnplaced}
+use Rattle.machine.specs.Meets.{IsDone}
 use Rattle.tx_core.specs.Engine.{IsAllowed, IsOfWrites}
 
 abbrev pub phase_of : Stage → Phase
@@ -95,6 +96,26 @@ IsTurn B f H a (Err failure.NoMemory) = (r : Log) × (w : Log) × H r w
 IsTurn B f H a (Ok Commit) = (r : Log) × (w : Log) × H r w × ((v : Reply) → f v ≡ on_commit B v (frames a) (meter a) w r)
 IsTurn B f H a result = (r : Log) × (w : Log) × H r w × ((v : Reply) × (f v ≡ land B a w r result))
 
+-- A jump that goes on in its method: one that is no turn, or a turn of those that are left.
+pub record HasJumped (to : ℕ) (counts : Bool) (a a' : Running) : Type 0 where
+  pub frame : a'.frame ≡ at_place to a.frame
+  pub stage : a'.stage ≡ a.stage
+  pub tried : a'.tried ≡ a.tried
+  pub goes : (P : Program) (B : Bounds) (w r : Log) → is_counted P a.frame.method ≡ counts
+      → on_asked P B (jumps P to a.frame a.callers) (phase_of a.stage) (Gives 0) (meter a) w r ≡ at a' w r
+
+-- Instructions that ask for nothing, and one behind them, which stands in this frame and leaves this to be done.
+pub record IsPlain (P : Program) (a a' : Running) (result : Result Doing Failure) : Type 0 where
+  pub frame : Frame
+  pub comes : (B : Bounds) (w r : Log) → Comes P B (at a w r) (On (phase_of a'.stage) (frame ∷ a'.callers) (meter a') w r)
+  pub does : (fs : Frames) → IsDone P result a'.frame fs (step P (frame ∷ fs))
+
+-- instructions that ask for nothing, and a turn of the machine behind them
+pub record HasTurned (P : Program) (B : Bounds) (c : Run) (H : Log → Log → Type 0) (a : Running) (result : Result Todo Failure) : Type 0 where
+  pub before : Run
+  pub comes : Comes P B c before
+  pub turn : IsTurn B (λ v. next_run P B v before) H a result
+
 -- the wrapper returns or throws
 abbrev pub IsLast : Answer → Type 0
 IsLast (answer.Returned v) = Unit {0}
@@ -107,10 +128,12 @@ IsFinished P B c m w r (Ok x) = Comes P B c (Ended x m w r) × IsLast x
 IsFinished P B c m w r (Err failure.Wrong) = Comes P B c Stuck
 IsFinished P B c m w r (Err failure.NoMemory) = Unit {0}
 
--- an entry of the awaited call that ended so, with these reads and writes, was added where it is allowed
-pub record HasAdded (A : Call → ℕ → Type 0) (allows : Entry → Type 0) (S : List Entry → ℕ → Log → Log → Type 0) (h : List Entry) (n before : ℕ) (e : End) (r w : Log) : Type 0 where
+-- An entry of the awaited call that ended so, with these reads and writes, was added where it is allowed. Each attempt before its own met a
+-- conflict.
+pub record HasAdded (A : Call → ℕ → Type 0) (allows : Entry → Type 0) (S : List Entry → ℕ → Log → Log → Type 0) (h : List Entry) (n before tried : ℕ) (e : End) (r w : Log) : Type 0 where
   pub conflicts : ℕ
   pub later : n ≤ conflicts
+  pub tries : n + tried ≡ conflicts + 1
   pub stamped : IsOfWrites e.stamp w
   pub adds : (c : Call) → A c before → IsAllowed allows e.answer c before e.used r w → S (h ++ made c e.answer before e.used e.stamp r w ∷ []) conflicts [] []
 
@@ -128,7 +151,7 @@ pub record MayCommit (P : Program) (B : Bounds) (a : Running) (allows : Entry �
 
 -- a commit: c is the run by the engine's reply
 abbrev pub IsCommit : Program → Bounds → (Reply → Run) → (Call → ℕ → Type 0) → (Entry → Type 0) → (List Entry → ℕ → Log → Log → Type 0) → List Entry → ℕ → Meter → Log → Log → Running → Result (Option End) Failure → Type 0
-IsCommit P B c A allows S h n m r w a (Ok (Some e)) = (Comes P B (c (Gives 0)) (Ended e.answer m w r) × IsLast e.answer × (e.used ≡ m.used)) × HasAdded A allows S h n B.used e r w
+IsCommit P B c A allows S h n m r w a (Ok (Some e)) = (Comes P B (c (Gives 0)) (Ended e.answer m w r) × IsLast e.answer × (e.used ≡ m.used)) × HasAdded A allows S h n B.used m.tried e r w
 IsCommit P B c A allows S h n m r w a (Ok None) = (c Refuses ≡ at a [] []) × Holds (S h) n a.stage a.tried [] []
 IsCommit P B c A allows S h n m r w a (Err failure.Wrong) = Holds (S h) n a.stage a.tried r w × Comes P B (c (Gives 0)) Stuck
 IsCommit P B c A allows S h n m r w a (Err failure.NoMemory) = Leaves (S h) n a.stage
@@ -139,33 +162,35 @@ IsStarted P B m args (Ok a) = (run_start P B m args ≡ at a [] []) × (a.stage 
 IsStarted P B m args (Err failure.Wrong) = run_start P B m args ≡ Stuck
 IsStarted P B m args (Err failure.NoMemory) = Unit {0}
 
--- a run that ended with an entry
-pub record Ends (P : Program) (B : Bounds) (c : Run) (A : Call → ℕ → Type 0) (allows : Entry → Type 0) (S : List Entry → ℕ → Log → Log → Type 0) (h : List Entry) (n : ℕ) (e : End) : Type 0 where
+-- a run that ended with an entry; T says how many attempts were begun
+pub record Ends (P : Program) (B : Bounds) (c : Run) (A : Call → ℕ → Type 0) (allows : Entry → Type 0) (T : ℕ → Type 0) (S : List Entry → ℕ → Log → Log → Type 0) (h : List Entry) (n : ℕ) (e : End) : Type 0 where
   pub reads : Log
   pub writes : Log
   pub meter_then : Meter
   pub comes : Comes P B c (Ended e.answer meter_then writes reads)
   pub leaves : meter_then.used ≡ e.used
-  pub added : HasAdded A allows S h n B.used e reads writes
+  pub begun : T meter_then.tried
+  pub added : HasAdded A allows S h n B.used meter_then.tried e reads writes
 
 -- the attempts were used up, each by a conflict
-pub record IsSpent (P : Program) (B : Bounds) (c : Run) (S : ℕ → Log → Log → Type 0) (n : ℕ) (e : End) : Type 0 where
+pub record IsSpent (P : Program) (B : Bounds) (c : Run) (T : ℕ → Type 0) (S : ℕ → Log → Log → Type 0) (n : ℕ) (e : End) : Type 0 where
   pub meter_then : Meter
+  pub begun : T meter_then.tried
   pub comes : Comes P B c (Ended answer.Spent meter_then [] [])
   pub stands : S (n + meter_then.tried) [] []
   pub unplaced : IsUnplaced B e
 
 -- how a run ends, by its answer
-abbrev pub IsEndBy : Answer → Program → Bounds → Run → (Call → ℕ → Type 0) → (Entry → Type 0) → (List Entry → ℕ → Log → Log → Type 0) → List Entry → ℕ → End → Type 0
-IsEndBy answer.Spent P B c A allows S h n e = IsSpent P B c (S h) n e
-IsEndBy answer.NoMemory P B c A allows S h n e = ⊥
-IsEndBy x P B c A allows S h n e = Ends P B c A allows S h n e
+abbrev pub IsEndBy : Answer → Program → Bounds → Run → (Call → ℕ → Type 0) → (Entry → Type 0) → (ℕ → Type 0) → (List Entry → ℕ → Log → Log → Type 0) → List Entry → ℕ → End → Type 0
+IsEndBy answer.Spent P B c A allows T S h n e = IsSpent P B c T (S h) n e
+IsEndBy answer.NoMemory P B c A allows T S h n e = ⊥
+IsEndBy x P B c A allows T S h n e = Ends P B c A allows T S h n e
 
 -- how a run ends; E says what is known after an error
-abbrev pub IsEnd : Program → Bounds → Run → (Call → ℕ → Type 0) → (Entry → Type 0) → (List Entry → ℕ → Log → Log → Type 0) → List Entry → ℕ → Type 0 → Result End Failure → Type 0
-IsEnd P B c A allows S h n E (Ok e) = IsEndBy e.answer P B c A allows S h n e
-IsEnd P B c A allows S h n E (Err failure.Wrong) = E × Comes P B c Stuck
-IsEnd P B c A allows S h n E (Err failure.NoMemory) = E
+abbrev pub IsEnd : Program → Bounds → Run → (Call → ℕ → Type 0) → (Entry → Type 0) → (ℕ → Type 0) → (List Entry → ℕ → Log → Log → Type 0) → List Entry → ℕ → Type 0 → Result End Failure → Type 0
+IsEnd P B c A allows T S h n E (Ok e) = IsEndBy e.answer P B c A allows T S h n e
+IsEnd P B c A allows T S h n E (Err failure.Wrong) = E × Comes P B c Stuck
+IsEnd P B c A allows T S h n E (Err failure.NoMemory) = E
 
 -- a call that began as c has come to where it stands
 pub record OnWay (P : Program) (B : Bounds) (c : Run) (S : ℕ → Log → Log → Type 0) (n : ℕ) (a : Running) : Type 0 where

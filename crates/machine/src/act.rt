@@ -1,15 +1,16 @@
 //! What one instruction does to its frame (JVM Specification, Java SE 7, chapter 6).
-ghost use Rattle.std.specs.Prelude.{◌≡◌, IfOk};
-ghost use Rattle.jmodel.specs.Program.{Program as JProgram};
-ghost use Rattle.jmodel.specs.Step.{Frame as JFrame, Does, does, branches};
+ghost use Rattle.std.specs.Prelude.{◌≡◌, ◌∷◌, ◌+◌, ◌<◌, ◌^◌, IfOk, MatchResult, slice_get};
+ghost use Rattle.jmodel.specs.Program.{Program as JProgram, method_at};
+ghost use Rattle.jmodel.specs.Step.{Frame as JFrame, Frames, Does, does, step, branches};
 ghost use Rattle.jmodel.specs.declared.op.Op.TheVariants as op;
-ghost use Rattle.machine.specs.Meets.{Meets, CanDo};
+ghost use Rattle.machine.specs.declared.failure.Failure.TheVariants as failure;
+ghost use Rattle.machine.specs.Meets.{Meets, CanDo, IsDone};
 
 use crate::arithmetic::{binary, divided, holds, unary};
 use crate::failure::Failure;
 use crate::frame::Frame;
 use crate::value::{given, stored};
-use hierarchy::program::Program;
+use hierarchy::program::{Method, Program};
 use jmodel::Cases;
 use jmodel::op::{Binary, Division, Doing, Op, Request, Slot, Test, Trap, Unary};
 use jmodel::value::Value;
@@ -26,12 +27,47 @@ fn branched(is_taken: bool, to: usize) -> Doing
     }
 }
 
+/// The method of a number, or `Wrong` where the program has none.
+pub(crate) fn method_of(program: &Program, number: usize) -> Result<&Method, Failure>
+    ensures { MatchResult result (λ m. method_at program.now number ≡ Some m.now) (λ e. (e ≡ failure.Wrong) × (method_at program.now number ≡ None)) }
+{
+    match program.method(number) {
+        Some(method) => Ok(method),
+        None => Err(Failure::Wrong),
+    }
+}
+
+/// The instruction at a place of a method, or `Wrong` where it has none.
+fn op_of(method: &Method, pc: usize) -> Result<&Op, Failure>
+    ensures op { MatchResult result (λ o. slice_get method.now.ops pc ≡ Some o.now) (λ e. (e ≡ failure.Wrong) × (slice_get method.now.ops pc ≡ None)) }
+    ensures next { IfOk result (λ _. pc + 1 < 2 ^ 64) }
+{
+    match method.ops().get(pc) {
+        Some(op) => Ok(op),
+        None => Err(Failure::Wrong),
+    }
+}
+
 impl Frame {
+    /// Does the instruction that the frame stands at, all but what lies outside the frame. `Wrong` where there is none.
+    #[inline(always)]
+    pub(crate) fn act_in(&mut self, program: &Program, method: &Method) -> Result<Doing, Failure>
+        requires { method_at program.now self.old.method ≡ Some method.now }
+        ensures does { (fs : Frames) → IsDone program.now result self.new fs (step program.now (self.old ∷ fs)) }
+        ensures can { IfOk result CanDo }
+        ensures place { (self.new.method ≡ self.old.method) × (self.new.pc ≡ self.old.pc) }
+        ensures next { IfOk result (λ _. self.new.pc + 1 < 2 ^ 64) }
+    {
+        let op = op_of(method, self.pc)?;
+        self.act(program, op)
+    }
+
     /// Does one instruction, all but what lies outside the frame. `Wrong` where the frame hasn't what it needs.
+    #[inline(always)]
     pub fn act(&mut self, program: &Program, op: &Op) -> Result<Doing, Failure>
         ensures does { Meets result self.new (does program.now op.now self.old) }
         ensures can { IfOk result CanDo }
-        ensures pc { self.new.pc ≡ self.old.pc }
+        ensures place { (self.new.method ≡ self.old.method) × (self.new.pc ≡ self.old.pc) }
     {
         match op {
             Op::Constant(value) => self.constant(*value),
@@ -60,7 +96,7 @@ impl Frame {
     fn constant(&mut self, value: Value) -> Result<Doing, Failure>
         ensures does { (P : JProgram) → Meets result self.new (does P (op.Constant value) self.old) }
         ensures can { IfOk result CanDo }
-        ensures pc { self.new.pc ≡ self.old.pc }
+        ensures place { (self.new.method ≡ self.old.method) × (self.new.pc ≡ self.old.pc) }
     {
         self.stack.push_value(value)?;
         Ok(Doing::Next)
@@ -69,7 +105,7 @@ impl Frame {
     fn load(&mut self, i: usize) -> Result<Doing, Failure>
         ensures does { (P : JProgram) → Meets result self.new (does P (op.Load i) self.old) }
         ensures can { IfOk result CanDo }
-        ensures pc { self.new.pc ≡ self.old.pc }
+        ensures place { (self.new.method ≡ self.old.method) × (self.new.pc ≡ self.old.pc) }
     {
         let slot = self.locals.get(i).ok_or(Failure::Wrong)?;
         self.stack.push(slot)?;
@@ -79,7 +115,7 @@ impl Frame {
     fn store(&mut self, i: usize) -> Result<Doing, Failure>
         ensures does { (P : JProgram) → Meets result self.new (does P (op.Store i) self.old) }
         ensures can { IfOk result CanDo }
-        ensures pc { self.new.pc ≡ self.old.pc }
+        ensures place { (self.new.method ≡ self.old.method) × (self.new.pc ≡ self.old.pc) }
     {
         let slot = self.stack.take()?;
         if self.locals.set(i, slot) {
@@ -92,7 +128,7 @@ impl Frame {
     fn binary(&mut self, b: Binary) -> Result<Doing, Failure>
         ensures does { (P : JProgram) → Meets result self.new (does P (op.Binary b) self.old) }
         ensures can { IfOk result CanDo }
-        ensures pc { self.new.pc ≡ self.old.pc }
+        ensures place { (self.new.method ≡ self.old.method) × (self.new.pc ≡ self.old.pc) }
     {
         let y = self.stack.take_int()?;
         let x = self.stack.take_int()?;
@@ -103,7 +139,7 @@ impl Frame {
     fn divide(&mut self, d: Division) -> Result<Doing, Failure>
         ensures does { (P : JProgram) → Meets result self.new (does P (op.Divide d) self.old) }
         ensures can { IfOk result CanDo }
-        ensures pc { self.new.pc ≡ self.old.pc }
+        ensures place { (self.new.method ≡ self.old.method) × (self.new.pc ≡ self.old.pc) }
     {
         let y = self.stack.take_int()?;
         let x = self.stack.take_int()?;
@@ -117,7 +153,7 @@ impl Frame {
     fn unary(&mut self, u: Unary) -> Result<Doing, Failure>
         ensures does { (P : JProgram) → Meets result self.new (does P (op.Unary u) self.old) }
         ensures can { IfOk result CanDo }
-        ensures pc { self.new.pc ≡ self.old.pc }
+        ensures place { (self.new.method ≡ self.old.method) × (self.new.pc ≡ self.old.pc) }
     {
         let x = self.stack.take_int()?;
         self.stack.push(Slot::Int(unary(u, x)))?;
@@ -127,7 +163,7 @@ impl Frame {
     fn increment(&mut self, i: usize, n: i32) -> Result<Doing, Failure>
         ensures does { (P : JProgram) → Meets result self.new (does P (op.Increment i n) self.old) }
         ensures can { IfOk result CanDo }
-        ensures pc { self.new.pc ≡ self.old.pc }
+        ensures place { (self.new.method ≡ self.old.method) × (self.new.pc ≡ self.old.pc) }
     {
         let Some(Slot::Int(x)) = self.locals.get(i) else {
             return Err(Failure::Wrong);
@@ -139,7 +175,7 @@ impl Frame {
     fn branch(&mut self, test: Test, to: usize) -> Result<Doing, Failure>
         ensures does { (P : JProgram) → Meets result self.new (does P (op.Branch test to) self.old) }
         ensures can { IfOk result CanDo }
-        ensures pc { self.new.pc ≡ self.old.pc }
+        ensures place { (self.new.method ≡ self.old.method) × (self.new.pc ≡ self.old.pc) }
     {
         let x = self.stack.take_int()?;
         Ok(branched(holds(test, x, 0), to))
@@ -148,7 +184,7 @@ impl Frame {
     fn branch_ints(&mut self, test: Test, to: usize) -> Result<Doing, Failure>
         ensures does { (P : JProgram) → Meets result self.new (does P (op.BranchInts test to) self.old) }
         ensures can { IfOk result CanDo }
-        ensures pc { self.new.pc ≡ self.old.pc }
+        ensures place { (self.new.method ≡ self.old.method) × (self.new.pc ≡ self.old.pc) }
     {
         let y = self.stack.take_int()?;
         let x = self.stack.take_int()?;
@@ -158,7 +194,7 @@ impl Frame {
     fn switch(&mut self, other: usize, cases: &Cases) -> Result<Doing, Failure>
         ensures does { (P : JProgram) → Meets result self.new (does P (op.Switch other cases.now) self.old) }
         ensures can { IfOk result CanDo }
-        ensures pc { self.new.pc ≡ self.old.pc }
+        ensures place { (self.new.method ≡ self.old.method) × (self.new.pc ≡ self.old.pc) }
     {
         let x = self.stack.take_int()?;
         Ok(Doing::Jump(cases.target(x, other)))
@@ -167,7 +203,7 @@ impl Frame {
     fn get_static(&mut self, program: &Program, n: usize) -> Result<Doing, Failure>
         ensures does { Meets result self.new (does program.now (op.GetStatic n) self.old) }
         ensures can { IfOk result CanDo }
-        ensures pc { self.new.pc ≡ self.old.pc }
+        ensures place { (self.new.method ≡ self.old.method) × (self.new.pc ≡ self.old.pc) }
     {
         let (place, word_type) = program.field(n).ok_or(Failure::Wrong)?;
         Ok(Doing::Ask(Request::Get(place, word_type)))
@@ -176,7 +212,7 @@ impl Frame {
     fn put_static(&mut self, program: &Program, n: usize) -> Result<Doing, Failure>
         ensures does { Meets result self.new (does program.now (op.PutStatic n) self.old) }
         ensures can { IfOk result CanDo }
-        ensures pc { self.new.pc ≡ self.old.pc }
+        ensures place { (self.new.method ≡ self.old.method) × (self.new.pc ≡ self.old.pc) }
     {
         let (place, word_type) = program.field(n).ok_or(Failure::Wrong)?;
         let slot = self.stack.take()?;
@@ -187,7 +223,7 @@ impl Frame {
     fn return_value(&mut self) -> Result<Doing, Failure>
         ensures does { (P : JProgram) → Meets result self.new (does P op.ReturnValue self.old) }
         ensures can { IfOk result CanDo }
-        ensures pc { self.new.pc ≡ self.old.pc }
+        ensures place { (self.new.method ≡ self.old.method) × (self.new.pc ≡ self.old.pc) }
     {
         let slot = self.stack.take()?;
         let value = given(slot).ok_or(Failure::Wrong)?;
@@ -197,7 +233,7 @@ impl Frame {
     fn throw(&mut self) -> Result<Doing, Failure>
         ensures does { (P : JProgram) → Meets result self.new (does P op.Throw self.old) }
         ensures can { IfOk result CanDo }
-        ensures pc { self.new.pc ≡ self.old.pc }
+        ensures place { (self.new.method ≡ self.old.method) × (self.new.pc ≡ self.old.pc) }
     {
         let object = self.stack.take_ref()?;
         if object == 0 {
@@ -209,7 +245,7 @@ impl Frame {
     fn get_context(&mut self) -> Result<Doing, Failure>
         ensures does { (P : JProgram) → Meets result self.new (does P op.GetContext self.old) }
         ensures can { IfOk result CanDo }
-        ensures pc { self.new.pc ≡ self.old.pc }
+        ensures place { (self.new.method ≡ self.old.method) × (self.new.pc ≡ self.old.pc) }
     {
         self.stack.push(Slot::Context)?;
         Ok(Doing::Next)

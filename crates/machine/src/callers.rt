@@ -1,5 +1,5 @@
 //! The frames of the callers.
-ghost use Rattle.std.specs.Prelude.{◌≡◌, [], ◌∷◌, OnOk, IfOk, MatchOption, IfSome, count_by, ◌+◌, ◌<◌, ◌^◌};
+ghost use Rattle.std.specs.Prelude.{◌≡◌, [], ◌∷◌, OnOk, IfOk, MatchOption, IfSome, count_by, length, ◌+◌, ◌<◌, ◌^◌};
 ghost use Rattle.jmodel.specs.Step.{Frame as JFrame};
 ghost use Rattle.jmodel.specs.Program.{is_counted};
 
@@ -8,10 +8,11 @@ use hierarchy::program::Program;
 use std::alloc::{AllocError, Global};
 use std::marker::Model;
 
-/// The frames below the current one.
+/// The frames below the current one, and frames that ended, whose memory the next ones take.
 #[derive(Drop)]
 pub struct Callers {
     items: Vec<Frame>,
+    ended: Vec<Frame>,
 }
 
 impl Model for Callers {
@@ -34,7 +35,32 @@ impl Callers {
     {
         Callers {
             items: Vec::new(alloc),
+            ended: Vec::new(alloc),
         }
+    }
+
+    /// A frame to be entered, whose slots are of no use, with memory of one that ended, if there is one.
+    pub(crate) fn spare(&mut self, alloc: Global) -> Frame
+        ensures { self.new ≡ self.old }
+    {
+        match self.ended.pop() {
+            Some(frame) => frame,
+            None => Frame::empty(alloc),
+        }
+    }
+
+    /// Keeps the memory of a frame that ended, or gives it back where there is none to keep it in.
+    pub(crate) fn keep(&mut self, frame: Frame)
+        ensures { self.new ≡ self.old }
+    {
+        let _ = self.ended.push(frame);
+    }
+
+    /// How many frames these are.
+    pub(crate) fn len(&self) -> usize
+        ensures { result ≡ length self.now }
+    {
+        self.items.len()
     }
 
     /// Puts a frame innermost.

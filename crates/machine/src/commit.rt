@@ -98,6 +98,8 @@ impl Running {
         requires allowed { E.is_shared → MayCommit program.now (bounds_of limits) self.old E.allows (E.stands engine.old) (E.awaits engine.old) }
         ensures run { (h : List Entry) (n : ℕ) (r w : Log) → Holds (E.stands engine.old h) n stage.Open self.old.tried r w
             → IsCommit program.now (bounds_of limits) (λ v. on_commit (bounds_of limits) v (frames self.old) (meter self.old) w r) (E.awaits engine.old) E.allows (E.stands engine.new) h n (meter self.old) r w self.new result }
+        ensures attempts { (k : ℕ) → E.attempts engine.old k → E.attempts engine.new k }
+        ensures tried { self.new.tried ≡ self.old.tried }
         ensures ticks { (t attempts : ℕ) → IsWithin t attempts (E.clock engine.old) stage.Open self.old.tried
             → IsWithin t attempts (E.clock engine.new) self.new.stage self.new.tried }
         ensures closed { IfOk result (λ _. self.new.stage ≡ stage.Ready) }

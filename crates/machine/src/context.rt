@@ -28,7 +28,7 @@ impl Frame {
     pub fn context(&mut self, call: ContextCall) -> Result<Doing, Failure>
         ensures does { Meets result self.new (calls call self.old) }
         ensures can { IfOk result CanDo }
-        ensures pc { self.new.pc ≡ self.old.pc }
+        ensures place { (self.new.method ≡ self.old.method) × (self.new.pc ≡ self.old.pc) }
     {
         match call {
             ContextCall::Init => self.init(),
@@ -49,7 +49,7 @@ impl Frame {
     fn init(&mut self) -> Result<Doing, Failure>
         ensures does { Meets result self.new (calls call.Init self.old) }
         ensures can { IfOk result CanDo }
-        ensures pc { self.new.pc ≡ self.old.pc }
+        ensures place { (self.new.method ≡ self.old.method) × (self.new.pc ≡ self.old.pc) }
     {
         let retries = self.stack.take_int()?;
         self.stack.take_int()?;
@@ -60,7 +60,7 @@ impl Frame {
     fn before_read(&mut self) -> Result<Doing, Failure>
         ensures does { Meets result self.new (calls call.BeforeRead self.old) }
         ensures can { IfOk result CanDo }
-        ensures pc { self.new.pc ≡ self.old.pc }
+        ensures place { (self.new.method ≡ self.old.method) × (self.new.pc ≡ self.old.pc) }
     {
         let index = self.stack.take_long()?;
         let object = self.stack.take_ref()?;
@@ -72,7 +72,7 @@ impl Frame {
     fn on_read(&mut self, word_type: WordType) -> Result<Doing, Failure>
         ensures does { Meets result self.new (calls (call.OnRead word_type) self.old) }
         ensures can { IfOk result CanDo }
-        ensures pc { self.new.pc ≡ self.old.pc }
+        ensures place { (self.new.method ≡ self.old.method) × (self.new.pc ≡ self.old.pc) }
     {
         let index = self.stack.take_long()?;
         self.stack.take_loaded()?;
@@ -85,7 +85,7 @@ impl Frame {
     fn on_write(&mut self, word_type: WordType) -> Result<Doing, Failure>
         ensures does { Meets result self.new (calls (call.OnWrite word_type) self.old) }
         ensures can { IfOk result CanDo }
-        ensures pc { self.new.pc ≡ self.old.pc }
+        ensures place { (self.new.method ≡ self.old.method) × (self.new.pc ≡ self.old.pc) }
     {
         let index = self.stack.take_long()?;
         let slot = self.stack.take()?;

@@ -2,6 +2,7 @@
 ghost use Rattle.std.specs.Prelude.{◌≡◌, ◌∷◌, [], IfOk, OnOk, ◌-◌, ◌++◌, replicate, ◌+◌, ◌<◌, ◌^◌};
 ghost use Rattle.jmodel.specs.Step.{next};
 
+use crate::failure::Failure;
 use crate::stack::{Locals, Stack};
 use hierarchy::program::{Entry, Program};
 use jmodel::op::Slot;
@@ -32,6 +33,17 @@ impl Frame {
     ghost use Rattle.jmodel.specs.Program.{is_counted};
     ghost use Rattle.jmodel.specs.Value.{pushed};
     ghost use Rattle.jmodel.specs.declared.op.Slot.{Slot as JSlot};
+    ghost use Rattle.machine.specs.Meets.{IsEntered};
+
+    /// A frame of no method. No memory.
+    pub(crate) fn empty(alloc: Global) -> Self {
+        Frame {
+            method: 0,
+            pc: 0,
+            locals: Locals::new(alloc),
+            stack: Stack::new(alloc),
+        }
+    }
 
     /// A frame at the start of a method, with these arguments.
     pub fn start(
@@ -50,6 +62,24 @@ impl Frame {
             locals,
             stack: Stack::new(alloc),
         })
+    }
+
+    /// Becomes the frame at the start of a method, whose arguments it takes from its caller's stack. `Wrong` where these are too few.
+    pub(crate) fn enter(
+        &mut self,
+        method: usize,
+        entry: Entry,
+        from: &mut Stack,
+    ) -> Result<(), Failure>
+        ensures { IsEntered method entry.params (entry.locals - entry.params) from.old from.new self.new result }
+    {
+        self.method = method;
+        self.pc = 0;
+        self.stack.clear();
+        self.locals.take_args(from, entry.params)?;
+        self.locals
+            .add_empty(entry.locals.saturating_sub(entry.params))?;
+        Ok(())
     }
 
     /// The same frame with slots of its own.

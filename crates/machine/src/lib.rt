@@ -9,6 +9,7 @@ mod context;
 pub mod failure;
 pub mod frame;
 pub mod machine;
+mod plain;
 mod rearrange;
 pub mod room;
 pub mod running;

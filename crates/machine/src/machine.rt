@@ -4,7 +4,7 @@ ghost use Rattle.jmodel.specs.Attempt.{Log, run_start};
 ghost use Rattle.jmodel.specs.History.{Call, Entry};
 ghost use Rattle.tx_core.specs.Engine.{Adds, MayEnd, IsOfWrites};
 ghost use Rattle.machine.specs.declared.running.Stage.TheVariants as stage;
-ghost use Rattle.machine.specs.Machine.{bounds_of, unplaced, MayRun, MayStart, AddsRun, AddsNone};
+ghost use Rattle.machine.specs.Machine.{bounds_of, unplaced, MayRun, MayStart, AddsRun, AddsNone, Begins, TriesRun};
 ghost use Rattle.machine.specs.Running.{at, Leaves, IsEnd};
 
 use crate::failure::Failure;
@@ -88,6 +88,10 @@ impl Machine {
         ensures run { (h : List Entry) (n : ℕ) (c : Call) → E.stands tx.old h n [] [] → E.awaits tx.old c limits.room.used → c.method ≡ method → c.args ≡ args.now
             → MayRun E.allows program.now (bounds_of limits) c
             → AddsRun program.now (bounds_of limits) c (E.stands tx.new) h n result }
+        // No attempt is begun that isn't one of the run: each met a conflict, but for the one that ended as an entry.
+        ensures attempts { (h : List Entry) (n k : ℕ) (c : Call) → E.stands tx.old h n [] [] → E.awaits tx.old c limits.room.used → c.method ≡ method → c.args ≡ args.now
+            → MayRun E.allows program.now (bounds_of limits) c
+            → E.attempts tx.old k → TriesRun (E.stands tx.new) (E.attempts tx.new) n k result }
         ensures ticks { E.clock tx.new ≤ E.clock tx.old + limits.attempts }
     {
         match attempts(alloc, program, tx, limits, method, args) {
@@ -111,7 +115,7 @@ fn attempts<E: Engine>(
     requires fits { limits.room.region * limits.room.size + limits.room.size < 2 ^ 64 }
     requires ready { E.is_shared → MayStart program.now (bounds_of limits) (run_start program.now (bounds_of limits) method args.now) E.allows (E.stands tx.old) (E.awaits tx.old) }
     ensures run { (h : List Entry) (n : ℕ) → E.stands tx.old h n [] []
-        → IsEnd program.now (bounds_of limits) (run_start program.now (bounds_of limits) method args.now) (E.awaits tx.old) E.allows (E.stands tx.new) h n (AddsNone (E.stands tx.new h) n) result }
+        → IsEnd program.now (bounds_of limits) (run_start program.now (bounds_of limits) method args.now) (E.awaits tx.old) E.allows (Begins (E.attempts tx.old) (E.attempts tx.new)) (E.stands tx.new) h n (AddsNone (E.stands tx.new h) n) result }
     ensures ticks { E.clock tx.new ≤ E.clock tx.old + limits.attempts }
 {
     let mut running = Running::start(alloc, program, limits, method, args)?;
@@ -132,6 +136,7 @@ fn refuse<E: Engine>(tx: &mut E, limits: Limits, answer: Answer) -> End
     ensures used { result.used ≡ limits.room.used }
     ensures run { (h : List Entry) (n : ℕ) (r w : Log) → E.stands tx.old h n r w
         → IsOfWrites result.stamp [] × Adds (E.awaits tx.old) E.allows (E.stands tx.new) h n answer (λ used. used) result.stamp r [] }
+    ensures attempts { (k : ℕ) → E.attempts tx.old k → E.attempts tx.new k }
     ensures ticks { E.clock tx.new ≡ E.clock tx.old }
 {
     let stamp = tx.finish_refused(Snapshot::of(&answer));
@@ -157,7 +162,7 @@ impl Running {
         requires fits { limits.room.region * limits.room.size + limits.room.size < 2 ^ 64 }
         requires ready { E.is_shared → MayStart program.now (bounds_of limits) (at self.old [] []) E.allows (E.stands tx.old) (E.awaits tx.old) }
         ensures run { (h : List Entry) (n : ℕ) → E.stands tx.old h n [] []
-            → IsEnd program.now (bounds_of limits) (at self.old [] []) (E.awaits tx.old) E.allows (E.stands tx.new) h n (Leaves (E.stands tx.new h) n self.new.stage) result }
+            → IsEnd program.now (bounds_of limits) (at self.old [] []) (E.awaits tx.old) E.allows (Begins (E.attempts tx.old) (E.attempts tx.new)) (E.stands tx.new) h n (Leaves (E.stands tx.new h) n self.new.stage) result }
         ensures ticks { E.clock tx.new ≤ E.clock tx.old + limits.attempts }
     {
         for _ in 0..u64::MAX {

@@ -14,7 +14,7 @@ impl Frame {
     pub fn rearrange(&mut self, rearrange: Rearrange) -> Result<Doing, Failure>
         ensures does { Meets result self.new (rearranged rearrange self.old) }
         ensures can { IfOk result CanDo }
-        ensures pc { self.new.pc ≡ self.old.pc }
+        ensures place { (self.new.method ≡ self.old.method) × (self.new.pc ≡ self.old.pc) }
     {
         match rearrange {
             Rearrange::Nothing => Ok(Doing::Next),
@@ -34,7 +34,7 @@ impl Frame {
     fn pop(&mut self) -> Result<Doing, Failure>
         ensures does { Meets result self.new (rearranged rearrange.Pop self.old) }
         ensures can { IfOk result CanDo }
-        ensures pc { self.new.pc ≡ self.old.pc }
+        ensures place { (self.new.method ≡ self.old.method) × (self.new.pc ≡ self.old.pc) }
     {
         self.stack.take()?;
         Ok(Doing::Next)
@@ -44,7 +44,7 @@ impl Frame {
     fn pop_two(&mut self) -> Result<Doing, Failure>
         ensures does { Meets result self.new (rearranged rearrange.PopTwo self.old) }
         ensures can { IfOk result CanDo }
-        ensures pc { self.new.pc ≡ self.old.pc }
+        ensures place { (self.new.method ≡ self.old.method) × (self.new.pc ≡ self.old.pc) }
     {
         self.stack.take()?;
         self.stack.take()?;
@@ -55,7 +55,7 @@ impl Frame {
     fn duplicate(&mut self) -> Result<Doing, Failure>
         ensures does { Meets result self.new (rearranged rearrange.Duplicate self.old) }
         ensures can { IfOk result CanDo }
-        ensures pc { self.new.pc ≡ self.old.pc }
+        ensures place { (self.new.method ≡ self.old.method) × (self.new.pc ≡ self.old.pc) }
     {
         let x = self.stack.take()?;
         self.stack.push(x)?;
@@ -67,7 +67,7 @@ impl Frame {
     fn duplicate_under(&mut self) -> Result<Doing, Failure>
         ensures does { Meets result self.new (rearranged rearrange.DuplicateUnder self.old) }
         ensures can { IfOk result CanDo }
-        ensures pc { self.new.pc ≡ self.old.pc }
+        ensures place { (self.new.method ≡ self.old.method) × (self.new.pc ≡ self.old.pc) }
     {
         let y = self.stack.take()?;
         let x = self.stack.take()?;
@@ -81,7 +81,7 @@ impl Frame {
     fn duplicate_under_two(&mut self) -> Result<Doing, Failure>
         ensures does { Meets result self.new (rearranged rearrange.DuplicateUnderTwo self.old) }
         ensures can { IfOk result CanDo }
-        ensures pc { self.new.pc ≡ self.old.pc }
+        ensures place { (self.new.method ≡ self.old.method) × (self.new.pc ≡ self.old.pc) }
     {
         let z = self.stack.take()?;
         let y = self.stack.take()?;
@@ -97,7 +97,7 @@ impl Frame {
     fn duplicate_two(&mut self) -> Result<Doing, Failure>
         ensures does { Meets result self.new (rearranged rearrange.DuplicateTwo self.old) }
         ensures can { IfOk result CanDo }
-        ensures pc { self.new.pc ≡ self.old.pc }
+        ensures place { (self.new.method ≡ self.old.method) × (self.new.pc ≡ self.old.pc) }
     {
         let y = self.stack.take()?;
         let x = self.stack.take()?;
@@ -112,7 +112,7 @@ impl Frame {
     fn duplicate_two_under(&mut self) -> Result<Doing, Failure>
         ensures does { Meets result self.new (rearranged rearrange.DuplicateTwoUnder self.old) }
         ensures can { IfOk result CanDo }
-        ensures pc { self.new.pc ≡ self.old.pc }
+        ensures place { (self.new.method ≡ self.old.method) × (self.new.pc ≡ self.old.pc) }
     {
         let z = self.stack.take()?;
         let y = self.stack.take()?;
@@ -129,7 +129,7 @@ impl Frame {
     fn duplicate_two_under_two(&mut self) -> Result<Doing, Failure>
         ensures does { Meets result self.new (rearranged rearrange.DuplicateTwoUnderTwo self.old) }
         ensures can { IfOk result CanDo }
-        ensures pc { self.new.pc ≡ self.old.pc }
+        ensures place { (self.new.method ≡ self.old.method) × (self.new.pc ≡ self.old.pc) }
     {
         let z = self.stack.take()?;
         let y = self.stack.take()?;
@@ -148,7 +148,7 @@ impl Frame {
     fn swap(&mut self) -> Result<Doing, Failure>
         ensures does { Meets result self.new (rearranged rearrange.Swap self.old) }
         ensures can { IfOk result CanDo }
-        ensures pc { self.new.pc ≡ self.old.pc }
+        ensures place { (self.new.method ≡ self.old.method) × (self.new.pc ≡ self.old.pc) }
     {
         let y = self.stack.take()?;
         let x = self.stack.take()?;

@@ -1,6 +1,6 @@
 //! A call on its way: what it asks of the engine, step by step.
 ghost use Rattle.std.specs.Prelude.{◌≡◌, ◌≢◌, ◌<◌, ◌+◌, ◌*◌, ◌^◌, ℕ, List, [], ◌∷◌, IfOk};
-ghost use Rattle.jmodel.specs.Attempt.{Log, Bounds, On, address, next_run, on_request, entered, unwound};
+ghost use Rattle.jmodel.specs.Attempt.{Log, Bounds, On, address, on_request, entered, unwound};
 ghost use Rattle.jmodel.specs.Program.{Program as JProgram};
 ghost use Rattle.jmodel.specs.History.{Call, Entry};
 ghost use Rattle.jmodel.specs.declared.op.Request.TheVariants as request;
@@ -9,7 +9,7 @@ ghost use Rattle.machine.specs.declared.running.Stage.TheVariants as stage;
 ghost use Rattle.jmodel.specs.declared.op.Phase.TheVariants as phase;
 ghost use Rattle.machine.specs.Meets.{HasAddress};
 ghost use Rattle.machine.specs.Machine.{bounds_of};
-ghost use Rattle.machine.specs.Running.{at, frames, meter, phase_of, Holds, IsWithin, IsTurn};
+ghost use Rattle.machine.specs.Running.{at, frames, meter, phase_of, Holds, IsWithin, IsTurn, HasTurned};
 
 use crate::callers::Callers;
 use crate::failure::Failure;
@@ -17,7 +17,7 @@ use crate::frame::Frame;
 use crate::machine::Limits;
 use crate::room::Thrown;
 use crate::stack::Locals;
-use crate::step::{step, unwind};
+use crate::step::{settle, unwind};
 use crate::value::value_of;
 use hierarchy::program::Program;
 use jmodel::op::{Asking, Place, Request, Slot, WordType};
@@ -199,6 +199,7 @@ impl Running {
             (Holds (E.stands engine.new h) n self.new.stage self.new.tried) self.new result }
         ensures no_commit { result ≢ Ok Todo.Commit }
         ensures spent { result ≡ Ok Todo.Spent → self.new.stage ≡ stage.Ready }
+        ensures attempts { (k : ℕ) → E.attempts engine.old (k + self.old.tried) → E.attempts engine.new (k + self.new.tried) }
         ensures ticks { (t : ℕ) → IsWithin t limits.attempts (E.clock engine.old) self.old.stage self.old.tried
             → IsWithin t limits.attempts (E.clock engine.new) self.new.stage self.new.tried }
         ensures open { IfOk result (λ _. self.new.stage ≡ stage.Open → E.is_open engine.new) }
@@ -234,6 +235,7 @@ impl Running {
             → (B : Bounds) → IsTurn B (λ v. on_request program.now B (request.Look place) phase.Open v (frames self.old) (meter self.old) w r)
             (Holds (E.stands engine.new h) n self.new.stage self.new.tried) self.new result }
         ensures go { IfOk result (λ todo. todo ≡ Todo.Go) }
+        ensures attempts { (k : ℕ) → E.attempts engine.old (k + self.old.tried) → E.attempts engine.new (k + self.new.tried) }
         ensures ticks { (t attempts : ℕ) → IsWithin t attempts (E.clock engine.old) self.old.stage self.old.tried
             → IsWithin t attempts (E.clock engine.new) self.new.stage self.new.tried }
         ensures open { IfOk result (λ _. self.new.stage ≡ stage.Open → E.is_open engine.new) }
@@ -264,6 +266,7 @@ impl Running {
             → (B : Bounds) → IsTurn B (λ v. on_request program.now B (request.Read place word_type) phase.Open v (frames self.old) (meter self.old) w r)
             (Holds (E.stands engine.new h) n self.new.stage self.new.tried) self.new result }
         ensures go { IfOk result (λ todo. todo ≡ Todo.Go) }
+        ensures attempts { (k : ℕ) → E.attempts engine.old (k + self.old.tried) → E.attempts engine.new (k + self.new.tried) }
         ensures ticks { (t attempts : ℕ) → IsWithin t attempts (E.clock engine.old) self.old.stage self.old.tried
             → IsWithin t attempts (E.clock engine.new) self.new.stage self.new.tried }
         ensures open { IfOk result (λ _. self.new.stage ≡ stage.Open → E.is_open engine.new) }
@@ -294,6 +297,7 @@ impl Running {
             → (B : Bounds) → IsTurn B (λ v. on_request program.now B (request.Write place word) phase.Open v (frames self.old) (meter self.old) w r)
             (Holds (E.stands engine.new h) n self.new.stage self.new.tried) self.new result }
         ensures go { IfOk result (λ todo. todo ≡ Todo.Go) }
+        ensures attempts { (k : ℕ) → E.attempts engine.old (k + self.old.tried) → E.attempts engine.new (k + self.new.tried) }
         ensures ticks { (t attempts : ℕ) → IsWithin t attempts (E.clock engine.old) self.old.stage self.old.tried
             → IsWithin t attempts (E.clock engine.new) self.new.stage self.new.tried }
         ensures open { IfOk result (λ _. self.new.stage ≡ stage.Open → E.is_open engine.new) }
@@ -317,6 +321,7 @@ impl Running {
             → (P : JProgram) → IsTurn (bounds_of limits) (λ v. on_request P (bounds_of limits) request.Rollback phase.Doomed v (frames self.old) (meter self.old) w r)
             (Holds (E.stands engine.new h) n self.new.stage self.new.tried) self.new result }
         ensures go { IfOk result (λ todo. todo ≡ Todo.Go) }
+        ensures attempts { (k : ℕ) → E.attempts engine.old (k + self.old.tried) → E.attempts engine.new (k + self.new.tried) }
         ensures ticks { (t attempts : ℕ) → IsWithin t attempts (E.clock engine.old) self.old.stage self.old.tried
             → IsWithin t attempts (E.clock engine.new) self.new.stage self.new.tried }
         ensures open { IfOk result (λ _. self.new.stage ≡ stage.Open → E.is_open engine.new) }
@@ -342,6 +347,7 @@ impl Running {
         ensures run { (h : List Entry) (n : ℕ) (r w : Log) → Holds (E.stands engine.old h) n self.old.stage self.old.tried r w
             → IsTurn (bounds_of limits) (λ v. on_request program.now (bounds_of limits) request (phase_of self.old.stage) v (frames self.old) (meter self.old) w r)
             (Holds (E.stands engine.new h) n self.new.stage self.new.tried) self.new result }
+        ensures attempts { (k : ℕ) → E.attempts engine.old (k + self.old.tried) → E.attempts engine.new (k + self.new.tried) }
         ensures ticks { (t : ℕ) → IsWithin t limits.attempts (E.clock engine.old) self.old.stage self.old.tried
             → IsWithin t limits.attempts (E.clock engine.new) self.new.stage self.new.tried }
         ensures open { result ≡ Ok Todo.Commit → self.new.stage ≡ stage.Open }
@@ -367,7 +373,7 @@ impl Running {
         }
     }
 
-    /// One step, and what is to be done then.
+    /// Steps up to one that does more than go on in its method, and what is to be done then.
     pub fn turn<E: Engine>(
         &mut self,
         alloc: Global,
@@ -378,7 +384,8 @@ impl Running {
         requires fits { limits.room.region * limits.room.size + limits.room.size < 2 ^ 64 }
         requires begun { self.old.stage ≡ stage.Open → E.is_open engine.old }
         ensures run { (h : List Entry) (n : ℕ) (r w : Log) → Holds (E.stands engine.old h) n self.old.stage self.old.tried r w
-            → IsTurn (bounds_of limits) (λ v. next_run program.now (bounds_of limits) v (at self.old w r)) (Holds (E.stands engine.new h) n self.new.stage self.new.tried) self.new result }
+            → HasTurned program.now (bounds_of limits) (at self.old w r) (Holds (E.stands engine.new h) n self.new.stage self.new.tried) self.new result }
+        ensures attempts { (k : ℕ) → E.attempts engine.old (k + self.old.tried) → E.attempts engine.new (k + self.new.tried) }
         ensures ticks { (t : ℕ) → IsWithin t limits.attempts (E.clock engine.old) self.old.stage self.old.tried
             → IsWithin t limits.attempts (E.clock engine.new) self.new.stage self.new.tried }
         ensures open { result ≡ Ok Todo.Commit → self.new.stage ≡ stage.Open }
@@ -390,7 +397,8 @@ impl Running {
         ensures depth { result ≡ Ok Todo.Depth → self.new.stage ≡ stage.Open }
         ensures heap { (wanted : ℕ) → result ≡ Ok (Todo.Heap wanted) → self.new.stage ≡ stage.Open }
     {
-        match step(alloc, program, &mut self.frame, &mut self.callers)? {
+        let doing = self.go(program)?;
+        match settle(alloc, program, doing, &mut self.frame, &mut self.callers)? {
             Asking::Go => Ok(Todo::Go),
             Asking::Turn => self.count(false),
             Asking::Enter(deep) => self.count(deep),

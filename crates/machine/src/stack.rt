@@ -43,16 +43,8 @@ impl Stack {
         })
     }
 
-    /// The slots, the topmost first.
-    pub fn into_items(self) -> Vec<Slot>
-        ensures { result.items ≡ self }
-    {
-        let mut items = self.items;
-        items.reverse();
-        items
-    }
-
     /// Puts a slot on top.
+    #[inline(always)]
     pub fn push(&mut self, slot: Slot) -> Result<(), AllocError>
         ensures { OnOk result (self.new ≡ slot ∷ self.old) }
     {
@@ -156,23 +148,6 @@ impl Stack {
     }
 }
 
-impl Stack {
-    ghost use Rattle.machine.specs.declared.failure.Failure.TheVariants as failure;
-    ghost use Rattle.jmodel.specs.Step.{take_args, Took, TooFew};
-
-    /// The topmost slots as the arguments of a call, or `Wrong` where there are too few.
-    pub fn take_args(&mut self, alloc: Global, count: usize) -> Result<Locals, Failure>
-        ensures { MatchResult result (λ args. take_args count [] self.old ≡ Took args self.new) (λ e. e ≡ failure.Wrong → take_args count [] self.old ≡ TooFew) }
-    {
-        let mut args = Stack::new(alloc);
-        for _ in 0..count {
-            let v = self.take()?;
-            args.push(v)?;
-        }
-        Ok(Locals::of_args(args))
-    }
-}
-
 /// The locals of a frame, the parameters first.
 #[derive(Drop)]
 pub struct Locals {
@@ -190,12 +165,12 @@ impl Locals {
     ghost use Rattle.std.specs.List.{flat_map};
     ghost use Rattle.jmodel.specs.Value.{slots_of};
 
-    /// The locals of arguments, of which the first was topmost. No memory.
-    pub fn of_args(args: Stack) -> Self
-        ensures { result ≡ args }
+    /// No locals. No memory.
+    pub(crate) fn new(alloc: Global) -> Self
+        ensures { result ≡ [] }
     {
         Locals {
-            items: args.into_items(),
+            items: Vec::new(alloc),
         }
     }
 
@@ -203,9 +178,7 @@ impl Locals {
     pub fn of_values(alloc: Global, args: &[Value]) -> Result<Self, AllocError>
         ensures { IfOk result (λ l. l ≡ flat_map slots_of args.now) }
     {
-        let mut locals = Locals {
-            items: Vec::new(alloc),
-        };
+        let mut locals = Locals::new(alloc);
         for value in args {
             locals.push_value(*value)?;
         }
@@ -268,5 +241,23 @@ impl Locals {
         } else {
             false
         }
+    }
+}
+
+impl Locals {
+    ghost use Rattle.machine.specs.declared.failure.Failure.TheVariants as failure;
+    ghost use Rattle.jmodel.specs.Step.{take_args, Took, TooFew};
+
+    /// Becomes the arguments of a call, the topmost slots of the caller's stack, or `Wrong` where there are too few.
+    pub(crate) fn take_args(&mut self, from: &mut Stack, count: usize) -> Result<(), Failure>
+        ensures { MatchResult result (λ _. take_args count [] from.old ≡ Took self.new from.new) (λ e. e ≡ failure.Wrong → take_args count [] from.old ≡ TooFew) }
+    {
+        self.items.clear();
+        for _ in 0..count {
+            let v = from.take()?;
+            self.push(v)?;
+        }
+        self.items.reverse();
+        Ok(())
     }
 }

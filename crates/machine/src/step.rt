@@ -1,9 +1,10 @@
 //! One step of the machine: an instruction, and what it does to the frames.
 ghost use Rattle.std.specs.Prelude.{◌≡◌, ◌∷◌, [], nat_lt, IfOk, ◌+◌, ◌<◌, ◌^◌};
-ghost use Rattle.jmodel.specs.Step.{Frames, step, jumps, invokes, gives, unwinds, depth};
+ghost use Rattle.jmodel.specs.Step.{Frames, step, on_doing, jumps, invokes, gives, unwinds, depth};
 ghost use Rattle.jmodel.specs.Program.{method_at};
-ghost use Rattle.machine.specs.Meets.{IsStep, IsAsked, CanAsk};
+ghost use Rattle.machine.specs.Meets.{IsStep, IsAsked, CanAsk, CanDo};
 
+use crate::act::method_of;
 use crate::callers::Callers;
 use crate::failure::Failure;
 use crate::frame::Frame;
@@ -26,8 +27,25 @@ pub fn step(
     ensures step { IsStep result (frame.new ∷ callers.new) (step program.now (frame.old ∷ callers.old)) }
     ensures can { IfOk result (λ a. CanAsk a frame.new) }
 {
-    let op = program.op(frame.method, frame.pc).ok_or(Failure::Wrong)?;
-    match frame.act(program, op)? {
+    let method = method_of(program, frame.method)?;
+    let doing = frame.act_in(program, method)?;
+    settle(alloc, program, doing, frame, callers)
+}
+
+/// Does to the frames what an instruction leaves to be done.
+pub(crate) fn settle(
+    alloc: Global,
+    program: &Program,
+    doing: Doing,
+    frame: &mut Frame,
+    callers: &mut Callers,
+) -> Result<Asking, Failure>
+    requires can { CanDo doing }
+    requires next { frame.old.pc + 1 < 2 ^ 64 }
+    ensures step { IsStep result (frame.new ∷ callers.new) (on_doing program.now doing frame.old callers.old) }
+    ensures can { IfOk result (λ a. CanAsk a frame.new) }
+{
+    match doing {
         Doing::Next => {
             frame.advance();
             Ok(Asking::Go)
@@ -64,8 +82,8 @@ fn invoke(
     ensures can { IfOk result (λ a. CanAsk a frame.new) }
 {
     let entry = program.method(method).ok_or(Failure::Wrong)?.entry();
-    let args = frame.stack.take_args(alloc, entry.params)?;
-    let entered = Frame::start(alloc, method, entry, args)?;
+    let mut entered = callers.spare(alloc);
+    entered.enter(method, entry, &mut frame.stack)?;
     callers.push(mem::replace(frame, entered))?;
     Ok(if entry.counted {
         Asking::Enter(is_too_deep(program, frame, callers))
@@ -74,10 +92,13 @@ fn invoke(
     })
 }
 
-/// Whether too many frames count.
+/// Whether too many frames count. Where there are so few that all may count, none is looked at.
 fn is_too_deep(program: &Program, frame: &Frame, callers: &Callers) -> bool
     ensures { result ≡ nat_lt 200 (depth program.now (frame.now ∷ callers.now)) }
 {
+    if callers.len() < MOST_FRAMES {
+        return false;
+    }
     let below = callers.depth(program);
     if frame.is_counted(program) {
         MOST_FRAMES <= below
@@ -94,7 +115,7 @@ fn give(value: Option<Value>, frame: &mut Frame, callers: &mut Callers) -> Resul
     let Some(caller) = callers.pop() else {
         return Ok(Asking::Return(value));
     };
-    *frame = caller;
+    callers.keep(mem::replace(frame, caller));
     match value {
         Some(value) => frame.resume_with(value)?,
         None => frame.advance(),
@@ -118,7 +139,7 @@ pub fn unwind(
             return Ok(jump(program, at, frame));
         }
         match callers.pop() {
-            Some(caller) => *frame = caller,
+            Some(caller) => callers.keep(mem::replace(frame, caller)),
             None => return Ok(Asking::Throw(exception)),
         }
     }

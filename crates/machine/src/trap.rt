@@ -35,6 +35,7 @@ impl Running {
         ensures run { (h : List Entry) (n : ℕ) (r w : Log) → Holds (E.stands engine.old h) n self.old.stage self.old.tried r w
             → IsTurn (bounds_of limits) (λ v. trapped (phase_of self.old.stage) v program.now (bounds_of limits) (trap_object trap) (frames self.old) (meter self.old) w r)
             (Holds (E.stands engine.new h) n self.new.stage self.new.tried) self.new result }
+        ensures attempts { (k : ℕ) → E.attempts engine.old (k + self.old.tried) → E.attempts engine.new (k + self.new.tried) }
         ensures ticks { (t attempts : ℕ) → IsWithin t attempts (E.clock engine.old) self.old.stage self.old.tried
             → IsWithin t attempts (E.clock engine.new) self.new.stage self.new.tried }
         ensures no_commit { result ≢ Ok Todo.Commit }
@@ -65,6 +66,7 @@ impl Running {
         ensures run { (h : List Entry) (n : ℕ) (r w : Log) → Holds (E.stands engine.old h) n stage.Open self.old.tried r w
             → IsTurn (bounds_of limits) (λ v. trapped phase.Open v program.now (bounds_of limits) (trap_object trap) (frames self.old) (meter self.old) w r)
             (Holds (E.stands engine.new h) n self.new.stage self.new.tried) self.new result }
+        ensures attempts { (k : ℕ) → E.attempts engine.old (k + self.old.tried) → E.attempts engine.new (k + self.new.tried) }
         ensures ticks { (t attempts : ℕ) → IsWithin t attempts (E.clock engine.old) self.old.stage self.old.tried
             → IsWithin t attempts (E.clock engine.new) self.new.stage self.new.tried }
         ensures no_commit { result ≢ Ok Todo.Commit }

@@ -2,8 +2,9 @@
 //! order of their names, the program makes the top call over the machine's files, and prints what it answered.
 #![tactic(auto)]
 
+use deuce::listing::class_paths;
 use deuce::top::deuce;
-use deuce_io::{Folder, IoEnd, MemSink, RealFolder};
+use deuce_io::{MemSink, RealFolder, names_in};
 use std::alloc::Global;
 use std::rt::Runtime;
 use std::thread::Threads;
@@ -14,47 +15,6 @@ fn main(rt: HostRuntime) -> io::Result<()> {
         print_row(&rt, rt.alloc(), name.as_str())?;
     }
     Ok(())
-}
-
-/// The names of what a folder has, in order.
-fn names_in<R: Runtime + AllocGlobal>(
-    rt: &R,
-    alloc: Global,
-    path: &str,
-) -> io::Result<Vec<String>> {
-    let mut names = Vec::new(alloc);
-    for entry in fs::read_dir(rt, path)? {
-        names.push(String::from_str(alloc, entry?.file_name())?)?;
-    }
-    names.sort()?;
-    Ok(names)
-}
-
-/// How many levels of folders under a folder are looked through.
-const LEVELS: usize = 16;
-
-/// The paths from a folder to the files under it, in order.
-fn files_under<F: Folder>(alloc: Global, folder: &mut F, root: &str) -> Result<Vec<String>, IoEnd> {
-    let mut files = Vec::new(alloc);
-    let mut level = Vec::new(alloc);
-    level.push(String::new(alloc))?;
-    for _ in 0..=LEVELS {
-        let mut next = Vec::new(alloc);
-        for front in &level {
-            let dir = format!(in alloc; "{root}/{front}")?;
-            for item in &folder.list(dir.as_str())? {
-                let path = format!(in alloc; "{front}{name}", name = item.name)?;
-                if item.folder {
-                    next.push(format!(in alloc; "{path}/")?)?;
-                } else {
-                    files.push(path)?;
-                }
-            }
-        }
-        level = next;
-    }
-    files.sort()?;
-    Ok(files)
 }
 
 /// Makes the top call of a row, and prints its name, its status, what it wrote, and the files that it put into the row's folder `out`.
@@ -70,7 +30,7 @@ fn print_row<R: Runtime + AllocGlobal + Threads + Sync>(
     let text = str::from_utf8(out.written.as_slice()).unwrap_or("no text\n");
     print!(rt; "== {name}\nstatus {status}\n{text}")?;
     let put = format!(in alloc; "rows/{name}/out")?;
-    let Ok(files) = files_under(alloc, &mut folder, put.as_str()) else {
+    let Ok(files) = class_paths(alloc, &mut folder, put.as_str()) else {
         return Ok(());
     };
     for file in &files {

@@ -1,7 +1,7 @@
 //! Folders and sinks that fail, and files over their limits.
 use crate::fixture::{COUNTER, ONE_CALL, REWRITE, RUN, THREE_CALLS, call, folder_of, gives};
 use deuce_io::{Folder, IoEnd, MemFolder, MemSink};
-use std::alloc::Global;
+use std::alloc::{AllocError, Global};
 use std::test::Fail;
 use std::thread::Threads;
 
@@ -126,6 +126,32 @@ fn ends_as<R: Threads + Sync>(
 ) -> Result<bool, IoEnd> {
     let folder = folder_of(alloc, class, script)?;
     Ok(gives(rt, alloc, RUN, folder, status, text)?)
+}
+
+/// The example's class with an attribute of so many bytes, in 207 bytes more than these.
+fn padded(alloc: Global, length: u32) -> Result<Vec<u8>, AllocError> {
+    let mut class = Vec::new(alloc);
+    class.extend_from_slice(&COUNTER[..200])?;
+    // one attribute, by the name of entry 5
+    class.extend_from_slice([1u8, 0, 5].as_slice())?;
+    class.extend_from_slice(length.to_be_bytes().as_slice())?;
+    class.extend_from_slice(vec![in alloc; 0u8; length as usize]?.as_slice())?;
+    Ok(class)
+}
+
+#[test]
+fn a_good_class_of_one_byte_over_its_limit_is_refused(rt: HostRuntime) -> Result<(), Fail> {
+    let alloc = rt.alloc();
+    let run = "history 1\n0 0 0 Counter.inc()I 1\nunplaced 0\n";
+    let refused = "error 3 d/Counter.class 30 OverLimit file 1048577\n";
+    for (length, status, text) in [(1_048_369u32, 0, run), (1_048_370, 3, refused)] {
+        let class = padded(alloc, length)?;
+        assert!(rt;
+            ends_as(&rt, alloc, class.as_slice(), ONE_CALL, status, text)?,
+            "{length}"
+        );
+    }
+    Ok(())
 }
 
 #[test]

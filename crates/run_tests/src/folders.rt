@@ -8,7 +8,6 @@ use deuce_io::*;
 use jmodel::Bytes;
 use std::alloc::{AllocError, Global};
 use std::test::Fail;
-use std::{env, fs, process};
 
 /// Lists a folder and reads a file, passing a fault of either on.
 #[tactic(auto, using(deuce_io::specs::Told::came_whole))]
@@ -18,10 +17,10 @@ fn list_and_read<F: Folder>(
     path: &str,
     most: usize,
 ) -> Result<Bytes, IoEnd>
-    ensures failed { IsErrOf result IoEnd.Failed → Rose (F.faults folder.old) (F.faults folder.new) }
-    ensures call { IsErrOf result IoEnd.Failed → (F.failed folder.new ≡ Some (list_of dir.now)) ⊎ (F.failed folder.new ≡ Some (read_of path.now)) }
-    ensures whole { ForSome (F.files folder.old) (λ told. IfOk result (λ bytes. length bytes < most → told path.now ≡ Some bytes)) }
-    ensures kept { F.files folder.new ≡ F.files folder.old }
+    ensures failed { IsErrOf result IoEnd.Failed → Rose (F.seen folder.old).faults (F.seen folder.new).faults }
+    ensures call { IsErrOf result IoEnd.Failed → ((F.seen folder.new).failed ≡ Some (list_of dir.now)) ⊎ ((F.seen folder.new).failed ≡ Some (read_of path.now)) }
+    ensures whole { ForSome (F.seen folder.old).files (λ told. IfOk result (λ bytes. length bytes < most → told path.now ≡ Some bytes)) }
+    ensures kept { (F.seen folder.new).files ≡ (F.seen folder.old).files }
 {
     folder.list(dir)?;
     let bytes = folder.read(path, most)?;
@@ -104,12 +103,12 @@ fn reads_a_file_or_its_start(rt: HostRuntime) -> Result<(), Fail> {
 }
 
 /// Whether the read of a file fails.
-fn read_fails<F: Folder>(folder: &mut F, path: &str) -> bool {
+pub fn read_fails<F: Folder>(folder: &mut F, path: &str) -> bool {
     folder.read(path, 9).is_err()
 }
 
 /// Whether the list of a folder fails.
-fn list_fails<F: Folder>(folder: &mut F, dir: &str) -> bool {
+pub fn list_fails<F: Folder>(folder: &mut F, dir: &str) -> bool {
     folder.list(dir).is_err()
 }
 
@@ -119,13 +118,18 @@ fn put_fails<F: Folder>(folder: &mut F, path: &str) -> bool {
 }
 
 /// Whether the first bytes of a file are these.
-fn starts<F: Folder>(folder: &mut F, path: &str, most: usize, want: &str) -> Result<bool, IoEnd> {
+pub fn starts<F: Folder>(
+    folder: &mut F,
+    path: &str,
+    most: usize,
+    want: &str,
+) -> Result<bool, IoEnd> {
     let bytes = folder.read(path, most)?;
     Ok(bytes.as_slice() == want.as_bytes())
 }
 
 /// The names of what stands directly in a folder.
-fn list_names<F: Folder>(alloc: Global, folder: &mut F, dir: &str) -> Result<String, IoEnd> {
+pub fn list_names<F: Folder>(alloc: Global, folder: &mut F, dir: &str) -> Result<String, IoEnd> {
     let items = folder.list(dir)?;
     Ok(names(alloc, items.as_slice())?)
 }
@@ -206,45 +210,6 @@ fn takes_nothing(rt: HostRuntime) {
     for (text, faults) in [("", 0u64), ("x", 1)] {
         assert_eq!(rt; (full.write(text.as_bytes()), full.faults), (Ok(0), faults));
     }
-}
-
-/// A folder for a test of this process.
-fn place(rt: &HostRuntime) -> Result<String, Fail> {
-    let alloc = rt.alloc();
-    let temporary = env::temp_dir(rt)?;
-    let id = process::id(rt.process());
-    Ok(format!(in alloc; "{}/deuce_io-{id}", temporary.as_path().display())?)
-}
-
-/// A path below a folder.
-fn below(alloc: Global, folder: &str, name: &str) -> Result<String, AllocError> {
-    let mut path = String::from_str(alloc, folder)?;
-    path.push_str(name)?;
-    Ok(path)
-}
-
-#[test]
-fn reaches_the_files_of_the_machine(rt: HostRuntime) -> Result<(), Fail> {
-    let alloc = rt.alloc();
-    let root = place(&rt)?;
-    let file = below(alloc, root.as_str(), "/p/x.bin")?;
-    let mut folder = RealFolder::new(alloc, rt);
-    folder.put(file.as_str(), [7u8; 5000].as_slice())?;
-    for (most, want) in [(6000usize, 5000usize), (4097, 4097), (0, 0)] {
-        assert_eq!(rt; folder.read(file.as_str(), most)?.len(), want);
-    }
-    for (name, want) in [("", "p/ "), ("/p", "x.bin ")] {
-        let dir = below(alloc, root.as_str(), name)?;
-        assert_eq!(rt;
-            list_names(alloc, &mut folder, dir.as_str())?.as_str(),
-            want
-        );
-    }
-    fs::remove_dir_all(&rt, root.as_str())?;
-    assert!(rt; read_fails(&mut folder, file.as_str()));
-    assert!(rt; list_fails(&mut folder, root.as_str()));
-    assert_eq!(rt; (folder.faults, folder.put_faults), (2, 0));
-    Ok(())
 }
 
 #[test]

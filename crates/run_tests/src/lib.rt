@@ -11,6 +11,8 @@ mod folders;
 #[cfg(test)]
 mod lanes;
 #[cfg(test)]
+mod machine_files;
+#[cfg(test)]
 mod spoiled;
 #[cfg(test)]
 mod typings;

@@ -93,7 +93,15 @@ abbrev pub lists_of : ℤ → Data → Result (List Listed) Refusal
 lists_of lanes d = wanted as_list [] (codes "phases") d >>= each_from (lists_of_phase lanes) 0
 
 -- ---- limits: 1 to 16 lanes, at most 10000 phases, and for each call 1 to 1000000 turns and as many attempts; a region has room for
--- the words that a run begins with, and at most 1048576 words
+-- the words that a run begins with
+
+-- the most words of a region
+abbrev pub region_limit : ℕ
+region_limit = 1048576
+
+-- the most bytes of a script
+abbrev pub script_limit : ℕ
+script_limit = 16777216
 
 abbrev pub numbers_within : Head → Result Head Refusal
 numbers_within h =
@@ -103,7 +111,7 @@ numbers_within h =
 
 abbrev pub is_within : List ClassFile → Head → ℕ → Result Head Refusal
 is_within cs head phases = numbers_within head >>= λ h.
-    within (codes "region") (pos (length (opening_words cs))) (pos 1048576) h.region
+    within (codes "region") (pos (length (opening_words cs))) (pos region_limit) h.region
     (within (codes "phases") (pos 0) (pos 10000) (pos phases) (Ok h))
 
 -- ---- calls
@@ -243,15 +251,18 @@ script_in cs P d = must (is_object_of script_keys d) (bad_shape []) (do
 
 -- The bytes are a script for classes and their program.
 pub record IsScript (cs : List ClassFile) (P : Program) (bytes : List ℕ) (s : Script) : Type 0 where
-  pub fits : length bytes ≤ 16777216
+  pub fits : length bytes ≤ script_limit
   pub text : IsUtf8 bytes
   pub value : Data
   pub value_is : read bytes ≡ Some value
   pub script : script_in cs P value ≡ Ok s
 
+-- The bytes are JSON, but no script: of its rules this is the first that they break.
+abbrev pub BreaksRule : List ClassFile → Program → List ℕ → Refusal → Type 0
+BreaksRule cs P bytes r = IsUtf8 bytes × ((d : Data) × (read bytes ≡ Some d) × (script_in cs P d ≡ Err r))
+
 -- Why they are none: there are too many, or they are no JSON, or a rule is broken, of which this is the first.
 abbrev pub IsFault : List ClassFile → Program → List ℕ → Refusal → Type 0
 IsFault cs P bytes r =
-    ((16777216 < length bytes) × (r ≡ OverLimit (codes "script") (pos (length bytes))))
-    ⊎ ((length bytes ≤ 16777216) × (((IsUtf8 bytes → read bytes ≡ None) × (r ≡ NotJson))
-    ⊎ ((d : Data) × (read bytes ≡ Some d) × (script_in cs P d ≡ Err r))))
+    ((script_limit < length bytes) × (r ≡ OverLimit (codes "script") (pos (length bytes))))
+    ⊎ ((length bytes ≤ script_limit) × (((IsUtf8 bytes → read bytes ≡ None) × (r ≡ NotJson)) ⊎ BreaksRule cs P bytes r))

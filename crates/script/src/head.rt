@@ -5,7 +5,7 @@ ghost use Rattle.jmodel.specs.declared.refusal.Refusal.TheVariants.{OverLimit};
 ghost use Rattle.jmodel.specs.Layout.{opening_words as first_words};
 ghost use Rattle.jmodel.specs.Reading.{Gives};
 ghost use Rattle.script.specs.Json.{Tests, wanted, may_be};
-ghost use Rattle.script.specs.Script.{as_form, as_engine, head_of as head_in, numbers_within as are_numbers_within, is_within};
+ghost use Rattle.script.specs.Script.{as_form, as_engine, head_of as head_in, numbers_within as are_numbers_within, is_within, region_limit};
 ghost use Rattle.script.specs.declared.head.EngineKind.TheVariants as engines;
 
 use crate::json::{whole_at, whole_or};
@@ -15,6 +15,9 @@ use hierarchy::opening_words;
 use jmodel::Halt;
 use serde_json::Value;
 use std::alloc::{AllocError, Global};
+
+/// The most words of a region.
+const MOST_WORDS: i64 = 1_048_576;
 
 /// The engine that a script names.
 #[derive(Clone, Copy, Debug)]
@@ -107,10 +110,10 @@ fn fixed_words(alloc: Global, classes: &[&ClassFile]) -> Result<i64, AllocError>
 
 /// A region has from the words that a run begins with to 1,048,576.
 fn region_within(alloc: Global, classes: &[&ClassFile], head: Head) -> Result<(), Halt>
-    ensures { Tests result (int_le (pos (length (first_words (map (λ c. c.now) classes.now)))) head.region && int_le head.region (pos 1048576)) (OverLimit (codes "region") head.region) }
+    ensures { Tests result (int_le (pos (length (first_words (map (λ c. c.now) classes.now)))) head.region && int_le head.region (pos region_limit)) (OverLimit (codes "region") head.region) }
 {
     let fixed = fixed_words(alloc, classes)?;
-    within(alloc, "region", fixed, 1_048_576, head.region)
+    within(alloc, "region", fixed, MOST_WORDS, head.region)
 }
 
 /// There are at most 10,000 phases.

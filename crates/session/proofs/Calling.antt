@@ -1,13 +1,13 @@
 -- What a call of a rewritten method adds to the history.
-use Rattle.std.proofs.Common.{◌≡◌, ℕ, zero, suc, ◌+◌, ◌<◌, ◌≤◌, List, [], ◌∷◌, length, Option, Some, None, Bool, true, false, ◌&&◌, nat_eq, Ok, refl, subst, arith}
-use Rattle.std.specs.Prelude.{ℤ, pos, negsuc, ◌≤ℤ◌, slice_get, is_some, IfSome}
-use Rattle.std.proofs.lemmas.Int.{ints}
+use Rattle.std.proofs.Common.{◌≡◌, ℕ, zero, suc, ◌+◌, ◌<◌, ◌≤◌, List, [], ◌∷◌, length, Option, Some, None, Bool, true, false, ◌&&◌, nat_eq, min, Ok, refl, ap, ◌∙◌, subst, arith}
+use Rattle.std.specs.Prelude.{ℤ, slice_get, is_some}
 use Rattle.std.specs.List.{AllByRecursion}
 use Rattle.std.specs.Bool.{MatchBool}
 use Rattle.jmodel.specs.declared.value.Answer.{Answer}
 use Rattle.jmodel.specs.declared.value.Answer.TheVariants.{Returned, Threw, Budget, Depth, Heap, Spent, NoMemory}
 use Rattle.jmodel.specs.declared.value.Value.{Value}
-use Rattle.jmodel.specs.Program.{Method, Program}
+use Rattle.jmodel.specs.Program.{Method, Program, method_at}
+use Rattle.jmodel.specs.Rewriting.{rewritten}
 use Rattle.jmodel.specs.Attempt.{Log, Bounds, Meter, Ended, Stuck, run_start, Comes, Runs, count_of}
 use Rattle.jmodel.specs.History.{Call, Entry, Told}
 use Rattle.tx_table.specs.Book.{IsOfLane}
@@ -15,42 +15,15 @@ use Rattle.jmodel.specs.Engine.{made}
 use Rattle.jmodel.specs.ClassesLaw.{MayAttempt}
 use Rattle.jmodel.specs.Schedule.{Known, takes, is_memory}
 use Rattle.jmodel.proofs.Regions.{keeps_region}
-use Rattle.jmodel.proofs.Simulates.{simulation}
 use Rattle.jmodel.proofs.Typed.{soundness}
 use Rattle.machine.specs.declared.machine.Limits.{Limits}
 use Rattle.machine.specs.declared.machine.End.{End}
-use Rattle.machine.specs.Machine.{bounds_of, MayRun, MayStart, AddsEntry as AddsRunEntry, AddsBy, AddsRun}
-use Rattle.std.proofs.lemmas.Bool.Decides.{nat_tests}
+use Rattle.machine.specs.Machine.{bounds_of, MayRun, MayStart, AddsEntry as AddsRunEntry, IsSpent, AddsBy, AddsRun}
 use Rattle.session.specs.declared.record.Place.{Place}
 use Rattle.session.specs.Rule.{IsRuled, IsReady, IsCallOf}
-use Rattle.session.specs.Adds.{call_of, is_spent, AddsEntry, AddsNothing, AddsCall}
-use Rattle.session.proofs.FirstTry.{first_try}
-
-holds_at : {A : Type 0} (P : A → Type 0) (xs : List A) (i : ℕ) (x : A) → AllByRecursion P xs → slice_get xs i ≡ Some x → P x
-holds_at P [] i x all h = cc
-holds_at P (y ∷ xs) zero x all h = let same : y ≡ x = cc in subst P same all.0
-holds_at P (y ∷ xs) (suc i) x all h = holds_at P xs i x all.1 h
-
-two_true : (a b : Bool) → (a && b) ≡ true → (a ≡ true) × (b ≡ true)
-two_true true b h = (refl, h)
-two_true false b h = cc
-
--- a marked method, which takes so many
-found_in : (o : Option Method) (n : ℕ) → takes o n ≡ true → (k : Method) × (o ≡ Some k) × (n ≡ k.params) × (is_some k.retries ≡ true)
-found_in None n h = cc
-found_in (Some k) n h = let parts = two_true (is_some k.retries) (nat_eq n k.params) h in let same = parts.1 in (k, refl, grind (arith, nat_tests), parts.0)
-
-count_some : (n : ℤ) → pos 1 ≤ℤ n → 0 < count_of n
-count_some (pos n) h = omega (arith, ints, h)
-count_some (negsuc n) h = absurd (omega (arith, ints, h))
-
--- how many attempts a mark that is there grants: one at least
-granted : (k : Method) → is_some k.retries ≡ true → MayAttempt k → (n : ℤ) × (k.retries ≡ Some n) × (0 < count_of n)
-granted k some may = go k.retries refl some may
-  where
-    go : (o : Option ℤ) → k.retries ≡ o → is_some o ≡ true → IfSome o (λ n. pos 1 ≤ℤ n) → (n : ℤ) × (k.retries ≡ Some n) × (0 < count_of n)
-    go None e s m = absurd cc
-    go (Some n) e s m = (n, e, count_some n m)
+use Rattle.session.specs.Adds.{call_of, is_spent, count_in, limit_of, IsUsedUp, AddsSpent, AddsEntry, AddsNothing, AddsCall}
+use Rattle.session.proofs.Tries.{all_tried, tried_within}
+use Rattle.session.proofs.Marked.{holds_at, found_in, granted}
 
 module _ (P Q : Program) (ready : IsReady P Q) (limits : Limits) (at : Place) (c : Known) (is : IsCallOf P c) (lane : IsOfLane (call_of limits.room at c)) where
   found : (k : Method) × (slice_get P.methods c.method ≡ Some k) × (length c.args ≡ k.params) × (is_some k.retries ≡ true)
@@ -63,21 +36,12 @@ module _ (P Q : Program) (ready : IsReady P Q) (limits : Limits) (at : Place) (c
   B = bounds_of limits
 
   -- each entry that the call may leave keeps to the rule
-  pub may_run : (allows : Entry → Type 0) → ((e : Entry) → IsRuled P limits.room.size limits.budget e → allows e) → MayRun allows Q B (call_of limits.room at c)
+  pub may_run : (allows : Entry → Type 0) → ((e : Entry) → IsRuled P limits.room.size limits.budget limits.attempts e → allows e) → MayRun allows Q B (call_of limits.room at c)
   may_run allows rule = λ x used stamp r w runs.
-      let e : Entry = made (call_of limits.room at c) x limits.room.used used stamp r w in
-      let taking = keeps_region Q B c.method c.args x used w r runs in
-      rule e (record {
-        explained = simulation P ready.typed.source B c.method found.0 marked.0 found.1 marked.1 c.args is.ints found.2 x used w r
-            (rw ready.code at runs) e
-            (record { method = refl; given = refl; region = refl; answer = refl; reads = refl; writes = refl; used_before = refl; used_after = refl });
-        of_lane = lane;
-        grows = taking.grows;
-        fits = taking.fits;
-        stays = taking.stays;
-      })
+      rule (made (call_of limits.room at c) x limits.room.used used stamp r w)
+      (record { source = ready.typed.source; called = record { takes_them = is.takes_them; ints = is.ints }; of_lane = lane; runs = rw ready.code at runs })
 
-  pub may_start : (allows : Entry → Type 0) → ((e : Entry) → IsRuled P limits.room.size limits.budget e → allows e) → (S : List Entry → ℕ → Log → Log → Type 0) (A : Call → ℕ
+  pub may_start : (allows : Entry → Type 0) → ((e : Entry) → IsRuled P limits.room.size limits.budget limits.attempts e → allows e) → (S : List Entry → ℕ → Log → Log → Type 0) (A : Call → ℕ
       → Type 0) (h : List Entry) (n : ℕ) → S h n [] [] → A (call_of limits.room at c) limits.room.used
       → (m : ℕ) (args : List Value) → c.method ≡ m → c.args ≡ args → MayStart Q B (run_start Q B m args) allows S A
   may_start allows rule S A h n stands awaits m args is_method are_args =
@@ -98,11 +62,24 @@ module _ (P Q : Program) (ready : IsReady P Q) (limits : Limits) (at : Place) (c
   pub never_stuck : Comes Q B (run_start Q B c.method c.args) Stuck → ⊥
   never_stuck (vs, e) = soundness P ready.typed B c.method found.0 marked.0 found.1 marked.1 c.args is.ints found.2 vs (rw ready.code at e)
 
-  -- a call that is spent has made an attempt
-  spent_tried : 1 ≤ limits.attempts → (M : Meter) → Comes Q B (run_start Q B c.method c.args) (Ended Spent M [] []) → 0 < M.tried
-  spent_tried some M (vs, e) =
-      let e' = rw ready.code at e in
-      rw e' at (first_try P B c.method found.0 marked.0 found.1 marked.1 c.args is.ints found.2 marked.2 (omega (arith, some)) vs)
+  -- a call that is spent has made the attempts that it may make
+  spent_tried : 1 ≤ limits.attempts → (M : Meter) → Comes Q B (run_start Q B c.method c.args) (Ended Spent M [] []) → IsUsedUp P B c.method c.args M.tried
+  spent_tried some M comes =
+      let Leads : Program → Type 0 = λ R. Comes R B (run_start R B c.method c.args) (Ended Spent M [] []) in
+      let comes' : Leads (rewritten P) = subst Leads ready.code comes in
+      let most = min (count_of marked.0) limits.attempts in
+      let all : most ≤ M.tried = all_tried P ready.typed.source B c.method found.0 marked.0 found.1 marked.1 c.args is.ints found.2 comes'.0 M comes'.1 in
+      let limit : limit_of (method_at P c.method) limits.attempts ≡ most =
+      ap (λ (o : Option Method). limit_of o limits.attempts) found.1 ∙ ap (λ (o : Option ℤ). min (count_in o) limits.attempts) marked.1 in
+      let own = marked.2 in
+      record {
+        meter = M;
+        comes = comes';
+        tried_are = refl;
+        some = omega (arith, own, some, all);
+        all = omega (arith, limit, all);
+        most = tried_within Q B c.method c.args Spent M [] [] comes;
+      }
 
   module _ (some : 1 ≤ limits.attempts) (S : List Entry → ℕ → Log → Log → Type 0) (h : List Entry) (n : ℕ) (e : End) where
     abbrev told_then : Told
@@ -119,8 +96,16 @@ module _ (P Q : Program) (ready : IsReady P Q) (limits : Limits) (at : Place) (c
       stands = a.stands;
     }
 
+    none_more : IsSpent Q B (call_of limits.room at c) (S h) n e → AddsSpent P B (call_of limits.room at c) (S h) n e.used
+    none_more a = record {
+      tried = a.meter.tried;
+      used_up = spent_tried some a.meter a.comes;
+      stands = a.stands;
+      unused = a.unplaced.unused;
+    }
+
     abbrev Adds : Answer → Type 0
-    Adds x = MatchBool (is_spent x) (AddsNothing (S h) (n + 1) limits.room.used e.used) (MatchBool (is_memory x) (AddsNothing (S h) n limits.room.used e.used) (AddsEntry S h n limits.room.used told_then e.used))
+    Adds x = MatchBool (is_spent x) (AddsSpent P B (call_of limits.room at c) (S h) n e.used) (MatchBool (is_memory x) (AddsNothing (S h) n limits.room.used e.used) (AddsEntry S h n limits.room.used told_then e.used))
 
     by_answer : (x : Answer) → AddsBy x Q B (call_of limits.room at c) S h n e → Adds x
     by_answer (Returned v) a = one_more a
@@ -128,10 +113,8 @@ module _ (P Q : Program) (ready : IsReady P Q) (limits : Limits) (at : Place) (c
     by_answer Budget a = one_more a
     by_answer Depth a = one_more a
     by_answer (Heap u w s) a = one_more a
-    by_answer Spent a =
-        let tried = spent_tried some a.meter a.comes in
-        (record { conflicts = n + a.meter.tried; later = omega (arith, tried); stands = a.stands }, a.unplaced.unused)
+    by_answer Spent a = none_more a
     by_answer NoMemory a = (a.0, a.1.unused)
 
-    pub call_adds : AddsRun Q B (call_of limits.room at c) S h n (Ok e) → AddsCall S h n limits.room.used told_then e.used
+    pub call_adds : AddsRun Q B (call_of limits.room at c) S h n (Ok e) → AddsCall P B S h n told_then e.used
     call_adds a = by_answer e.answer a

@@ -31,7 +31,8 @@ use Rattle.std.specs.Bool.{MatchBool}
 use Rattle.std.specs.List.{AllByRecursion}
 use Rattle.std.proofs.lemmas.List.{map-append, append-nil, length-take, take_more}
 use Rattle.std.proofs.lemmas.List.Elements.{filter-append}
-use Rattle.jmodel.specs.Attempt.{Log}
+use Rattle.jmodel.specs.Program.{Program}
+use Rattle.jmodel.specs.Attempt.{Log, Bounds}
 use Rattle.jmodel.specs.History.{Call, Entry, Told, told, used_after}
 use Rattle.jmodel.specs.Schedule.{Known, is_memory, call_at, lane_calls}
 use Rattle.machine.specs.declared.room.Room.{Room}
@@ -39,7 +40,7 @@ use Rattle.session.specs.declared.record.Record.{Record}
 use Rattle.session.specs.declared.record.Lane.{Lane}
 use Rattle.session.specs.declared.record.Place.{Place}
 use Rattle.session.specs.Lane.{is_placed, is_unplaced, record_of, Takes, HasMade}
-use Rattle.session.specs.Adds.{told_by, is_spent, AddsEntry, AddsNothing, AddsCall, has_place, has_none, AddsRecord, IsEmpty}
+use Rattle.session.specs.Adds.{told_by, call_of, is_spent, AddsSpent, AddsEntry, AddsNothing, AddsCall, has_place, has_none, AddsRecord, AddsMade, AddsOne, IsEmpty}
 
 calls_more : (phase lane i : ℕ) (cs : List Known) (c : Known) → lane_calls phase lane i (cs ++ c ∷ []) ≡ lane_calls phase lane i cs ++ call_at phase lane (i
     + length cs) c ∷ []
@@ -110,85 +111,98 @@ lane_empty at before calls lane empty = record {
   unplaced_are = empty.unplaced;
 }
 
--- What a call that was made adds: its entry, unless it ran out of memory.
-pub record Goes (S : List Entry → ℕ → Log → Log → Type 0) (h : List Entry) (n before : ℕ) (t : Told) (after : ℕ) : Type 0 where
-  pub added : List Entry
-  pub are : map told added ≡ filter is_placed (t ∷ [])
-  pub entries : AllByRecursion (λ (e : Entry). e.call ≡ t.call) added
-  pub takes : Takes t.call.region before added after
-  pub conflicts : ℕ
-  pub later : n ≤ conflicts
-  pub stands : S (h ++ added) conflicts [] []
+-- what a call that was made adds
+module _ (P : Program) (B : Bounds) (S : List Entry → ℕ → Log → Log → Type 0) (h : List Entry) (n : ℕ) (room : Room) (at : Place) (c : Known) (r : Record) (after : ℕ) (old new : Lane)
+    (same : B.used ≡ old.used) (adds : AddsCall P B S h n (told_by room at c r) after) where
+  abbrev t : Told
+  t = told_by room at c r
 
-pub goes_on : (S : List Entry → ℕ → Log → Log → Type 0) (h : List Entry) (n before : ℕ) (t : Told) (after : ℕ) → is_spent t.answer ≡ false → AddsCall S h n before t after → Goes S h n before t after
-goes_on S h n before t after unspent adds = go (is_memory t.answer) refl (spare (is_spent t.answer) unspent adds)
-  where
-    spare : (b : Bool) → b ≡ false → MatchBool b (AddsNothing (S h) (n + 1) before after) (MatchBool (is_memory t.answer) (AddsNothing (S h) n before after) (AddsEntry S h n before t after))
-        → MatchBool (is_memory t.answer) (AddsNothing (S h) n before after) (AddsEntry S h n before t after)
-    spare true is a = cc
-    spare false is a = a
+  abbrev Other : Type 0
+  Other = MatchBool (is_memory r.answer) (AddsNothing (S h) n B.used after) (AddsEntry S h n B.used t after)
 
-    go : (b : Bool) → is_memory t.answer ≡ b → MatchBool b (AddsNothing (S h) n before after) (AddsEntry S h n before t after) → Goes S h n before t after
-    go true is a = record {
-      added = [];
-      are = rw is refl;
-      entries = tt;
-      takes = a.1;
-      conflicts = a.0.conflicts;
-      later = a.0.later;
-      stands = subst (λ (l : List Entry). S l a.0.conflicts [] []) (sym (append-nil h)) a.0.stands;
-    }
-    go false is a = record {
-      added = a.entry ∷ [];
-      are = rw is (ap (λ (t : Told). t ∷ []) a.told_is);
-      entries = (ap (λ (t : Told). t.call) a.told_is, tt);
-      takes = (ap (λ (t : Told). t.call.region) a.told_is, a.used_before, sym a.used_after);
-      conflicts = a.conflicts;
-      later = a.later;
-      stands = a.stands;
-    }
+  spare : (b : Bool) → b ≡ false → MatchBool b (AddsSpent P B t.call (S h) n after) Other → Other
+  spare true is a = cc
+  spare false is a = a
 
--- over an engine that meets no conflict no call is spent
-pub unspent : (S : List Entry → ℕ → Log → Log → Type 0) → ((h : List Entry) (n : ℕ) (r w : Log) → S h n r w → n ≡ 0)
-    → (h : List Entry) (n before : ℕ) (t : Told) (after : ℕ) → AddsCall S h n before t after → is_spent t.answer ≡ false
-unspent S alone h n before t after adds = go (is_spent t.answer) refl adds
-  where
-    go : (b : Bool) → is_spent t.answer ≡ b → MatchBool b (AddsNothing (S h) (n + 1) before after) (MatchBool (is_memory t.answer) (AddsNothing (S h) n before after) (AddsEntry S h n before t after))
-        → is_spent t.answer ≡ false
-    go true is a = let none = alone _ _ _ _ a.0.stands in let later = a.0.later in absurd (omega (arith, none, later))
-    go false is a = is
+  pub made_one : is_spent r.answer ≡ false → r ≡ record_of t → AddsRecord old new r after → AddsMade t.call S h n old new
+  made_one unspent tells keeps = by (is_memory r.answer) refl (spare (is_spent r.answer) unspent adds)
+    where
+      record_is : AddsRecord old new (record_of t) new.used
+      record_is = subst (λ (x : Record). AddsRecord old new x new.used) tells (record { made = keeps.made; used_are = refl; placed = keeps.placed; unplaced = keeps.unplaced })
+
+      used_is : after ≡ new.used
+      used_is = sym keeps.used_are
+
+      by : (b : Bool) → is_memory r.answer ≡ b → MatchBool b (AddsNothing (S h) n B.used after) (AddsEntry S h n B.used t after) → AddsMade t.call S h n old new
+      by true is a = record {
+        told_of = t;
+        of_call = refl;
+        record_is = record_is;
+        added = [];
+        are = rw is refl;
+        entries = tt;
+        takes = sym used_is ∙ a.1 ∙ same;
+        conflicts = a.0.conflicts;
+        later = a.0.later;
+        stands = subst (λ (l : List Entry). S l a.0.conflicts [] []) (sym (append-nil h)) a.0.stands;
+      }
+      by false is a = record {
+        told_of = t;
+        of_call = refl;
+        record_is = record_is;
+        added = a.entry ∷ [];
+        are = rw is (ap (λ (t : Told). t ∷ []) a.told_is);
+        entries = (ap (λ (t : Told). t.call) a.told_is, tt);
+        takes = (ap (λ (t : Told). t.call.region) a.told_is, a.used_before ∙ same, sym used_is ∙ sym a.used_after);
+        conflicts = a.conflicts;
+        later = a.later;
+        stands = a.stands;
+      }
+
+  pub left_out : is_spent r.answer ≡ true → AddsSpent P B t.call (S h) n old.used
+  left_out spent = by (is_spent r.answer) spent adds
+    where
+      by : (b : Bool) → b ≡ true → MatchBool b (AddsSpent P B t.call (S h) n after) Other → AddsSpent P B t.call (S h) n old.used
+      by true is a = record { tried = a.tried; used_up = a.used_up; stands = a.stands; unused = sym same }
+      by false is a = cc
+
+-- over an engine that meets no conflict each call is made
+pub one_made : (P : Program) (B : Bounds) (c : Call) (S : List Entry → ℕ → Log → Log → Type 0) → ((h : List Entry) (n : ℕ) (r w : Log) → S h n r w → n ≡ 0)
+    → (made : Bool) (h : List Entry) (n : ℕ) (old new : Lane) → AddsOne made P B c S h n old new → AddsMade c S h n old new
+one_made P B c S alone true h n old new adds = adds
+one_made P B c S alone false h n old new adds =
+    let spent = adds.1 in
+    let none = alone h (n + spent.tried) [] [] spent.stands in
+    let some = spent.used_up.some in
+    absurd (omega (arith, none, some))
 
 -- what the calls of a lane have made so far, behind entries and after conflicts
 abbrev pub Stand : (List Entry → ℕ → Log → Log → Type 0) → Place → ℕ → List Known → List Entry → ℕ → Lane → Type 0
 Stand S at used calls before n lane = (h : List Entry) × S (before ++ h) n [] [] × HasMade at used calls h lane
 
 -- One turn of the loop over the calls.
-module _ (S : List Entry → ℕ → Log → Log → Type 0) (room : Room) (at here : Place) (used : ℕ) (calls : List Known) (i : ℕ) (old new : Lane) (c : Known) (r : Record) (after : ℕ)
-    (region : room.region ≡ suc at.lane) (place : here ≡ record at { first = at.first + i }) (count : old.made ≡ i) (less : i < length calls) (is : c ≡ get_or calls i c)
-    (tells : r ≡ record_of (told_by room here c r)) (adds : AddsRecord old new r after) where
-  abbrev t : Told
-  t = told_by room here c r
-
+module _ (S : List Entry → ℕ → Log → Log → Type 0) (room : Room) (at here : Place) (used : ℕ) (calls : List Known) (i : ℕ) (old new : Lane) (c : Known)
+    (region : room.region ≡ suc at.lane) (place : here ≡ record at { first = at.first + i }) (count : old.made ≡ i) (less : i < length calls) (is : c ≡ get_or calls i c) where
   -- the call is that of the lane
-  pub call_there : t.call ≡ call_at at.phase at.lane (at.first + i) c
+  pub call_there : call_of room here c ≡ call_at at.phase at.lane (at.first + i) c
   call_there = λ j. record { phase = (place j).phase; lane = (place j).lane; index = (place j).first; method = c.method; args = c.args; region = region j }
 
-  pub made_more : (h added : List Entry) → HasMade at used calls h old → map told added ≡ filter is_placed (t ∷ []) → Takes t.call.region old.used added after
-      → HasMade at used calls (h ++ added) new
-  made_more h added made are takes =
-      let At : ℕ → Type 0 = λ j. (j < length calls) × (c ≡ get_or calls j c) × (t.call ≡ call_at at.phase at.lane (at.first + j) c) in
-      let there : At i = (less, is, call_there) in
+  pub made_more : (first h : List Entry) (n : ℕ) → HasMade at used calls h old → (adds : AddsMade (call_of room here c) S first n old new)
+      → HasMade at used calls (h ++ adds.added) new
+  made_more first h n made adds =
+      let At : ℕ → Type 0 = λ j. (j < length calls) × (c ≡ get_or calls j c) × (adds.told_of.call ≡ call_at at.phase at.lane (at.first + j) c) in
+      let there : At i = (less, is, adds.of_call ∙ call_there) in
       let parts = subst At (sym count) there in
-      lane_more at used calls h added old new c t after made parts.0 parts.1 parts.2 (subst (λ (x : Record). AddsRecord old new x after) tells adds) are
-      (subst (λ (m : ℕ). Takes m old.used added after) region takes)
+      lane_more at used calls h adds.added old new c adds.told_of new.used made parts.0 parts.1 parts.2 adds.record_is adds.are
+      (subst (λ (m : ℕ). Takes m old.used adds.added new.used) region adds.takes)
 
-  pub stands_alone : ((h : List Entry) (n : ℕ) (r w : Log) → S h n r w → n ≡ 0) → (before h : List Entry) → HasMade at used calls h old
-      → AddsCall S (before ++ h) 0 old.used t after → Stand S at used calls before 0 new
-  stands_alone alone before h made call =
-      let goes = goes_on S (before ++ h) 0 old.used t after (unspent S alone (before ++ h) 0 old.used t after call) call in
-      let none : goes.conflicts ≡ 0 = alone _ _ _ _ goes.stands in
+  pub stands_alone : (P : Program) (B : Bounds) (made : Bool) → ((h : List Entry) (n : ℕ) (r w : Log) → S h n r w → n ≡ 0) → (before h : List Entry)
+      → HasMade at used calls h old → AddsOne made P B (call_of room here c) S (before ++ h) 0 old new → Stand S at used calls before 0 new
+  stands_alone P B made alone before h has adds =
+      let one = one_made P B (call_of room here c) S alone made (before ++ h) 0 old new adds in
+      let none : one.conflicts ≡ 0 = alone _ _ _ _ one.stands in
       let At : List Entry → ℕ → Type 0 = λ l n. S l n [] [] in (
-        h ++ goes.added,
-        subst (λ (l : List Entry). At l 0) (append_assoc before h goes.added) (subst (At ((before ++ h) ++ goes.added)) none goes.stands),
-        made_more h goes.added made goes.are goes.takes,
+        h ++ one.added,
+        subst (λ (l : List Entry). At l 0) (append_assoc before h one.added) (subst (At ((before ++ h) ++ one.added)) none one.stands),
+        made_more (before ++ h) h 0 has one,
       )

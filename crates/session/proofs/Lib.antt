@@ -1,4 +1,5 @@
-pub mod FirstTry
+pub mod Tries
+pub mod Marked
 pub mod Calling
 pub mod Elements
 pub mod Lanes

@@ -1,6 +1,5 @@
 -- One call more over a pass of a table.
 use Rattle.std.proofs.Common.{◌≡◌, ◌≤◌, ◌<◌, ◌+◌, ◌*◌, ℕ, suc, List, [], ◌∷◌, ◌++◌, length, reverse, get_or, append-nil, append_assoc, All, Bool, true, false, inl, inr, ⊎_elim, refl, sym, ◌∙◌, ap, subst, arith}
-use Rattle.std.specs.Bool.{MatchBool}
 use Rattle.std.specs.List.{AllByRecursion}
 use Rattle.std.proofs.lemmas.Bool.Decides.{nat_tests}
 use Rattle.std.proofs.lemmas.List.{reverse-reverse}
@@ -9,13 +8,15 @@ use mathlib.Core.Option.{Option, some}
 use native.Mathlib.Decide.{ℕ_discrete}
 use Rattle.std.proofs.lemmas.List.Elements.{All-append, All-weaker, All-from_recursion}
 use Rattle.atomic_table.specs.Seated.{TableId}
-use Rattle.jmodel.specs.Attempt.{Log}
+use Rattle.jmodel.specs.Program.{Program}
+use Rattle.jmodel.specs.Attempt.{Log, Bounds}
 use Rattle.jmodel.specs.History.{Call, Entry, Told, round, used_after}
 use Rattle.jmodel.specs.Schedule.{Known, call_at, is_memory}
 use Rattle.tx_table.specs.Book.{Book, Lost, Region, Unticked, In, lookup, rises}
 use Rattle.tx_table.specs.Rule.{Succeeds, last_of}
 use Rattle.jmodel.specs.declared.op.Access.{Access}
 use Rattle.machine.specs.declared.room.Room.{Room}
+use Rattle.machine.specs.declared.machine.Limits.{Limits}
 use Rattle.tx_table.specs.declared.shared.Pass.{Pass}
 use Rattle.tx_table.specs.Passes.{book}
 use Rattle.tl2.specs.declared.attempt.At.{At}
@@ -27,9 +28,9 @@ use Rattle.session.specs.declared.record.Lane.{Lane}
 use Rattle.session.specs.declared.record.Record.{Record}
 use Rattle.session.specs.declared.record.Place.{Place}
 use Rattle.session.specs.Lane.{record_of, Takes, HasMade}
-use Rattle.session.specs.Adds.{call_of, told_by, is_spent, AddsEntry, AddsNothing, AddsCall, AddsRecord, IsEmpty}
-use Rattle.session.specs.Passes.{IsSeated, MayFollow, MayBegin, IsStarting, behind, IsEnding, HasLost}
-use Rattle.session.proofs.Lanes.{takes_after, lane_empty, call_there, made_more, goes_on}
+use Rattle.session.specs.Adds.{call_of, AddsSpent, AddsMade, AddsOne, IsEmpty}
+use Rattle.session.specs.Passes.{IsSeated, MayFollow, MayBegin, IsStarting, behind, IsEnding, bounds_with, HasSpent}
+use Rattle.session.proofs.Lanes.{takes_after, lane_empty, call_there, made_more}
 
 -- What an engine stands for, S, is that behind these first entries the calls of a lane made others so far, which are earlier than the next
 -- call; there were so many conflicts before.
@@ -52,26 +53,24 @@ earlier_all phase lane k n c d h added next before are =
     added (All-from_recursion _ added are))
 
 -- One turn of the loop over the calls.
-module _ (S : List Entry → ℕ → Log → Log → Type 0) (room : Room) (at here : Place) (used : ℕ) (calls : List Known) (i : ℕ) (old new : Lane) (c : Known) (r : Record) (after : ℕ)
-    (region : room.region ≡ suc at.lane) (place : here ≡ record at { first = at.first + i }) (count : old.made ≡ i) (less : i < length calls) (is : c ≡ get_or calls i c)
-    (tells : r ≡ record_of (told_by room here c r)) (adds : AddsRecord old new r after) where
+module _ (S : List Entry → ℕ → Log → Log → Type 0) (room : Room) (at here : Place) (used : ℕ) (calls : List Known) (i : ℕ) (old new : Lane) (c : Known)
+    (region : room.region ≡ suc at.lane) (place : here ≡ record at { first = at.first + i }) (count : old.made ≡ i) (less : i < length calls) (is : c ≡ get_or calls i c) where
   pub stood_more : (first h : List Entry) (met n : ℕ) → met ≤ n → HasMade at used calls h old
       → ((d : Known) → All (IsEarlier (call_at at.phase at.lane (at.first + old.made) d)) h)
-      → is_spent r.answer ≡ false → AddsCall S (first ++ h) n old.used (told_by room here c r) after → Stood S first met at used calls new
-  stood_more first h met n low made earlier unspent call =
-      let goes = goes_on S (first ++ h) n old.used (told_by room here c r) after unspent call in
-      let more = goes.later in
-      let Of : Call → Type 0 = λ k. AllByRecursion (λ (e : Entry). e.call ≡ k) goes.added in
+      → AddsMade (call_of room here c) S (first ++ h) n old new → Stood S first met at used calls new
+  stood_more first h met n low made earlier adds =
+      let more = adds.later in
+      let Of : Call → Type 0 = λ k. AllByRecursion (λ (e : Entry). e.call ≡ k) adds.added in
       let there : call_of room here c ≡ call_at at.phase at.lane (at.first + old.made) c =
-      call_there S room at here used calls i old new c r after region place count less is tells adds ∙ ap (λ (j : ℕ). call_at at.phase at.lane (at.first + j) c) (sym count) in
-      let later : at.first + new.made ≡ at.first + old.made + 1 = omega (arith, adds.made) in
+      call_there S room at here used calls i old new c region place count less is ∙ ap (λ (j : ℕ). call_at at.phase at.lane (at.first + j) c) (sym count) in
+      let later : at.first + new.made ≡ at.first + old.made + 1 = omega (arith, adds.record_is.made) in
       record {
-        history = h ++ goes.added;
-        conflicts = goes.conflicts;
+        history = h ++ adds.added;
+        conflicts = adds.conflicts;
         later = omega arith;
-        stands = subst (λ (l : List Entry). S l goes.conflicts [] []) (append_assoc first h goes.added) goes.stands;
-        made = made_more S room at here used calls i old new c r after region place count less is tells adds h goes.added made goes.are goes.takes;
-        earlier = λ d. earlier_all at.phase at.lane (at.first + old.made) (at.first + new.made) c d h goes.added later (earlier c) (subst Of there goes.entries);
+        stands = subst (λ (l : List Entry). S l adds.conflicts [] []) (append_assoc first h adds.added) adds.stands;
+        made = made_more S room at here used calls i old new c region place count less is (first ++ h) h n made adds;
+        earlier = λ d. earlier_all at.phase at.lane (at.first + old.made) (at.first + new.made) c d h adds.added later (earlier c) (subst Of there adds.entries);
       }
 
 -- before the first call
@@ -205,22 +204,24 @@ untouched t place used count any made after p none kept starting =
       ticks = omega arith;
     }
 
--- a call that was spent adds nothing, and met a conflict
-pub stands_still : (S : List Entry → ℕ → Log → Log → Type 0) (h : List Entry) (n before : ℕ) (t : Told) (after : ℕ) → is_spent t.answer ≡ true → AddsCall S h n before t after
-    → (m : ℕ) × (n < m) × S h m [] []
-stands_still S h n before t after spent adds = go (is_spent t.answer) spent adds
-  where
-    go : (b : Bool) → b ≡ true → MatchBool b (AddsNothing (S h) (n + 1) before after) (MatchBool (is_memory t.answer) (AddsNothing (S h) n before after) (AddsEntry S h n before t after))
-        → (m : ℕ) × (n < m) × S h m [] []
-    go true is a = let later = a.0.later in (a.0.conflicts, omega (arith, later), a.0.stands)
-    go false is a = cc
+-- whether a call was made
+pub was_made : (made : Bool) (P : Program) (B : Bounds) (c : Call) (S : List Entry → ℕ → Log → Log → Type 0) (h : List Entry) (n : ℕ) (old new : Lane) → made ≡ true
+    → AddsOne made P B c S h n old new → AddsMade c S h n old new
+was_made true P B c S h n old new is adds = adds
+was_made false P B c S h n old new is adds = cc
 
-pub has_lost : (began : TableId → Book → Type 0) (words : ℕ) (at : At) (kept : List Access) (b : Book) (p q : Pass) (h : List Entry) (n : ℕ) → length b.lost < n
-    → q ≡ p → Stands began words at kept p h n [] [] → HasLost b q
-has_lost began words at kept b p q h n above same stands none =
-    let count : length (book q).lost ≡ n = ap (λ (x : Pass). length (book x).lost) same ∙ stands.lost in
-    let before : length (book q).lost ≡ length b.lost = ap (λ (l : List Lost). length l) none in
-    omega (arith, above, count, before)
+pub was_left : (made : Bool) (P : Program) (B : Bounds) (c : Call) (S : List Entry → ℕ → Log → Log → Type 0) (h : List Entry) (n : ℕ) (old new : Lane) → made ≡ false
+    → AddsOne made P B c S h n old new → (new ≡ old) × AddsSpent P B c (S h) n old.used
+was_left true P B c S h n old new is adds = cc
+was_left false P B c S h n old new is adds = adds
+
+-- a lane stops at a call that was left out
+pub has_spent : (P : Program) (limits : Limits) (calls : List Known) (made used : ℕ) (c : Known) (room : Room) (here : Place) (began : TableId → Book → Type 0) (words : ℕ) (at : At) (kept : List Access)
+    (b : Book) (p q : Pass) (h : List Entry) (n after : ℕ) → made < length calls → c ≡ get_or calls made c → length b.lost ≤ n → q ≡ p
+    → AddsSpent P (bounds_with limits used) (call_of room here c) (Stands began words at kept p h) n after → HasSpent P limits calls made used b q
+has_spent P limits calls made used c room here began words at kept b p q h n after left next above same spent =
+    let count : length (book q).lost ≡ n + spent.tried = ap (λ (x : Pass). length (book x).lost) same ∙ spent.stands.lost in
+    record { call = c; left = left; next = next; tried = spent.tried; used_up = spent.used_up; lost = omega (arith, above, count) }
 
 -- a pass that holds every number met no conflict
 pub meets_none : (began : TableId → Book → Type 0) (t : TableId) (words : ℕ) (at : At) (kept : List Access) (b : Book) (p : Pass) (h : List Entry) (n : ℕ)

@@ -1,9 +1,13 @@
 -- What one call adds to the history, and to what is kept of its lane.
-use Rattle.std.specs.Prelude.{◌≡◌, ◌≤◌, ◌+◌, ℕ, List, [], ◌∷◌, ◌++◌, filter, Bool, true, false, not}
+use Rattle.std.specs.Prelude.{◌≡◌, ◌<◌, ◌≤◌, ◌+◌, ℕ, List, [], ◌∷◌, ◌++◌, map, filter, Bool, true, false, not, ℤ, Option, Some, None, min}
 use Rattle.std.specs.Bool.{MatchBool}
+use Rattle.std.specs.List.{AllByRecursion}
 use Rattle.jmodel.specs.declared.value.Answer.{Answer}
 use Rattle.jmodel.specs.declared.value.Answer.TheVariants.{Spent}
-use Rattle.jmodel.specs.Attempt.{Log}
+use Rattle.jmodel.specs.declared.value.Value.{Value}
+use Rattle.jmodel.specs.Program.{Method, Program, method_at}
+use Rattle.jmodel.specs.Attempt.{Log, Bounds, Meter, Ended, Comes, run_start, count_of}
+use Rattle.jmodel.specs.Rewriting.{rewritten}
 use Rattle.jmodel.specs.History.{Call, Entry, Told, told}
 use Rattle.jmodel.specs.Schedule.{Known, is_memory}
 use Rattle.machine.specs.declared.room.Room.{Room}
@@ -11,6 +15,7 @@ use Rattle.machine.specs.Machine.{AddsNone}
 use Rattle.session.specs.declared.record.Record.{Record}
 use Rattle.session.specs.declared.record.Lane.{Lane}
 use Rattle.session.specs.declared.record.Place.{Place}
+use Rattle.session.specs.Lane.{is_placed, record_of, Takes}
 
 -- the call at a place, which takes words of a room's region
 abbrev pub call_of : Room → Place → Known → Call
@@ -39,11 +44,36 @@ pub record AddsEntry (S : List Entry → ℕ → Log → Log → Type 0) (h : Li
 abbrev pub AddsNothing : (ℕ → Log → Log → Type 0) → ℕ → ℕ → ℕ → Type 0
 AddsNothing S n before after = AddsNone S n × (after ≡ before)
 
--- What a call adds to the history h after n conflicts, with these used words of its region before and after it: its entry; or none, where it ran out
--- of memory, or where its attempts were used up, and then there was a conflict.
-abbrev pub AddsCall : (List Entry → ℕ → Log → Log → Type 0) → List Entry → ℕ → ℕ → Told → ℕ → Type 0
-AddsCall S h n before t after =
-    MatchBool (is_spent t.answer) (AddsNothing (S h) (n + 1) before after) (MatchBool (is_memory t.answer) (AddsNothing (S h) n before after) (AddsEntry S h n before t after))
+-- how many attempts a call may make: the lesser of its method's number and that of its limits
+abbrev pub count_in : Option ℤ → ℕ
+count_in None = 0
+count_in (Some n) = count_of n
+
+abbrev pub limit_of : Option Method → ℕ → ℕ
+limit_of None attempts = 0
+limit_of (Some k) attempts = min (count_in k.retries) attempts
+
+-- The run of a call ends for want of attempts, once it has made so many: as many as it may.
+pub record IsUsedUp (P : Program) (B : Bounds) (method : ℕ) (args : List Value) (tried : ℕ) : Type 0 where
+  pub meter : Meter
+  pub comes : Comes (rewritten P) B (run_start (rewritten P) B method args) (Ended Spent meter [] [])
+  pub tried_are : meter.tried ≡ tried
+  pub some : 0 < tried
+  pub all : limit_of (method_at P method) B.attempts ≤ tried
+  pub most : tried ≤ B.attempts
+
+-- No entry more, and no word taken: the attempts of the call are used up, and each of them met a conflict.
+pub record AddsSpent (P : Program) (B : Bounds) (c : Call) (S : ℕ → Log → Log → Type 0) (n after : ℕ) : Type 0 where
+  pub tried : ℕ
+  pub used_up : IsUsedUp P B c.method c.args tried
+  pub stands : S (n + tried) [] []
+  pub unused : after ≡ B.used
+
+-- What a call of a program, P, adds to the history h after n conflicts, with these used words of its region after it: its entry; or none, where it
+-- ran out of memory, or where its attempts were used up.
+abbrev pub AddsCall : Program → Bounds → (List Entry → ℕ → Log → Log → Type 0) → List Entry → ℕ → Told → ℕ → Type 0
+AddsCall P B S h n t after =
+    MatchBool (is_spent t.answer) (AddsSpent P B t.call (S h) n after) (MatchBool (is_memory t.answer) (AddsNothing (S h) n B.used after) (AddsEntry S h n B.used t after))
 
 abbrev pub has_place : Record → Bool
 has_place r = not (is_memory r.answer)
@@ -57,6 +87,24 @@ pub record AddsRecord (old new : Lane) (r : Record) (used : ℕ) : Type 0 where
   pub used_are : new.used ≡ used
   pub placed : new.placed.items ≡ old.placed.items ++ filter has_place (r ∷ [])
   pub unplaced : new.unplaced.items ≡ old.unplaced.items ++ filter has_none (r ∷ [])
+
+-- A call of a lane was made: it added its entry, unless it ran out of memory, and its record.
+pub record AddsMade (c : Call) (S : List Entry → ℕ → Log → Log → Type 0) (h : List Entry) (n : ℕ) (old new : Lane) : Type 0 where
+  pub told_of : Told
+  pub of_call : told_of.call ≡ c
+  pub record_is : AddsRecord old new (record_of told_of) new.used
+  pub added : List Entry
+  pub are : map told added ≡ filter is_placed (told_of ∷ [])
+  pub entries : AllByRecursion (λ (e : Entry). e.call ≡ c) added
+  pub takes : Takes c.region old.used added new.used
+  pub conflicts : ℕ
+  pub later : n ≤ conflicts
+  pub stands : S (h ++ added) conflicts [] []
+
+-- a call of a lane was made, or its attempts are used up and the lane is as it was
+abbrev pub AddsOne : Bool → Program → Bounds → Call → (List Entry → ℕ → Log → Log → Type 0) → List Entry → ℕ → Lane → Lane → Type 0
+AddsOne true P B c S h n old new = AddsMade c S h n old new
+AddsOne false P B c S h n old new = (new ≡ old) × AddsSpent P B c (S h) n old.used
 
 -- no call of the lane was made yet, and so many words are used
 pub record IsEmpty (lane : Lane) (used : ℕ) : Type 0 where

@@ -1,7 +1,9 @@
 -- The pass of a lane over a table of shared words.
-use Rattle.std.specs.Prelude.{◌≡◌, ◌≢◌, ◌⊎◌, ◌<◌, ◌≤◌, ◌+◌, ◌*◌, ◌^◌, ℕ, suc, List, [], reverse}
+use Rattle.std.specs.Prelude.{◌≡◌, ◌⊎◌, ◌<◌, ◌≤◌, ◌+◌, ◌*◌, ◌^◌, ℕ, suc, List, [], length, reverse, slice_index_or}
 use mathlib.Core.Option.{Option, some}
 use Rattle.atomic_table.specs.Seated.{TableId}
+use Rattle.jmodel.specs.Program.{Program}
+use Rattle.jmodel.specs.Attempt.{Bounds}
 use Rattle.jmodel.specs.History.{Call, Entry}
 use Rattle.jmodel.specs.Schedule.{Known, call_at}
 use Rattle.tx_table.specs.Book.{Book, Unticked, lookup}
@@ -9,7 +11,10 @@ use Rattle.tx_table.specs.Rule.{Succeeds}
 use Rattle.tx_table.specs.declared.shared.Pass.{Pass}
 use Rattle.tx_table.specs.Passes.{book, IsOf}
 use Rattle.tl2.specs.Standing.{IsSince}
+use Rattle.machine.specs.declared.machine.Limits.{Limits}
+use Rattle.machine.specs.Machine.{bounds_of}
 use Rattle.session.specs.declared.record.Place.{Place}
+use Rattle.session.specs.Adds.{IsUsedUp}
 
 -- a pass outside an attempt
 pub record IsSeated (t : TableId) (p : Pass) : Type 0 where
@@ -46,6 +51,16 @@ pub record IsEnding (t : TableId) (b : Book) (at : Place) (count made used : ℕ
   pub next : MayBegin (behind at made) used (book p)
   pub ticks : (book p).ticks ≤ b.ticks + count * 1000000
 
--- an attempt of it met a conflict since
-abbrev pub HasLost : Book → Pass → Type 0
-HasLost b p = (book p).lost ≢ b.lost
+-- the limits of a call before which so many words of the region are used
+abbrev pub bounds_with : Limits → ℕ → Bounds
+bounds_with limits used = bounds_of (record limits { room = record limits.room { used = used } })
+
+-- Of a lane's calls so many were made, which left so many words of the region used, and the attempts of the next one are used up. Each of those
+-- attempts met a conflict since the pass had the book b.
+pub record HasSpent (P : Program) (limits : Limits) (calls : List Known) (made used : ℕ) (b : Book) (p : Pass) : Type 0 where
+  pub call : Known
+  pub left : made < length calls
+  pub next : call ≡ slice_index_or calls made call
+  pub tried : ℕ
+  pub used_up : IsUsedUp P (bounds_with limits used) call.method call.args tried
+  pub lost : length b.lost + tried ≤ length (book p).lost

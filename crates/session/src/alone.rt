@@ -6,7 +6,7 @@ ghost use Rattle.jmodel.specs.History.{Call, Entry};
 ghost use Rattle.session.specs.Rule.{IsRuled, IsReady, IsCallOf};
 ghost use Rattle.session.specs.Lane.{HasMade};
 
-use crate::call::make_next;
+use crate::call::Making;
 use crate::record::{Lane, Place};
 use hierarchy::Program;
 use machine::Limits;
@@ -34,25 +34,22 @@ pub fn make_alone<E: Engine>(
     requires region { limits.room.region ≡ suc at.lane }
     requires fits { limits.room.region * limits.room.size + limits.room.size < 2 ^ 64 }
     requires awaits { (s : E) (c : Call) (used : ℕ) → E.awaits s c used }
-    requires rule { (e : Entry) → IsRuled original.now limits.room.size limits.budget e → E.allows e }
+    requires rule { (e : Entry) → IsRuled original.now limits.room.size limits.budget limits.attempts e → E.allows e }
     requires clock { E.clock engine.old + length calls.now * 1000000 ≤ 2 ^ 40 }
     requires stands { (h : List Entry) × E.stands engine.old h 0 [] [] }
     ensures made { (before : List Entry) → E.stands engine.old before 0 [] [] → IfOk result (λ lane. (h : List Entry) × E.stands engine.new (before ++ h) 0 [] [] × HasMade at limits.room.used calls.now h lane) }
     ensures all { IfOk result (λ lane. lane.made ≡ length calls.now) }
     ensures clock { E.clock engine.new ≤ E.clock engine.old + length calls.now * 1000000 }
 {
+    let making = Making {
+        alloc,
+        original,
+        rewritten,
+        limits,
+    };
     let mut lane = Lane::new(alloc, limits.room.used);
     for (index, call) in calls.iter().enumerate() {
-        let (one, used) = make_next(
-            alloc,
-            original,
-            rewritten,
-            engine,
-            limits.with_used(lane.used),
-            at.onward(index),
-            call,
-        );
-        lane.add(one, used)?;
+        let _is_made = making.make_one(engine, at.onward(index), &mut lane, call)?;
     }
     Ok(lane)
 }

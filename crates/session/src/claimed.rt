@@ -9,10 +9,10 @@ ghost use Rattle.tx_table.specs.Book.{Book};
 ghost use Rattle.tx_table.specs.Passes.{book};
 ghost use Rattle.session.specs.Rule.{IsRuled, IsReady, IsCallOf};
 ghost use Rattle.session.specs.Lane.{HasMade};
-ghost use Rattle.session.specs.Passes.{IsStarting, IsEnding, HasLost};
+ghost use Rattle.session.specs.Passes.{IsStarting, IsEnding, HasSpent};
 ghost use Rattle.session.specs.Claimed.{calls_at, HasTaken, HasEmptied};
 
-use crate::call::make_next;
+use crate::call::Making;
 use crate::record::{Lane, Place};
 use crate::shared::{Beginning, Named};
 use claims::{Bag, BagPass};
@@ -56,12 +56,12 @@ pub fn make_claimed<T: Ruled>(
     requires attempts { (1 ≤ limits.attempts) × (limits.attempts ≤ 1000000) }
     requires region { limits.room.region ≡ suc at.lane }
     requires fits { limits.room.region * limits.room.size + limits.room.size < 2 ^ 64 }
-    requires rule { (e : Entry) → IsRuled original.now limits.room.size limits.budget e → T.rule e }
+    requires rule { (e : Entry) → IsRuled original.now limits.room.size limits.budget limits.attempts e → T.rule e }
     requires pass { IsStarting shared.now.table.shared.table_id at limits.room.used (length calls.now) pass }
     requires bag { IsOf bag.now claims.old × (bag.now.length ≡ length calls.now) }
     requires claims { claims_of claims.old ≡ goes (length calls.now + 1) }
     ensures made { IfOk result (λ r. (h : List Entry) × IsEnding shared.now.table.shared.table_id (book pass) at (length r.indexes.items) r.lane.made r.lane.used h r.pass × HasMade at limits.room.used (calls_at calls.now r.indexes.items) h r.lane) }
-    ensures stopped { IfOk result (λ r. r.lane.made ≢ length r.indexes.items → HasLost (book pass) r.pass) }
+    ensures stopped { IfOk result (λ r. r.lane.made ≢ length r.indexes.items → HasSpent original.now limits (calls_at calls.now r.indexes.items) r.lane.made r.lane.used (book pass) r.pass) }
     ensures emptied { IfOk result (λ r. r.lane.made ≡ length r.indexes.items → HasEmptied (length calls.now) (claims_of claims.new) r.indexes.items) }
     ensures bag { IsOf bag.now claims.new }
     ensures claims { IfOk result (λ r. HasTaken (length calls.now) (claims_of claims.new) r.indexes.items) }
@@ -89,14 +89,14 @@ fn claim_over<K: Beginning, T: Ruled>(
     requires attempts { (1 ≤ limits.attempts) × (limits.attempts ≤ 1000000) }
     requires region { limits.room.region ≡ suc at.lane }
     requires fits { limits.room.region * limits.room.size + limits.room.size < 2 ^ 64 }
-    requires rule { (e : Entry) → IsRuled original.now limits.room.size limits.budget e → T.rule e }
+    requires rule { (e : Entry) → IsRuled original.now limits.room.size limits.budget limits.attempts e → T.rule e }
     requires pass { IsStarting shared.now.table.shared.table_id at limits.room.used (length calls.now) pass }
     requires began { K.began shared.now.table.shared.table_id (book pass) }
     requires only { (t : TableId) (b : Book) → K.began t b → (t ≡ shared.now.table.shared.table_id) × (b ≡ book pass) }
     requires bag { IsOf bag.now claims.old × (bag.now.length ≡ length calls.now) }
     requires claims { claims_of claims.old ≡ goes (length calls.now + 1) }
     ensures made { IfOk result (λ r. (h : List Entry) × IsEnding shared.now.table.shared.table_id (book pass) at (length r.indexes.items) r.lane.made r.lane.used h r.pass × HasMade at limits.room.used (calls_at calls.now r.indexes.items) h r.lane) }
-    ensures stopped { IfOk result (λ r. r.lane.made ≢ length r.indexes.items → HasLost (book pass) r.pass) }
+    ensures stopped { IfOk result (λ r. r.lane.made ≢ length r.indexes.items → HasSpent original.now limits (calls_at calls.now r.indexes.items) r.lane.made r.lane.used (book pass) r.pass) }
     ensures emptied { IfOk result (λ r. r.lane.made ≡ length r.indexes.items → HasEmptied (length calls.now) (claims_of claims.new) r.indexes.items) }
     ensures bag { IsOf bag.now claims.new }
     ensures claims { IfOk result (λ r. HasTaken (length calls.now) (claims_of claims.new) r.indexes.items) }
@@ -110,6 +110,12 @@ fn claim_over<K: Beginning, T: Ruled>(
             pass,
         });
     };
+    let making = Making {
+        alloc,
+        original,
+        rewritten,
+        limits,
+    };
     let mut engine = Tl2::new(alloc, shared, pass, Named::<K>::of(limits.room, at, first));
     for count in 0..calls.len() {
         let Some(index) = claims.claim(bag) else {
@@ -119,19 +125,10 @@ fn claim_over<K: Beginning, T: Ruled>(
         let call = &calls[index as usize];
         let here = at.onward(count);
         engine.set_call(Named::of(limits.room, here, call));
-        let (one, used) = make_next(
-            alloc,
-            original,
-            rewritten,
-            &mut engine,
-            limits.with_used(lane.used),
-            here,
-            call,
-        );
-        if one.is_spent() {
+        let is_made = making.make_one(&mut engine, here, &mut lane, call)?;
+        if !is_made {
             break;
         }
-        lane.add(one, used)?;
     }
     let pass = engine.into_pass();
     Ok(Taken {

@@ -7,9 +7,9 @@ ghost use Rattle.tx_table.specs.Book.{Book};
 ghost use Rattle.tx_table.specs.Passes.{book};
 ghost use Rattle.session.specs.Rule.{IsRuled, IsReady, IsCallOf};
 ghost use Rattle.session.specs.Lane.{HasMade};
-ghost use Rattle.session.specs.Passes.{IsStarting, IsEnding, HasLost};
+ghost use Rattle.session.specs.Passes.{IsStarting, IsEnding, HasSpent};
 
-use crate::call::make_next;
+use crate::call::Making;
 use crate::record::{Lane, Place};
 use hierarchy::Program;
 use machine::{Limits, Room};
@@ -39,10 +39,10 @@ pub fn make_shared<T: Ruled>(
     requires attempts { (1 ≤ limits.attempts) × (limits.attempts ≤ 1000000) }
     requires region { limits.room.region ≡ suc at.lane }
     requires fits { limits.room.region * limits.room.size + limits.room.size < 2 ^ 64 }
-    requires rule { (e : Entry) → IsRuled original.now limits.room.size limits.budget e → T.rule e }
+    requires rule { (e : Entry) → IsRuled original.now limits.room.size limits.budget limits.attempts e → T.rule e }
     requires pass { IsStarting shared.now.table.shared.table_id at limits.room.used (length calls.now) pass }
     ensures made { IfOk result (λ r. (h : List Entry) × IsEnding shared.now.table.shared.table_id (book pass) at (length calls.now) r.0.made r.0.used h r.1 × HasMade at limits.room.used calls.now h r.0) }
-    ensures stopped { IfOk result (λ r. r.0.made ≢ length calls.now → HasLost (book pass) r.1) }
+    ensures stopped { IfOk result (λ r. r.0.made ≢ length calls.now → HasSpent original.now limits calls.now r.0.made r.0.used (book pass) r.1) }
     ensures all { (book pass).numbers ≡ 2 ^ 20 → IfOk result (λ r. r.0.made ≡ length calls.now) }
 {
     make_over::<Brand, T>(alloc, original, rewritten, shared, pass, limits, at, calls)
@@ -110,35 +110,32 @@ fn make_over<K: Beginning, T: Ruled>(
     requires attempts { (1 ≤ limits.attempts) × (limits.attempts ≤ 1000000) }
     requires region { limits.room.region ≡ suc at.lane }
     requires fits { limits.room.region * limits.room.size + limits.room.size < 2 ^ 64 }
-    requires rule { (e : Entry) → IsRuled original.now limits.room.size limits.budget e → T.rule e }
+    requires rule { (e : Entry) → IsRuled original.now limits.room.size limits.budget limits.attempts e → T.rule e }
     requires pass { IsStarting shared.now.table.shared.table_id at limits.room.used (length calls.now) pass }
     requires began { K.began shared.now.table.shared.table_id (book pass) }
     requires only { (t : TableId) (b : Book) → K.began t b → (t ≡ shared.now.table.shared.table_id) × (b ≡ book pass) }
     ensures made { IfOk result (λ r. (h : List Entry) × IsEnding shared.now.table.shared.table_id (book pass) at (length calls.now) r.0.made r.0.used h r.1 × HasMade at limits.room.used calls.now h r.0) }
-    ensures stopped { IfOk result (λ r. r.0.made ≢ length calls.now → HasLost (book pass) r.1) }
+    ensures stopped { IfOk result (λ r. r.0.made ≢ length calls.now → HasSpent original.now limits calls.now r.0.made r.0.used (book pass) r.1) }
     ensures all { (book pass).numbers ≡ 2 ^ 20 → IfOk result (λ r. r.0.made ≡ length calls.now) }
 {
     let mut lane = Lane::new(alloc, limits.room.used);
     let Some(first) = calls.first() else {
         return Ok((lane, pass));
     };
+    let making = Making {
+        alloc,
+        original,
+        rewritten,
+        limits,
+    };
     let mut engine = Tl2::new(alloc, shared, pass, Named::<K>::of(limits.room, at, first));
     for (index, call) in calls.iter().enumerate() {
         let here = at.onward(index);
         engine.set_call(Named::of(limits.room, here, call));
-        let (one, used) = make_next(
-            alloc,
-            original,
-            rewritten,
-            &mut engine,
-            limits.with_used(lane.used),
-            here,
-            call,
-        );
-        if one.is_spent() {
+        let is_made = making.make_one(&mut engine, here, &mut lane, call)?;
+        if !is_made {
             break;
         }
-        lane.add(one, used)?;
     }
     Ok((lane, engine.into_pass()))
 }

@@ -15,11 +15,14 @@ rest_here v = record {
   stage = inr refl;
   numbers = refl;
   fresh = refl;
+  begins = refl;
   ticks = omega arith;
   regions = refl;
   entries = refl;
   lost = refl;
   call = refl;
+  bound = refl;
+  reads = refl;
   seen = omega arith;
 }
 
@@ -30,11 +33,14 @@ rest_given c t v w s kept r = record {
   stage = inl refl;
   numbers = r.numbers;
   fresh = r.fresh;
+  begins = r.begins;
   ticks = r.ticks;
   regions = r.regions;
   entries = r.entries;
   lost = r.lost;
   call = r.call;
+  bound = r.bound;
+  reads = r.reads;
   seen = r.seen;
 }
 
@@ -46,21 +52,22 @@ taking_one v w s word a t = record {
     stage = t.rest.stage;
     numbers = t.rest.numbers;
     fresh = t.rest.fresh;
+    begins = t.rest.begins;
     ticks = t.rest.ticks;
     regions = t.rest.regions;
     entries = t.rest.entries;
     lost = t.rest.lost;
     call = t.rest.call;
+    bound = t.rest.bound;
+    reads = t.rest.reads;
     seen = t.rest.seen;
   };
   stage = t.stage;
   live = t.live;
-  reads = t.reads;
-  bound = t.bound;
 }
 
 pub taking_here : (v : Book) → v.face.stage ≡ Unticked → v.live ≡ true → IsTaking v v
-taking_here v stage live = record { rest = rest_here v; stage = stage; live = live; reads = refl; bound = refl }
+taking_here v stage live = record { rest = rest_here v; stage = stage; live = live }
 
 -- a conflict at a later step of the same attempt is one of its beginning
 pub lost_is : (v w : Book) (e : Conflict) → e.upto ≡ w.bound → w.call ≡ v.call → w.regions ≡ v.regions → w.reads ≡ v.reads → w.lost ≡ v.lost
@@ -81,11 +88,14 @@ taking_lost v w u e upto t r = record {
   stage = inl (stage_of r.stage);
   numbers = r.numbers ∙ t.rest.numbers;
   fresh = r.fresh ∙ t.rest.fresh;
+  begins = r.begins ∙ t.rest.begins;
   ticks = let p = r.ticks in let q = t.rest.ticks in omega arith;
   regions = r.regions ∙ t.rest.regions;
   entries = r.entries ∙ t.rest.entries;
-  lost = r.lost ∙ lost_is v w e upto t.rest.call t.rest.regions t.reads t.rest.lost;
+  lost = r.lost ∙ lost_is v w e upto t.rest.call t.rest.regions t.rest.reads t.rest.lost;
   call = r.call ∙ t.rest.call;
+  bound = r.bound ∙ t.rest.bound;
+  reads = r.reads ∙ t.rest.reads;
   seen = let p = r.seen in let q = t.rest.seen in omega arith;
 }
   where
@@ -107,11 +117,14 @@ rest_released c t v w s d r = record {
   stage = stage_then (staged (without w.face.held s));
   numbers = r.numbers;
   fresh = r.fresh;
+  begins = r.begins;
   ticks = r.ticks;
   regions = r.regions;
   entries = r.entries;
   lost = r.lost;
   call = r.call;
+  bound = r.bound;
+  reads = r.reads;
   seen = r.seen;
 }
   where

@@ -6,7 +6,8 @@ use Rattle.atomic_table.specs.Seated.{TableId}
 use Rattle.jmodel.specs.declared.op.Access.{Access}
 use Rattle.jmodel.specs.Attempt.{Log, access, answered, recorded, written}
 use Rattle.jmodel.specs.History.{Call, Entry}
-use Rattle.tx_table.specs.Book.{Book, Look, Had, pairs}
+use Rattle.tx_table.specs.Book.{Book, Look, Away, Saw, Had, pairs}
+use Rattle.tx_table.specs.Rule.{Story, Snapshot}
 use Rattle.tx_table.specs.Plays.{begun, lost_at, loaded_at, logged, value_in}
 use Rattle.tx_table.specs.declared.shared.Pass.{Pass}
 use Rattle.tx_table.specs.Passes.{book, IsSame}
@@ -15,6 +16,30 @@ use Rattle.tl2.specs.declared.attempt.At.TheVariants.{Outside, Inside, Looked, L
 use Rattle.tl2.specs.Standing.{IsAt, Stands}
 use Rattle.tl2.proofs.Keeping.{keeps_still}
 use Rattle.tl2.proofs.Entries.{inside}
+
+-- a step that leaves the reads and the regions keeps what was learnt of them
+snapshot_still : (S : Story) (v w : Book) → w.reads ≡ v.reads → w.regions ≡ v.regions → Snapshot S v → Snapshot S w
+snapshot_still S v w reads regions s = record {
+  history = s.history;
+  legal = s.legal;
+  runs = s.runs;
+  reads = λ a x i. s.reads a x (rw reads at i);
+  regions = λ r g e. s.regions r g (rw regions at e);
+}
+
+-- as a look does
+pub snapshot_looking : (S : Story) (v w : Book) (look : Look) → w ≡ record v { look = look } → Snapshot S v → Snapshot S w
+snapshot_looking S v w look e = snapshot_still S v w (ap (λ (b : Book). b.reads) e) (ap (λ (b : Book). b.regions) e)
+
+-- and a conflict
+pub snapshot_lost : (S : Story) (v w : Book) (a n : ℕ) → w ≡ lost_at v a n → Snapshot S v → Snapshot S w
+snapshot_lost S v w a n e = snapshot_still S v w (ap (λ (b : Book). b.reads) e) (ap (λ (b : Book). b.regions) e)
+
+-- and the load of a word
+pub snapshot_loaded : (S : Story) (l : Look) (v w : Book) (a n : ℕ) → w ≡ loaded_at l v a n → Snapshot S v → Snapshot S w
+snapshot_loaded S Away v w a n e s = rw e s
+snapshot_loaded S (Saw k u) v w a n e s = snapshot_still S v w (ap (λ (b : Book). b.reads) e) (ap (λ (b : Book). b.regions) e) s
+snapshot_loaded S (Had k u b x) v w a n e s = snapshot_still S v w (ap (λ (b : Book). b.reads) e) (ap (λ (b : Book). b.regions) e) s
 
 -- a step that leaves all but the look and the reads
 record IsQuiet (v w : Book) : Type 0 where

@@ -1,5 +1,5 @@
 -- The commit of an attempt that wrote, from step to step.
-use Rattle.std.proofs.Common.{◌≡◌, ◌≢◌, ◌⊎◌, ◌<◌, ◌+◌, ◌%◌, ℕ, true, false, not, List, [], ◌∷◌, All, reverse, refl, sym, ap, ◌∙◌, inl, inr, subst, arith}
+use Rattle.std.proofs.Common.{◌≡◌, ◌≢◌, ◌⊎◌, ◌<◌, ◌+◌, ◌%◌, ◌==◌, ℕ, Bool, true, false, cond, not, List, [], ◌∷◌, ◌++◌, All, reverse, refl, sym, ap, ◌∙◌, inl, inr, ⊎_elim, eq-eqb, subst, arith}
 use mathlib.Core.Option.{none, some, some-ne-none}
 use Rattle.std.proofs.lemmas.Bool.{not-true}
 use Rattle.std.proofs.lemmas.List.Elements.{All-weaker}
@@ -13,7 +13,7 @@ use Rattle.tx_table.specs.Rule.{Story}
 use Rattle.tx_table.specs.Plays.{accesses, keys, ticked_up, lost_at, update_entry, used_in, region_of, Fits, Updates}
 use Rattle.tx_table.proofs.MapLaws.{lookup_here}
 use Rattle.tl2.specs.declared.plan.Stripe.{Stripe}
-use Rattle.tl2.specs.Commits.{Holds, IsChecked, IsRest, IsTaking, IsAdded, stored, update_of}
+use Rattle.tl2.specs.Commits.{Holds, IsChecked, IsRest, IsTaking, IsAdded, MeansOnly, stored, update_of}
 use Rattle.tl2.specs.Conflicts.{lost_to}
 use Rattle.tl2.specs.Plans.{addresses_of, number_of, touches, IsListed, IsPlan}
 use Rattle.tl2.proofs.Keys.{by_bool}
@@ -73,6 +73,42 @@ module _ {due : Map ℕ} (m : Map ℕ) {stripes : List Stripe} {elsewhere : List
         (λ f. let there : In b elsewhere = subst (In b) (sym p.elsewhere) (filter_in (λ a. not (touches (addresses_of stripes) (a % 4096))) (reverse (keys m)) b (in_turned (keys m) b (in_keys m b y i)) (ap not f)) in
         inl (subst (In (b % 4096)) (sym (ap (λ (w : Book). w.checked) c.1)) (all_in (λ a. In (a % 4096) c.0) elsewhere b c.2 there)))
 
+-- an address of a word of a map has one
+keyed : (m : Map ℕ) (a : ℕ) → In a (keys m) → Has m a
+keyed [] a i = absurd i
+keyed (x ∷ m) a i = by (x.0 == a) refl i (keyed m a)
+  where
+    by : (b : Bool) → x.0 == a ≡ b → (a ≡ x.0) ⊎ In a (keys m) → (In a (keys m) → Has m a) → (y : ℕ) × (cond b (some x.1) (lookup m a) ≡ some y)
+    by true e j rest = (x.1, refl)
+    by false e (inl q) rest = let no : false ≡ true = sym e ∙ eq-eqb x.0 a (sym q) in cc no
+    by false e (inr j) rest = rest j
+
+in_parts : (xs ys : List ℕ) (a : ℕ) → In a (xs ++ ys) → In a xs ⊎ In a ys
+in_parts [] ys a i = inr i
+in_parts (x ∷ xs) ys a (inl e) = inl (inl e)
+in_parts (x ∷ xs) ys a (inr i) = ⊎_elim (λ (j : In a xs). inl (inr j)) (λ (j : In a ys). inr j) (in_parts xs ys a i)
+
+-- An attempt that took the stripes of a plan and ticked means to write what it wrote.
+module _ {due : Map ℕ} (m : Map ℕ) {stripes : List Stripe} {elsewhere : List ℕ} {newest : Log} (p : IsPlan due (reverse (keys m)) stripes elsewhere newest)
+    (v v1 : Book) (means : MeansOnly (λ a. In a (addresses_of stripes)) v v1) where
+  means_ticked : (u : Book) → u.wants ≡ keys due ++ v1.wants → MeansOnly (Has due) v u
+  means_ticked u e a i =
+      ⊎_elim (λ (j : In a (keys due)). inr (keyed due a j))
+      (λ (j : In a v1.wants). ⊎_elim (λ (k : In a v.wants). inl k) (λ (k : In a (addresses_of stripes)). inr (all_in (Has due) (addresses_of stripes) a p.only k)) (means a j))
+      (in_parts (keys due) v1.wants a (subst (In a) e i))
+
+  pub means_stored : (t : ℕ) (checked : List ℕ) (e : Entry) (left : Map ℕ) (v3 v4 u : Book) → v3 ≡ record (ticked_up v1 t due) { checked = checked } → v4 ≡ stored v3 e left → u.wants ≡ v4.wants
+      → MeansOnly (Has due) v u
+  means_stored t checked e left v3 v4 u ticked stores same =
+      let first : v3.wants ≡ keys due ++ v1.wants = ap (λ (b : Book). b.wants) ticked in
+      let then : v4.wants ≡ v3.wants = ap (λ (b : Book). b.wants) stores in
+      means_ticked u (same ∙ then ∙ first)
+
+  pub means_lost : (t : ℕ) (checked : List ℕ) (a n : ℕ) (v3 u : Book) → v3 ≡ lost_at (record (ticked_up v1 t due) { checked = checked }) a n → u.wants ≡ v3.wants → MeansOnly (Has due) v u
+  means_lost t checked a n v3 u lost same =
+      let first : v3.wants ≡ keys due ++ v1.wants = ap (λ (b : Book). b.wants) lost in
+      means_ticked u (same ∙ first)
+
 -- what was written has a stripe
 pub some_held : (w : Log) (held : Map ℕ) → w ≢ [] → ((b : ℕ) → Has (pairs w) b → Has held (b % 4096)) → held ≢ []
 some_held [] held some_writes f = absurd (some_writes refl)
@@ -89,6 +125,7 @@ pub record IsTicked (t : ℕ) (m : Map ℕ) (v w : Book) : Type 0 where
   pub number : w.face.number ≡ v.face.number
   pub numbers : w.numbers ≡ v.numbers
   pub fresh : w.fresh ≡ v.fresh
+  pub begins : w.begins ≡ v.begins
   pub ticks : w.ticks ≡ v.ticks + 1
   pub regions : w.regions ≡ v.regions
   pub entries : w.entries ≡ v.entries
@@ -106,12 +143,13 @@ ticked_then t due checked v v1 w later k e = subst (IsTicked t due v) (sym e) (r
   number = k.rest.number;
   numbers = k.rest.numbers;
   fresh = k.rest.fresh;
+  begins = k.rest.begins;
   ticks = let p = k.rest.ticks in omega arith;
   regions = k.rest.regions;
   entries = k.rest.entries;
   lost = k.rest.lost;
   call = k.rest.call;
-  reads = k.reads;
+  reads = k.rest.reads;
   seen = (let p = k.rest.seen in omega arith, refl);
 })
 
@@ -123,11 +161,14 @@ ticked_lost t due checked x v v1 w u later upto k e r stage = record {
   stage = inl stage;
   numbers = r.numbers ∙ ap (λ (b : Book). b.numbers) e ∙ k.rest.numbers;
   fresh = r.fresh ∙ ap (λ (b : Book). b.fresh) e ∙ k.rest.fresh;
+  begins = r.begins ∙ ap (λ (b : Book). b.begins) e ∙ k.rest.begins;
   ticks = let p = r.ticks in let q = ap (λ (b : Book). b.ticks) e in let o = k.rest.ticks in omega arith;
   regions = r.regions ∙ ap (λ (b : Book). b.regions) e ∙ k.rest.regions;
   entries = r.entries ∙ ap (λ (b : Book). b.entries) e ∙ k.rest.entries;
-  lost = r.lost ∙ ap (λ (b : Book). b.lost) e ∙ lost_is v v1 x upto k.rest.call k.rest.regions k.reads k.rest.lost;
+  lost = r.lost ∙ ap (λ (b : Book). b.lost) e ∙ lost_is v v1 x upto k.rest.call k.rest.regions k.rest.reads k.rest.lost;
   call = r.call ∙ ap (λ (b : Book). b.call) e ∙ k.rest.call;
+  bound = r.bound ∙ ap (λ (b : Book). b.bound) e ∙ k.rest.bound;
+  reads = r.reads ∙ ap (λ (b : Book). b.reads) e ∙ k.rest.reads;
   seen = let p = r.seen in let q = ap (λ (b : Book). b.seen) e in let o = k.rest.seen in omega arith;
 }
 
@@ -169,6 +210,7 @@ module _ (t : ℕ) (wr : Log) (v w : Book) (x : Answer) (after : ℕ) (k : IsTic
     number = r.number ∙ ap (λ (b : Book). b.face.number) e ∙ k.number;
     numbers = r.numbers ∙ ap (λ (b : Book). b.numbers) e ∙ k.numbers;
     fresh = r.fresh ∙ ap (λ (b : Book). b.fresh) e ∙ k.fresh;
+    begins = r.begins ∙ ap (λ (b : Book). b.begins) e ∙ k.begins;
     ticks = let p = r.ticks in let q = ap (λ (b : Book). b.ticks) e in let o = k.ticks in omega arith;
     regions = r.regions ∙ ap (λ (b : Book). b.regions) e ∙ ap (λ (d : Entry). region_of d ∷ w.regions) entry_is ∙ ap (λ (m : Map Region). region_of (update_of v t wr x after) ∷ m) k.regions;
     entries = r.entries ∙ ap (λ (b : Book). b.entries) e ∙ ap (λ (d : Entry). d ∷ w.entries) entry_is ∙ ap (λ (es : List Entry). update_of v t wr x after ∷ es) k.entries;

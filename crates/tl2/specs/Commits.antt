@@ -12,18 +12,21 @@ use Rattle.tl2.specs.Plans.{words_of, IsListed}
 abbrev pub Holds : List Stripe → Book → Type 0
 Holds stripes v = IsListed v.face.held (words_of stripes)
 
--- The books of one pass before and after steps of one attempt, which met these conflicts, moved the clock so often, and
--- added no entry.
+-- The books of one pass before and after steps of one attempt, which met these conflicts, moved the clock so often,
+-- began no other attempt, added no entry, and kept the reads.
 pub record IsRest (met : List Lost) (moved : ℕ) (v w : Book) : Type 0 where
   pub number : w.face.number ≡ v.face.number
   pub stage : (w.face.stage ≡ Unticked) ⊎ (w.face.stage ≡ v.face.stage)
   pub numbers : w.numbers ≡ v.numbers
   pub fresh : w.fresh ≡ v.fresh
+  pub begins : w.begins ≡ v.begins
   pub ticks : w.ticks ≡ v.ticks + moved
   pub regions : w.regions ≡ v.regions
   pub entries : w.entries ≡ v.entries
   pub lost : w.lost ≡ met ++ v.lost
   pub call : w.call ≡ v.call
+  pub bound : w.bound ≡ v.bound
+  pub reads : w.reads ≡ v.reads
   pub seen : v.seen ≤ w.seen
 
 -- The attempt's reads stand, and it has not ticked.
@@ -31,8 +34,10 @@ pub record IsTaking (v w : Book) : Type 0 where
   pub rest : IsRest [] 0 v w
   pub stage : w.face.stage ≡ Unticked
   pub live : w.live ≡ true
-  pub reads : w.reads ≡ v.reads
-  pub bound : w.bound ≡ v.bound
+
+-- What the attempt of w means to write, that of v means to write too, or it keeps to P.
+abbrev pub MeansOnly : (ℕ → Type 0) → Book → Book → Type 0
+MeansOnly P v w = (a : ℕ) → In a w.wants → In a v.wants ⊎ P a
 
 -- The stripes of these addresses were free with a version up to the bound.
 abbrev pub IsChecked : List ℕ → Book → Book → Type 0
@@ -63,6 +68,7 @@ pub record IsAdded (e : Entry) (v w : Book) : Type 0 where
   pub number : w.face.number ≡ v.face.number
   pub numbers : w.numbers ≡ v.numbers
   pub fresh : w.fresh ≡ v.fresh
+  pub begins : w.begins ≡ v.begins
   pub ticks : w.ticks ≡ v.ticks + 1
   pub regions : w.regions ≡ region_of e ∷ v.regions
   pub entries : w.entries ≡ e ∷ v.entries

@@ -17,9 +17,11 @@ lost_to v e = record {
 }
 
 -- The attempt of a book met a conflict: its bound is told, the word that was seen is held by another or has a version over the
--- bound, and the book then has this conflict and no other one more.
+-- bound, and the book then has this conflict and no other one more, with the attempt's reads as they were.
 pub record Meets (v w : Book) (e : Conflict) : Type 0 where
   pub upto : e.upto ≡ v.bound
   pub past : IsPast v.bound e.word
   pub other : e.word ≢ 2 * v.face.number + 1
   pub kept : w.lost ≡ lost_to v e ∷ v.lost
+  pub bound : w.bound ≡ v.bound
+  pub reads : w.reads ≡ v.reads

@@ -4,3 +4,4 @@ pub mod Commits
 pub mod Logs
 pub mod Plans
 pub mod Trials
+pub mod Snapshots

@@ -20,6 +20,8 @@ pub trait Ruled: Story {
     ghost rule: { Entry → Type 0 };
 
     ghost keeps: { (s : Self) (e : Entry) → rule e → (Self.story s).runs e };
+
+    ghost ruled: { (s : Self) (e : Entry) → (Self.story s).runs e → rule e };
 }
 
 /// Names a call, and what is known of the pass that makes it, for contracts alone.

@@ -7,7 +7,7 @@ ghost use Rattle.tx_table.specs.Plays.{lost_at, took};
 ghost use Rattle.tx_table.specs.Passes.{book, IsOf, IsSame};
 ghost use Rattle.tx_table.specs.Steps.{IsPast};
 ghost use Rattle.tl2.specs.Conflicts.{lost_to};
-ghost use Rattle.tl2.specs.Commits.{Holds, IsChecked, IsRest, IsTaking};
+ghost use Rattle.tl2.specs.Commits.{Holds, IsChecked, IsRest, IsTaking, MeansOnly};
 ghost use Rattle.tl2.specs.Plans.{addresses_of, number_of};
 
 use crate::plan::Stripe;
@@ -47,6 +47,7 @@ pub(crate) fn give_back<T: Story>(pass: &mut Pass, shared: &Shared<T>, held: &[S
     ensures free { (book pass.new).face.held ≡ [] }
     ensures over { (book pass.old).face.held ≢ [] → (book pass.new).face.stage ≡ Unticked }
     ensures rest { IsRest [] 0 (book pass.old) (book pass.new) }
+    ensures wants { (book pass.new).wants ≡ (book pass.old).wants }
 {
     for stripe in held {
         pass.release_old(shared, stripe.number(), stripe.word);
@@ -68,6 +69,7 @@ pub(crate) fn take_all<T: Story>(
     ensures ok { IfOk result (λ _. IsTaking (book pass.old) (book pass.new) × Holds stripes.new (book pass.new) × (addresses_of stripes.new ≡ addresses_of stripes.old)) }
     ensures err { IfErr result (λ e. IsRest (lost_to (book pass.old) e ∷ []) 0 (book pass.old) (book pass.new) × ((book pass.new).face.held ≡ []) × ((book pass.new).face.stage ≡ Unticked)) }
     ensures conflict { IfErr result (λ e. (e.upto ≡ (book pass.old).bound) × IsPast (book pass.old).bound e.word × In e.address (addresses_of stripes.old)) }
+    ensures means { MeansOnly (λ a. In a (addresses_of stripes.old)) (book pass.old) (book pass.new) }
     ensures other { IfErr result (λ e. e.word ≢ 2 * (book pass.old).face.number + 1) }
     ensures sole { (book pass.old).numbers ≡ 2 ^ 20 → IsOk result }
 {
@@ -116,6 +118,7 @@ pub(crate) fn release_all<T: Story>(pass: &mut Pass, shared: &Shared<T>, held: &
     ensures same { IsSame pass.old pass.new }
     ensures free { ((book pass.new).face.held ≡ []) × ((book pass.new).face.stage ≡ Unticked) }
     ensures rest { IsRest [] 0 (book pass.old) (book pass.new) }
+    ensures wants { (book pass.new).wants ≡ (book pass.old).wants }
 {
     for stripe in held {
         pass.release_new(shared, stripe.number());

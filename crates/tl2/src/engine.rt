@@ -5,17 +5,22 @@ use std::snapshot::Snapshot;
 use tx_core::{Conflict, Engine, TxEnd};
 
 impl<'a, T: Ruled, C: Calling> Engine for Tl2<'a, T, C> {
-    ghost use Rattle.std.specs.Prelude.{◌≡◌, ◌^◌};
+    ghost use Rattle.std.specs.Prelude.{◌≡◌, ◌^◌, refl};
     ghost use Rattle.tx_table.specs.Passes.{book};
+    ghost use Rattle.tx_table.specs.Rule.{start, used_at, Snapshot as Learns};
+    ghost use Rattle.tl2.specs.Snapshots.{stands_snapshot};
     ghost use Rattle.tl2.specs.Standing.{IsOpen, IsLooked, IsLoaded, Awaits, Stands};
 
     ghost stands = { λ s h n r w. Stands C.began s.shared.now.words s.at s.writes.items s.pass h n r w };
 
-    ghost is_open = { λ s. IsOpen s.shared.now.words s.at (C.call s.call.value) (book s.pass) };
+    ghost is_open = { λ s. IsOpen s.shared.now.words s.at (C.call s.call.value) (book s.pass) × Learns (T.story s.shared.now.table.shared.key.story.value) (book s.pass) };
 
     ghost awaits = { λ s c used. Awaits (C.call s.call.value) (book s.pass) c used };
 
     ghost allows = { T.rule };
+
+    // A history begins as the story of a table says.
+    ghost begins = { λ first opened. (o : T) × (first ≡ start (T.story o)) × (opened ≡ used_at (T.story o)) };
 
     ghost is_shared = { Unit {0} };
 
@@ -24,6 +29,8 @@ impl<'a, T: Ruled, C: Calling> Engine for Tl2<'a, T, C> {
     ghost looked = { λ s a. IsLooked s.shared.now.words s.at s.writes.items a };
 
     ghost loaded = { λ s a x. IsLoaded s.shared.now.words s.at s.writes.items a x };
+
+    ghost attempts = { λ s k. (book s.pass).begins ≡ k };
 
     // The pass holds every number, so no other pass of the table is in use.
     ghost is_alone = { λ s. (book s.pass).numbers ≡ 2 ^ 20 };
@@ -63,4 +70,8 @@ impl<'a, T: Ruled, C: Calling> Engine for Tl2<'a, T, C> {
     fn ticks(&self) -> u64 {
         Tl2::ticks(self)
     }
+
+    ghost snapshot = { λ e h n r w c used stands opens awaits leads. let o = e.shared.now.table.shared.key.story.value in
+        stands_snapshot (T.story o) T.rule (λ first opened. (o : T) × (first ≡ start (T.story o)) × (opened ≡ used_at (T.story o))) C.began e.shared.now.words e.at e.writes.items e.pass
+        (C.call e.call.value) h n r w c used (T.ruled o) (o, refl, refl) stands opens awaits };
 }

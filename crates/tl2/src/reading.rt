@@ -27,6 +27,7 @@ fn begin_at<T: Story, C: Calling>(pass: &mut Pass, shared: &Shared<T>, _call: &S
     ensures same { IsSame pass.old pass.new }
     ensures book { book pass.new ≡ begun (book pass.old) told (book pass.new).bound }
     ensures later { (book pass.old).seen ≤ (book pass.new).bound }
+    ensures snapshot { Learns (T.story shared.now.table.shared.key.story.value) (book pass.new) }
 {
     pass.begin(shared);
 }
@@ -51,7 +52,9 @@ impl<'a, T: Ruled, C: Calling> Tl2<'a, T, C> {
             → Stands C.began self.new.shared.now.words self.new.at self.new.writes.items self.new.pass h n [] [] }
         ensures open { IsOpen self.new.shared.now.words self.new.at (C.call self.new.call.value) (book self.new.pass) }
         ensures awaits { (c : Call) (used : ℕ) → Awaits (C.call self.old.call.value) (book self.old.pass) c used → Awaits (C.call self.new.call.value) (book self.new.pass) c used }
+        ensures begins { (book self.new.pass).begins ≡ (book self.old.pass).begins + 1 }
         ensures ticks { (book self.new.pass).ticks ≡ (book self.old.pass).ticks }
+        ensures snapshot { Learns (T.story self.new.shared.now.table.shared.key.story.value) (book self.new.pass) }
         ensures same { IsSame self.old.pass self.new.pass × IsKin (book self.old.pass) (book self.new.pass) }
     {
         self.writes.clear();
@@ -69,10 +72,12 @@ impl<'a, T: Ruled, C: Calling> Tl2<'a, T, C> {
             (λ _. Stands C.began self.new.shared.now.words self.new.at self.new.writes.items self.new.pass h (n + 1) r w) }
         ensures open { IfOk result (λ _. IsOpen self.new.shared.now.words self.new.at (C.call self.new.call.value) (book self.new.pass)) }
         ensures awaits { (c : Call) (used : ℕ) → Awaits (C.call self.old.call.value) (book self.old.pass) c used → Awaits (C.call self.new.call.value) (book self.new.pass) c used }
+        ensures begins { (book self.new.pass).begins ≡ (book self.old.pass).begins }
         ensures ticks { (book self.new.pass).ticks ≡ (book self.old.pass).ticks }
         ensures seen { IfErr result (λ e. (e.address ≡ address) × Meets (book self.old.pass) (book self.new.pass) e) }
         ensures sole { (book self.old.pass).numbers ≡ 2 ^ 20 → IsOk result }
         ensures same { IsSame self.old.pass self.new.pass × IsKin (book self.old.pass) (book self.new.pass) }
+        ensures snapshot { Learns (T.story self.old.shared.now.table.shared.key.story.value) (book self.old.pass) → Learns (T.story self.new.shared.now.table.shared.key.story.value) (book self.new.pass) }
         ensures looked { IfOk result (λ _. IsLooked self.new.shared.now.words self.new.at self.new.writes.items address) }
     {
         if address >= self.shared.words || self.writes.written(address).is_some() {
@@ -98,8 +103,10 @@ impl<'a, T: Ruled, C: Calling> Tl2<'a, T, C> {
             → Stands C.began self.new.shared.now.words self.new.at self.new.writes.items self.new.pass h n r w }
         ensures open { IsOpen self.new.shared.now.words self.new.at (C.call self.new.call.value) (book self.new.pass) }
         ensures awaits { (c : Call) (used : ℕ) → Awaits (C.call self.old.call.value) (book self.old.pass) c used → Awaits (C.call self.new.call.value) (book self.new.pass) c used }
+        ensures begins { (book self.new.pass).begins ≡ (book self.old.pass).begins }
         ensures ticks { (book self.new.pass).ticks ≡ (book self.old.pass).ticks }
         ensures same { IsSame self.old.pass self.new.pass × IsKin (book self.old.pass) (book self.new.pass) }
+        ensures snapshot { Learns (T.story self.old.shared.now.table.shared.key.story.value) (book self.old.pass) → Learns (T.story self.new.shared.now.table.shared.key.story.value) (book self.new.pass) }
         ensures loaded { IsLooked self.old.shared.now.words self.old.at self.old.writes.items address → IsLoaded self.new.shared.now.words self.new.at self.new.writes.items address result }
     {
         if let Some(word) = self.writes.written(address) {
@@ -126,8 +133,10 @@ impl<'a, T: Ruled, C: Calling> Tl2<'a, T, C> {
             (λ end. Stands C.began self.new.shared.now.words self.new.at self.new.writes.items self.new.pass h (raised end n) r w) }
         ensures open { IfOk result (λ _. IsOpen self.new.shared.now.words self.new.at (C.call self.new.call.value) (book self.new.pass)) }
         ensures awaits { (c : Call) (used : ℕ) → Awaits (C.call self.old.call.value) (book self.old.pass) c used → Awaits (C.call self.new.call.value) (book self.new.pass) c used }
+        ensures begins { (book self.new.pass).begins ≡ (book self.old.pass).begins }
         ensures ticks { (book self.new.pass).ticks ≡ (book self.old.pass).ticks }
         ensures snapshot { IfOk result (λ _. written (reverse self.old.writes.items) address ≡ None → Learns (T.story self.new.shared.now.table.shared.key.story.value) (book self.new.pass)) }
+        ensures still { Learns (T.story self.old.shared.now.table.shared.key.story.value) (book self.old.pass) → Learns (T.story self.new.shared.now.table.shared.key.story.value) (book self.new.pass) }
         ensures same { IsSame self.old.pass self.new.pass × IsKin (book self.old.pass) (book self.new.pass) }
         ensures seen { (e : Conflict) → result ≡ Err (TxEnd.Conflict e) → (e.address ≡ address) × Meets (book self.old.pass) (book self.new.pass) e }
         ensures sole { (book self.old.pass).numbers ≡ 2 ^ 20 → IfErr result (λ end. end ≡ TxEnd.NoMemory) }
@@ -164,8 +173,10 @@ impl<'a, T: Ruled, C: Calling> Tl2<'a, T, C> {
             (λ end. Stands C.began self.new.shared.now.words self.new.at self.new.writes.items self.new.pass h (raised end n) r w) }
         ensures open { IsOpen self.new.shared.now.words self.new.at (C.call self.new.call.value) (book self.new.pass) }
         ensures awaits { (c : Call) (used : ℕ) → Awaits (C.call self.old.call.value) (book self.old.pass) c used → Awaits (C.call self.new.call.value) (book self.new.pass) c used }
+        ensures begins { (book self.new.pass).begins ≡ (book self.old.pass).begins }
         ensures ticks { (book self.new.pass).ticks ≡ (book self.old.pass).ticks }
         ensures same { IsSame self.old.pass self.new.pass × IsKin (book self.old.pass) (book self.new.pass) }
+        ensures snapshot { Learns (T.story self.old.shared.now.table.shared.key.story.value) (book self.old.pass) → Learns (T.story self.new.shared.now.table.shared.key.story.value) (book self.new.pass) }
         ensures err { IfErr result (λ end. end ≡ TxEnd.NoMemory) }
     {
         if address >= self.shared.words || self.writes.push(Access { address, word }).is_err() {
@@ -180,9 +191,11 @@ impl<'a, T: Ruled, C: Calling> Tl2<'a, T, C> {
         requires allowed { MayEnd (Stands C.began self.old.shared.now.words self.old.at self.old.writes.items self.old.pass) (Awaits (C.call self.old.call.value) (book self.old.pass)) T.rule (λ _. []) answer.value (λ used. used) }
         ensures run { (h : List Entry) (n : ℕ) (r w : Log) → Stands C.began self.old.shared.now.words self.old.at self.old.writes.items self.old.pass h n r w
             → IsOfWrites result [] × Adds (Awaits (C.call self.old.call.value) (book self.old.pass)) T.rule (Stands C.began self.new.shared.now.words self.new.at self.new.writes.items self.new.pass) h n answer.value (λ used. used) result r [] }
+        ensures begins { (book self.new.pass).begins ≡ (book self.old.pass).begins }
         ensures ticks { (book self.new.pass).ticks ≡ (book self.old.pass).ticks }
         ensures region { (c : Call) (used : ℕ) → Awaits (C.call self.old.call.value) (book self.old.pass) c used → (book self.new.pass).regions ≡ (c.region, record { used = used; last = Found c }) ∷ (book self.old.pass).regions }
         ensures same { IsSame self.old.pass self.new.pass × ((book self.new.pass).numbers ≡ (book self.old.pass).numbers) × ((book self.new.pass).fresh ≡ (book self.old.pass).fresh) }
+        ensures wants { (book self.new.pass).wants ≡ (book self.old.pass).wants }
     {
         let stamp = finish_with(&mut self.pass, self.shared, answer);
         self.writes.clear();
@@ -195,6 +208,7 @@ impl<'a, T: Ruled, C: Calling> Tl2<'a, T, C> {
         ensures run { (h : List Entry) (n : ℕ) (r w : Log) → Stands C.began self.old.shared.now.words self.old.at self.old.writes.items self.old.pass h n r w
             → Stands C.began self.new.shared.now.words self.new.at self.new.writes.items self.new.pass h n [] [] }
         ensures awaits { (c : Call) (used : ℕ) → Awaits (C.call self.old.call.value) (book self.old.pass) c used → Awaits (C.call self.new.call.value) (book self.new.pass) c used }
+        ensures begins { (book self.new.pass).begins ≡ (book self.old.pass).begins }
         ensures ticks { (book self.new.pass).ticks ≡ (book self.old.pass).ticks }
         ensures pass { self.new.pass ≡ self.old.pass }
         ensures same { IsSame self.old.pass self.new.pass × IsKin (book self.old.pass) (book self.new.pass) }

@@ -1,13 +1,13 @@
 //! The commit of an attempt that wrote, over the steps of the table.
-ghost use Rattle.std.specs.Prelude.{◌≡◌, ◌≢◌, ◌⊎◌, ◌<◌, ◌≤◌, ◌+◌, ◌*◌, ◌%◌, ◌^◌, [], ℕ, true, All, reverse, IfOk, IfErr, IsOk, ◌∷◌};
-ghost use mathlib.Core.Option.{some as Found};
+ghost use Rattle.std.specs.Prelude.{◌≡◌, ◌≢◌, ◌⊎◌, ◌<◌, ◌≤◌, ◌+◌, ◌*◌, ◌%◌, ◌^◌, [], ℕ, List, true, All, reverse, IfOk, IfErr, IsOk, ◌∷◌};
+ghost use mathlib.Core.Option.{some as Found, none as Missing};
 ghost use Rattle.jmodel.specs.History.{Entry};
 ghost use Rattle.tx_table.specs.Book.{Map, Has, In, Unticked, Ticked, lookup, pairs};
-ghost use Rattle.tx_table.specs.Plays.{keys, ticked_up, Fits, Updates};
+ghost use Rattle.tx_table.specs.Plays.{keys, lost_at, ticked_up, Fits, Updates};
 ghost use Rattle.tx_table.specs.Passes.{book, IsOf, IsSame};
 ghost use Rattle.tx_table.specs.Steps.{IsPast};
 ghost use Rattle.tl2.specs.Conflicts.{lost_to};
-ghost use Rattle.tl2.specs.Commits.{IsAdded, IsRest, stored, update_of};
+ghost use Rattle.tl2.specs.Commits.{IsAdded, IsChecked, IsRest, MeansOnly, stored, update_of};
 ghost use Rattle.tl2.specs.Plans.{IsListed, IsPlan};
 
 use crate::commit::{give_back, release_all, take_all, validate_all};
@@ -18,19 +18,31 @@ use std::snapshot::Snapshot;
 use tx_core::Conflict;
 use tx_table::{Pass, Shared, Story};
 
-/// Moves the clock for an attempt that wrote this, the oldest first, and answers its new value.
-fn tick_for<T: Story>(pass: &mut Pass, shared: &Shared<T>, _writes: &[Access]) -> u64
+/// Moves the clock for an attempt that wrote this, the oldest first, and then looks once more at the stripes of these addresses that were
+/// read. Answers the clock's new value.
+fn tick_checked<T: Story>(
+    pass: &mut Pass,
+    shared: &Shared<T>,
+    _writes: &[Access],
+    read_elsewhere: &[u64],
+) -> Result<u64, Conflict>
     ghost due: { Map ℕ }
     requires told { due ≡ pairs (reverse _writes.now) }
     requires table { IsOf shared.now.table.shared.table_id pass.old }
+    requires heap { All (λ a. a < shared.now.words) read_elsewhere.now }
     requires ready { ((book pass.old).face.stage ≡ Unticked) × ((book pass.old).live ≡ true) × ((book pass.old).ticks < 2 ^ 40) }
     requires held { (b : ℕ) → Has due b → Has (book pass.old).face.held (b % 4096) }
     requires due { (i y : ℕ) → lookup (book pass.old).face.held i ≡ Found y → (b : ℕ) × (b % 4096 ≡ i) × Has due b }
     ensures same { IsSame pass.old pass.new }
-    ensures book { book pass.new ≡ ticked_up (book pass.old) result due }
-    ensures later { (book pass.old).seen < result }
+    ensures ok { IfOk result (λ at. ((book pass.old).seen < at) × IsChecked read_elsewhere.now (ticked_up (book pass.old) at due) (book pass.new)) }
+    ensures err { IfErr result (λ e. (at : ℕ) × ((book pass.old).seen < at) × ((checked : List ℕ) × (book pass.new ≡ lost_at (record (ticked_up (book pass.old) at due) { checked = checked }) e.address e.word))) }
+    ensures conflict { IfErr result (λ e. (e.upto ≡ (book pass.old).bound) × IsPast (book pass.old).bound e.word × In e.address read_elsewhere.now) }
+    ensures other { All (λ a. lookup (book pass.old).face.held (a % 4096) ≡ Missing) read_elsewhere.now → IfErr result (λ e. e.word ≢ 2 * (book pass.old).face.number + 1) }
+    ensures sole { (book pass.old).numbers ≡ 2 ^ 20 → All (λ a. lookup (book pass.old).face.held (a % 4096) ≡ Missing) read_elsewhere.now → IsOk result }
 {
-    pass.tick(shared)
+    let at = pass.tick(shared);
+    validate_all(pass, shared, read_elsewhere)?;
+    Ok(at)
 }
 
 /// Stores the last write of each address. The first of these stores decides the attempt and adds its entry.
@@ -62,7 +74,8 @@ fn store_all<T: Story>(
 
 /// Ends an attempt that wrote this, the oldest first, as an entry with this answer, which leaves so many words of its region used. The stripes of
 /// what it wrote are taken, the clock is moved, and what it read elsewhere is looked at once more; then its words are stored, and the
-/// stripes get the clock's value as their version. After a conflict they get back the words that they had.
+/// stripes get the clock's value as their version. After a conflict they get back the words that they had. No stripe is taken for an address
+/// that wasn't written.
 pub(crate) fn update<T: Story>(
     pass: &mut Pass,
     shared: &Shared<T>,
@@ -82,6 +95,7 @@ pub(crate) fn update<T: Story>(
     ensures ok { IfOk result (λ stamp. (stamp.update ≡ true) × ((book pass.old).seen < stamp.at) × IsAdded (update_of (book pass.old) stamp.at (reverse writes.now) answer.value used.value) (book pass.old) (book pass.new)) }
     ensures conflict { IfErr result (λ e. (e.upto ≡ (book pass.old).bound) × IsPast (book pass.old).bound e.word × (Has (pairs (reverse writes.now)) e.address ⊎ In e.address (keys (book pass.old).reads))) }
     ensures err { IfErr result (λ e. (moved : ℕ) × (moved ≤ 1) × IsRest (lost_to (book pass.old) e ∷ []) moved (book pass.old) (book pass.new)) }
+    ensures means { MeansOnly (Has (pairs (reverse writes.now))) (book pass.old) (book pass.new) }
     ensures other { IfErr result (λ e. e.word ≢ 2 * (book pass.old).face.number + 1) }
     ensures sole { (book pass.old).numbers ≡ 2 ^ 20 → IsOk result }
 {
@@ -91,12 +105,15 @@ pub(crate) fn update<T: Story>(
         newest,
     } = plan;
     take_all(pass, shared, &mut stripes)?;
-    let at = tick_for(pass, shared, writes);
-    if let Err(conflict) = validate_all(pass, shared, &read_elsewhere) {
-        give_back(pass, shared, &stripes);
-        return Err(conflict);
+    match tick_checked(pass, shared, writes, &read_elsewhere) {
+        Ok(at) => {
+            store_all(pass, shared, &newest, answer, used);
+            release_all(pass, shared, &stripes);
+            Ok(Stamp { at, update: true })
+        }
+        Err(conflict) => {
+            give_back(pass, shared, &stripes);
+            Err(conflict)
+        }
     }
-    store_all(pass, shared, &newest, answer, used);
-    release_all(pass, shared, &stripes);
-    Ok(Stamp { at, update: true })
 }

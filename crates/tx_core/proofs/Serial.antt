@@ -1,5 +1,6 @@
 -- What an engine for one thread does keeps its history serial.
 use Rattle.std.proofs.Common.{◌≡◌, ◌≢◌, ℕ, ◌+◌, ◌<◌, Bool, true, false, List, [], ◌∷◌, ◌++◌, All, reverse, length, nat_eq, if◌then◌else◌, refl, sym, ap, ◌∙◌, Some, find, option_map, unwrap_or, slice_index, slice_set, arith}
+use Rattle.std.specs.List.{AllByRecursion}
 use Rattle.std.proofs.lemmas.Bool.Decides.{nat_tests}
 use Rattle.std.proofs.lemmas.List.{length-set, get_or-set_same, get_or-set_other}
 use Rattle.std.proofs.lemmas.List.Elements.{All-nil, All-head, All-tail}
@@ -9,7 +10,7 @@ use Rattle.jmodel.specs.Attempt.{Log, answered}
 use Rattle.jmodel.specs.History.{Entry, Words, Agrees, overlaid, memory_after}
 use Rattle.jmodel.specs.Engine.{made}
 use Rattle.tx_core.specs.Engine.{Adds, IsOfWrites}
-use Rattle.tx_core.specs.Serial.{word_in, applied, stamped, IsSerial, clock_after, StandsFor}
+use Rattle.tx_core.specs.Serial.{word_in, applied, stamped, IsSerial, Stays, clock_after, StandsFor}
 
 -- a history with one entry more
 pub serial_more : (rule : Entry → Type 0) (h : List Entry) (e : Entry) (clock : ℕ) (σ : Words) → IsSerial rule clock σ h → rule e → IsOfWrites e.stamp e.writes
@@ -25,6 +26,10 @@ pub clock_more : (h : List Entry) (e : Entry) (clock : ℕ) → clock_after cloc
 clock_more [] e clock = refl
 clock_more (d ∷ h) e clock = clock_more h e d.stamp.at
 
+pub stays_more : (h : List Entry) (e : Entry) → AllByRecursion Stays h → Stays e → AllByRecursion Stays (h ++ e ∷ [])
+stays_more [] e all s = (s, tt)
+stays_more (d ∷ h) e all s = (all.0, stays_more h e all.1 s)
+
 -- an attempt that wrote nothing
 pub adds_reader : (rule : Entry → Type 0) (first words : List ℕ) (clock : ℕ) (kept : List Access) (h : List Entry) (n : ℕ) (r w : Log) → StandsFor rule first words clock kept h n r w
     → (x : Answer) (after : ℕ → ℕ) → Adds (λ c used. Unit {0}) rule (λ h n r w. StandsFor rule first words clock [] h n r w) h n x after (record { at = clock; update = false }) r []
@@ -34,6 +39,7 @@ adds_reader rule first words clock kept h n r w s x after c used a may =
     record {
       no_conflict = s.no_conflict;
       serial = serial_more rule h e 0 (word_in first) s.serial p ((λ q. cc), (λ q. absurd (q refl))) s.last_stamp (rw s.memory at s.reads);
+      stays = stays_more h e s.stays may.stays;
       memory = s.memory ∙ sym (memory_more h e (word_in first));
       size = s.size;
       last_stamp = sym (clock_more h e 0);
@@ -75,6 +81,7 @@ adds_update rule first words words' clock kept h n r w s q wrote x after c used 
     record {
       no_conflict = s.no_conflict;
       serial = serial_more rule h e 0 (word_in first) s.serial p ((λ t. wrote), (λ t. refl)) (ap (λ (m : ℕ). m + 1) s.last_stamp) (rw s.memory at s.reads);
+      stays = stays_more h e s.stays may.stays;
       memory = ap word_in k ∙ words_applied w words s.within ∙ ap (overlaid w) s.memory ∙ sym (memory_more h e (word_in first));
       size = ap length k ∙ length_applied w words ∙ s.size;
       last_stamp = sym (clock_more h e 0);

@@ -1,8 +1,9 @@
 -- Histories of attempts that came one after the other.
-use Rattle.std.specs.Prelude.{◌≡◌, ℕ, ◌+◌, ◌<◌, List, [], ◌∷◌, Bool, true, false, All, length, reverse, slice_index, slice_set}
+use Rattle.std.specs.Prelude.{◌≡◌, ◌⊎◌, ℕ, ◌+◌, ◌<◌, List, [], ◌∷◌, Bool, true, false, All, length, reverse, slice_index, slice_set}
+use Rattle.std.specs.List.{AllByRecursion}
 use Rattle.jmodel.specs.declared.op.Access.{Access}
 use Rattle.jmodel.specs.Attempt.{Log}
-use Rattle.jmodel.specs.History.{Entry, Words, Agrees, overlaid, memory_after}
+use Rattle.jmodel.specs.History.{Entry, Words, Agrees, leaves_words, overlaid, memory_after}
 use Rattle.tx_core.specs.Engine.{IsOfWrites}
 
 -- the words of memory; there is 0 beyond their end
@@ -25,6 +26,10 @@ IsSerial rule clock σ [] = Unit {0}
 IsSerial rule clock σ (e ∷ h) =
     rule e × IsOfWrites e.stamp e.writes × (e.stamp.at ≡ stamped clock e.stamp.update) × Agrees σ e.reads × IsSerial rule e.stamp.at (overlaid e.writes σ) h
 
+-- an entry that wrote nothing, or was refused, leaves the used words of its region as they were
+abbrev pub Stays : Entry → Type 0
+Stays e = (e.writes ≡ []) ⊎ (leaves_words e.answer ≡ false) → e.used_after ≡ e.used_before
+
 -- the clock after entries
 abbrev pub clock_after : ℕ → List Entry → ℕ
 clock_after clock [] = clock
@@ -34,6 +39,7 @@ clock_after clock (e ∷ h) = clock_after e.stamp.at h
 pub record StandsFor (rule : Entry → Type 0) (first words : List ℕ) (clock : ℕ) (kept : List Access) (h : List Entry) (n : ℕ) (r w : Log) : Type 0 where
   pub no_conflict : n ≡ 0
   pub serial : IsSerial rule 0 (word_in first) h
+  pub stays : AllByRecursion Stays h
   pub memory : word_in words ≡ memory_after h (word_in first)
   pub size : length words ≡ length first
   pub last_stamp : clock ≡ clock_after 0 h

@@ -10,15 +10,21 @@ use std::alloc::Global;
 use std::marker::{Brand, PhantomData};
 use std::snapshot::Snapshot;
 
-/// What a history began with, and what its entries keep to. A caller picks both for its proof.
+/// What a history began with, and what its entries keep to. A caller picks all three for its proof.
 pub trait Origin {
+    /// The words.
     ghost first: { List ℕ };
+
+    /// The used words of each region.
+    ghost opened: { ℕ → ℕ };
 
     ghost rule: { Entry → Type 0 };
 }
 
 impl Origin for Brand {
     ghost first = { [] };
+
+    ghost opened = { λ _. 0 };
 
     ghost rule = { λ _. Unit {0} };
 }
@@ -35,7 +41,8 @@ pub struct Solo<K> {
 
 impl<K: Origin> Engine for Solo<K> {
     ghost use Rattle.std.specs.Prelude.{slice_index};
-    ghost use Rattle.tx_core.specs.Serial.{StandsFor};
+    ghost use Rattle.tx_core.specs.Serial.{word_in, StandsFor};
+    ghost use Rattle.tx_core.specs.Snapshots.{serial_snapshot};
 
     ghost stands = { λ s h n r w. StandsFor K.rule K.first s.words.items s.clock s.writes.items h n r w };
 
@@ -44,6 +51,8 @@ impl<K: Origin> Engine for Solo<K> {
     ghost awaits = { λ s c used. Unit {0} };
 
     ghost allows = { K.rule };
+
+    ghost begins = { λ first opened. (first ≡ word_in K.first) × (opened ≡ K.opened) };
 
     ghost is_shared = { ⊥ };
 
@@ -113,6 +122,8 @@ impl<K: Origin> Engine for Solo<K> {
     fn ticks(&self) -> u64 {
         self.clock
     }
+
+    ghost snapshot = { λ e h n r w c used stands opens awaits leads. serial_snapshot K.rule K.first e.words.items e.clock e.writes.items K.opened h n r w c used stands leads };
 }
 
 impl<K> Solo<K> {

@@ -1,5 +1,5 @@
 -- The clock is ticked.
-use Rattle.std.proofs.Common.{◌≡◌, ℕ, suc, ◌+◌, ◌*◌, ◌<◌, ◌≤◌, true, [], ◌∷◌, get_or, set, sym, refl, ap, ◌∙◌, subst, inl, inr, arith, get_or-set_same}
+use Rattle.std.proofs.Common.{◌≡◌, ℕ, suc, ◌+◌, ◌*◌, ◌<◌, ◌≤◌, true, List, [], ◌∷◌, ◌++◌, get_or, set, sym, refl, ap, ◌∙◌, subst, inl, inr, arith, get_or-set_same}
 use mathlib.Core.Option.{some, some-ne-none}
 use mathlib.Core.Logic.{dite}
 use native.Mathlib.Decide.{ℕ_discrete}
@@ -21,6 +21,11 @@ use Rattle.tx_table.proofs.Turned.{Next, next_world, Sound, turned, others, here
 in_keys : (m : Map ℕ) (a x : ℕ) → lookup m a ≡ some x → In a (keys m)
 in_keys [] a x e = absurd (some-ne-none x (sym e))
 in_keys (y ∷ ys) a x e = dite (ℕ_discrete y.0 a) (λ h. inl (sym h)) (λ n. inr (in_keys ys a x (sym (ne_cond y.0 a (some y.1) (lookup ys a) n) ∙ e)))
+
+in_front : (xs ys : List ℕ) (a : ℕ) → In a xs → In a (xs ++ ys)
+in_front [] ys a i = absurd i
+in_front (x ∷ xs) ys a (inl e) = inl e
+in_front (x ∷ xs) ys a (inr i) = inr (in_front xs ys a i)
 
 module _ {S : Type 0} (key : Story) (s : State S Book) (r : IsKept key s) (me : ℕ) (v : Book) (at : get_elem? s.views me ≡ some v) (x : ℕ) (due : Map ℕ) (next : x ≡ get_or s.words 0 0 + 1)
     (calm : v.face.stage ≡ Unticked) (live : v.live ≡ true) (room : v.ticks < 1099511627776) (some_parts : 0 < v.numbers)
@@ -98,7 +103,7 @@ module _ {S : Type 0} (key : Story) (s : State S Book) (r : IsKept key s) (me : 
     stamps = λ e i. let l = mine.stamps e i in omega (arith, l, mine.known, next);
     ticked = λ e. (omega (arith, low, next), omega arith, refl);
     decided = λ e. let z : Ticked ≡ Decided = e in cc z;
-    aim = λ i e. let g = all_due i (2 * r.ver i) (grip_was.listed i e) in (g.0, g.1, in_keys due g.0 g.2.0 g.2.1);
+    aim = λ i e. let g = all_due i (2 * r.ver i) (grip_was.listed i e) in (g.0, g.1, in_front (keys due) v.wants g.0 (in_keys due g.0 g.2.0 g.2.1));
     own_reads = mine.own_reads;
     reads = λ b y l e. let g = mine.reads b y l e in (g.0, clear_turns (start key) (used_at key) W W' me turn (suc me) v.bound b low g.1);
     checked = λ b y l had. absurd had;

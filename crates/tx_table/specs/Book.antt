@@ -75,6 +75,8 @@ pub record Book : Type 0 where
   -- how many numbers it holds, and how many of them were never given out
   pub numbers : ℕ
   pub fresh : ℕ
+  -- how many attempts it began
+  pub begins : ℕ
   -- how often it moved the clock, and the greatest value of the clock that it knows
   pub ticks : ℕ
   pub seen : ℕ
@@ -85,7 +87,7 @@ pub record Book : Type 0 where
   pub call : Call
   pub bound : ℕ
   pub reads : Map ℕ
-  -- the addresses that it means to write
+  -- the addresses that it means to write: those for which it took stripes, and from the tick on those of its writes too
   pub wants : List ℕ
   pub look : Look
   pub goal : ℕ

@@ -16,6 +16,7 @@ spent_book = record {
   face = nobody;
   numbers = 0;
   fresh = 0;
+  begins = 0;
   ticks = 0;
   seen = 0;
   regions = [];
@@ -41,7 +42,7 @@ first_book S = record spent_book { numbers = 1048576; fresh = 1048575; regions =
 
 -- an attempt at a call begins, with the clock as its bound
 abbrev pub begun : Book → Call → ℕ → Book
-begun v call n = record v { live = true; call = call; seen = n; bound = n; goal = n; reads = []; wants = []; look = Away; checked = [] }
+begun v call n = record v { begins = v.begins + 1; live = true; call = call; seen = n; bound = n; goal = n; reads = []; wants = []; look = Away; checked = [] }
 
 abbrev pub used_in : Option Region → ℕ
 used_in none = 0
@@ -109,7 +110,7 @@ keys m = map (λ (x : ℕ × ℕ). x.0) m
 
 -- the clock is now n, and these are the writes
 abbrev pub ticked_up : Book → ℕ → Map ℕ → Book
-ticked_up v n due = record v { face = record v.face { stage = Ticked; tick = n; due = due }; ticks = v.ticks + 1; seen = n; wants = keys due; look = Away; goal = n; checked = [] }
+ticked_up v n due = record v { face = record v.face { stage = Ticked; tick = n; due = due }; ticks = v.ticks + 1; seen = n; wants = keys due ++ v.wants; look = Away; goal = n; checked = [] }
 
 abbrev pub region_of : Entry → ℕ × Region
 region_of e = (e.call.region, record { used = e.used_after; last = some e.call })
@@ -152,6 +153,7 @@ abbrev pub joined : Book → Book → Book
 joined v w = record v {
   numbers = v.numbers + w.numbers;
   fresh = v.fresh + w.fresh;
+  begins = v.begins + w.begins;
   ticks = v.ticks + w.ticks;
   seen = max v.seen w.seen;
   regions = v.regions ++ w.regions;

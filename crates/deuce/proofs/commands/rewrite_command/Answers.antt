@@ -1,9 +1,8 @@
-use Rattle.std.proofs.Common.{◌∙◌, Option, ap, inl, inr, subst}
+use Rattle.std.proofs.Common.{◌∙◌, ap, inl, inr}
 use Rattle.std.specs.Prelude.{option_map}
-use Rattle.deuce_io.specs.Files.{Files}
 use Rattle.deuce.specs.Folder.{with_files}
-use Rattle.deuce.specs.Ending.{IsCallOfFolder, NoScript, NoOpening, IsNotRewritten, EndsPuts, seen_files}
-use Rattle.deuce.specs.Outcomes.{seen, IsUnreadAs, IsRefusedAs, IsNotPutAs}
+use Rattle.deuce.specs.Ending.{IsCallOfFolder, NoScript, NoOpening, IsNotRewritten, seen_files}
+use Rattle.deuce.specs.Outcomes.{IsUnreadAs, IsRefusedAs, IsNotPutAs}
 use Rattle.deuce.proofs.Lists.{on_ok}
 use Rattle.deuce.proofs.Outcomes.{unread, not_good, refused, not_put, stopped}
 use Rattle.deuce.proofs.Reading.{all_form, rewritten_of, rewriting_of}
@@ -14,24 +13,24 @@ write_rewriting-requires-clause-form g c = rw c.as_slice-2.ensures.value (all_fo
 
 pub returns-in-Err-clause-outcome : goal.returns-in-Err-clause-outcome
 returns-in-Err-clause-outcome g c =
-    let old = seen (g.F.Folder.files c.args.folder.now) (g.F.Folder.faults c.args.folder.now) (g.F.Folder.put_faults c.args.folder.now) (g.F.Folder.failed c.args.folder.now) in
-    let new = seen (g.F.Folder.files c.read_classes.new.folder) (g.F.Folder.faults c.read_classes.new.folder) (g.F.Folder.put_faults c.read_classes.new.folder) (g.F.Folder.failed c.read_classes.new.folder) in
+    let old = g.F.Folder.seen c.args.folder.now in
+    let new = g.F.Folder.seen c.read_classes.new.folder in
     on_ok c.unread.result (IsUnreadAs c.in-Err.end) _
     (λ o is words w. unread words old new c.args.dir.now c.read_classes.ensures.files_kept (c.args.out.now, inr w) IsNotRewritten (λ h. inr (c.args.dir.now, c.args.out.now, w, h))
-    (IsCallOfFolder (g.F.Folder.files c.args.folder.now) c.args.dir.now) c.in-Err.end o (λ path failed. (c.args.dir.now, c.args.out.now, inr (w, failed))) c.in-Err.ensures.cause is) c.unread.ensures
+    (IsCallOfFolder (g.F.Folder.seen c.args.folder.now).files c.args.dir.now) c.in-Err.end o (λ path failed. (c.args.dir.now, c.args.out.now, inr (w, failed))) c.in-Err.ensures.cause is) c.unread.ensures
 
 pub returns-in-Err-classes_of-clause-outcome : goal.returns-in-Err-classes_of-clause-outcome
 returns-in-Err-classes_of-clause-outcome g c =
-    let old = seen (g.F.Folder.files c.args.folder.now) (g.F.Folder.faults c.args.folder.now) (g.F.Folder.put_faults c.args.folder.now) (g.F.Folder.failed c.args.folder.now) in
-    let new = seen (g.F.Folder.files c.read_classes.new.folder) (g.F.Folder.faults c.read_classes.new.folder) (g.F.Folder.put_faults c.read_classes.new.folder) (g.F.Folder.failed c.read_classes.new.folder) in
+    let old = g.F.Folder.seen c.args.folder.now in
+    let new = g.F.Folder.seen c.read_classes.new.folder in
     on_ok c.unread-in-Err-classes_of.result (IsUnreadAs c.in-Err-classes_of.end) _
     (λ o is words w. not_good words old new c.args.dir.now c.read_classes.ensures.files_kept (c.args.out.now, inr w) IsNotRewritten (λ h. inr (c.args.dir.now, c.args.out.now, w, h))
     c.in-Ok.inputs.items c.in-Ok.ensures.inputs c.in-Err-classes_of.end o (rw c.as_slice.ensures.value at c.in-Err-classes_of.ensures.cause) is) c.unread-in-Err-classes_of.ensures
 
 pub returns-in-Err-write_rewriting-clause-outcome : goal.returns-in-Err-write_rewriting-clause-outcome
 returns-in-Err-write_rewriting-clause-outcome g c =
-    let old = seen (g.F.Folder.files c.args.folder.now) (g.F.Folder.faults c.args.folder.now) (g.F.Folder.put_faults c.args.folder.now) (g.F.Folder.failed c.args.folder.now) in
-    let new = seen (g.F.Folder.files c.read_classes.new.folder) (g.F.Folder.faults c.read_classes.new.folder) (g.F.Folder.put_faults c.read_classes.new.folder) (g.F.Folder.failed c.read_classes.new.folder) in
+    let old = g.F.Folder.seen c.args.folder.now in
+    let new = g.F.Folder.seen c.read_classes.new.folder in
     on_ok c.refused.result (IsRefusedAs c.in-Err-write_rewriting.end) _
     (λ o is words w. refused words old new c.args.dir.now c.read_classes.ensures.files_kept (c.args.out.now, inr w) IsNotRewritten (λ h. inr (c.args.dir.now, c.args.out.now, w, h))
     c.in-Ok.inputs.items c.in-Ok.ensures.inputs c.in-Ok-classes_of.files.items NoScript NoOpening c.in-Err-write_rewriting.end o
@@ -39,8 +38,8 @@ returns-in-Err-write_rewriting-clause-outcome g c =
 
 pub returns-in-Ok-put_each-clause-outcome : goal.returns-in-Ok-put_each-clause-outcome
 returns-in-Ok-put_each-clause-outcome g c = λ words w.
-    let files = g.F.Folder.files c.args.folder.now in
-    let now = g.F.Folder.files c.put_each.new.folder in
+    let files = (g.F.Folder.seen c.args.folder.now).files in
+    let now = (g.F.Folder.seen c.put_each.new.folder).files in
     let inputs = c.in-Ok.inputs.items in
     let written = c.in-Ok-write_rewriting.written in
     let puts = seen_files c.in_ok-news.news.items in
@@ -59,8 +58,8 @@ returns-in-Ok-put_each-clause-outcome g c = λ words w.
 
 pub returns-in-Ok-put_each-clause-put : goal.returns-in-Ok-put_each-clause-put
 returns-in-Ok-put_each-clause-put g c = λ words w.
-    let files = g.F.Folder.files c.args.folder.now in
-    let now = g.F.Folder.files c.put_each.new.folder in
+    let files = (g.F.Folder.seen c.args.folder.now).files in
+    let now = (g.F.Folder.seen c.put_each.new.folder).files in
     let inputs = c.in-Ok.inputs.items in
     let written = c.in-Ok-write_rewriting.written in
     let puts = seen_files c.in_ok-news.news.items in
@@ -82,31 +81,31 @@ returns-in-Ok-put_each-clause-put g c = λ words w.
 
 pub returns-clause-outcome : goal.returns-clause-outcome
 returns-clause-outcome g c =
-    let files = g.F.Folder.files c.args.folder.now in
-    let old = seen files (g.F.Folder.faults c.args.folder.now) (g.F.Folder.put_faults c.args.folder.now) (g.F.Folder.failed c.args.folder.now) in
-    let new = seen (g.F.Folder.files c.put_each.new.folder) (g.F.Folder.faults c.put_each.new.folder) (g.F.Folder.put_faults c.put_each.new.folder) (g.F.Folder.failed c.put_each.new.folder) in
+    let files = (g.F.Folder.seen c.args.folder.now).files in
+    let old = g.F.Folder.seen c.args.folder.now in
+    let new = g.F.Folder.seen c.put_each.new.folder in
     let inputs = c.in-Ok.inputs.items in
     let written = c.in-Ok-write_rewriting.written in
     let puts = seen_files c.in_ok-news.news.items in
     let made = rewritten_of files c.args.dir.now inputs c.in-Ok-classes_of.files.items written.files.items written.taken written.marked c.in-Ok.ensures.inputs
     (rw c.as_slice.ensures.value at c.in-Ok-classes_of.ensures.classes) (rw c.as_slice-2.ensures.value at c.in-Ok-write_rewriting.ensures.rewriting) in
     let end = c.in-Err-put_each.end in
-    let Ends : Option Files → Type 0 = λ f. EndsPuts puts f new.files (g.F.Folder.put_faults c.read_classes.new.folder) new.put_faults new.failed end in
+    let read = g.F.Folder.seen c.read_classes.new.folder in
     on_ok c.not_put.result (IsNotPutAs end) _
     (λ o is words w. not_put words old new c.args.dir.now c.args.out.now w inputs written.files.items written.taken written.marked made puts (rw c.as_slice-3.ensures.value at c.in_ok-news.ensures)
-    (g.F.Folder.put_faults c.read_classes.new.folder) c.read_classes.ensures.put_counts end o (subst Ends c.read_classes.ensures.files_kept c.in-Err-put_each.ensures.cause) is) c.not_put.ensures
+    read c.read_classes.ensures.files_kept c.read_classes.ensures.put_counts end o c.in-Err-put_each.ensures.cause is) c.not_put.ensures
 
 pub returns-clause-put : goal.returns-clause-put
 returns-clause-put g c = λ words w.
-    let files = g.F.Folder.files c.args.folder.now in
-    let old = seen files (g.F.Folder.faults c.args.folder.now) (g.F.Folder.put_faults c.args.folder.now) (g.F.Folder.failed c.args.folder.now) in
-    let new = seen (g.F.Folder.files c.put_each.new.folder) (g.F.Folder.faults c.put_each.new.folder) (g.F.Folder.put_faults c.put_each.new.folder) (g.F.Folder.failed c.put_each.new.folder) in
+    let files = (g.F.Folder.seen c.args.folder.now).files in
+    let old = g.F.Folder.seen c.args.folder.now in
+    let new = g.F.Folder.seen c.put_each.new.folder in
     let inputs = c.in-Ok.inputs.items in
     let written = c.in-Ok-write_rewriting.written in
     let puts = seen_files c.in_ok-news.news.items in
     let made = rewritten_of files c.args.dir.now inputs c.in-Ok-classes_of.files.items written.files.items written.taken written.marked c.in-Ok.ensures.inputs
     (rw c.as_slice.ensures.value at c.in-Ok-classes_of.ensures.classes) (rw c.as_slice-2.ensures.value at c.in-Ok-write_rewriting.ensures.rewriting) in
     let end = c.in-Err-put_each.end in
-    let Ends : Option Files → Type 0 = λ f. EndsPuts puts f new.files (g.F.Folder.put_faults c.read_classes.new.folder) new.put_faults new.failed end in
+    let read = g.F.Folder.seen c.read_classes.new.folder in
     stopped words old new c.args.dir.now c.args.out.now w inputs written.files.items written.taken written.marked made puts (rw c.as_slice-3.ensures.value at c.in_ok-news.ensures)
-    (g.F.Folder.put_faults c.read_classes.new.folder) c.read_classes.ensures.put_counts end (subst Ends c.read_classes.ensures.files_kept c.in-Err-put_each.ensures.cause)
+    read c.read_classes.ensures.files_kept c.read_classes.ensures.put_counts end c.in-Err-put_each.ensures.cause

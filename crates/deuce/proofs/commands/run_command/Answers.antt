@@ -1,6 +1,6 @@
 use Rattle.std.proofs.Common.{inl}
 use Rattle.deuce.specs.Ending.{IsCallOfRun, IsBadScript, IsUnopened, IsOutsideForm}
-use Rattle.deuce.specs.Outcomes.{seen, IsUnreadAs, IsRefusedAs}
+use Rattle.deuce.specs.Outcomes.{IsUnreadAs, IsRefusedAs}
 use Rattle.deuce.proofs.Lists.{on_ok}
 use Rattle.deuce.proofs.Outcomes.{unread, not_good, refused}
 use Rattle.deuce.proofs.Reading.{all_form, journal_of, unopened_of}
@@ -11,16 +11,16 @@ run_files-requires-clause-form g c = λ κs lives. rw c.as_slice-2.ensures.value
 
 pub returns-in-Err-clause-outcome : goal.returns-in-Err-clause-outcome
 returns-in-Err-clause-outcome g c =
-    let old = seen (g.F.Folder.files c.args.folder.now) (g.F.Folder.faults c.args.folder.now) (g.F.Folder.put_faults c.args.folder.now) (g.F.Folder.failed c.args.folder.now) in
-    let new = seen (g.F.Folder.files c.read_inputs.new.folder) (g.F.Folder.faults c.read_inputs.new.folder) (g.F.Folder.put_faults c.read_inputs.new.folder) (g.F.Folder.failed c.read_inputs.new.folder) in
+    let old = g.F.Folder.seen c.args.folder.now in
+    let new = g.F.Folder.seen c.read_inputs.new.folder in
     on_ok c.unread.result (IsUnreadAs c.in-Err.end) _
     (λ o is words w. unread words old new c.args.dir.now c.read_inputs.ensures.files_kept (c.args.script.now, inl w) IsOutsideForm (λ h. inl (c.args.dir.now, c.args.script.now, w, h))
-    (IsCallOfRun (g.F.Folder.files c.args.folder.now) c.args.dir.now c.args.script.now) c.in-Err.end o (λ path failed. (c.args.dir.now, c.args.script.now, inl (w, failed))) c.in-Err.ensures.cause is) c.unread.ensures
+    (IsCallOfRun (g.F.Folder.seen c.args.folder.now).files c.args.dir.now c.args.script.now) c.in-Err.end o (λ path failed. (c.args.dir.now, c.args.script.now, inl (w, failed))) c.in-Err.ensures.cause is) c.unread.ensures
 
 pub returns-in-Err-classes_of-clause-outcome : goal.returns-in-Err-classes_of-clause-outcome
 returns-in-Err-classes_of-clause-outcome g c =
-    let old = seen (g.F.Folder.files c.args.folder.now) (g.F.Folder.faults c.args.folder.now) (g.F.Folder.put_faults c.args.folder.now) (g.F.Folder.failed c.args.folder.now) in
-    let new = seen (g.F.Folder.files c.read_inputs.new.folder) (g.F.Folder.faults c.read_inputs.new.folder) (g.F.Folder.put_faults c.read_inputs.new.folder) (g.F.Folder.failed c.read_inputs.new.folder) in
+    let old = g.F.Folder.seen c.args.folder.now in
+    let new = g.F.Folder.seen c.read_inputs.new.folder in
     on_ok c.unread-in-Err-classes_of.result (IsUnreadAs c.in-Err-classes_of.end) _
     (λ o is words w. not_good words old new c.args.dir.now c.read_inputs.ensures.files_kept (c.args.script.now, inl w) IsOutsideForm (λ h. inl (c.args.dir.now, c.args.script.now, w, h))
     c.in-Ok.inputs.classes.items c.in-Ok.ensures.inputs.of_classes c.in-Err-classes_of.end o (rw c.as_slice.ensures.value at c.in-Err-classes_of.ensures.cause) is) c.unread-in-Err-classes_of.ensures
@@ -32,16 +32,16 @@ returns-in-Ok-run_files-clause-outcome g c = λ words w. (
     c.args.dir.now,
     c.args.script.now,
     w,
-    journal_of (g.F.Folder.files c.args.folder.now) c.args.dir.now c.args.script.now c.in-Ok.inputs c.in-Ok-classes_of.files.items c.in-Ok-run_files.text c.in-Ok.ensures.inputs
+    journal_of (g.F.Folder.seen c.args.folder.now).files c.args.dir.now c.args.script.now c.in-Ok.inputs c.in-Ok-classes_of.files.items c.in-Ok-run_files.text c.in-Ok.ensures.inputs
         (rw c.as_slice.ensures.value at c.in-Ok-classes_of.ensures.classes) (rw (c.as_slice-2.ensures.value, c.as_slice-3.ensures) at c.in-Ok-run_files.ensures.run),
   ),
 )
 
 pub returns-clause-outcome : goal.returns-clause-outcome
 returns-clause-outcome g c =
-    let old = seen (g.F.Folder.files c.args.folder.now) (g.F.Folder.faults c.args.folder.now) (g.F.Folder.put_faults c.args.folder.now) (g.F.Folder.failed c.args.folder.now) in
-    let new = seen (g.F.Folder.files c.read_inputs.new.folder) (g.F.Folder.faults c.read_inputs.new.folder) (g.F.Folder.put_faults c.read_inputs.new.folder) (g.F.Folder.failed c.read_inputs.new.folder) in
-    let files = g.F.Folder.files c.args.folder.now in
+    let old = g.F.Folder.seen c.args.folder.now in
+    let new = g.F.Folder.seen c.read_inputs.new.folder in
+    let files = (g.F.Folder.seen c.args.folder.now).files in
     let dir = c.args.dir.now in
     let a = c.in-Ok.ensures.inputs in
     let bytes = c.in-Ok.inputs.script in

@@ -19,11 +19,10 @@ pub returns-in-Err-clause-cause : goal.returns-in-Err-clause-cause
 returns-in-Err-clause-cause g c =
     let dir = c.args.dir.now in
     let relative = c.args.relative.now in
-    let before = g.F.Folder.faults c.args.folder.now in
-    let now = g.F.Folder.faults c.read.new.self in
-    let last = g.F.Folder.failed c.read.new.self in
+    let old = g.F.Folder.seen c.args.folder.now in
+    let new = g.F.Folder.seen c.read.new.self in
     let path : c.as_str.result.now ≡ inside dir relative = c.as_str.ensures.value ∙ c.in_ok-path.ensures.ok in
     let told : c.as_str-in-Err.result.now ≡ inside dir relative = c.as_str-in-Err.ensures.value ∙ c.in_ok-path.ensures.ok in
-    failed_at (IsCallOfFolder (g.F.Folder.files c.args.folder.now) dir) before now last (read_of (inside dir relative)) (inr (inr (relative, c.requires, refl))) c.in-Err.end c.outside.result
-    (λ is. subst (λ (p : List ℕ). HasFailed before now last (read_of p)) path (c.in-Err.ensures.cause (ap Err is)))
+    failed_at (IsCallOfFolder old.files dir) old new (read_of (inside dir relative)) (inr (inr (relative, c.requires, refl))) c.in-Err.end c.outside.result
+    (λ is. subst (λ (p : List ℕ). HasFailed old.faults new.faults new.failed (read_of p)) path (c.in-Err.ensures.cause (ap Err is)))
     (subst (λ (p : List ℕ). IsOutsideAt c.in-Err.end p c.outside.result) told c.outside.ensures)

@@ -13,28 +13,27 @@ use Rattle.deuce.proofs.inputs.read_classes.Goals as goal
 pub returns-then-len-gt-CLASSES_LIMIT-clause-cause : goal.returns-then-len-gt-CLASSES_LIMIT-clause-cause
 returns-then-len-gt-CLASSES_LIMIT-clause-cause g c =
     let dir = c.args.dir.now in
-    let files = g.F.Folder.files c.args.folder.now in
+    let files = (g.F.Folder.seen c.args.folder.now).files in
     let paths = c.in_ok-paths.paths in
     let many = c.len-then-len-gt-CLASSES_LIMIT.ensures ∙ paths.ok.0 ∙ sym (length-map paths.items string_bytes) in
-    too_many files dir (g.F.Folder.faults c.args.folder.now) (g.F.Folder.faults c.class_paths.new.folder) (g.F.Folder.failed c.class_paths.new.folder) (IsCallOfFolder files dir) (seen_texts paths.items)
+    too_many dir (g.F.Folder.seen c.args.folder.now) (g.F.Folder.seen c.class_paths.new.folder) (IsCallOfFolder files dir) (seen_texts paths.items)
     c.len-then-len-gt-CLASSES_LIMIT.result c.over_limit.result c.in_ok-paths.ensures.paths many (omega (arith, c.if-len-gt-CLASSES_LIMIT.true, c.len.ensures, c.len-then-len-gt-CLASSES_LIMIT.ensures)) c.over_limit.ensures
 
 pub read_each-requires : goal.read_each-requires
 read_each-requires g c =
     let paths = c.in_ok-paths.paths.items in
-    let read : All (λ (path : String Global). IsRead (g.F.Folder.files c.class_paths.new.folder) c.args.dir.now (string_bytes path)) paths =
+    let read : All (λ (path : String Global). IsRead (g.F.Folder.seen c.class_paths.new.folder).files c.args.dir.now (string_bytes path)) paths =
     λ k d lt. (c.in_ok-paths.ensures.named k d lt, λ told is. let held = c.in_ok-paths.ensures.paths told (sym c.class_paths.ensures.files_kept ∙ is) in ((held.each (string_bytes (get_or paths k d))).0 (text_in paths k d lt)).0) in
     rw c.as_slice.ensures.value read
 
 pub returns-clause-cause : goal.returns-clause-cause
 returns-clause-cause g c =
     let dir = c.args.dir.now in
-    let files = g.F.Folder.files c.args.folder.now in
-    let listed = g.F.Folder.files c.class_paths.new.folder in
-    let first = g.F.Folder.faults c.args.folder.now in
-    let before = g.F.Folder.faults c.class_paths.new.folder in
-    let now = g.F.Folder.faults c.read_each.new.folder in
-    let last = g.F.Folder.failed c.read_each.new.folder in
-    on_err c.read_each.result (EndsReads (IsCallOfFolder listed dir) before now last) (EndsInputs (IsCallOfFolder files dir) files dir first now last)
-    (λ e h. not_read files dir first now last (IsCallOfFolder files dir) e (reads_as (IsCallOfFolder listed dir) (IsCallOfFolder files dir) first before now last c.class_paths.ensures.counts
+    let files = (g.F.Folder.seen c.args.folder.now).files in
+    let listed = (g.F.Folder.seen c.class_paths.new.folder).files in
+    let first = g.F.Folder.seen c.args.folder.now in
+    let before = g.F.Folder.seen c.class_paths.new.folder in
+    let now = g.F.Folder.seen c.read_each.new.folder in
+    on_err c.read_each.result (EndsReads (IsCallOfFolder listed dir) before now) (EndsInputs (IsCallOfFolder files dir) dir first now)
+    (λ e h. not_read dir first now (IsCallOfFolder files dir) e (reads_as (IsCallOfFolder listed dir) (IsCallOfFolder files dir) first before now c.class_paths.ensures.counts
     (λ call asked. subst (λ (f : Option Files). IsCallOfFolder f dir call) c.class_paths.ensures.files_kept asked) e h)) c.read_each.ensures.cause

@@ -11,7 +11,7 @@ read_class_file-requires g c =
     let dir = c.args.dir.now in
     let item = c.relative-item.result in
     let path : string_bytes (get_or c.args.paths.now c.loop-relative.relative-index item) ≡ c.as_str.result.now = ap string_bytes (sym c.relative-item.is) ∙ sym c.as_str.ensures.value in
-    let there = subst (IsRead (g.F.Folder.files c.args.folder.now) dir) path (c.requires c.loop-relative.relative-index item c.loop-relative-test.true) in
+    let there = subst (IsRead (g.F.Folder.seen c.args.folder.now).files dir) path (c.requires c.loop-relative.relative-index item c.loop-relative-test.true) in
     subst (λ (files : Option Files). IsRead files dir c.as_str.result.now) (sym c.loop-relative.invariant.kept) there
 
 pub loop-relative-preserved : goal.loop-relative-preserved
@@ -24,7 +24,7 @@ loop-relative-preserved g c =
     record {
       paths_are = read_more c.args.paths.now c.loop-relative.relative-index c.relative-item.result old c.push.new.self.items input c.in_ok-push.ensures.items so_far.paths_are c.loop-relative-test.true
           (c.in_ok-read_class_file.ensures.relative ∙ c.as_str.ensures.value ∙ ap string_bytes c.relative-item.is);
-      each = rw c.in_ok-push.ensures.items (all_pushed (IsClassInput (g.F.Folder.files c.args.folder.now) dir) old input so_far.each one);
+      each = rw c.in_ok-push.ensures.items (all_pushed (IsClassInput (g.F.Folder.seen c.args.folder.now).files dir) old input so_far.each one);
       kept = c.read_class_file.ensures.files_kept ∙ so_far.kept;
       counts = omega (arith, so_far.counts, c.read_class_file.ensures.counts);
       put_counts = omega (arith, so_far.put_counts, c.read_class_file.ensures.put_counts);
@@ -33,12 +33,11 @@ loop-relative-preserved g c =
 pub returns-in_err-read_class_file-clause-cause : goal.returns-in_err-read_class_file-clause-cause
 returns-in_err-read_class_file-clause-cause g c =
     let dir = c.args.dir.now in
-    let files = g.F.Folder.files c.args.folder.now in
-    let first = g.F.Folder.faults c.args.folder.now in
-    let before = g.F.Folder.faults c.loop-relative.folder in
-    let now = g.F.Folder.faults c.read_class_file.new.folder in
-    let last = g.F.Folder.failed c.read_class_file.new.folder in
+    let files = (g.F.Folder.seen c.args.folder.now).files in
+    let first = g.F.Folder.seen c.args.folder.now in
+    let before = g.F.Folder.seen c.loop-relative.folder in
+    let now = g.F.Folder.seen c.read_class_file.new.folder in
     let end = c.in_err-read_class_file.field-0.0 in
-    err_is c.from_residual.result end (EndsReads (IsCallOfFolder files dir) first now last) c.from_residual.ensures.1
-    (reads_as (IsCallOfFolder (g.F.Folder.files c.loop-relative.folder) dir) (IsCallOfFolder files dir) first before now last c.loop-relative.invariant.counts
+    err_is c.from_residual.result end (EndsReads (IsCallOfFolder files dir) first now) c.from_residual.ensures.1
+    (reads_as (IsCallOfFolder (g.F.Folder.seen c.loop-relative.folder).files dir) (IsCallOfFolder files dir) first before now c.loop-relative.invariant.counts
     (λ call asked. subst (λ (f : Option Files). IsCallOfFolder f dir call) c.loop-relative.invariant.kept asked) end c.in_err-read_class_file.ensures.cause)

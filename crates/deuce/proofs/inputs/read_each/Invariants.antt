@@ -8,8 +8,8 @@ use Rattle.deuce.proofs.inputs.read_each.Given as goal
 abbrev pub invariant-loop-relative : goal.invariant-loop-relative
 invariant-loop-relative g l = record {
   paths_are : paths_of l.inputs.items ≡ take l.relative-index (seen_texts l.paths);
-  each : AllByRecursion (IsClassInput (g.F.Folder.files l.fn.folder) l.dir) l.inputs.items;
-  kept : g.F.Folder.files l.folder ≡ g.F.Folder.files l.fn.folder;
-  counts : g.F.Folder.faults l.fn.folder ≤ g.F.Folder.faults l.folder;
-  put_counts : g.F.Folder.put_faults l.fn.folder ≤ g.F.Folder.put_faults l.folder;
+  each : AllByRecursion (IsClassInput (g.F.Folder.seen l.fn.folder).files l.dir) l.inputs.items;
+  kept : (g.F.Folder.seen l.folder).files ≡ (g.F.Folder.seen l.fn.folder).files;
+  counts : (g.F.Folder.seen l.fn.folder).faults ≤ (g.F.Folder.seen l.folder).faults;
+  put_counts : (g.F.Folder.seen l.fn.folder).put_faults ≤ (g.F.Folder.seen l.folder).put_faults;
 }

@@ -10,10 +10,9 @@ returns-in-Ok-clause-inputs g c = record { of_classes = c.in_ok-classes.ensures.
 pub returns-in_err-classes-clause-cause : goal.returns-in_err-classes-clause-cause
 returns-in_err-classes-clause-cause g c =
     let dir = c.args.dir.now in
-    let files = g.F.Folder.files c.args.folder.now in
-    let before = g.F.Folder.faults c.args.folder.now in
-    let now = g.F.Folder.faults c.read_classes.new.folder in
-    let last = g.F.Folder.failed c.read_classes.new.folder in
+    let files = (g.F.Folder.seen c.args.folder.now).files in
+    let old = g.F.Folder.seen c.args.folder.now in
+    let new = g.F.Folder.seen c.read_classes.new.folder in
     let end = c.in_err-classes.field-0.0 in
-    err_is c.from_residual.result end (EndsInputs (IsCallOfRun files dir c.args.script.now) files dir before now last) c.from_residual.ensures.1
-    (inputs_as (IsCallOfFolder files dir) (IsCallOfRun files dir c.args.script.now) files dir before now last (λ call asked. inr asked) end c.in_err-classes.ensures.cause)
+    err_is c.from_residual.result end (EndsInputs (IsCallOfRun files dir c.args.script.now) dir old new) c.from_residual.ensures.1
+    (inputs_as (IsCallOfFolder files dir) (IsCallOfRun files dir c.args.script.now) dir old new (λ call asked. inr asked) end c.in_err-classes.ensures.cause)

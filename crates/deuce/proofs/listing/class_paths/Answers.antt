@@ -32,14 +32,13 @@ list_level-requires g c = rw c.as_slice.ensures.value (λ k d lt told is.
 pub returns-in_err-level-2-clause-cause : goal.returns-in_err-level-2-clause-cause
 returns-in_err-level-2-clause-cause g c =
     let dir = c.args.dir.now in
-    let files = g.F.Folder.files c.args.folder.now in
-    let first = g.F.Folder.faults c.args.folder.now in
-    let before = g.F.Folder.faults c.levels.folder in
-    let now = g.F.Folder.faults c.list_level.new.folder in
-    let last = g.F.Folder.failed c.list_level.new.folder in
+    let files = (g.F.Folder.seen c.args.folder.now).files in
+    let first = g.F.Folder.seen c.args.folder.now in
+    let before = g.F.Folder.seen c.levels.folder in
+    let now = g.F.Folder.seen c.list_level.new.folder in
     let end = c.in_err-level-2.field-0.0 in
-    err_is c.from_residual-in_err-level-2.result end (EndsListing files dir first now last) c.from_residual-in_err-level-2.ensures.1
-    (unlisted files dir first now last end (reads_as (IsCallOfFolder (g.F.Folder.files c.levels.folder) dir) (IsCallOfFolder files dir) first before now last c.levels.invariant.counts
+    err_is c.from_residual-in_err-level-2.result end (EndsListing dir first now) c.from_residual-in_err-level-2.ensures.1
+    (unlisted dir first now end (reads_as (IsCallOfFolder (g.F.Folder.seen c.levels.folder).files dir) (IsCallOfFolder files dir) first before now c.levels.invariant.counts
     (λ call asked. subst (λ (f : Option Files). IsCallOfFolder f dir call) c.levels.invariant.kept asked) end c.in_err-level-2.ensures.cause))
 
 -- all levels were listed
@@ -52,7 +51,7 @@ returns-then-not-is_empty-clause-cause g c =
     let all : c.levels.counter ≡ 16 = omega (arith, c.levels-test.false, c.levels.auto.counter-end) in
     let left : eqb (vec_len c.levels.level) 0 ≡ false = sym c.is_empty.ensures ∙ c.if-not-is_empty.true in
     let some = not_empty c.levels.level.items (vec_len c.levels.level) c.levels.level.ok.0 left in
-    too_deep (g.F.Folder.files c.args.folder.now) dir (g.F.Folder.faults c.args.folder.now) (g.F.Folder.faults c.levels.folder) (g.F.Folder.failed c.levels.folder) c.over_limit.result
+    too_deep dir (g.F.Folder.seen c.args.folder.now) (g.F.Folder.seen c.levels.folder) c.over_limit.result
     (λ told is. left_over told dir (seen_texts c.levels.classes.keys) c.levels.level.items
     (subst (λ (n : ℕ). Listed told dir n c.levels.classes.keys c.levels.level.items) all (c.levels.invariant.found told is)) some) c.over_limit.ensures
 

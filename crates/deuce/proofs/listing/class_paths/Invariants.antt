@@ -8,9 +8,9 @@ use Rattle.deuce.proofs.listing.class_paths.Given as goal
 
 abbrev pub invariant-levels : goal.invariant-levels
 invariant-levels g l = record {
-  found : ForSome (g.F.Folder.files l.fn.folder) (λ told. AreFound told l.dir l.counter (seen_texts l.classes.keys) (seen_texts l.level.items));
+  found : ForSome (g.F.Folder.seen l.fn.folder).files (λ told. AreFound told l.dir l.counter (seen_texts l.classes.keys) (seen_texts l.level.items));
   named : All IsClassFileName (seen_texts l.classes.keys);
-  kept : g.F.Folder.files l.folder ≡ g.F.Folder.files l.fn.folder;
-  counts : g.F.Folder.faults l.fn.folder ≤ g.F.Folder.faults l.folder;
-  put_counts : g.F.Folder.put_faults l.fn.folder ≤ g.F.Folder.put_faults l.folder;
+  kept : (g.F.Folder.seen l.folder).files ≡ (g.F.Folder.seen l.fn.folder).files;
+  counts : (g.F.Folder.seen l.fn.folder).faults ≤ (g.F.Folder.seen l.folder).faults;
+  put_counts : (g.F.Folder.seen l.fn.folder).put_faults ≤ (g.F.Folder.seen l.folder).put_faults;
 }

@@ -12,17 +12,16 @@ use Rattle.deuce.proofs.listing.list_level.Goals as goal
 pub returns-in_err-folders-clause-cause : goal.returns-in_err-folders-clause-cause
 returns-in_err-folders-clause-cause g c =
     let dir = c.args.dir.now in
-    let files = g.F.Folder.files c.args.folder.now in
-    let first = g.F.Folder.faults c.args.folder.now in
-    let before = g.F.Folder.faults c.loop-relative.folder in
-    let now = g.F.Folder.faults c.list_folder.new.folder in
-    let last = g.F.Folder.failed c.list_folder.new.folder in
+    let files = (g.F.Folder.seen c.args.folder.now).files in
+    let first = g.F.Folder.seen c.args.folder.now in
+    let before = g.F.Folder.seen c.loop-relative.folder in
+    let now = g.F.Folder.seen c.list_folder.new.folder in
     let end = c.in_err-folders.field-0.0 in
     let relative = string_bytes c.relative-item.result in
     let path : c.as_str.result.now ≡ inside dir relative = c.as_str.ensures.value ∙ c.in_ok-path.ensures.ok in
     let listed = subst (IsListed files dir) (ap string_bytes (sym c.relative-item.is)) (c.requires c.loop-relative.relative-index c.relative-item.result c.loop-relative-test.true) in
-    err_is c.from_residual-in_err-folders.result end (EndsReads (IsCallOfFolder files dir) first now last) c.from_residual-in_err-folders.ensures.1
-    (reads_as (λ call. call ≡ list_of c.as_str.result.now) (IsCallOfFolder files dir) first before now last c.loop-relative.invariant.counts
+    err_is c.from_residual-in_err-folders.result end (EndsReads (IsCallOfFolder files dir) first now) c.from_residual-in_err-folders.ensures.1
+    (reads_as (λ call. call ≡ list_of c.as_str.result.now) (IsCallOfFolder files dir) first before now c.loop-relative.invariant.counts
     (λ call is. inr (inl (relative, listed, is ∙ ap list_of path))) end c.in_err-folders.ensures.cause)
 
 pub loop-relative-preserved : goal.loop-relative-preserved

@@ -15,5 +15,6 @@ loop-at-preserved g c =
     let fits : n ≤ length (drop at text) = omega (arith, ap length rest, c.in_ok-taken.ensures.within) in (
       omega (arith, length-drop at text, fits),
       omega (arith, so.1, c.write.ensures.counts),
-      written_on _ _ _ text at n so.2 (c.in_ok-taken.ensures.appended ∙ ap (λ (l : List ℕ). append_known (g.O.Sink.written c.loop-at.out) (take n l)) rest),
+      omega (arith, so.2, c.write.ensures.shortage_counts),
+      written_on _ _ _ text at n so.3 (c.in_ok-taken.ensures.appended ∙ ap (λ (l : List ℕ). append_known (g.O.Sink.written c.loop-at.out) (take n l)) rest),
     )

@@ -10,7 +10,7 @@ use Rattle.deuce.proofs.PutFiles.{seen_file, put_none, put_more, put_up_to}
 use Rattle.deuce.proofs.putting.put_each.Goals as goal
 
 pub loop-file-init : goal.loop-file-init
-loop-file-init g c = record { put = put_none (g.F.Folder.files c.args.folder.now); put_counts = omega arith }
+loop-file-init g c = record { put = put_none (g.F.Folder.seen c.args.folder.now).files; put_counts = omega arith }
 
 pub returns-in-Err-Failed-clause-cause : goal.returns-in-Err-Failed-clause-cause
 returns-in-Err-Failed-clause-cause g c =
@@ -20,7 +20,7 @@ returns-in-Err-Failed-clause-cause g c =
     c.loop-file.yielded c.loop-file.file-iterator c.loop-file.yielded_by c.next.result c.next.new.self c.in-Some.file c.in-Some.is c.next.ensures.steps in
     let path = c.as_str.ensures.value in
     let failed = c.in-Err-Failed.ensures.cause (ap Err c.in-Err-Failed.field-0-is) in (
-      put_up_to files (length c.loop-file.yielded) c.in-Some.file turn.0 turn.1 (g.F.Folder.files c.args.folder.now) (g.F.Folder.files c.loop-file.folder) (g.F.Folder.files c.put.new.self) c.put.ensures.others.0
+      put_up_to files (length c.loop-file.yielded) c.in-Some.file turn.0 turn.1 (g.F.Folder.seen c.args.folder.now).files (g.F.Folder.seen c.loop-file.folder).files (g.F.Folder.seen c.put.new.self).files c.put.ensures.others.0
           c.loop-file.invariant.put (rw path at c.put.ensures.others.1),
       record { rose = rose_since _ _ _ c.loop-file.invariant.put_counts failed.rose; is_last = rw path at failed.is_last },
     )
@@ -33,7 +33,7 @@ returns-in-Err-NoMemory-clause-cause g c =
     c.loop-file.yielded c.loop-file.file-iterator c.loop-file.yielded_by c.next.result c.next.new.self c.in-Some.file c.in-Some.is c.next.ensures.steps in
     let path = c.as_str.ensures.value in (
       string_bytes c.in-Some.file.path,
-      put_up_to files (length c.loop-file.yielded) c.in-Some.file turn.0 turn.1 (g.F.Folder.files c.args.folder.now) (g.F.Folder.files c.loop-file.folder) (g.F.Folder.files c.put.new.self) c.put.ensures.others.0
+      put_up_to files (length c.loop-file.yielded) c.in-Some.file turn.0 turn.1 (g.F.Folder.seen c.args.folder.now).files (g.F.Folder.seen c.loop-file.folder).files (g.F.Folder.seen c.put.new.self).files c.put.ensures.others.0
           c.loop-file.invariant.put (rw path at c.put.ensures.others.1),
     )
 
@@ -43,11 +43,11 @@ loop-file-preserved g c =
     let from = c.into_iter-file-iterator.ensures.into_iter_gives in
     let turn = YieldsList-turn (YieldsList-from_vec files from.0 (from.1 ∙ c.args.files.ok.0))
     c.loop-file.yielded c.loop-file.file-iterator c.loop-file.yielded_by c.next.result c.next.new.self c.in-Some.file c.in-Some.is c.next.ensures.steps in
-    let first = g.F.Folder.files c.args.folder.now in
+    let first = (g.F.Folder.seen c.args.folder.now).files in
     let k = length c.loop-file.yielded in
-    let Put : ℕ → Type 0 = λ n. g.F.Folder.files c.put.new.self ≡ option_map (with_files (take n (seen_files files))) first in
+    let Put : ℕ → Type 0 = λ n. (g.F.Folder.seen c.put.new.self).files ≡ option_map (with_files (take n (seen_files files))) first in
     record {
-      put = subst Put (sym (length_push c.loop-file.yielded c.in-Some.file)) (put_more files k c.in-Some.file turn.0 turn.1 first (g.F.Folder.files c.loop-file.folder) (g.F.Folder.files c.put.new.self) c.loop-file.invariant.put
+      put = subst Put (sym (length_push c.loop-file.yielded c.in-Some.file)) (put_more files k c.in-Some.file turn.0 turn.1 first (g.F.Folder.seen c.loop-file.folder).files (g.F.Folder.seen c.put.new.self).files c.loop-file.invariant.put
           (rw (c.as_str.ensures.value, c.as_slice.ensures) at c.in-Ok.ensures.content));
       put_counts = omega (arith, c.loop-file.invariant.put_counts, c.put.ensures.put_counts);
     }
@@ -60,4 +60,4 @@ returns-clause-put g c =
     c.loop-file.yielded c.loop-file.file-iterator c.loop-file.yielded_by c.next.result c.next.new.self c.in-None.is c.next.ensures.steps in
     let k = length c.loop-file.yielded in
     let all = take_all k (seen_files files) (omega (arith, end.1, length-map files seen_file)) in
-    c.loop-file.invariant.put ∙ ap (λ l. option_map (with_files l) (g.F.Folder.files c.args.folder.now)) all
+    c.loop-file.invariant.put ∙ ap (λ l. option_map (with_files l) (g.F.Folder.seen c.args.folder.now).files) all

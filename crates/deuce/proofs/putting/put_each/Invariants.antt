@@ -7,6 +7,6 @@ use Rattle.deuce.proofs.putting.put_each.Given as goal
 
 abbrev pub invariant-loop-file : goal.invariant-loop-file
 invariant-loop-file g l = record {
-  put : g.F.Folder.files l.folder ≡ option_map (with_files (take (length l.yielded) (seen_files l.fn.files.items))) (g.F.Folder.files l.fn.folder);
-  put_counts : g.F.Folder.put_faults l.fn.folder ≤ g.F.Folder.put_faults l.folder;
+  put : (g.F.Folder.seen l.folder).files ≡ option_map (with_files (take (length l.yielded) (seen_files l.fn.files.items))) (g.F.Folder.seen l.fn.folder).files;
+  put_counts : (g.F.Folder.seen l.fn.folder).put_faults ≤ (g.F.Folder.seen l.folder).put_faults;
 }

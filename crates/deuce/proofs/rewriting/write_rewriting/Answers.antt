@@ -12,7 +12,7 @@ use Rattle.deuce.specs.Rewritten.{IsNewOf}
 use Rattle.deuce.specs.Ending.{EndsOnClasses, NoScript, NoOpening, IsNotRewritten}
 use Rattle.deuce.proofs.Lists.{err_is}
 use Rattle.deuce.proofs.Named.{all_named, all_ruled, one_many}
-use Rattle.deuce.proofs.Running.{links_files, of_preparing}
+use Rattle.deuce.proofs.Running.{links_files, runnable, of_preparing}
 use Rattle.deuce.proofs.rewriting.write_rewriting.Goals as goal
 
 pub returns-in_err-prepared-clause-cause : goal.returns-in_err-prepared-clause-cause
@@ -47,7 +47,7 @@ write_each-requires-clause-named c =
     rw c.as_slice-classes.ensures.value (all_named c.args.files.now c.in_ok-prepared.prepared.rewriting.classes.items c.in_ok-prepared.ensures.linked.rules c.in_ok-prepared.ensures.keeps)
 
 pub returns-clause-rewriting : goal.returns-clause-rewriting
-returns-clause-rewriting c = λ contents spell.
+returns-clause-rewriting c = λ contents are.
     let files = c.args.files.now in
     let P = c.in_ok-prepared.prepared.original in
     let news = c.in_ok-prepared.prepared.rewriting.classes.items in
@@ -55,12 +55,9 @@ returns-clause-rewriting c = λ contents spell.
     let linked = c.in_ok-prepared.ensures.linked in
     record {
       files = files;
-      spell = spell;
+      are_files = are;
       program = P;
-      links = links_files files P c.in_ok-prepared.ensures.single c.in_ok-prepared.ensures.linked.means;
-      typed = c.in_ok-prepared.ensures.typed;
-      instrumented = news;
-      rewrites = made.1;
+      runnable = runnable files P news (links_files files P c.in_ok-prepared.ensures.single linked.means) c.in_ok-prepared.ensures.typed made.1;
       spelled = subst (λ (ds : List ClassFile). AllZip (IsNewOf ds) files c.in_ok-written.written.items) c.as_slice-classes.ensures.value c.in_ok-written.ensures;
       means = law (in_order files) news P linked.rules linked.filed linked.single linked.means made.1;
       stays_typed = subst (λ (Q : Program). AllByRecursion (IsTypable Q) Q.methods) made.0 c.in_ok-prepared.ensures.stays_typed;

@@ -23,8 +23,10 @@ pub returns-clause-run : goal.returns-clause-run
 returns-clause-run g c =
     let files = c.args.files.now in
     let P = c.in_ok-prepared.prepared.original in
+    let made = c.in_ok-prepared.ensures.rewritten in
     let order = ap (map (λ k. k.now)) c.as_slice.ensures.value ∙ c.in_ok-prepared.ensures.order in
-    on_ok c.run_script.result _ _ (λ text ran contents spell. ran files contents (sym order) (links_files files P c.in_ok-prepared.ensures.single c.in_ok-prepared.ensures.linked.means) spell) c.run_script.ensures.run
+    let is = links_files files P c.in_ok-prepared.ensures.single c.in_ok-prepared.ensures.linked.means in
+    on_ok c.run_script.result _ _ (λ text ran contents are. ran files contents (sym order) (runnable files P c.in_ok-prepared.prepared.rewriting.classes.items is c.in_ok-prepared.ensures.typed made.1) are) c.run_script.ensures.run
 
 pub returns-clause-cause : goal.returns-clause-cause
 returns-clause-cause g c =

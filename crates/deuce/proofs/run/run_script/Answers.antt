@@ -59,7 +59,7 @@ returns-in_err-memory-clause-cause g c =
     (of_opening (map (λ k. k.now) c.args.classes.now) c.args.original.now c.args.script.now c.in_ok-wanted.wanted c.wanted.inside.region c.wanted.inside.budget c.in_err-memory.field-0.0 c.in_ok-wanted.ensures.script size budget c.in_err-memory.ensures.cause)
 
 pub returns-clause-run : goal.returns-clause-run
-returns-clause-run g c = λ files contents order links spell.
+returns-clause-run g c = λ files contents order is are_files.
     let P = c.args.original.now in
     let cs = map (λ k. k.now) c.args.classes.now in
     let wanted = c.in_ok-wanted.wanted in
@@ -75,7 +75,7 @@ returns-clause-run g c = λ files contents order links spell.
     let Scripts : List ClassFile → Type 0 = λ ds. IsScript ds P c.args.script.now wanted in
     let text = c.in_ok-journal.field-0 in
     is_run contents c.args.script.now files P wanted seen text
-    spell links c.requires.ready.typed.typed (subst Scripts (sym order) c.in_ok-wanted.ensures.script) phases state (subst Ordered (sym order) (subst Opens budget (subst Sizes size opened.1)))
+    are_files is (subst Scripts (sym order) c.in_ok-wanted.ensures.script) phases state (subst Ordered (sym order) (subst Opens budget (subst Sizes size opened.1)))
     (subst (λ (b : ℕ). AreCalls P wanted.region b state seen text) budget
     (subst (λ (n : ℕ). AreCalls P n c.wanted.inside.budget state seen text) size
     (are_calls P c.wanted.inside.region c.wanted.inside.budget seen c.in_ok-memory.memory c.in_ok-made.made state text c.in_ok-made.ensures

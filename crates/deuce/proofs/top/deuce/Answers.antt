@@ -1,54 +1,53 @@
 use Rattle.std.proofs.Common.{Err, ap}
-use Rattle.deuce.specs.Outcomes.{seen}
 use Rattle.deuce.proofs.Printed.{journal_printed, rewriting_printed, fault_printed, program_printed, untyped_printed, script_printed, unopened_printed, refusal_keeps}
 use Rattle.deuce.proofs.Complete.{complete, complete_rewriting}
 use Rattle.deuce.proofs.top.deuce.Goals as goal
 
 pub returns-in-Ok-print-clause-journal : goal.returns-in-Ok-print-clause-journal
 returns-in-Ok-print-clause-journal g c = λ zero.
-    journal_printed c.args.words.now (seen (g.F.Folder.files c.args.folder.now) (g.F.Folder.faults c.args.folder.now) (g.F.Folder.put_faults c.args.folder.now) (g.F.Folder.failed c.args.folder.now)) (seen (g.F.Folder.files c.outcome_of.new.folder) (g.F.Folder.faults c.outcome_of.new.folder) (g.F.Folder.put_faults c.outcome_of.new.folder) (g.F.Folder.failed c.outcome_of.new.folder)) c.in-Ok-text_of.text _ _ c.status-status.result c.in-Ok.outcome
+    journal_printed c.args.words.now (g.F.Folder.seen c.args.folder.now) (g.F.Folder.seen c.outcome_of.new.folder) c.in-Ok-text_of.text _ _ c.status-status.result c.in-Ok.outcome
     c.in-Ok.ensures.outcome.1 c.status-status.ensures c.in-Ok-text_of.ensures (rw c.as_slice.ensures at c.in-Ok-print.ensures.written) zero
 
 pub returns-in-Ok-print-clause-rewriting : goal.returns-in-Ok-print-clause-rewriting
 returns-in-Ok-print-clause-rewriting g c = λ zero.
-    rewriting_printed c.args.words.now (seen (g.F.Folder.files c.args.folder.now) (g.F.Folder.faults c.args.folder.now) (g.F.Folder.put_faults c.args.folder.now) (g.F.Folder.failed c.args.folder.now)) (seen (g.F.Folder.files c.outcome_of.new.folder) (g.F.Folder.faults c.outcome_of.new.folder) (g.F.Folder.put_faults c.outcome_of.new.folder) (g.F.Folder.failed c.outcome_of.new.folder)) c.in-Ok-text_of.text _ _ c.status-status.result c.in-Ok.outcome
+    rewriting_printed c.args.words.now (g.F.Folder.seen c.args.folder.now) (g.F.Folder.seen c.outcome_of.new.folder) c.in-Ok-text_of.text _ _ c.status-status.result c.in-Ok.outcome
     c.in-Ok.ensures.outcome.1 c.status-status.ensures c.in-Ok-text_of.ensures (rw c.as_slice.ensures at c.in-Ok-print.ensures.written) zero
 
 pub returns-in-Ok-print-clause-bad_class : goal.returns-in-Ok-print-clause-bad_class
 returns-in-Ok-print-clause-bad_class g c = λ three.
-    fault_printed c.args.words.now (seen (g.F.Folder.files c.args.folder.now) (g.F.Folder.faults c.args.folder.now) (g.F.Folder.put_faults c.args.folder.now) (g.F.Folder.failed c.args.folder.now)) (seen (g.F.Folder.files c.outcome_of.new.folder) (g.F.Folder.faults c.outcome_of.new.folder) (g.F.Folder.put_faults c.outcome_of.new.folder) (g.F.Folder.failed c.outcome_of.new.folder)) c.in-Ok-text_of.text _ _ c.status-status.result c.in-Ok.outcome
+    fault_printed c.args.words.now (g.F.Folder.seen c.args.folder.now) (g.F.Folder.seen c.outcome_of.new.folder) c.in-Ok-text_of.text _ _ c.status-status.result c.in-Ok.outcome
     c.in-Ok.ensures.outcome.1 c.status-status.ensures c.in-Ok-text_of.ensures (rw c.as_slice.ensures at c.in-Ok-print.ensures.written) three
 
 pub returns-in-Ok-print-clause-bad_program : goal.returns-in-Ok-print-clause-bad_program
 returns-in-Ok-print-clause-bad_program g c = λ four.
-    program_printed c.args.words.now (seen (g.F.Folder.files c.args.folder.now) (g.F.Folder.faults c.args.folder.now) (g.F.Folder.put_faults c.args.folder.now) (g.F.Folder.failed c.args.folder.now)) (seen (g.F.Folder.files c.outcome_of.new.folder) (g.F.Folder.faults c.outcome_of.new.folder) (g.F.Folder.put_faults c.outcome_of.new.folder) (g.F.Folder.failed c.outcome_of.new.folder)) c.in-Ok-text_of.text _ _ c.status-status.result c.in-Ok.outcome
+    program_printed c.args.words.now (g.F.Folder.seen c.args.folder.now) (g.F.Folder.seen c.outcome_of.new.folder) c.in-Ok-text_of.text _ _ c.status-status.result c.in-Ok.outcome
     c.in-Ok.ensures.outcome.1 c.status-status.ensures c.in-Ok-text_of.ensures (rw c.as_slice.ensures at c.in-Ok-print.ensures.written) four
 
 pub returns-in-Ok-print-clause-untypable : goal.returns-in-Ok-print-clause-untypable
 returns-in-Ok-print-clause-untypable g c = λ five.
-    untyped_printed c.args.words.now (seen (g.F.Folder.files c.args.folder.now) (g.F.Folder.faults c.args.folder.now) (g.F.Folder.put_faults c.args.folder.now) (g.F.Folder.failed c.args.folder.now)) (seen (g.F.Folder.files c.outcome_of.new.folder) (g.F.Folder.faults c.outcome_of.new.folder) (g.F.Folder.put_faults c.outcome_of.new.folder) (g.F.Folder.failed c.outcome_of.new.folder)) c.in-Ok-text_of.text _ _ c.status-status.result c.in-Ok.outcome
+    untyped_printed c.args.words.now (g.F.Folder.seen c.args.folder.now) (g.F.Folder.seen c.outcome_of.new.folder) c.in-Ok-text_of.text _ _ c.status-status.result c.in-Ok.outcome
     c.in-Ok.ensures.outcome.1 c.status-status.ensures c.in-Ok-text_of.ensures (rw c.as_slice.ensures at c.in-Ok-print.ensures.written) five
 
 pub returns-in-Ok-print-clause-bad_script : goal.returns-in-Ok-print-clause-bad_script
 returns-in-Ok-print-clause-bad_script g c = λ six.
-    script_printed c.args.words.now (seen (g.F.Folder.files c.args.folder.now) (g.F.Folder.faults c.args.folder.now) (g.F.Folder.put_faults c.args.folder.now) (g.F.Folder.failed c.args.folder.now)) (seen (g.F.Folder.files c.outcome_of.new.folder) (g.F.Folder.faults c.outcome_of.new.folder) (g.F.Folder.put_faults c.outcome_of.new.folder) (g.F.Folder.failed c.outcome_of.new.folder)) c.in-Ok-text_of.text _ _ c.status-status.result c.in-Ok.outcome
+    script_printed c.args.words.now (g.F.Folder.seen c.args.folder.now) (g.F.Folder.seen c.outcome_of.new.folder) c.in-Ok-text_of.text _ _ c.status-status.result c.in-Ok.outcome
     c.in-Ok.ensures.outcome.1 c.status-status.ensures c.in-Ok-text_of.ensures (rw c.as_slice.ensures at c.in-Ok-print.ensures.written) six
 
 pub returns-in-Ok-print-clause-unopened : goal.returns-in-Ok-print-clause-unopened
 returns-in-Ok-print-clause-unopened g c = λ seven.
-    unopened_printed c.args.words.now (seen (g.F.Folder.files c.args.folder.now) (g.F.Folder.faults c.args.folder.now) (g.F.Folder.put_faults c.args.folder.now) (g.F.Folder.failed c.args.folder.now)) (seen (g.F.Folder.files c.outcome_of.new.folder) (g.F.Folder.faults c.outcome_of.new.folder) (g.F.Folder.put_faults c.outcome_of.new.folder) (g.F.Folder.failed c.outcome_of.new.folder)) c.in-Ok-text_of.text _ _ c.status-status.result c.in-Ok.outcome
+    unopened_printed c.args.words.now (g.F.Folder.seen c.args.folder.now) (g.F.Folder.seen c.outcome_of.new.folder) c.in-Ok-text_of.text _ _ c.status-status.result c.in-Ok.outcome
     c.in-Ok.ensures.outcome.1 c.status-status.ensures c.in-Ok-text_of.ensures (rw c.as_slice.ensures at c.in-Ok-print.ensures.written) seven
 
 pub returns-in-Ok-print-clause-complete : goal.returns-in-Ok-print-clause-complete
-returns-in-Ok-print-clause-complete g c = complete c.args.words.now (seen (g.F.Folder.files c.args.folder.now) (g.F.Folder.faults c.args.folder.now) (g.F.Folder.put_faults c.args.folder.now) (g.F.Folder.failed c.args.folder.now)) (seen (g.F.Folder.files c.outcome_of.new.folder) (g.F.Folder.faults c.outcome_of.new.folder) (g.F.Folder.put_faults c.outcome_of.new.folder) (g.F.Folder.failed c.outcome_of.new.folder)) c.in-Ok.outcome c.status-status.result c.in-Ok.ensures.outcome.1 c.status-status.ensures
+returns-in-Ok-print-clause-complete g c = complete c.args.words.now (g.F.Folder.seen c.args.folder.now) (g.F.Folder.seen c.outcome_of.new.folder) c.in-Ok.outcome c.status-status.result c.in-Ok.ensures.outcome.1 c.status-status.ensures
 
 pub returns-in-Ok-print-clause-complete_rewriting : goal.returns-in-Ok-print-clause-complete_rewriting
-returns-in-Ok-print-clause-complete_rewriting g c = complete_rewriting c.args.words.now (seen (g.F.Folder.files c.args.folder.now) (g.F.Folder.faults c.args.folder.now) (g.F.Folder.put_faults c.args.folder.now) (g.F.Folder.failed c.args.folder.now)) (seen (g.F.Folder.files c.outcome_of.new.folder) (g.F.Folder.faults c.outcome_of.new.folder) (g.F.Folder.put_faults c.outcome_of.new.folder) (g.F.Folder.failed c.outcome_of.new.folder)) c.in-Ok.outcome c.status-status.result c.in-Ok.ensures.outcome.1 c.status-status.ensures
+returns-in-Ok-print-clause-complete_rewriting g c = complete_rewriting c.args.words.now (g.F.Folder.seen c.args.folder.now) (g.F.Folder.seen c.outcome_of.new.folder) c.in-Ok.outcome c.status-status.result c.in-Ok.ensures.outcome.1 c.status-status.ensures
 
 pub returns-in-Err-Failed-clause-sink : goal.returns-in-Err-Failed-clause-sink
 returns-in-Err-Failed-clause-sink g c = λ nine. c.in-Err-Failed.ensures.failed (ap Err c.in-Err-Failed.field-0-is)
 
 pub returns-in-Ok-print-clause-refused_keeps : goal.returns-in-Ok-print-clause-refused_keeps
 returns-in-Ok-print-clause-refused_keeps g c = λ refused.
-    refusal_keeps c.in-Ok.outcome (seen (g.F.Folder.files c.args.folder.now) (g.F.Folder.faults c.args.folder.now) (g.F.Folder.put_faults c.args.folder.now) (g.F.Folder.failed c.args.folder.now)) (seen (g.F.Folder.files c.outcome_of.new.folder) (g.F.Folder.faults c.outcome_of.new.folder) (g.F.Folder.put_faults c.outcome_of.new.folder) (g.F.Folder.failed c.outcome_of.new.folder)) c.status-status.result
+    refusal_keeps c.in-Ok.outcome (g.F.Folder.seen c.args.folder.now) (g.F.Folder.seen c.outcome_of.new.folder) c.status-status.result
     c.in-Ok.ensures.outcome.0 c.status-status.ensures refused

@@ -1,4 +1,4 @@
-use Rattle.std.proofs.Common.{◌≡◌, ◌<◌, ◌+◌, ℕ, suc, List, length, map, take, replicate, slice_index, sym, ◌∙◌, subst, arith}
+use Rattle.std.proofs.Common.{◌≡◌, ◌<◌, ◌+◌, ℕ, suc, List, length, map, take, replicate, slice_index, refl, sym, ◌∙◌, subst, arith}
 use Rattle.std.specs.List.{AllByRecursion}
 use Rattle.std.proofs.lemmas.List.{length-take-le, take_all, get_or-replicate}
 use Rattle.tx_table.specs.Rule.{Ends}
@@ -30,7 +30,7 @@ loop-number-init g c =
       few = omega (arith, unused.fresh);
       ticks = omega (arith, unused.ticks);
       used = λ lane low. none_anywhere lane low ∙ sym (c.in_ok-shared.ensures.unused lane low);
-      over = run_none (book c.in_ok-shared.pass) c.new-journal.result unused.entries c.new-journal.ensures.placed c.new-journal.ensures.unplaced;
+      over = run_none (book c.in_ok-shared.pass) c.new-records.result unused.entries c.new-records.ensures.placed c.new-records.ensures.unplaced;
     }
 
 pub run_phase-requires-clause-calls : goal.run_phase-requires-clause-calls
@@ -69,7 +69,7 @@ loop-number-preserved g c =
     let below = c.loop-number-test.true in
     let long : length (take n phases) ≡ n = length-take-le n phases (omega arith) in
     let up : suc n ≡ n + 1 = omega arith in
-    let Adds : ℕ → Type 0 = λ k. AddsPhase k count phase b (book left) c.loop-number.journal c.run_phase.new.journal in
+    let Adds : ℕ → Type 0 = λ k. AddsPhase k count phase b (book left) c.loop-number.records c.run_phase.new.journal in
     record {
       whole = subst (λ (k : ℕ). IsWhole c.in_ok-shared.shared.table.shared.table_id k left) up c.in_ok-pass.ensures.whole;
       fresh = omega (arith, i.fresh, added.fresh);
@@ -77,7 +77,7 @@ loop-number-preserved g c =
       ticks = ticks_next n phases phase b below c.index-phases-number.is i.ticks (book left) added.ticks;
       used = c.in_ok-pass.ensures.used;
       over = subst (λ (ps : List ScriptPhase). HasRunOver ps (book left) c.run_phase.new.journal) (lanes_more phases n phase below c.index-phases-number.is)
-          (over_more (take n phases) phase count b (book left) c.loop-number.journal c.run_phase.new.journal i.over (subst Adds (sym long) adds));
+          (over_more (take n phases) phase count b (book left) c.loop-number.records c.run_phase.new.journal i.over (subst Adds (sym long) adds));
     }
 
 pub returns : goal.returns
@@ -89,9 +89,10 @@ returns g c =
     let b = book c.loop-number.pass in
     let rule = g.K.Keeping.rule in
     let memory = c.args.memory in
-    let after = c.in-Ok._words.items in
+    let after = c.in-Ok.words.items in
     let Words : List ℕ → Type 0 = λ words. Ends (story_of rule words c.in_ok-shared.shared.table.shared.key.story.value.used) b after in
     let Used : ℕ → Type 0 = λ used. Ends (story_of rule memory.words.items used) b after in
     let ends = subst Used c.in_ok-shared.ensures.used (subst Words c.in_ok-shared.ensures.words c.in-Ok.ensures.ok) in
-    run_over c.args.original.now c.args.limits.size c.args.limits.budget memory after rule c.requires.ruled b phases c.loop-number.journal
-    (subst (λ (ps : List ScriptPhase). HasRunOver ps b c.loop-number.journal) all c.loop-number.invariant.over) ends
+    run_over c.args.original.now c.args.limits.size c.args.limits.budget c.args.limits.attempts memory after rule c.requires.ruled b phases c.loop-number.records
+    (subst (λ (ps : List ScriptPhase). HasRunOver ps b c.loop-number.records) all c.loop-number.invariant.over) ends
+    _ refl refl refl

@@ -12,5 +12,5 @@ invariant-loop-number g l = record {
   few : (book l.pass).fresh ≤ 1048575;
   ticks : (book l.pass).ticks ≤ script_count (take l.number l.phases) * 2000000;
   used : AreUsed l.used (book l.pass);
-  over : HasRunOver (take l.number l.phases) (book l.pass) l.journal;
+  over : HasRunOver (take l.number l.phases) (book l.pass) l.records;
 }

@@ -7,6 +7,7 @@ use Rattle.jmodel.specs.Attempt.{Log}
 use Rattle.jmodel.specs.Schedule.{Known}
 use Rattle.tx_core.specs.Serial.{StandsFor}
 use Rattle.machine.specs.declared.machine.Limits.{Limits as CallLimits}
+use Rattle.machine.specs.Machine.{bounds_of}
 use Rattle.session.specs.declared.record.Place.{Place}
 use Rattle.session.specs.Adds.{told_by, AddsCall, AddsEntry}
 use Rattle.driver.specs.declared.memory.Memory.{Memory}
@@ -29,9 +30,10 @@ returns g c =
     let call : Known = record { method = c.args.method; args = c.new.result.items } in
     let left : Memory = record { words = c.into_words-words.result; used = used } in
     let Stands : List Entry → ℕ → Log → Log → Type 0 = λ h n r w. StandsFor rule first engine.words.items engine.clock engine.writes.items h n r w in
-    let adds : AddsCall Stands [] 0 room.used (told_by room at call made) used = c.make_next-record.ensures.adds [] 0 c.new-engine.ensures.stands in
+    let bounds = bounds_of c.in_region-limits.result in
+    let adds : AddsCall P bounds Stands [] 0 (told_by room at call made) used = c.make_next-record.ensures.adds [] 0 c.new-engine.ensures.stands in
     let entry : AddsEntry Stands [] 0 room.used (told_by room at call made) used =
-    answered Stands room.used used (told_by room at call made) (λ h n stands. stands.no_conflict) c.in_default.not-NoMemory adds in
+    answered P bounds Stands used (told_by room at call made) (λ h n stands. stands.no_conflict) c.in_default.not-NoMemory adds in
     let room_is = c.in_region-limits.ensures in
     let region : room.region ≡ 0 = ap (λ (l : CallLimits). l.room.region) room_is in
     let before : room.used ≡ memory.used = ap (λ (l : CallLimits). l.room.used) room_is in
@@ -44,7 +46,7 @@ returns g c =
     let of_memory : Entered engine.words.items memory.used none = subst (λ (n : ℕ). Entered engine.words.items n none) before of_call in
     let alone : Entered left.words.items memory.used none = subst (λ (ws : List ℕ). Entered ws memory.used none) (sym words) of_memory in
     record {
-      answers = answers_alone P size budget rule c.requires.ruled first memory left engine.clock c.args.method engine.writes.items made.answer made.stamp room at
+      answers = answers_alone P size budget c.args.limits.attempts rule c.requires.ruled first memory left engine.clock c.args.method engine.writes.items made.answer made.stamp room at
           c.requires.first region alone;
       size = ap length words ∙ entry.stands.size ∙ ap length (sym c.requires.first);
     }

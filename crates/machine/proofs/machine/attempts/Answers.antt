@@ -1,6 +1,6 @@
 use Rattle.std.proofs.Common.{Ok, Err}
 use Rattle.std.proofs.lemmas.Result.{err_from_is_err_and}
-use Rattle.machine.specs.Machine.{bounds_of}
+use Rattle.machine.specs.Machine.{bounds_of, Begins}
 use Rattle.jmodel.specs.Attempt.{run_start}
 use Rattle.machine.specs.Running.{Leaves}
 use Rattle.machine.proofs.Ends.{start_fails, end_left, end_from}
@@ -9,7 +9,7 @@ use Rattle.machine.proofs.machine.attempts.Goals as goal
 pub returns-in_err-running-clause-run : goal.returns-in_err-running-clause-run
 returns-in_err-running-clause-run g c = λ h n s.
     let p = err_from_is_err_and c.from_residual.result c.from_residual.ensures.1 in
-    rw (p.1, p.2) (start_fails c.args.program.now (bounds_of c.args.limits) c.args.method c.args.args.now (g.E.Engine.awaits c.args.tx.now) g.E.Engine.allows (g.E.Engine.stands c.args.tx.now) h n c.in_err-running.field-0.0 c.in_err-running.ensures s)
+    rw (p.1, p.2) (start_fails c.args.program.now (bounds_of c.args.limits) c.args.method c.args.args.now (g.E.Engine.awaits c.args.tx.now) g.E.Engine.allows (Begins (g.E.Engine.attempts c.args.tx.now) (g.E.Engine.attempts c.args.tx.now)) (g.E.Engine.stands c.args.tx.now) h n c.in_err-running.field-0.0 c.in_err-running.ensures s)
 
 pub run-requires-clause-stage : goal.run-requires-clause-stage
 run-requires-clause-stage g c = c.in_ok-running.ensures.1
@@ -19,13 +19,13 @@ run-requires-clause-tried g c = c.in_ok-running.ensures.2
 
 pub returns-in-Ok-clause-run : goal.returns-in-Ok-clause-run
 returns-in-Ok-clause-run g c = λ h n s.
-    end_from c.args.program.now (bounds_of c.args.limits) _ _ (g.E.Engine.awaits c.args.tx.now) g.E.Engine.allows (g.E.Engine.stands c.run.new.tx) h n
+    end_from c.args.program.now (bounds_of c.args.limits) _ _ (g.E.Engine.awaits c.args.tx.now) g.E.Engine.allows (Begins (g.E.Engine.attempts c.args.tx.now) (g.E.Engine.attempts c.run.new.tx)) (g.E.Engine.stands c.run.new.tx) h n
     (Leaves (g.E.Engine.stands c.run.new.tx h) n c.run.new.self.stage) (Ok c.in-Ok.end) c.in_ok-running.ensures.0 (c.in-Ok.ensures.run h n s)
 
 pub returns-clause-run : goal.returns-clause-run
 returns-clause-run g c = λ h n s.
-    end_left c.args.program.now (bounds_of c.args.limits) (run_start c.args.program.now (bounds_of c.args.limits) c.args.method c.args.args.now) (g.E.Engine.awaits c.args.tx.now) g.E.Engine.allows (g.E.Engine.stands c.run.new.tx) (g.E.Engine.stands c.leave.new.tx) h n c.run.new.self.stage c.in-Err.failure (c.leave.ensures.run h n)
-    (end_from c.args.program.now (bounds_of c.args.limits) _ _ (g.E.Engine.awaits c.args.tx.now) g.E.Engine.allows (g.E.Engine.stands c.run.new.tx) h n
+    end_left c.args.program.now (bounds_of c.args.limits) (run_start c.args.program.now (bounds_of c.args.limits) c.args.method c.args.args.now) (g.E.Engine.awaits c.args.tx.now) g.E.Engine.allows (Begins (g.E.Engine.attempts c.args.tx.now) (g.E.Engine.attempts c.run.new.tx)) (Begins (g.E.Engine.attempts c.args.tx.now) (g.E.Engine.attempts c.leave.new.tx)) (g.E.Engine.stands c.run.new.tx) (g.E.Engine.stands c.leave.new.tx) h n c.run.new.self.stage c.in-Err.failure (c.leave.ensures.run h n)
+    (end_from c.args.program.now (bounds_of c.args.limits) _ _ (g.E.Engine.awaits c.args.tx.now) g.E.Engine.allows (Begins (g.E.Engine.attempts c.args.tx.now) (g.E.Engine.attempts c.run.new.tx)) (g.E.Engine.stands c.run.new.tx) h n
     (Leaves (g.E.Engine.stands c.run.new.tx h) n c.run.new.self.stage) (Err c.in-Err.failure) c.in_ok-running.ensures.0 (c.in-Err.ensures.run h n s))
 
 pub run-requires-clause-ready : goal.run-requires-clause-ready

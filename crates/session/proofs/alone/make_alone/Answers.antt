@@ -1,9 +1,10 @@
-use Rattle.std.proofs.Common.{suc, inr, [], sym, subst, ap, ◌∙◌, arith, List}
+use Rattle.std.proofs.Common.{suc, inr, [], sym, subst, ap, ◌∙◌, ◌++◌, arith, List}
 use Rattle.std.proofs.lemmas.List.{append-nil}
 use Rattle.jmodel.specs.History.{Entry}
-use Rattle.machine.specs.declared.machine.Limits.{Limits}
 use Rattle.session.specs.declared.record.Place.{Place}
-use Rattle.session.proofs.Lanes.{lane_empty, stands_alone}
+use Rattle.session.specs.Adds.{call_of}
+use Rattle.session.specs.Passes.{bounds_with}
+use Rattle.session.proofs.Lanes.{lane_empty, one_made, stands_alone}
 use Rattle.session.proofs.alone.make_alone.Goals as goal
 
 pub loop-index-init : goal.loop-index-init
@@ -21,25 +22,17 @@ pub loop-index-preserved : goal.loop-index-preserved
 loop-index-preserved g c = record {
   made = λ before stands.
       let so_far = c.loop-index.invariant.made before stands in
-      let region = ap (λ (l : Limits). l.room.region) c.with_used.ensures ∙ c.requires.region in
-      let used = ap (λ (l : Limits). l.room.used) c.with_used.ensures in
-      stands_alone (g.E.Engine.stands c.make_next-one.new.engine) c.with_used.result.room c.args.at c.onward.result c.args.limits.room.used c.args.calls.now c.loop-index.index c.loop-index.lane
-      c.add.new.self c.index-calls-index.result c.make_next-one.result.0 c.make_next-one.result.1
-      region c.onward.ensures c.loop-index.invariant.count c.loop-index-test.true c.index-calls-index.is c.make_next-one.ensures.tells c.in_ok-add.ensures
-      (c.requires.alone c.make_next-one.new.engine) before so_far.0 so_far.2 (rw used at (c.make_next-one.ensures.adds _ _ so_far.1));
-  count = omega (arith, c.in_ok-add.ensures.made, c.loop-index.invariant.count);
-  clock = let tried = ap (λ (l : Limits). l.attempts) c.with_used.ensures in omega (arith, tried, c.make_next-one.ensures.clock, c.requires.attempts.1, c.loop-index.invariant.clock);
+      stands_alone (g.E.Engine.stands c.make_one.new.engine) c.args.limits.room c.args.at c.onward.result c.args.limits.room.used c.args.calls.now c.loop-index.index c.loop-index.lane
+      c.make_one.new.lane c.index-calls-index.result c.requires.region c.onward.ensures c.loop-index.invariant.count c.loop-index-test.true c.index-calls-index.is
+      c.args.original.now (bounds_with c.args.limits c.loop-index.lane.used) c.in_ok-_is_made._is_made (c.requires.alone c.make_one.new.engine) before so_far.0 so_far.2 (c.in_ok-_is_made.ensures.adds _ _ so_far.1);
+  count =
+      let first = c.requires.stands in
+      let so_far = c.loop-index.invariant.made first.0 first.1 in
+      let one = one_made c.args.original.now (bounds_with c.args.limits c.loop-index.lane.used) (call_of c.args.limits.room c.onward.result c.index-calls-index.result) (g.E.Engine.stands c.make_one.new.engine)
+      (c.requires.alone c.make_one.new.engine) c.in_ok-_is_made._is_made (first.0 ++ so_far.0) 0 c.loop-index.lane c.make_one.new.lane (c.in_ok-_is_made.ensures.adds _ _ so_far.1) in
+      omega (arith, one.record_is.made, c.loop-index.invariant.count);
+  clock = omega (arith, c.make_one.ensures.clock, c.requires.attempts.1, c.loop-index.invariant.clock);
 }
 
-pub make_next-one-requires-clause-region : goal.make_next-one-requires-clause-region
-make_next-one-requires-clause-region g c =
-    inr (ap (λ (l : Limits). l.room.region) c.with_used.ensures ∙ c.requires.region ∙ ap (λ (p : Place). suc p.lane) (sym c.onward.ensures))
-
-pub make_next-one-requires-clause-fits : goal.make_next-one-requires-clause-fits
-make_next-one-requires-clause-fits g c = rw c.with_used.ensures c.requires.fits
-
-pub make_next-one-requires-clause-rule : goal.make_next-one-requires-clause-rule
-make_next-one-requires-clause-rule g c = rw c.with_used.ensures c.requires.rule
-
-pub make_next-one-requires-clause-attempts : goal.make_next-one-requires-clause-attempts
-make_next-one-requires-clause-attempts g c = rw c.with_used.ensures c.requires.attempts
+pub make_one-requires-clause-region : goal.make_one-requires-clause-region
+make_one-requires-clause-region g c = inr (c.requires.region ∙ ap (λ (p : Place). suc p.lane) (sym c.onward.ensures))

@@ -22,6 +22,7 @@ loop-stripe-preserved g c =
       held = listed_less (book c.loop-stripe.pass).face.held (access (number_of s) s.word) (words_of (drop (n + 1) c.args.held.now)) now;
       over = inl (refl {a = Unticked});
       rest = rest_given [] 0 (book c.args.pass.now) (book c.loop-stripe.pass) (number_of s) false i.rest;
+      wants = i.wants;
     })
 
 pub returns-clause-free : goal.returns-clause-free

@@ -10,6 +10,7 @@ invariant-loop-stripe g l = record {
   held : Holds (drop l.stripe-index l.held) (book l.pass);
   over : ((book l.pass).face.stage ≡ Unticked) ⊎ ((book l.pass).face.held ≡ (book l.initial.pass).face.held);
   rest : IsRest [] 0 (book l.initial.pass) (book l.pass);
+  wants : (book l.pass).wants ≡ (book l.initial.pass).wants;
 }
 
 abbrev pub ghost-release_old : goal.ghost-release_old

@@ -34,6 +34,7 @@ loop-stripe-preserved g c =
       releasing = releasing_one (book c.loop-stripe.pass) (number_of s);
       left = i.left;
       rest = rest_released [] 0 (book c.args.pass.now) (book c.loop-stripe.pass) (number_of s) c.requires.stage i.rest;
+      wants = i.wants;
     })
 
 pub returns-clause-free : goal.returns-clause-free

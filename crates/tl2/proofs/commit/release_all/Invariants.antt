@@ -12,4 +12,5 @@ invariant-loop-stripe g l = record {
   releasing : IsReleasing (book l.pass);
   left : (b x : ℕ) → lookup (book l.pass).face.left b ≡ some x → ⊥;
   rest : IsRest [] 0 (book l.initial.pass) (book l.pass);
+  wants : (book l.pass).wants ≡ (book l.initial.pass).wants;
 }

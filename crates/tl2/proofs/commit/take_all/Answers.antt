@@ -1,6 +1,6 @@
-use Rattle.std.proofs.Common.{◌≡◌, ◌<◌, ◌+◌, ◌%◌, ℕ, false, true, length, slice_index_or, sym, ◌∙◌, subst, arith}
+use Rattle.std.proofs.Common.{◌≡◌, ◌<◌, ◌+◌, ◌%◌, ℕ, false, true, length, slice_index_or, sym, ap, ◌∙◌, inr, ⊎_elim, subst, arith}
 use Rattle.std.proofs.lemmas.List.{drop-set-lt}
-use Rattle.tx_table.specs.Book.{In}
+use Rattle.tx_table.specs.Book.{Book, In}
 use Rattle.tx_table.specs.Passes.{book, IsSame}
 use Rattle.tx_table.specs.Steps.{IsPast}
 use Rattle.tl2.specs.declared.plan.Stripe.{Stripe}
@@ -17,7 +17,7 @@ take_one-requires-clause-heap g c =
 
 pub take_one-requires-clause-read : goal.take_one-requires-clause-read
 take_one-requires-clause-read g c = λ b x i e.
-    let before : In (b, x) (book c.args.pass.now).reads = rw c.loop-i.invariant.taking.reads at i in
+    let before : In (b, x) (book c.args.pass.now).reads = rw c.loop-i.invariant.taking.rest.reads at i in
     let more : c.loop-i.i < length c.loop-i.stripes = omega arith in
     let most : c.loop-i.i < length c.args.stripes.now = omega arith in
     let same = same_later c.loop-i.stripes c.args.stripes.now c.loop-i.i more most c.loop-i.invariant.later in
@@ -26,7 +26,7 @@ take_one-requires-clause-read g c = λ b x i e.
 pub returns-in-Err-clause-conflict : goal.returns-in-Err-clause-conflict
 returns-in-Err-clause-conflict g c =
     let k = c.in-Err.ensures.conflict in
-    let bound = c.loop-i.invariant.taking.bound in
+    let bound = c.loop-i.invariant.taking.rest.bound in
     let all = addresses_of c.args.stripes.now in
     let more : c.loop-i.i < length c.loop-i.stripes = omega arith in (
       k.1 ∙ bound,
@@ -48,6 +48,10 @@ returns-in-Err-clause-sole g c = λ whole.
     let free = not_before c.loop-i.stripes c.args.stripes.now (book c.loop-i.pass).face.held c.loop-i.i more i.addresses c.requires.ascending i.held in
     c.in-Err.ensures.sole (i.taking.rest.numbers ∙ whole) free
 
+pub returns-in-Err-clause-means : goal.returns-in-Err-clause-means
+returns-in-Err-clause-means g c = λ a i.
+    c.loop-i.invariant.means a (subst (In a) (c.give_back.ensures.wants ∙ ap (λ (b : Book). b.wants) c.in-Err.ensures.err) i)
+
 pub loop-i-preserved : goal.loop-i-preserved
 loop-i-preserved g c =
     let i = c.loop-i.invariant in
@@ -58,10 +62,13 @@ loop-i-preserved g c =
     let most : n < length c.args.stripes.now = omega arith in
     let free = not_before ss c.args.stripes.now (book c.loop-i.pass).face.held n more i.addresses c.requires.ascending i.held in
     let same : IsSame c.args.pass.now c.take_one.new.pass = (c.take_one.ensures.same.0 ∙ i.same.0, c.take_one.ensures.same.1 ∙ i.same.1) in
+    let all = addresses_of c.args.stripes.now in
+    let here : In s.address all = holds_at (λ a. In a all) ss c.args.stripes.now n more i.addresses (all_from (λ a. In a all) all (λ a j. j)) in
     rw c.in-Ok.ensures.ok (record {
       same = same;
       held = held_more ss n c.in-Ok.word (book c.loop-i.pass).face.held more i.held free;
       addresses = addresses_kept ss n c.in-Ok.word more ∙ i.addresses;
       later = drop-set-lt (n + 1) ss n (record s { word = c.in-Ok.word }) (omega arith) ∙ (same_later ss c.args.stripes.now n more most i.later).1;
       taking = taking_one (book c.args.pass.now) (book c.loop-i.pass) (number_of s) c.in-Ok.word s.address i.taking;
+      means = λ a. ⊎_elim (λ (e : a ≡ s.address). inr (subst (λ (k : ℕ). In k all) (sym e) here)) (i.means a);
     })

@@ -1,14 +1,14 @@
-use Rattle.std.proofs.Common.{◌≡◌, ◌%◌, ℕ, List, All, reverse, refl, sym, ap, ◌∙◌, inl, inr, subst, arith}
+use Rattle.std.proofs.Common.{◌≡◌, ◌<◌, ◌%◌, ℕ, List, All, reverse, refl, sym, ap, ◌∙◌, inl, inr, ⊎_elim, subst, arith}
 use mathlib.Core.Option.{none}
-use Rattle.tx_table.specs.Book.{Book, Map, Has, lookup, pairs}
-use Rattle.tx_table.specs.Plays.{ticked_up, lost_at}
+use Rattle.tx_table.specs.Book.{Book, Map, Has, In, lookup, pairs}
+use Rattle.tx_table.specs.Plays.{ticked_up, update_entry}
 use Rattle.tx_table.specs.Passes.{book}
 use Rattle.tx_table.specs.Steps.{IsPast}
 use Rattle.tl2.specs.declared.plan.Stripe.{Stripe}
 use Rattle.tl2.specs.Commits.{Holds}
 use Rattle.tl2.specs.Plans.{addresses_of, words_of, IsListed}
 use Rattle.tl2.proofs.Members.{all_in}
-use Rattle.tl2.proofs.Updating.{bounded, read_tells, elsewhere_read, elsewhere_fits, stripes_fit, due_held, held_due, elsewhere_free, all_safe, some_held, newest_some, newest_fits, ticked_then, ticked_lost, updates, added}
+use Rattle.tl2.proofs.Updating.{bounded, read_tells, elsewhere_read, elsewhere_fits, stripes_fit, due_held, held_due, elsewhere_free, all_safe, some_held, means_stored, means_lost, newest_some, newest_fits, ticked_then, ticked_lost, updates, added}
 use Rattle.tl2.proofs.Rests.{err_says}
 use Rattle.tl2.proofs.update.update.Goals as goal
 
@@ -27,101 +27,51 @@ returns-in_err-take_all-clause-conflict g c =
     let due = all_in (Has (pairs (reverse c.args.writes.now))) (addresses_of c.args.plan.stripes.items) c.in_err-take_all.field-0.0.address c.requires.plan.only (rw c.deref_mut.ensures.value at k.2) in
     err_says c.from_residual.result back.1 (λ e q. rw q (k.0, k.1, inl due))
 
-pub tick_for-at-requires : goal.tick_for-at-requires
-tick_for-at-requires g c κs within =
+pub returns-in_err-take_all-clause-means : goal.returns-in_err-take_all-clause-means
+returns-in_err-take_all-clause-means g c = λ a i.
+    ⊎_elim (λ (w : In a (book c.args.pass.now).wants). inl w)
+    (λ (j : In a (addresses_of c.deref_mut.result.now)). inr (all_in (Has (pairs (reverse c.args.writes.now))) (addresses_of c.args.plan.stripes.items) a c.requires.plan.only (rw c.deref_mut.ensures.value at j)))
+    (c.take_all.ensures.means a i)
+
+pub tick_checked-requires : goal.tick_checked-requires
+tick_checked-requires g c κs within =
     let m = (book c.args.pass.now).reads in
     let p = c.requires.plan in
     let v1 = book c.take_all.new.pass in
     let ok = c.in_ok-take_all.ensures.ok in
     let taken : List Stripe = c.take_all.new.stripes in
     let same : addresses_of taken ≡ addresses_of c.args.plan.stripes.items = ok.2 ∙ ap addresses_of c.deref_mut.ensures.value in
-    let ready = c.requires.ready in
+    let words = c.args.shared.now.words in
+    let heap : All (λ a. a < words) c.deref.result.now = rw c.deref.ensures.value (elsewhere_fits m p words c.requires.heap.1) in
     let ticks = ok.0.rest.ticks in
-    (within, (refl, (c.take_all.ensures.same.0 ∙ c.requires.table, ((ok.0.stage, ok.0.live, omega arith), (due_held m p taken same v1 ok.1, held_due m p taken same v1 ok.1)))))
-
-pub validate_all-requires-clause-heap : goal.validate_all-requires-clause-heap
-validate_all-requires-clause-heap g c = rw c.deref.ensures.value (elsewhere_fits (book c.args.pass.now).reads c.requires.plan c.args.shared.now.words c.requires.heap.1)
-
-pub returns-in-Err-clause-free : goal.returns-in-Err-clause-free
-returns-in-Err-clause-free g c =
-    let v1 = book c.take_all.new.pass in
-    let ok = c.in_ok-take_all.ensures.ok in
-    let taken : List Stripe = c.take_all.new.stripes in
-    let same : addresses_of taken ≡ addresses_of c.args.plan.stripes.items = ok.2 ∙ ap addresses_of c.deref_mut.ensures.value in
-    let lost = c.in-Err.ensures.err in
-    let is : (book c.validate_all.new.pass).face.held ≡ v1.face.held = ap (λ (b : Book). b.face.held) lost.1 ∙ ap (λ (b : Book). b.face.held) c.tick_for-at.ensures.book in
-    let some = some_held (reverse c.args.writes.now) v1.face.held c.requires.any (due_held (book c.args.pass.now).reads c.requires.plan taken same v1 ok.1) in
-    (c.give_back.ensures.free, c.give_back.ensures.over (λ e. some (sym is ∙ e)))
-
-pub returns-in-Err-clause-conflict : goal.returns-in-Err-clause-conflict
-returns-in-Err-clause-conflict g c =
-    let k = c.in-Err.ensures.conflict in
-    let bound = ap (λ (b : Book). b.bound) c.tick_for-at.ensures.book ∙ c.in_ok-take_all.ensures.ok.0.bound in
-    let read = elsewhere_read (book c.args.pass.now).reads c.requires.plan c.in-Err.conflict.address (rw c.deref.ensures.value at k.2) in
-    (k.0 ∙ bound, subst (λ (n : ℕ). IsPast n c.in-Err.conflict.word) bound k.1, inr read.0)
-
-pub returns-in-Err-clause-err : goal.returns-in-Err-clause-err
-returns-in-Err-clause-err g c =
-    let w = reverse c.args.writes.now in
-    let v1 = book c.take_all.new.pass in
-    let ok = c.in_ok-take_all.ensures.ok in
-    let taken : List Stripe = c.take_all.new.stripes in
-    let same : addresses_of taken ≡ addresses_of c.args.plan.stripes.items = ok.2 ∙ ap addresses_of c.deref_mut.ensures.value in
-    let lost = c.in-Err.ensures.err in
-    let is : book c.validate_all.new.pass ≡ lost_at (record (ticked_up v1 c.tick_for-at.result (pairs w)) { checked = lost.0 }) c.in-Err.conflict.address c.in-Err.conflict.word =
-    lost.1 ∙ ap (λ (b : Book). lost_at (record b { checked = lost.0 }) c.in-Err.conflict.address c.in-Err.conflict.word) c.tick_for-at.ensures.book in
-    let held : (book c.validate_all.new.pass).face.held ≡ v1.face.held = ap (λ (b : Book). b.face.held) is in
-    let some = some_held w v1.face.held c.requires.any (due_held (book c.args.pass.now).reads c.requires.plan taken same v1 ok.1) in
-    let over = c.give_back.ensures.over (λ e. some (sym held ∙ e)) in
-    (1, omega arith, ticked_lost c.tick_for-at.result (pairs w) lost.0 c.in-Err.conflict (book c.args.pass.now) v1 (book c.validate_all.new.pass) (book c.give_back.new.pass) c.tick_for-at.ensures.later (c.in-Err.ensures.conflict.0 ∙ ap (λ (b : Book). b.bound) c.tick_for-at.ensures.book) ok.0 is c.give_back.ensures.rest over)
-
-pub returns-in-Err-clause-other : goal.returns-in-Err-clause-other
-returns-in-Err-clause-other g c =
-    let v2 = book c.tick_for-at.new.pass in
-    let ok = c.in_ok-take_all.ensures.ok in
-    let taken : List Stripe = c.take_all.new.stripes in
-    let same : addresses_of taken ≡ addresses_of c.args.plan.stripes.items = ok.2 ∙ ap addresses_of c.deref_mut.ensures.value in
-    let holds : Holds taken v2 = subst (λ (h : Map ℕ). IsListed h (words_of taken)) (sym (ap (λ (b : Book). b.face.held) c.tick_for-at.ensures.book)) ok.1 in
-    let free : All (λ (a : ℕ). lookup v2.face.held (a % 4096) ≡ none) c.deref.result.now = rw c.deref.ensures.value (elsewhere_free (book c.args.pass.now).reads c.requires.plan taken same v2 holds) in
-    rw (ap (λ (b : Book). b.face.number) c.tick_for-at.ensures.book ∙ ok.0.rest.number) at (c.in-Err.ensures.other free)
-
-pub returns-in-Err-clause-sole : goal.returns-in-Err-clause-sole
-returns-in-Err-clause-sole g c = λ whole.
-    let v2 = book c.tick_for-at.new.pass in
-    let ok = c.in_ok-take_all.ensures.ok in
-    let taken : List Stripe = c.take_all.new.stripes in
-    let same : addresses_of taken ≡ addresses_of c.args.plan.stripes.items = ok.2 ∙ ap addresses_of c.deref_mut.ensures.value in
-    let holds : Holds taken v2 = subst (λ (h : Map ℕ). IsListed h (words_of taken)) (sym (ap (λ (b : Book). b.face.held) c.tick_for-at.ensures.book)) ok.1 in
-    let free : All (λ (a : ℕ). lookup v2.face.held (a % 4096) ≡ none) c.deref.result.now = rw c.deref.ensures.value (elsewhere_free (book c.args.pass.now).reads c.requires.plan taken same v2 holds) in
-    c.in-Err.ensures.sole (ap (λ (b : Book). b.numbers) c.tick_for-at.ensures.book ∙ ok.0.rest.numbers ∙ whole) free
+    (within, (refl, (c.take_all.ensures.same.0 ∙ c.requires.table, (heap, ((ok.0.stage, ok.0.live, omega arith), (due_held m p taken same v1 ok.1, held_due m p taken same v1 ok.1))))))
 
 pub store_all-requires : goal.store_all-requires
 store_all-requires g c κs within =
     let w = reverse c.args.writes.now in
     let v = book c.args.pass.now in
     let v1 = book c.take_all.new.pass in
-    let v3 = book c.validate_all.new.pass in
-    let t = c.tick_for-at.result in
+    let v3 = book c.tick_checked.new.pass in
+    let t = c.in-Ok.at in
     let story = g.T.Story.story c.args.shared.now.table.shared.key.story.value in
     let ok = c.in_ok-take_all.ensures.ok in
     let taken : List Stripe = c.take_all.new.stripes in
     let same : addresses_of taken ≡ addresses_of c.args.plan.stripes.items = ok.2 ∙ ap addresses_of c.deref_mut.ensures.value in
-    let checked = c.in_default.ensures.ok in
-    let is : v3 ≡ record (ticked_up v1 t (pairs w)) { checked = checked.0 } = checked.1 ∙ ap (λ (b : Book). record b { checked = checked.0 }) c.tick_for-at.ensures.book in
-    let k = ticked_then t (pairs w) checked.0 v v1 v3 c.tick_for-at.ensures.later ok.0 is in
-    let holds : Holds taken v3 = subst (λ (h : Map ℕ). IsListed h (words_of taken)) (sym (ap (λ (b : Book). b.face.held) is)) ok.1 in
-    let newest : IsListed (pairs w) c.deref-2.result.now = rw c.deref-2.ensures.value c.requires.plan.left in (
+    let checked = c.in-Ok.ensures.ok in
+    let k = ticked_then t (pairs w) checked.1.0 v v1 v3 checked.0 ok.0 checked.1.1 in
+    let holds : Holds taken v3 = subst (λ (h : Map ℕ). IsListed h (words_of taken)) (sym (ap (λ (b : Book). b.face.held) checked.1.1)) ok.1 in
+    let newest : IsListed (pairs w) c.deref-in-Ok.result.now = rw c.deref-in-Ok.ensures.value c.requires.plan.left in (
       within,
       (
-        c.validate_all.ensures.same.0 ∙ c.tick_for-at.ensures.same.0 ∙ c.take_all.ensures.same.0 ∙ c.requires.table,
+        c.tick_checked.ensures.same.0 ∙ c.take_all.ensures.same.0 ∙ c.requires.table,
         (
-          newest_fits c.args.shared.now.words w c.deref-2.result.now c.requires.heap.0 newest,
+          newest_fits c.args.shared.now.words w c.deref-in-Ok.result.now c.requires.heap.0 newest,
           (
-            newest_some w c.deref-2.result.now c.requires.any newest,
+            newest_some w c.deref-in-Ok.result.now c.requires.any newest,
             (
               (k.stage, k.live, rw k.due newest),
               (
-                rw k.reads (all_safe v.reads c.requires.plan taken same v3 holds (book c.tick_for-at.new.pass) (rw c.deref.ensures.value at checked)),
+                rw k.reads (all_safe v.reads c.requires.plan taken same v3 holds (ticked_up v1 t (pairs w)) (rw c.deref.ensures.value at checked.1)),
                 updates t w v v3 c.args.answer.value c.args.used.value k story (c.requires.entry t),
               ),
             ),
@@ -136,21 +86,81 @@ release_all-requires-clause-any g c =
     let ok = c.in_ok-take_all.ensures.ok in
     let taken : List Stripe = c.take_all.new.stripes in
     let same : addresses_of taken ≡ addresses_of c.args.plan.stripes.items = ok.2 ∙ ap addresses_of c.deref_mut.ensures.value in
-    let checked = c.in_default.ensures.ok in
     let is : (book c.store_all.new.pass).face.held ≡ v1.face.held =
-    ap (λ (b : Book). b.face.held) c.store_all.ensures.book.2 ∙ ap (λ (b : Book). b.face.held) checked.1 ∙ ap (λ (b : Book). b.face.held) c.tick_for-at.ensures.book in
+    ap (λ (b : Book). b.face.held) c.store_all.ensures.book.2 ∙ ap (λ (b : Book). b.face.held) c.in-Ok.ensures.ok.1.1 in
     let some = some_held (reverse c.args.writes.now) v1.face.held c.requires.any (due_held (book c.args.pass.now).reads c.requires.plan taken same v1 ok.1) in
     λ e. some (sym is ∙ e)
 
-pub returns-clause-ok : goal.returns-clause-ok
-returns-clause-ok g c =
+pub returns-in-Ok-clause-ok : goal.returns-in-Ok-clause-ok
+returns-in-Ok-clause-ok g c =
     let w = reverse c.args.writes.now in
     let v = book c.args.pass.now in
     let v1 = book c.take_all.new.pass in
-    let v3 = book c.validate_all.new.pass in
-    let t = c.tick_for-at.result in
+    let v3 = book c.tick_checked.new.pass in
+    let t = c.in-Ok.at in
     let ok = c.in_ok-take_all.ensures.ok in
-    let checked = c.in_default.ensures.ok in
-    let is : v3 ≡ record (ticked_up v1 t (pairs w)) { checked = checked.0 } = checked.1 ∙ ap (λ (b : Book). record b { checked = checked.0 }) c.tick_for-at.ensures.book in
-    let k = ticked_then t (pairs w) checked.0 v v1 v3 c.tick_for-at.ensures.later ok.0 is in
+    let checked = c.in-Ok.ensures.ok in
+    let k = ticked_then t (pairs w) checked.1.0 v v1 v3 checked.0 ok.0 checked.1.1 in
     (refl, k.seen.0, added t w v v3 c.args.answer.value c.args.used.value k c.store_all.ensures.book.0 (book c.store_all.new.pass) (book c.release_all.new.pass) c.store_all.ensures.book.2 c.release_all.ensures.rest)
+
+pub returns-in-Ok-clause-means : goal.returns-in-Ok-clause-means
+returns-in-Ok-clause-means g c =
+    let checked = c.in-Ok.ensures.ok.1 in
+    let book_is = c.store_all.ensures.book in
+    let v3 = book c.tick_checked.new.pass in
+    let means = rw c.deref_mut.ensures.value at c.take_all.ensures.means in
+    means_stored (book c.args.pass.now).reads c.requires.plan (book c.args.pass.now) (book c.take_all.new.pass) means c.in-Ok.at checked.0 (update_entry v3 c.args.answer.value c.args.used.value) book_is.0 v3 (book c.store_all.new.pass)
+    (book c.release_all.new.pass) checked.1 book_is.2 c.release_all.ensures.wants
+
+pub returns-in-Err-clause-free : goal.returns-in-Err-clause-free
+returns-in-Err-clause-free g c =
+    let v1 = book c.take_all.new.pass in
+    let ok = c.in_ok-take_all.ensures.ok in
+    let taken : List Stripe = c.take_all.new.stripes in
+    let same : addresses_of taken ≡ addresses_of c.args.plan.stripes.items = ok.2 ∙ ap addresses_of c.deref_mut.ensures.value in
+    let is : (book c.tick_checked.new.pass).face.held ≡ v1.face.held = ap (λ (b : Book). b.face.held) c.in-Err.ensures.err.2.1 in
+    let some = some_held (reverse c.args.writes.now) v1.face.held c.requires.any (due_held (book c.args.pass.now).reads c.requires.plan taken same v1 ok.1) in
+    (c.give_back.ensures.free, c.give_back.ensures.over (λ e. some (sym is ∙ e)))
+
+pub returns-in-Err-clause-conflict : goal.returns-in-Err-clause-conflict
+returns-in-Err-clause-conflict g c =
+    let k = c.in-Err.ensures.conflict in
+    let bound = c.in_ok-take_all.ensures.ok.0.rest.bound in
+    let read = elsewhere_read (book c.args.pass.now).reads c.requires.plan c.in-Err.conflict.address (rw c.deref.ensures.value at k.2) in
+    (k.0 ∙ bound, subst (λ (n : ℕ). IsPast n c.in-Err.conflict.word) bound k.1, inr read.0)
+
+pub returns-in-Err-clause-err : goal.returns-in-Err-clause-err
+returns-in-Err-clause-err g c =
+    let w = reverse c.args.writes.now in
+    let v1 = book c.take_all.new.pass in
+    let ok = c.in_ok-take_all.ensures.ok in
+    let taken : List Stripe = c.take_all.new.stripes in
+    let same : addresses_of taken ≡ addresses_of c.args.plan.stripes.items = ok.2 ∙ ap addresses_of c.deref_mut.ensures.value in
+    let lost = c.in-Err.ensures.err in
+    let held : (book c.tick_checked.new.pass).face.held ≡ v1.face.held = ap (λ (b : Book). b.face.held) lost.2.1 in
+    let some = some_held w v1.face.held c.requires.any (due_held (book c.args.pass.now).reads c.requires.plan taken same v1 ok.1) in
+    let over = c.give_back.ensures.over (λ e. some (sym held ∙ e)) in
+    (1, omega arith, ticked_lost lost.0 (pairs w) lost.2.0 c.in-Err.conflict (book c.args.pass.now) v1 (book c.tick_checked.new.pass) (book c.give_back.new.pass) lost.1 c.in-Err.ensures.conflict.0 ok.0 lost.2.1 c.give_back.ensures.rest over)
+
+pub returns-in-Err-clause-means : goal.returns-in-Err-clause-means
+returns-in-Err-clause-means g c =
+    let lost = c.in-Err.ensures.err in
+    let means = rw c.deref_mut.ensures.value at c.take_all.ensures.means in
+    means_lost (book c.args.pass.now).reads c.requires.plan (book c.args.pass.now) (book c.take_all.new.pass) means lost.0 lost.2.0 c.in-Err.conflict.address c.in-Err.conflict.word (book c.tick_checked.new.pass)
+    (book c.give_back.new.pass) lost.2.1 c.give_back.ensures.wants
+
+pub returns-in-Err-clause-other : goal.returns-in-Err-clause-other
+returns-in-Err-clause-other g c =
+    let ok = c.in_ok-take_all.ensures.ok in
+    let taken : List Stripe = c.take_all.new.stripes in
+    let same : addresses_of taken ≡ addresses_of c.args.plan.stripes.items = ok.2 ∙ ap addresses_of c.deref_mut.ensures.value in
+    let free : All (λ (a : ℕ). lookup (book c.take_all.new.pass).face.held (a % 4096) ≡ none) c.deref.result.now = rw c.deref.ensures.value (elsewhere_free (book c.args.pass.now).reads c.requires.plan taken same (book c.take_all.new.pass) ok.1) in
+    rw ok.0.rest.number at (c.in-Err.ensures.other free)
+
+pub returns-in-Err-clause-sole : goal.returns-in-Err-clause-sole
+returns-in-Err-clause-sole g c = λ whole.
+    let ok = c.in_ok-take_all.ensures.ok in
+    let taken : List Stripe = c.take_all.new.stripes in
+    let same : addresses_of taken ≡ addresses_of c.args.plan.stripes.items = ok.2 ∙ ap addresses_of c.deref_mut.ensures.value in
+    let free : All (λ (a : ℕ). lookup (book c.take_all.new.pass).face.held (a % 4096) ≡ none) c.deref.result.now = rw c.deref.ensures.value (elsewhere_free (book c.args.pass.now).reads c.requires.plan taken same (book c.take_all.new.pass) ok.1) in
+    c.in-Err.ensures.sole (ok.0.rest.numbers ∙ whole) free

@@ -1,12 +1,12 @@
 use Rattle.std.proofs.Common.{Ok, refl}
-use Rattle.machine.specs.Machine.{bounds_of, AddsNone}
-use Rattle.machine.proofs.Ends.{adds_of, end_of_call}
+use Rattle.machine.specs.Machine.{bounds_of, AddsNone, Begins}
+use Rattle.machine.proofs.Ends.{adds_of, tries_of, end_of_call}
 use Rattle.machine.proofs.machine.Machine.call.Goals as goal
 
 pub returns-in-Ok-clause-run : goal.returns-in-Ok-clause-run
 returns-in-Ok-clause-run g c = λ h n k s aw em ea may.
-    adds_of c.args.program.now (bounds_of c.args.limits) k (g.E.Engine.awaits c.args.tx.now) g.E.Engine.allows (g.E.Engine.stands c.attempts.new.tx) h n c.in-Ok.end aw may
-    (end_of_call c.args.program.now (bounds_of c.args.limits) k c.args.method c.args.args.now (g.E.Engine.awaits c.args.tx.now) g.E.Engine.allows (g.E.Engine.stands c.attempts.new.tx) h n (AddsNone (g.E.Engine.stands c.attempts.new.tx h) n) (Ok c.in-Ok.end) em ea (c.in-Ok.ensures.run h n s))
+    adds_of c.args.program.now (bounds_of c.args.limits) k (g.E.Engine.awaits c.args.tx.now) g.E.Engine.allows (Begins (g.E.Engine.attempts c.args.tx.now) (g.E.Engine.attempts c.attempts.new.tx)) (g.E.Engine.stands c.attempts.new.tx) h n c.in-Ok.end aw may
+    (end_of_call c.args.program.now (bounds_of c.args.limits) k c.args.method c.args.args.now (g.E.Engine.awaits c.args.tx.now) g.E.Engine.allows (Begins (g.E.Engine.attempts c.args.tx.now) (g.E.Engine.attempts c.attempts.new.tx)) (g.E.Engine.stands c.attempts.new.tx) h n (AddsNone (g.E.Engine.stands c.attempts.new.tx h) n) (Ok c.in-Ok.end) em ea (c.in-Ok.ensures.run h n s))
 
 pub returns-in-Err-NoMemory-clause-run : goal.returns-in-Err-NoMemory-clause-run
 returns-in-Err-NoMemory-clause-run g c = λ h n k s aw em ea may.
@@ -16,3 +16,8 @@ pub returns-in-Err-Wrong-clause-run : goal.returns-in-Err-Wrong-clause-run
 returns-in-Err-Wrong-clause-run g c = λ h n k s aw em ea may.
     let t = (rw c.in-Err-Wrong.field-0-is at c.in-Err-Wrong.ensures.run) h n s in
     (t.0, rw (em, ea) t.1)
+
+pub returns-in-Ok-clause-attempts : goal.returns-in-Ok-clause-attempts
+returns-in-Ok-clause-attempts g c = λ h n j k s aw em ea may a.
+    tries_of c.args.program.now (bounds_of c.args.limits) k (g.E.Engine.awaits c.args.tx.now) g.E.Engine.allows (g.E.Engine.attempts c.args.tx.now) (g.E.Engine.attempts c.attempts.new.tx) (g.E.Engine.stands c.attempts.new.tx) h n j c.in-Ok.end aw may a
+    (end_of_call c.args.program.now (bounds_of c.args.limits) k c.args.method c.args.args.now (g.E.Engine.awaits c.args.tx.now) g.E.Engine.allows (Begins (g.E.Engine.attempts c.args.tx.now) (g.E.Engine.attempts c.attempts.new.tx)) (g.E.Engine.stands c.attempts.new.tx) h n (AddsNone (g.E.Engine.stands c.attempts.new.tx h) n) (Ok c.in-Ok.end) em ea (c.in-Ok.ensures.run h n s))

@@ -34,4 +34,4 @@ pub returns-in-Ok-clause-run : goal.returns-in-Ok-clause-run
 returns-in-Ok-clause-run g c = λ h n r w s.
     let u = rw (c.of.ensures, c.of-2.ensures) at (c.in-Ok.ensures.run h s.conflicts r w s.stands) in
     let f = c.in_ok-answer.ensures (bounds_of c.args.limits) w r in
-    ((f.0, f.1, refl), record { conflicts = s.conflicts; later = s.later; stamped = u.0; adds = λ k a may. u.1 k c.args.limits.room.used a may })
+    ((f.0, f.1, refl), record { conflicts = s.conflicts; later = s.later; tries = s.tries; stamped = u.0; adds = λ k a may. u.1 k c.args.limits.room.used a may })

@@ -1,4 +1,4 @@
-use Rattle.std.proofs.Common.{◌≡◌, ℕ, List, []}
+use Rattle.std.proofs.Common.{◌≡◌, ℕ, ◌+◌, List, []}
 use Rattle.jmodel.specs.History.{Call, Entry}
 use Rattle.machine.specs.declared.running.Stage.TheVariants.{Open}
 use Rattle.machine.specs.Machine.{bounds_of}
@@ -12,3 +12,4 @@ invariant-loop g l =
     × ((c : Call) (used : ℕ) → g.E.Engine.awaits l.initial.tx c used → g.E.Engine.awaits l.tx c used)
     × ((h : List Entry) (n : ℕ) → g.E.Engine.stands l.initial.tx h n [] []
     → OnWay l.program (bounds_of l.limits) (at l.initial.self [] []) (g.E.Engine.stands l.tx h) n l.self)
+    × ((k : ℕ) → g.E.Engine.attempts l.initial.tx k → g.E.Engine.attempts l.tx (k + l.self.tried))

@@ -1,4 +1,3 @@
-use Rattle.std.proofs.Common.{refl}
 use Rattle.jmodel.specs.Attempt.{Gives}
 use Rattle.machine.specs.Machine.{bounds_of}
 use Rattle.machine.proofs.Thrown.{trap_outside}

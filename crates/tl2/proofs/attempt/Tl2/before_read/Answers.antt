@@ -1,8 +1,9 @@
 use Rattle.std.proofs.Common.{◌≡◌, ℕ, true, false, ◌/◌, ◌%◌, ap}
 use Rattle.tx_table.specs.Book.{Map, Saw, lookup}
+use Rattle.tx_table.specs.Passes.{book}
 use Rattle.tl2.specs.declared.attempt.At.TheVariants.{Looked}
 use Rattle.tl2.proofs.Entries.{inside}
-use Rattle.tl2.proofs.Stepping.{stands_looking, stands_lost}
+use Rattle.tl2.proofs.Stepping.{snapshot_looking, snapshot_lost, stands_looking, stands_lost}
 use Rattle.tl2.proofs.attempt.Tl2.before_read.Goals as goal
 
 pub returns-in-Ok-clause-run : goal.returns-in-Ok-clause-run
@@ -18,3 +19,13 @@ returns-in-Err-clause-run g c = λ h n r w s.
     (λ whole.
     let no : false ≡ true = c.in-Err.ensures.sole whole (ap (λ (m : Map ℕ). lookup m (c.args.address % 4096)) e.sits.1) in
     cc no) c.in-Err.ensures.err.1
+
+pub returns-in-Ok-clause-snapshot : goal.returns-in-Ok-clause-snapshot
+returns-in-Ok-clause-snapshot g c =
+    let e = c.args.self.now in
+    snapshot_looking (g.T.Story.story e.shared.now.table.shared.key.story.value) (book e.pass) (book c.look.new.self) (Saw (c.args.address % 4096) (c.in-Ok.field-0 / 2)) c.in-Ok.ensures.ok.2
+
+pub returns-in-Err-clause-snapshot : goal.returns-in-Err-clause-snapshot
+returns-in-Err-clause-snapshot g c =
+    let e = c.args.self.now in
+    snapshot_lost (g.T.Story.story e.shared.now.table.shared.key.story.value) (book e.pass) (book c.look.new.self) c.args.address c.in-Err.conflict.word c.in-Err.ensures.err.1

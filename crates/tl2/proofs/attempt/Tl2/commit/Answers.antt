@@ -7,7 +7,7 @@ use Rattle.tx_table.specs.Book.{Map, Has, In, pairs}
 use Rattle.tx_table.specs.Plays.{keys}
 use Rattle.tx_core.specs.declared.engine.Conflict.{Conflict}
 use Rattle.tx_table.specs.Passes.{book}
-use Rattle.tl2.specs.Commits.{IsAdded, update_of}
+use Rattle.tl2.specs.Commits.{IsAdded, MeansOnly, update_of}
 use Rattle.tl2.specs.Conflicts.{Meets}
 use Rattle.tl2.specs.Standing.{Awaits, Stands}
 use Rattle.tl2.proofs.Entries.{inside, awaits_used, adds_nothing, update_fits, adds_update, lost_stands}
@@ -100,7 +100,7 @@ returns-in-Err-clause-seen g c = λ e q.
     let at = ap (λ (ws : Log). pairs (reverse ws)) c.as_slice-2.ensures.value in
     let read = c.args.self.now.logged (inside _ _ _ c.requires.open.2) in
     subst (λ (d : Conflict). Meets (book c.args.self.now.pass) (book c.update-done.new.pass) d × (Has (pairs (reverse c.args.self.now.writes.items)) d.address ⊎ In d.address c.args.self.now.reads.items)) same (
-      record { upto = k.0; past = k.1; other = c.in-Err.ensures.other; kept = rest.2.lost },
+      record { upto = k.0; past = k.1; other = c.in-Err.ensures.other; kept = rest.2.lost; bound = rest.2.bound; reads = rest.2.reads },
       ⊎_elim (λ (h : Has (pairs (reverse c.as_slice-2.result.now)) c.in-Err.conflict.address). inl (subst (λ (m : Map ℕ). Has m c.in-Err.conflict.address) at h))
           (λ (i : In c.in-Err.conflict.address (keys (book c.args.self.now.pass).reads)). inr (in_reversed c.args.self.now.reads.items c.in-Err.conflict.address (subst (In c.in-Err.conflict.address) (sym read.0) i))) k.2,
     )
@@ -111,3 +111,9 @@ returns-in-Err-clause-run g c = λ h n r w s.
     let rest = c.in-Err.ensures.err in
     rw c.clear.ensures.items (lost_stands g.C.Calling.began e.shared.now.words rest.0 n e.at e.writes.items e.pass c.update-done.new.pass h r w _
     c.in-Err.ensures.same (λ whole. let no : false ≡ true = c.in-Err.ensures.sole whole in cc no) rest.2 s)
+
+pub returns-in-Ok-done-clause-means : goal.returns-in-Ok-done-clause-means
+returns-in-Ok-done-clause-means g c = subst (λ (ws : Log). MeansOnly (Has (pairs (reverse ws))) (book c.args.self.now.pass) (book c.update-done.new.pass)) c.as_slice-2.ensures.value c.update-done.ensures.means
+
+pub returns-in-Err-clause-means : goal.returns-in-Err-clause-means
+returns-in-Err-clause-means g c = subst (λ (ws : Log). MeansOnly (Has (pairs (reverse ws))) (book c.args.self.now.pass) (book c.update-done.new.pass)) c.as_slice-2.ensures.value c.update-done.ensures.means

@@ -1,6 +1,7 @@
 use Rattle.std.proofs.Common.{◌≡◌, ℕ, true, false, ◌%◌, ap, sym, ◌∙◌}
 use Rattle.tx_table.specs.Book.{Map, lookup}
-use Rattle.tl2.proofs.Stepping.{stands_logged, stands_lost}
+use Rattle.tx_table.specs.Passes.{book}
+use Rattle.tl2.proofs.Stepping.{snapshot_lost, stands_logged, stands_lost}
 use Rattle.tl2.proofs.attempt.Tl2.on_read.Goals as goal
 
 pub returns-in-Ok-clause-run : goal.returns-in-Ok-clause-run
@@ -16,3 +17,8 @@ returns-in-Err-clause-run g c = λ h n r w s.
     c.in-Err.conflict.word (λ whole.
     let no : false ≡ true = c.in-Err.ensures.sole whole (ap (λ (m : Map ℕ). lookup m (c.args.address % 4096)) e.sits.1) in
     cc no) c.in-Err.ensures.err.1
+
+pub returns-in-Err-clause-still : goal.returns-in-Err-clause-still
+returns-in-Err-clause-still g c =
+    let e = c.args.self.now in
+    snapshot_lost (g.T.Story.story e.shared.now.table.shared.key.story.value) (book e.pass) (book c.recheck.new.self) c.args.address c.in-Err.conflict.word c.in-Err.ensures.err.1

@@ -1,6 +1,7 @@
 use Rattle.tl2.specs.declared.attempt.At.TheVariants.{Loaded}
 use Rattle.jmodel.specs.Attempt.{access}
-use Rattle.tl2.proofs.Stepping.{stands_loaded}
+use Rattle.tx_table.specs.Passes.{book}
+use Rattle.tl2.proofs.Stepping.{snapshot_loaded, stands_loaded}
 use Rattle.tl2.proofs.attempt.Tl2.raw.Goals as goal
 
 pub returns-clause-run : goal.returns-clause-run
@@ -8,3 +9,8 @@ returns-clause-run g c = λ h n r w s.
     let e = c.args.self.now in
     stands_loaded g.C.Calling.began e.shared.now.words e.at e.writes.items e.pass c.load-word.new.self h n r w c.load-word.ensures.same s
     (Loaded (access c.args.address c.load-word.result)) c.args.address c.in-Looked.looked c.load-word.result c.requires.2 c.in-Looked.is c.load-word.ensures.book
+
+pub returns-clause-snapshot : goal.returns-clause-snapshot
+returns-clause-snapshot g c = λ s.
+    let e = c.args.self.now in
+    snapshot_loaded (g.T.Story.story e.shared.now.table.shared.key.story.value) (book e.pass).look (book e.pass) (book c.load-word.new.self) c.args.address c.load-word.result c.load-word.ensures.book s

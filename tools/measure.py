@@ -1,0 +1,158 @@
+#!/usr/bin/env python3
+"""Measures the program on inputs that this script makes, and prints the tables of docs/PERFORMANCE.md.
+
+usage: tools/measure.py [NAME..]    all cases, or those whose names have one of these words
+
+It runs ./deuce, so the program is built first where need be, and needs javac of Java 17. Each case runs three times. The table has the
+medians of seconds by the clock and of seconds of processors, and the largest memory.
+"""
+
+import json
+import multiprocessing
+import os
+import statistics
+import subprocess
+import sys
+import tempfile
+import time
+
+TOP = os.path.dirname(os.path.dirname(os.path.abspath(__file__)))
+PROGRAM = f"{TOP}/crates/deuce_main/out/deuce_main"
+ATOMIC = "import org.deuce.Atomic;\n"
+RUNS = 3
+
+
+def compiled(folder, sources):
+    """Compiles classes, given by name and text, and gives their files version 49."""
+    made = f"{folder}/classes"
+    os.makedirs(f"{folder}/src/org/deuce")
+    os.makedirs(made)
+    with open(f"{TOP}/examples/src/org/deuce/Atomic.java") as it:
+        sources = {**sources, "org/deuce/Atomic": it.read()}
+    for name, text in sources.items():
+        with open(f"{folder}/src/{name}.java", "w") as it:
+            it.write(text)
+    files = [f"{folder}/src/{name}.java" for name in sources]
+    javac = ["javac", "-source", "7", "-target", "7", "-g:none", "-nowarn", "-Xlint:-options"]
+    subprocess.run([*javac, "-d", made, *files], check=True)
+    os.remove(f"{made}/org/deuce/Atomic.class")
+    for name in os.listdir(made):
+        if name.endswith(".class"):
+            with open(f"{made}/{name}", "r+b") as it:
+                it.seek(6)
+                it.write(b"\0\x31")
+    return made
+
+
+def script(phases, lanes=1, **more):
+    return json.dumps({"form": 1, "lanes": lanes, **more, "phases": phases}, separators=(",", ":"))
+
+
+def calls(method, count, *args):
+    return [{"call": method, "args": [*args]}] * count
+
+
+def on_lanes(method, lanes, count, *args):
+    return {"lanes": [calls(method, count, *args)] * lanes}
+
+
+def counter():
+    return {"Counter": ATOMIC + "public class Counter { static int n; @Atomic public static int inc() { return ++n; } }"}
+
+
+def loops():
+    return {
+        "Loops": ATOMIC
+        + """public class Loops {
+            static int from = 1, to;
+            @Atomic public static int spin(int k) { int s = 0; for (int i = 0; i < k; i++) { s += i; } return s; }
+            @Atomic public static int copy(int k) { for (int i = 0; i < k; i++) { to = from; } return to; }
+            @Atomic public static int divide(int k) { return 1 / k; }
+        }"""
+    }
+
+
+def large(updates):
+    methods = "".join(f"@Atomic public static void m{i}() {{ {f'f{i}++; ' * updates}}}\n" for i in range(100))
+    fields = "".join(f"static int f{i};\n" for i in range(100))
+    return {"Large": f"{ATOMIC}public class Large {{\n{fields}{methods}}}"}
+
+
+def branches(count, locals_):
+    names = ", ".join(f"v{i} = k + {i}" for i in range(locals_ - 1))
+    tests = " ".join(f"if (v{i % (locals_ - 1)} == k) v{(i + 7) % (locals_ - 1)}++;" for i in range(count))
+    return {"Branches": f"{ATOMIC}public class Branches {{ @Atomic public static int m(int k) {{ int {names}; {tests} return v0; }} }}"}
+
+
+def switch(cases):
+    labels = "".join(f"case {i}: " for i in range(cases))
+    turns = "for (int i = 0; i < k; i++) { s += one(i); }"
+    one = f"static int one(int i) {{ switch (i) {{ {labels}return 1; default: return 2; }} }}"
+    return {"Cases": f"{ATOMIC}public class Cases {{ {one} @Atomic public static int m(int k) {{ int s = 0; {turns} return s; }} }}"}
+
+
+def crossed(classes):
+    def text(k):
+        fields = "".join(f"static int f{i};\n" for i in range(100))
+        other = f"C{(k + 1) % classes}"
+        methods = "".join(f"@Atomic public static int m{i}() {{ return ++{other}.f{i}; }}\n" for i in range(100))
+        return f"{ATOMIC}public class C{k} {{\n{fields}{methods}}}"
+
+    return {f"C{k}": text(k) for k in range(classes)}
+
+
+INC = "Counter.inc()I"
+CASES = {
+    "100,000 calls of Counter, 1 lane": (counter, lambda: script([on_lanes(INC, 1, 100_000)])),
+    "the same, 2 lanes": (counter, lambda: script([on_lanes(INC, 2, 50_000)], 2)),
+    "the same, 4 lanes": (counter, lambda: script([on_lanes(INC, 4, 25_000)], 4)),
+    "the same, 16 lanes": (counter, lambda: script([on_lanes(INC, 16, 6_250)], 16)),
+    "the same, 2 lanes in 10,000 phases": (counter, lambda: script([on_lanes(INC, 2, 5)] * 10_000, 2)),
+    "the same, a bag for 16 workers": (counter, lambda: script([{"bag": calls(INC, 100_000)}], 16)),
+    "10 loops of 999,999 turns": (loops, lambda: script([on_lanes("Loops.spin(I)I", 1, 10, 999_999)], budget=1_000_000)),
+    "999,999 turns that read and write a field": (loops, lambda: script([on_lanes("Loops.copy(I)I", 1, 1, 999_999)], budget=1_000_000)),
+    "the same on each of 2 lanes": (loops, lambda: script([on_lanes("Loops.copy(I)I", 2, 1, 999_999)], 2, budget=1_000_000)),
+    "100,000 divisions by 0": (loops, lambda: script([on_lanes("Loops.divide(I)I", 1, 100_000, 0)], region=1_048_576)),
+    "a switch of 16,000 cases, 500,000 times": (lambda: switch(16_000), lambda: script([on_lanes("Cases.m(I)I", 1, 1, 499_999)], budget=1_000_000)),
+    "100 methods of 5,000 bytes, 1,000 calls": (lambda: large(625), lambda: script([on_lanes("Large.m0()V", 1, 1_000)])),
+    "the same, rewritten": (lambda: large(625), None),
+    "a method of 6,000 branches and 200 locals": (lambda: branches(6_000, 200), lambda: script([on_lanes("Branches.m(I)I", 1, 1, 3)])),
+    "256 classes, 100 fields and methods each, 100,000 calls": (lambda: crossed(256), lambda: script([on_lanes("C0.m0()I", 1, 100_000)])),
+    "256 classes, rewritten": (lambda: crossed(256), None),
+    "a script of 450,000 calls, refused": (counter, lambda: script([on_lanes(INC, 1, 450_000)])),
+}
+
+
+def measured(words):
+    """The seconds by the clock, those of processors, and the memory in MB, of one run."""
+    before = time.monotonic()
+    pid = os.posix_spawn(PROGRAM, [PROGRAM, *words], os.environ, file_actions=[(os.POSIX_SPAWN_OPEN, 1, "/dev/null", os.O_WRONLY, 0)])
+    _, _, used = os.wait4(pid, 0)
+    return time.monotonic() - before, used.ru_utime + used.ru_stime, used.ru_maxrss / 1024
+
+
+def make_inputs(folder, sources, script_text):
+    compiled(folder, sources())
+    if script_text:
+        with open(f"{folder}/script.json", "w") as it:
+            it.write(script_text())
+
+
+def main(wanted):
+    subprocess.run([f"{TOP}/deuce"], stdout=subprocess.DEVNULL)
+    print("| What | Seconds by the clock | Seconds of processors | MB |\n|---|---|---|---|")
+    for name, (sources, script_text) in CASES.items():
+        if wanted and not any(it in name for it in wanted):
+            continue
+        with tempfile.TemporaryDirectory() as folder:
+            # (a process of its own makes them, since the program would begin with the memory that this one took)
+            maker = multiprocessing.Process(target=make_inputs, args=(folder, sources, script_text))
+            maker.start()
+            maker.join()
+            words = ["run", f"{folder}/classes", f"{folder}/script.json"] if script_text else ["rewrite", f"{folder}/classes", f"{folder}/out"]
+            clock, processors, memory = zip(*[measured(words) for _ in range(RUNS)])
+        print(f"| {name} | {statistics.median(clock):.2f} | {statistics.median(processors):.2f} | {max(memory):.0f} |", flush=True)
+
+
+if __name__ == "__main__":
+    main(sys.argv[1:])
