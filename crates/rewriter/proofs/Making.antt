@@ -11,7 +11,7 @@ use Rattle.jmodel.specs.declared.name.MethodName.{MethodName}
 use Rattle.jmodel.specs.declared.op.Op.{Op}
 use Rattle.jmodel.specs.declared.op.Op.TheVariants as op
 use Rattle.jmodel.specs.ClassFile.{Pool, Member}
-use Rattle.jmodel.specs.Program.{Field, Method, Program}
+use Rattle.jmodel.specs.Program.{Method, Program}
 use Rattle.jmodel.specs.Rewriting.{moved}
 use Rattle.jmodel.specs.Instruction.{form_of, targets_of, AreStarts, SpellsInstrs}
 use Rattle.jmodel.specs.Relocation.{Block, IsShapedAs, IsShaped, EachInstr, ArePcs, AreBlocks}
