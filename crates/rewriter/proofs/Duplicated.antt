@@ -20,7 +20,7 @@ use Rattle.jmodel.specs.Pool.{utf8}
 use Rattle.jmodel.specs.Program.{Method, Program}
 use Rattle.jmodel.specs.Layout.{text_or_none}
 use Rattle.jmodel.specs.Source.{IsSource, IsSourceOp, IsSourceMethod}
-use Rattle.jmodel.specs.Rewriting.{getter, setter, duplicate, block as ops_of_block, block_len, block_at, blocks, moved_catch, duplicate_method, with_context, catch, duplicate_name}
+use Rattle.jmodel.specs.Rewriting.{block as ops_of_block, block_len, block_at, blocks, moved_catch, duplicate_method, with_context, catch, duplicate_name}
 use Rattle.jmodel.specs.TypeOrder.{context_class}
 use Rattle.jmodel.specs.Decoding.{Symbols, own_name, each, op_of, ops_of}
 use Rattle.jmodel.specs.InstructionReading.{instrs_of}

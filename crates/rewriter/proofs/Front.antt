@@ -1,5 +1,5 @@
 -- A pool only grows: its entries stay where they are.
-use Rattle.std.proofs.Common.{◌≡◌, ℕ, ◌+◌, ◌-◌, List, [], ◌∷◌, ◌++◌, length, Result, Ok, Err, Option, Some, None, Bool, true, false, IfOk, subst, refl, sym, ap, ◌∙◌, append_assoc, nat_lt, nat_eq}
+use Rattle.std.proofs.Common.{◌≡◌, ℕ, ◌+◌, ◌-◌, List, [], ◌∷◌, ◌++◌, length, Result, Ok, Err, Option, Some, None, Bool, true, false, IfOk, subst, refl, sym, ap, ◌∙◌, append_assoc, nat_lt}
 use Rattle.std.proofs.lemmas.List.{append-nil}
 use Rattle.std.specs.Prelude.{ℤ, pos, codes, position, if◌then◌else◌, slice_get, zip}
 use Rattle.std.specs.Int.{w64, cast_signed}
@@ -10,11 +10,10 @@ use Rattle.jmodel.specs.declared.refusal.Refusal.{Refusal}
 use Rattle.jmodel.specs.declared.name.MethodName.{MethodName}
 use Rattle.jmodel.specs.declared.op.Op.{Op}
 use Rattle.jmodel.specs.declared.refusal.Halt.{Halt}
-use Rattle.jmodel.specs.ClassFile.{Pool, Member, ClassFile, Code}
+use Rattle.jmodel.specs.ClassFile.{Pool, Member, ClassFile}
 use Rattle.jmodel.specs.Program.{Field, Method, Program}
 use Rattle.jmodel.specs.Reading.{◌>>=◌, Gives}
 use Rattle.jmodel.specs.Linking.{Coded, decoded, retries_of}
-use Rattle.jmodel.specs.Relocation.{Block}
 use Rattle.jmodel.specs.Rewriting.{with_context, duplicate_name}
 use Rattle.jmodel.specs.Name.{printed}
 use Rattle.jmodel.specs.Decoding.{own_name}

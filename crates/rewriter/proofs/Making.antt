@@ -1,16 +1,17 @@
 -- What a duplicate and a wrapper are made of can be laid.
 use Rattle.std.proofs.Common.{◌≡◌, ℕ, zero, suc, ◌+◌, ◌<◌, ◌≤◌, ℤ, Bool, true, false, List, [], ◌∷◌, Option, Some, None, Result, Ok, refl, sym, ap, ◌∙◌, subst, arith, inl}
-use Rattle.std.specs.Prelude.{if◌then◌else◌, slice_get, slice_index, zip, nat_lt, FitsSigned}
+use Rattle.std.specs.Prelude.{if◌then◌else◌, codes, slice_get, slice_index, zip, nat_lt, FitsSigned}
 use Rattle.std.specs.Int.{w16}
 use Rattle.std.specs.List.{AllByRecursion}
 use Rattle.jmodel.specs.declared.class_file.Handler.{Handler}
 use Rattle.jmodel.specs.declared.instruction.Operands.TheVariants as operands
 use Rattle.jmodel.specs.declared.instruction.Instr.{Instr}
 use Rattle.jmodel.specs.declared.refusal.Refusal.{Refusal}
+use Rattle.jmodel.specs.declared.name.MethodName.{MethodName}
 use Rattle.jmodel.specs.declared.op.Op.{Op}
 use Rattle.jmodel.specs.declared.op.Op.TheVariants as op
 use Rattle.jmodel.specs.ClassFile.{Pool, Member}
-use Rattle.jmodel.specs.Program.{Field, Method, Program}
+use Rattle.jmodel.specs.Program.{Method, Program}
 use Rattle.jmodel.specs.Rewriting.{moved}
 use Rattle.jmodel.specs.Instruction.{form_of, targets_of, AreStarts, SpellsInstrs}
 use Rattle.jmodel.specs.Relocation.{Block, IsShapedAs, IsShaped, EachInstr, ArePcs, AreBlocks}

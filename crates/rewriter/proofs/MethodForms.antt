@@ -29,7 +29,7 @@ use Rattle.rewriter.proofs.Methods.{getter_run, getter_rules, setter_run, setter
 use Rattle.rewriter.proofs.Old.{IsOld, AllOld, few_params}
 use Rattle.rewriter.proofs.Pairs.{all_append}
 use Rattle.rewriter.proofs.Puts.{IsGetter, IsSetter, AreAccessors}
-use Rattle.rewriter.proofs.Rests.{StandsAt, here, behind, from_first, all_where}
+use Rattle.rewriter.proofs.Rests.{StandsAt, here, behind, all_where}
 use Rattle.rewriter.proofs.StillForms.{method_still}
 use Rattle.rewriter.proofs.Tables.{Known}
 use Rattle.rewriter.proofs.Tied.{Tied}

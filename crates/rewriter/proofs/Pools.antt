@@ -7,13 +7,12 @@ use Rattle.std.proofs.lemmas.Bool.Decides.{nat_tests}
 use Rattle.jmodel.specs.declared.refusal.Refusal.{Refusal}
 use Rattle.jmodel.specs.declared.op.Op.{Op}
 use Rattle.jmodel.specs.declared.op.Op.TheVariants as op
-use Rattle.jmodel.specs.ClassFile.{Pool, Attribute, Member, ClassFile, Code}
+use Rattle.jmodel.specs.ClassFile.{Pool, Attribute, Member, ClassFile}
 use Rattle.jmodel.specs.ClassRules.{IsPool}
 use Rattle.jmodel.specs.Program.{Field, Method, Program}
 use Rattle.jmodel.specs.Decoding.{Symbols, own_name}
 use Rattle.jmodel.specs.Name.{printed}
 use Rattle.jmodel.specs.Reading.{◌>>=◌}
-use Rattle.jmodel.specs.Relocation.{Block}
 use Rattle.jmodel.specs.Rewriting.{with_context, duplicate_name}
 use Rattle.jmodel.specs.Linking.{Coded, decoded, descriptor_of, retries_of}
 use Rattle.jmodel.specs.declared.name.MethodName.{MethodName}

@@ -17,8 +17,8 @@ use Rattle.const_pool.proofs.Takes.{bind_ok, guard_ok, ok_is, fine}
 use Rattle.rewriter.specs.declared.accessors.Accessors.{Accessors}
 use Rattle.rewriter.specs.Adding.{grow_from}
 use Rattle.rewriter.specs.Members.{room_for, getter_named, setter_named, duplicate_named, few_places, getter_name, setter_name, getter_type, setter_type, getter_body, setter_body, accessor, getter_of, setter_of, accessors_of, made_duplicate, coded_duplicate, duplicate_of}
-use Rattle.rewriter.specs.Part.{Share, share_of, part_of, own_methods, wrapper_count}
-use Rattle.rewriter.specs.Rewritten.{replaced, number_behind, id_behind, old_from, both_of, room_in, duplicates, added_methods, new_methods, rewritten_share, rewritten_part}
+use Rattle.rewriter.specs.Part.{Part, Share, share_of, part_of, own_methods, wrapper_count}
+use Rattle.rewriter.specs.Rewritten.{replaced, number_behind, id_behind, old_from, both_of, room_in, duplicates, added_fields, added_methods, new_methods, rewritten_share, rewritten_part}
 use Rattle.rewriter.specs.RewrittenClasses.{of_class, rewritten_from, rewritten_classes}
 use Rattle.rewriter.proofs.ClassesKnown.{of_class_ok}
 
@@ -61,8 +61,8 @@ duplicate_room P c room k m pool r e =
 grow_length : {A B : Type 0} (f : ℕ → A → Pool → Result (B × Pool) Refusal) (n : ℕ) (xs : List A) (pool : Pool) (r : List B × Pool) → grow_from f n xs pool ≡ Ok r → length r.0 ≡ length xs
 grow_length {A} {B} f n [] pool r e = sym (ap (λ (x : List B × Pool). length x.0) (ok_is ([], pool) r e))
 grow_length {A} {B} f n (x ∷ xs) pool r e =
-    let a = bind_ok _ _ r e in
-    let b = bind_ok _ _ r a.2 in
+    let a = bind_ok (f n x pool) (λ (first : B × Pool). grow_from f (n + 1) xs first.1 >>= λ (others : List B × Pool). Ok (first.0 ∷ others.0, others.1)) r e in
+    let b = bind_ok (grow_from f (n + 1) xs a.0.1) (λ (others : List B × Pool). Ok (a.0.0 ∷ others.0, others.1)) r a.2 in
     let rest = grow_length f (n + 1) xs a.0.1 b.0 b.1 in
     sym (ap (λ (y : List B × Pool). length y.0) (ok_is (a.0.0 ∷ b.0.0, b.0.1) r b.2)) ∙ ap suc rest
 
@@ -133,12 +133,12 @@ methods_fit P c share pool r few e =
     let sum = length-append b.0.0 a.0.0 in
     omega (arith, few, back, front, zipped, all, sum)
 
-class_fits : (P : Program) (c : ClassFile) (share : Share) (new : ClassFile) → length c.methods ≤ 65535 → rewritten_share P c share ≡ Ok new → length new.methods ≤ 65535
+class_fits : (P : Program) (c : ClassFile) (part : Part) (new : ClassFile) → length c.methods ≤ 65535 → rewritten_part P c part ≡ Ok new → length new.methods ≤ 65535
 unfolding rewritten_share
-class_fits P c share new few e =
-    let a = bind_ok _ _ new e in
-    let b = bind_ok _ _ new a.2 in
-    subst (λ (x : ClassFile). length x.methods ≤ 65535) (ok_new _ new b.2) (methods_fit P c share a.0.1 b.0 few b.1)
+class_fits P c part new few e =
+    let a = bind_ok (added_fields part.fields c.pool) _ new e in
+    let b = bind_ok (new_methods P c (share_of c part) a.0.1) _ new a.2 in
+    subst (λ (x : ClassFile). length x.methods ≤ 65535) (ok_new _ new b.2) (methods_fit P c (share_of c part) a.0.1 b.0 few b.1)
   where
     ok_new : (x y : ClassFile) → fine x ≡ fine y → x ≡ y
     ok_new x y e = cc
@@ -152,7 +152,7 @@ module _ (cs : List ClassFile) (P : Program) where
       let a = bind_ok (of_class (own_name c) (rewritten_part P c (part_of cs P n id c))) (λ first. rewritten_from cs P (n + length (own_methods P c)) (id + wrapper_count (own_methods P c)) ds >>= λ others. Ok (first ∷ others)) news e in
       let b = bind_ok (rewritten_from cs P (n + length (own_methods P c)) (id + wrapper_count (own_methods P c)) ds) (λ others. Ok (a.0 ∷ others)) news a.2 in
       let few = h.0.few_methods in
-      let one = class_fits P c (share_of c (part_of cs P n id c)) a.0 (omega (arith, few)) (of_class_ok (own_name c) (rewritten_part P c (part_of cs P n id c)) a.0 a.1) in
+      let one = class_fits P c (part_of cs P n id c) a.0 (omega (arith, few)) (of_class_ok (own_name c) (rewritten_part P c (part_of cs P n id c)) a.0 a.1) in
       subst (AllByRecursion (λ (c : ClassFile). length c.methods < 2 ^ 16)) (ok_is (a.0 ∷ b.0) news b.2) (omega (arith, one), all_fit (n + length (own_methods P c)) (id + wrapper_count (own_methods P c)) ds b.0 h.1 b.1)
 
   pub few_methods : (news : List ClassFile) → AllByRecursion IsClassFile cs → rewritten_classes cs P ≡ Ok news → AllByRecursion (λ (c : ClassFile). length c.methods < 2 ^ 16) news

@@ -34,7 +34,7 @@ returns-in_err-duplicate_of c =
     let second : iter_rest (zip_second c.into_iter-method-iterator.result) ≡ c.args.members.now = first_of (cc, search rules) in
     let t = zip_turn c.args.methods.now c.args.members.now c.loop-method.yielded c.into_iter-method-iterator.result c.loop-method.method-iterator c.next.new.self c.next.result first second c.loop-method.yielded_by
     (c.in-Some.method, c.in-Some.member) c.in-Some.is c.next.ensures.steps in
-    let left : c.saturating_sub.result ≡ c.args.room - length c.loop-method.yielded = omega (arith, c.saturating_sub.ensures, c.len.ensures, c.loop-method.invariant.1) in
+    let left : c.saturating_sub-left.result ≡ c.args.room - length c.loop-method.yielded = omega (arith, c.saturating_sub-left.ensures, c.len.ensures, c.loop-method.invariant.1) in
     let fails = subst (λ (r : ℕ). Fails c.in_err-duplicate_of.field-0.0 (duplicate_of c.args.original.now c.args.class.now r c.in-Some.method.now c.in-Some.member.now.now c.loop-method.pool)) left c.in_err-duplicate_of.ensures in
     rw (p.1, p.2) (ends f c.in_err-duplicate_of.field-0.0 c.loop-method.copies.items (side_by_side ks ms) (length c.loop-method.yielded) (c.in-Some.method.now, c.in-Some.member.now.now) c.loop-method.pool _
     (pair_is ks ms (length c.loop-method.yielded) c.in-Some.method.now c.in-Some.member.now t.0 t.1 (t.2 _) (t.3 _)) fails c.loop-method.invariant.0)
@@ -50,7 +50,7 @@ loop-method-preserved c =
     (c.in-Some.method, c.in-Some.member) c.in-Some.is c.next.ensures.steps in
     let all = side_by_side c.args.methods.now c.args.members.now in
     let total = grow_from f 0 all c.args.pool.now in
-    let left : c.saturating_sub.result ≡ c.args.room - length c.loop-method.yielded = omega (arith, c.saturating_sub.ensures, c.len.ensures, c.loop-method.invariant.1) in
+    let left : c.saturating_sub-left.result ≡ c.args.room - length c.loop-method.yielded = omega (arith, c.saturating_sub-left.ensures, c.len.ensures, c.loop-method.invariant.1) in
     let gives = subst (λ (r : ℕ). duplicate_of c.args.original.now c.args.class.now r c.in-Some.method.now c.in-Some.member.now.now c.loop-method.pool ≡ Ok (c.in_ok-duplicate_of.field-0, c.duplicate_of.new.pool)) left c.in_ok-duplicate_of.ensures in
     let step =
     goes_on f c.loop-method.copies.items all (length c.loop-method.yielded) (c.in-Some.method.now, c.in-Some.member.now.now) c.in_ok-duplicate_of.field-0 c.loop-method.pool c.duplicate_of.new.pool total

@@ -8,5 +8,5 @@ use Rattle.rewriter.proofs.rewriting.duplicates.Goals as goal
 
 pub duplicate_each-requires : goal.duplicate_each-requires
 duplicate_each-requires c =
-    let whole = ap (λ (ks : List Method). zip ks (map (λ (m : Bor Member). m.now) c.members.result.now)) c.methods.ensures ∙ ap (zip c.args.share.now.methods) c.members.ensures in
+    let whole = ap (λ (ks : List Method). zip ks (map (λ (m : Bor Member). m.now) c.members.result.now)) c.methods-methods.ensures ∙ ap (zip c.args.share.now.methods) c.members.ensures in
     subst (AllByRecursion (CanBeMade c.args.class.now)) (sym whole) c.requires

@@ -1,5 +1,5 @@
-use Rattle.std.proofs.Common.{◌≡◌, ℕ, Result, Ok, Err, Fits, w16, w32, to_z, of_z, refl, sym, ap, ◌∙◌, arith}
-use Rattle.std.proofs.lemmas.Int.{ints, to_z-of_z}
+use Rattle.std.proofs.Common.{◌≡◌, Result, Ok, Err, w32, refl, sym, ap, ◌∙◌}
+use Rattle.std.proofs.lemmas.Int.{to_z-of_z, to_z_pos}
 use Rattle.std.specs.Prelude.{ℤ, pos}
 use Rattle.std.proofs.lemmas.Result.{err_from_is_err_and}
 use Rattle.jmodel.specs.declared.refusal.Refusal.{Refusal}
@@ -16,15 +16,11 @@ fails_then halts.NoMemory r f t = tt
 fails_then (halts.Refused x) (Ok y) f t = absurd cc
 fails_then (halts.Refused x) (Err y) f t = let same : y ≡ x = cc in ap Err same
 
--- a number of two bytes, as an int
-number_is : (n : ℕ) (z : ℤ) → Fits w16 n → z ≡ pos n → to_z w32 (of_z w32 z) ≡ pos n
-number_is n z few is = to_z-of_z w32 z (rw is (record { sfits = omega (arith, ints, few.fits) })) ∙ is
-
 pub returns-in_err-init : goal.returns-in_err-init
 unfolding opening_of
 returns-in_err-init c =
     let a = c.in_ok-get.ensures in
-    let b : add_integer (pos c.args.number) c.add_method.new.pool ≡ Ok (c.in_ok-number.number, c.add_integer.new.pool) = ap (λ (z : ℤ). add_integer z c.add_method.new.pool) (sym (number_is c.args.number c.from.result c.ranges.number c.from.ensures)) ∙ c.in_ok-number.ensures in
+    let b : add_integer (pos c.args.number) c.add_method.new.pool ≡ Ok (c.in_ok-number.number, c.add_integer.new.pool) = ap (λ (z : ℤ). add_integer z c.add_method.new.pool) (sym (to_z_pos w32 c.args.number c.requires)) ∙ c.in_ok-number.ensures in
     let d : add_integer c.args.attempts c.add_integer.new.pool ≡ Ok (c.in_ok-retries.retries, c.add_integer-2.new.pool) = ap (λ (z : ℤ). add_integer z c.add_integer.new.pool) (sym (to_z-of_z w32 c.args.attempts c.ranges.attempts)) ∙ c.in_ok-retries.ensures in
     let p = err_from_is_err_and c.from_residual-in_err-init.result c.from_residual-in_err-init.ensures.1 in
     rw (p.1, p.2, a, b, d) (fails_then _ _ _ c.in_err-init.ensures)
@@ -33,7 +29,7 @@ pub returns : goal.returns
 unfolding opening_of
 returns c =
     let a = c.in_ok-get.ensures in
-    let b : add_integer (pos c.args.number) c.add_method.new.pool ≡ Ok (c.in_ok-number.number, c.add_integer.new.pool) = ap (λ (z : ℤ). add_integer z c.add_method.new.pool) (sym (number_is c.args.number c.from.result c.ranges.number c.from.ensures)) ∙ c.in_ok-number.ensures in
+    let b : add_integer (pos c.args.number) c.add_method.new.pool ≡ Ok (c.in_ok-number.number, c.add_integer.new.pool) = ap (λ (z : ℤ). add_integer z c.add_method.new.pool) (sym (to_z_pos w32 c.args.number c.requires)) ∙ c.in_ok-number.ensures in
     let d : add_integer c.args.attempts c.add_integer.new.pool ≡ Ok (c.in_ok-retries.retries, c.add_integer-2.new.pool) = ap (λ (z : ℤ). add_integer z c.add_integer.new.pool) (sym (to_z-of_z w32 c.args.attempts c.ranges.attempts)) ∙ c.in_ok-retries.ensures in
     let e = c.in_ok-init.ensures in
     rw (a, b, d, e) refl
