@@ -1,0 +1,42 @@
+-- What stands above a class is what stands above those right above it; and the types of a folder's program keep the rules of source.
+use Rattle.std.specs.Prelude.{◌≡◌, ℕ, List, Some, None, true, slice_get}
+use Rattle.std.specs.List.{AllByRecursion, flat_map}
+use Rattle.jmodel.specs.ClassFile.{Pool, ClassFile}
+use Rattle.jmodel.specs.Pool.{class_name}
+use Rattle.jmodel.specs.Descriptor.{is_array_name, IsArrayName}
+use Rattle.jmodel.specs.Superclasses.{own_name, class_named, super_name, with_above, lineage}
+use Rattle.jmodel.specs.Classes.{Declared, doubled_class}
+use Rattle.objects.specs.Program.{Method}
+use Rattle.objects.specs.TypeOrder.{context_class, conflict_class, is_class_name}
+use Rattle.objects.specs.Source.{AreTypes}
+use Rattle.objects.specs.Layout.{rows, fields_of}
+use Rattle.objects.specs.Linking.{taken_methods, constructs_fault}
+use Rattle.objects.specs.Resolution.{names_above, ancestry}
+use Rattle.objects.specs.ClassesFaults.{supers_fault}
+
+-- The ways upward are as JVM Specification, Java SE 7, sections 5.4.3.2 and 5.4.3.3, walk them: from a class to its superclass, and on from there; or to
+-- each of its interfaces and then its superclass, and on from each. How many classes there are cuts none of them short.
+pub record IsUpward (cs : List ClassFile) : Type 0 where
+  pub supers : (name : List ℕ) → lineage cs name ≡ with_above (λ c. lineage cs (super_name c)) (class_named cs name)
+  pub all : (name : List ℕ) → ancestry cs name ≡ with_above (λ c. flat_map (ancestry cs) (names_above c)) (class_named cs name)
+
+abbrev pub UpwardLaw : Type 0
+UpwardLaw = (cs : List ClassFile) → supers_fault cs ≡ None → IsUpward cs
+
+-- the names of classes in a pool that begin as arrays' are arrays' (section 4.4.1)
+abbrev pub IsFormed : Pool → Type 0
+IsFormed pool = (i : ℕ) (n : List ℕ) → class_name pool i ≡ Some n → is_array_name n ≡ true → IsArrayName n
+
+-- Classes without a fault, of class files that keep the rules of names; none has a name of the transaction.
+pub record AreFaultless (cs : List ClassFile) : Type 0 where
+  pub supers : supers_fault cs ≡ None
+  pub doubled : doubled_class cs ≡ None
+  pub constructs : constructs_fault cs ≡ None
+  pub context : class_named cs context_class ≡ None
+  pub conflict : class_named cs conflict_class ≡ None
+  pub named : (i : ℕ) (c : ClassFile) → slice_get cs i ≡ Some c → is_class_name (own_name c) ≡ true
+  pub formed : AllByRecursion (λ (k : Declared). IsFormed k.class.pool) (taken_methods cs)
+
+-- The types of their program keep the rules of source.
+abbrev pub TypesLaw : Type 0
+TypesLaw = (cs : List ClassFile) → AreFaultless cs → (texts : List ℕ) (methods : List Method) → AreTypes (record { types = rows cs; texts = texts; fields = fields_of cs; methods = methods })

@@ -1,0 +1,29 @@
+//! Laws of the definitions: each function's contract is one, and its body does nothing.
+ghost use Rattle.objects.specs.TypingLaw.{TypedSafety};
+ghost use Rattle.objects.specs.Law.{Simulation, Prefix, Soundness, SnapshotSoundness};
+
+/// A program each of whose methods has a typing never gets stuck over a heap whose objects have values of their types, and keeps it so.
+pub fn typed_safety()
+    ensures { TypedSafety }
+{}
+
+/// A call of rewritten typed code, whatever the engine answers, is what the original method would have done in one piece from each state that has what the
+/// call's last attempt read.
+pub fn simulation()
+    ensures { Simulation }
+{}
+
+/// An attempt so far is matched by a run of the original method from each state that has what it read.
+pub fn prefix()
+    ensures { Prefix }
+{}
+
+/// A call of rewritten typed code is never stuck where what it read is what a state has.
+pub fn soundness()
+    ensures { Soundness }
+{}
+
+/// Nor is it where that is what memory has after a list of explained entries.
+pub fn snapshot_soundness()
+    ensures { SnapshotSoundness }
+{}

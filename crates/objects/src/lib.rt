@@ -1,0 +1,7 @@
+//! What Java programs with objects mean, alone and rewritten, and the laws that hold of them.
+#![tactic(auto)]
+
+pub mod laws;
+pub mod linking_law;
+pub mod op;
+pub mod serial_law;
