@@ -78,3 +78,7 @@ pub mod FolderTypes
 pub mod Served
 pub mod Simulated
 pub mod RewritingLaws
+pub mod Completes
+pub mod Completing
+pub mod Unspent
+pub mod CompletionLaw

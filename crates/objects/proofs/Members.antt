@@ -530,11 +530,7 @@ module _ (P : Program) (Ts : List Table) (S : IsTypedProgram P Ts) (Q : Program)
               (field_last Q B dn a _ is l' k.places ctx (setter P i) [] at i f gs M (access (address (inner (suc o) f)) (word_of (kept_by f.declared.word v)) ∷ w) r s1 h (Ref (suc o) ∷ slots_of v ++ Context ∷ []))
 
       pub put_field : Goal (suc n) (On Open (frame dn a l' s ∷ gs) M w r)
-      put_field =
-          let start = fine (op.PutField i) e _ (step_of t.is) in
-          let x = popped P fs IsFineAsk (λ h. h) (sort_of f.declared.word) s _ start in
-          let y = object_of x.v x.rest x.is x.sort start in
-          subst (λ (s : List Slot). Goal (suc n) (On Open (frame dn a l' s ∷ gs) M w r)) (sym (x.is ∙ ap (pushed x.v) y.2)) (put_field_at x.v y.0 y.1 (x.is ∙ ap (pushed x.v) y.2) x.sort)
+      put_field = let start = fine (op.PutField i) e _ (step_of t.is) in first_of (popped P fs IsFineAsk (λ h. h) (sort_of f.declared.word) s _ start) start
         where
           then_puts : Value → List Slot → Did
           then_puts v s1 = on_ref s1 (λ o s2. not_null o (frame m pc l s2) (Does (doing.Ask (request.Put (inner o f) (kept_by f.declared.word v))) (frame m pc l s2)))
@@ -549,6 +545,12 @@ module _ (P : Program) (Ts : List Table) (S : IsTypedProgram P Ts) (Q : Program)
               under (value.Int x) kind h = subst (λ (t : Sort). IsFineAsk (on_did P (on_value t (Int x ∷ s1) then_puts) fs)) (sym kind) h
               under (value.Long x) kind h = subst (λ (t : Sort). IsFineAsk (on_did P (on_value t (Second ∷ Long x ∷ s1) then_puts) fs)) (sym kind) h
               under (value.Ref x) kind h = subst (λ (t : Sort). IsFineAsk (on_did P (on_value t (Ref x ∷ s1) then_puts) fs)) (sym kind) h
+
+          both_of : (x : Popped (sort_of f.declared.word) s) → (o : ℕ) × (rest : List Slot) × (x.rest ≡ Ref o ∷ rest) → Goal (suc n) (On Open (frame dn a l' s ∷ gs) M w r)
+          both_of x y = let same : s ≡ pushed x.v (Ref y.0 ∷ y.1) = x.is ∙ ap (pushed x.v) y.2 in subst (λ (s : List Slot). Goal (suc n) (On Open (frame dn a l' s ∷ gs) M w r)) (sym same) (put_field_at x.v y.0 y.1 same x.sort)
+
+          first_of : (x : Popped (sort_of f.declared.word) s) → IsFineAsk (on_did P (on_value (sort_of f.declared.word) s then_puts) fs) → Goal (suc n) (On Open (frame dn a l' s ∷ gs) M w r)
+          first_of x start = both_of x (object_of x.v x.rest x.is x.sort start)
 
     -- ---- elements
 
@@ -847,18 +849,23 @@ module _ (P : Program) (Ts : List Table) (S : IsTypedProgram P Ts) (Q : Program)
             by true is j agrees = let x = positive i is in look1 x.0 x.1 is (addressed (has_address (element_place (suc o) i)) refl is) j agrees
 
       pub get_element : Goal (suc n) (On Open (frame dn a l' s ∷ gs) M w r)
-      get_element =
-          let x = int_popped P fs IsFineAsk (λ h. h) s _ (fine (op.LoadElement t1) e _ (step_of t.is)) in
-          let y = ref_popped P fs IsFineAsk (λ h. h) x.1 _ x.3 in
-          let same : s ≡ Int x.0 ∷ Ref y.0 ∷ y.1 = x.2 ∙ ap (λ (st : List Slot). Int x.0 ∷ st) y.2 in
-          subst (λ (s : List Slot). Goal (suc n) (On Open (frame dn a l' s ∷ gs) M w r)) (sym same) (by y.0 same)
+      get_element = first_of (int_popped P fs IsFineAsk (λ h. h) s _ (fine (op.LoadElement t1) e _ (step_of t.is)))
         where
-          step_of : slice_get P.methods m ≡ Some k → step P (frame m pc l s ∷ fs) ≡ on_did P (on_int s (λ i s1. on_ref s1 (λ o s2. not_null o (frame m pc l s2) (Does (doing.Head o (Indexes i element.Load)) (frame m pc l s2))))) fs
+          then_loads : ℤ → List Slot → Did
+          then_loads i s1 = on_ref s1 (λ o s2. not_null o (frame m pc l s2) (Does (doing.Head o (Indexes i element.Load)) (frame m pc l s2)))
+
+          step_of : slice_get P.methods m ≡ Some k → step P (frame m pc l s ∷ fs) ≡ on_did P (on_int s then_loads) fs
           step_of isp = simp (isp, e)
 
           by : {i : ℤ} {s1 : List Slot} (o : ℕ) → s ≡ Int i ∷ Ref o ∷ s1 → Goal (suc n) (On Open (frame dn a l' (Int i ∷ Ref o ∷ s1) ∷ gs) M w r)
           by {i} {s1} zero same = load_null i s1 same
           by {i} {s1} (suc o) same = load_object i o s1 same
+
+          both_of : (i : ℤ) (s1 : List Slot) → s ≡ Int i ∷ s1 → (o : ℕ) × (rest : List Slot) × (s1 ≡ Ref o ∷ rest) → Goal (suc n) (On Open (frame dn a l' s ∷ gs) M w r)
+          both_of i s1 is y = let same : s ≡ Int i ∷ Ref y.0 ∷ y.1 = is ∙ ap (λ (st : List Slot). Int i ∷ st) y.2 in subst (λ (s : List Slot). Goal (suc n) (On Open (frame dn a l' s ∷ gs) M w r)) (sym same) (by y.0 same)
+
+          first_of : (i : ℤ) × (rest : List Slot) × (s ≡ Int i ∷ rest) × IsFineAsk (on_did P (then_loads i rest) fs) → Goal (suc n) (On Open (frame dn a l' s ∷ gs) M w r)
+          first_of x = both_of x.0 x.1 x.2 (ref_popped P fs IsFineAsk (λ h. h) x.1 _ x.3)
 
     -- an element that is written
     module _ (t1 : WordType) (e : slice_get k.ops pc ≡ Some (op.StoreElement t1)) where
@@ -1073,17 +1080,13 @@ module _ (P : Program) (Ts : List Table) (S : IsTypedProgram P Ts) (Q : Program)
               by true is j agrees = stored_by is (addressed (has_address (element_place (suc o) i)) refl is) kept2 refl j agrees
 
       pub put_element : Goal (suc n) (On Open (frame dn a l' s ∷ gs) M w r)
-      put_element =
-          let start = fine (op.StoreElement t1) e _ (step_of t.is) in
-          let x = popped P fs IsFineAsk (λ h. h) (sort_of t1) s _ start in
-          let inner_ask = under x.v x.rest x.sort (subst (λ (st : List Slot). IsFineAsk (on_did P (on_value (sort_of t1) st then_stores) fs)) x.is start) in
-          let y = int_popped P fs IsFineAsk (λ h. h) x.rest _ inner_ask in
-          let u = ref_popped P fs IsFineAsk (λ h. h) y.1 _ y.3 in
-          let same : s ≡ pushed x.v (Int y.0 ∷ Ref u.0 ∷ u.1) = x.is ∙ ap (λ (st : List Slot). pushed x.v st) (y.2 ∙ ap (λ (st : List Slot). Int y.0 ∷ st) u.2) in
-          subst (λ (s : List Slot). Goal (suc n) (On Open (frame dn a l' s ∷ gs) M w r)) (sym same) (by x.v x.sort y.0 u.1 u.0 same)
+      put_element = let start = fine (op.StoreElement t1) e _ (step_of t.is) in first_of (popped P fs IsFineAsk (λ h. h) (sort_of t1) s _ start) start
         where
+          then_at : Value → ℤ → List Slot → Did
+          then_at v i s2 = on_ref s2 (λ o s3. not_null o (frame m pc l s3) (Does (doing.Head o (Indexes i (element.Store v))) (frame m pc l s3)))
+
           then_stores : Value → List Slot → Did
-          then_stores v s1 = on_int s1 (λ i s2. on_ref s2 (λ o s3. not_null o (frame m pc l s3) (Does (doing.Head o (Indexes i (element.Store v))) (frame m pc l s3))))
+          then_stores v s1 = on_int s1 (then_at v)
 
           step_of : slice_get P.methods m ≡ Some k → step P (frame m pc l s ∷ fs) ≡ on_did P (on_value (sort_of t1) s then_stores) fs
           step_of isp = simp (isp, e)
@@ -1096,6 +1099,17 @@ module _ (P : Program) (Ts : List Table) (S : IsTypedProgram P Ts) (Q : Program)
           by : (v : Value) → value_sort v ≡ sort_of t1 → (i : ℤ) (s1 : List Slot) (o : ℕ) → s ≡ pushed v (Int i ∷ Ref o ∷ s1) → Goal (suc n) (On Open (frame dn a l' (pushed v (Int i ∷ Ref o ∷ s1)) ∷ gs) M w r)
           by v kind i s1 zero same = store_null v kind i s1 same
           by v kind i s1 (suc o) same = store_object v kind i s1 o same
+
+          all_of : (x : Popped (sort_of t1) s) (i : ℤ) (s1 : List Slot) → x.rest ≡ Int i ∷ s1 → (o : ℕ) × (rest : List Slot) × (s1 ≡ Ref o ∷ rest) → Goal (suc n) (On Open (frame dn a l' s ∷ gs) M w r)
+          all_of x i s1 is u =
+              let same : s ≡ pushed x.v (Int i ∷ Ref u.0 ∷ u.1) = x.is ∙ ap (λ (st : List Slot). pushed x.v st) (is ∙ ap (λ (st : List Slot). Int i ∷ st) u.2) in
+              subst (λ (s : List Slot). Goal (suc n) (On Open (frame dn a l' s ∷ gs) M w r)) (sym same) (by x.v x.sort i u.1 u.0 same)
+
+          both_of : (x : Popped (sort_of t1) s) → (i : ℤ) × (rest : List Slot) × (x.rest ≡ Int i ∷ rest) × IsFineAsk (on_did P (then_at x.v i rest) fs) → Goal (suc n) (On Open (frame dn a l' s ∷ gs) M w r)
+          both_of x y = all_of x y.0 y.1 y.2 (ref_popped P fs IsFineAsk (λ h. h) y.1 _ y.3)
+
+          first_of : (x : Popped (sort_of t1) s) → IsFineAsk (on_did P (on_value (sort_of t1) s then_stores) fs) → Goal (suc n) (On Open (frame dn a l' s ∷ gs) M w r)
+          first_of x start = both_of x (int_popped P fs IsFineAsk (λ h. h) x.rest _ (under x.v x.rest x.sort (subst (λ (st : List Slot). IsFineAsk (on_did P (on_value (sort_of t1) st then_stores) fs)) x.is start)))
 
     -- ---- each instruction of memory
 

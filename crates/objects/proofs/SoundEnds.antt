@@ -40,7 +40,7 @@ use Rattle.objects.proofs.Goals.{StandsFor, EndsAs, out, back, threw}
 use Rattle.objects.proofs.Sound.{IsSound, SoFar, sound_of_ends, Goal}
 
 -- A value of the result's sort is kept behind the context.
-record IsStored (t : VType) (c : ℕ) (y : Value) (slots wl : List Slot) : Type 0 where
+pub record IsStored (t : VType) (c : ℕ) (y : Value) (slots wl : List Slot) : Type 0 where
   pub room : HasRoom (c + 1) y wl
   pub kept : HasValue (c + 1) y (set_value (c + 1) y wl)
   pub set : IsSet (Some t) c slots (set_value (c + 1) y wl)
@@ -50,7 +50,7 @@ long_wide type.Long c n e wide = omega (arith, wide)
 long_wide type.Int c n e wide = cc
 long_wide t c n e wide = cc
 
-value_stored : (t : VType) (c : ℕ) (y : Value) (slots wl : List Slot) → length slots ≡ c → result_sort t ≡ value_sort y → IsSet (Some t) c slots wl → IsStored t c y slots wl
+pub value_stored : (t : VType) (c : ℕ) (y : Value) (slots wl : List Slot) → length slots ≡ c → result_sort t ≡ value_sort y → IsSet (Some t) c slots wl → IsStored t c y slots wl
 value_stored t c (value.Int x) slots wl len e set = record {
   room = let g = set.room in grind (arith, nat_tests);
   kept = get_set_same wl (c + 1) (Int x) set.room;

@@ -1,6 +1,6 @@
 //! Laws of the definitions: each function's contract is one, and its body does nothing.
 ghost use Rattle.objects.specs.TypingLaw.{TypedSafety};
-ghost use Rattle.objects.specs.Law.{Simulation, Prefix, Soundness, SnapshotSoundness};
+ghost use Rattle.objects.specs.Law.{Simulation, Prefix, Soundness, SnapshotSoundness, Completion};
 
 /// A program each of whose methods has a typing never gets stuck over a heap whose objects have values of their types, and keeps it so.
 pub fn typed_safety()
@@ -26,4 +26,9 @@ pub fn soundness()
 /// Nor is it where that is what memory has after a list of explained entries.
 pub fn snapshot_soundness()
     ensures { SnapshotSoundness }
+{}
+
+/// The other way: where a call of the original method ends, a run of the rewritten code ends with the same answer and state.
+pub fn completion()
+    ensures { Completion }
 {}
