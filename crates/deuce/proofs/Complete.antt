@@ -18,12 +18,11 @@ use Rattle.jmodel.specs.Classes.{in_order}
 use Rattle.jmodel.specs.ClassesLinking.{linking_files, program_in, initialisers_in}
 use Rattle.jmodel.specs.Typing.{IsTypable}
 use Rattle.class_reader.proofs.ClassLaws.{class_again}
-use Rattle.rewriter.specs.Meaning.{HasFewMembers}
 use Rattle.rewriter.specs.RewrittenClasses.{rewritten_classes}
 use Rattle.deuce.specs.Command.{NamesFolder}
 use Rattle.script.specs.Script.{Script, script_in, script_limit, IsScript}
 use Rattle.deuce.specs.Headline.{linked_files, IsRunnable, CanRun}
-use Rattle.deuce.specs.Rewritten.{CanRewrite}
+use Rattle.deuce.specs.Rewritten.{HasFewFields, CanRewrite}
 use Rattle.deuce.specs.declared.outcome.Outcome.{Outcome}
 use Rattle.deuce.specs.declared.outcome.Outcome.TheVariants.{Journal, Rewritten, Usage, BadClass, BadProgram, Untyped, BadScript, Unopened, Outside, NotPut, NotBuilt}
 use Rattle.deuce.specs.Folder.{class_limit, HoldsClasses, IsTooDeep, HasManyClasses, IsOverfull, IsGoodFile, HasClasses, IsBadClass}
@@ -267,9 +266,9 @@ complete words old new NotBuilt status h s can = absurd (built_run words old.fil
 
 -- ---- rewritings
 
-few_at : (cs : List ClassFile) (c : ClassFile) → AllByRecursion HasFewMembers cs → Contains cs c → HasFewMembers c
+few_at : (cs : List ClassFile) (c : ClassFile) → AllByRecursion HasFewFields cs → Contains cs c → HasFewFields c
 few_at [] c few (i, lt, is) = absurd (omega (arith, lt))
-few_at (d ∷ cs) c few (zero, lt, is) = let same : d ≡ c = is in subst HasFewMembers same few.0
+few_at (d ∷ cs) c few (zero, lt, is) = let same : d ≡ c = is in subst HasFewFields same few.0
 few_at (d ∷ cs) c few (suc i, lt, is) = few_at cs c few.1 (i, omega (arith, lt), is)
 
 -- what can be rewritten is
@@ -279,7 +278,9 @@ is_rewritten files can (inr h) =
     let same = one_program files can.program h.program can.runnable.links h.links in
     let made : rewritten_classes (in_order files) h.program ≡ Ok can.runnable.instrumented = subst (λ (p : Program). rewritten_classes (in_order files) p ≡ Ok can.runnable.instrumented) same can.runnable.rewrites in
     let one : can.runnable.instrumented ≡ h.instrumented = let other = h.rewrites in cc in
-    h.many (few_at h.instrumented h.class (subst (AllByRecursion HasFewMembers) one can.few) h.there)
+    let few = few_at h.instrumented h.class (subst (AllByRecursion HasFewFields) one can.few) h.there in
+    let many = h.many in
+    omega (arith, few, many)
 
 unbuilt_rewriting : (told : Files) (dir : List ℕ) → CanRewriteIn told dir → HasClasses (Some told) dir IsNotRewritten → ⊥
 unbuilt_rewriting told dir can h = is_rewritten can.classes can.holding (held told dir CanRewrite can IsNotRewritten h)

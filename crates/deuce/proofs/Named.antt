@@ -1,6 +1,6 @@
 -- Classes by their names, and how rewriting keeps these.
-use Rattle.std.proofs.Common.{◌≡◌, ◌++◌, ◌∙◌, ℕ, zero, suc, Bor, Bool, true, false, cond, List, [], ◌∷◌, length, map, reverse, slice_get, Option, Some, None, refl, sym, ap, subst, arith}
-use Rattle.std.specs.Prelude.{option_map, option_and_then, bytes_eq, if◌then◌else◌, IsSome, IsSomeAnd, Contains, nat_lt}
+use Rattle.std.proofs.Common.{◌≡◌, ◌<◌, ◌≤◌, ◌++◌, ◌∙◌, ℕ, zero, suc, Bor, Bool, true, false, cond, List, [], ◌∷◌, length, map, reverse, slice_get, Option, Some, None, refl, sym, ap, subst, arith}
+use Rattle.std.specs.Prelude.{◌^◌, option_map, option_and_then, bytes_eq, if◌then◌else◌, IsSome, IsSomeAnd, Contains, nat_lt}
 use Rattle.std.specs.List.{AllByRecursion, AllZip}
 use Rattle.std.specs.Map.{lookup}
 use Rattle.std.specs.BTreeMap.{is_at}
@@ -21,6 +21,7 @@ use Rattle.jmodel.specs.Layout.{text_or_none}
 use Rattle.jmodel.specs.Superclasses.{own_name, class_named}
 use Rattle.jmodel.specs.Classes.{is_before, placed, in_order}
 use Rattle.rewriter.specs.Meaning.{HasFewMembers}
+use Rattle.deuce.specs.Rewritten.{HasFewFields}
 use Rattle.rewriter.specs.Rewritten.{Keeps}
 use Rattle.deuce.specs.Ending.{AreUnderNames}
 use Rattle.deuce.proofs.Lists.{all_as}
@@ -192,22 +193,19 @@ holds_of Q (d ∷ cs) name c is all = go (bytes_eq (own_name d) name) (λ e. hol
 
 -- ---- what can be written
 
-pub all_ruled : (cs : List ClassFile) → AllByRecursion (λ (c : ClassFile). HasFewMembers c → IsClassFile c) cs → AllByRecursion HasFewMembers cs → AllByRecursion IsClassFile cs
-all_ruled [] rules few = tt
-all_ruled (c ∷ cs) rules few = (rules.0 few.0, all_ruled cs rules.1 few.1)
+pub all_ruled : (cs : List ClassFile) → AllByRecursion (λ (c : ClassFile). HasFewMembers c → IsClassFile c) cs → AllByRecursion (λ (c : ClassFile). length c.methods < 2 ^ 16) cs → AllByRecursion HasFewFields cs
+    → AllByRecursion IsClassFile cs
+all_ruled [] rules methods fields = tt
+all_ruled (c ∷ cs) rules methods fields = (rules.0 (record { fields = fields.0; methods = methods.0 }), all_ruled cs rules.1 methods.1 fields.1)
 
--- where not each has few members, one has too many
-pub one_many : (cs : List ClassFile) → (AllByRecursion HasFewMembers cs → ⊥) → (c : ClassFile) × Contains cs c × (HasFewMembers c → ⊥)
+-- where not each has few fields, one has too many
+pub one_many : (cs : List ClassFile) → (AllByRecursion HasFewFields cs → ⊥) → (c : ClassFile) × Contains cs c × (2 ^ 16 ≤ length c.fields)
 one_many [] none = absurd (none tt)
-one_many (c ∷ cs) none = go (one_many cs) (nat_lt (length c.fields) 65536) (nat_lt (length c.methods) 65536) refl refl
+one_many (c ∷ cs) none = go (one_many cs) (nat_lt (length c.fields) 65536) refl
   where
-    here : (HasFewMembers c → ⊥) → (d : ClassFile) × Contains (c ∷ cs) d × (HasFewMembers d → ⊥)
-    here many = (c, (0, omega arith, refl), many)
-
-    later : (d : ClassFile) × Contains cs d × (HasFewMembers d → ⊥) → (d : ClassFile) × Contains (c ∷ cs) d × (HasFewMembers d → ⊥)
+    later : (d : ClassFile) × Contains cs d × (2 ^ 16 ≤ length d.fields) → (d : ClassFile) × Contains (c ∷ cs) d × (2 ^ 16 ≤ length d.fields)
     later rest = let lt = rest.1.1 in (rest.0, (suc rest.1.0, omega (arith, lt), rest.1.2), rest.2)
 
-    go : ((AllByRecursion HasFewMembers cs → ⊥) → (d : ClassFile) × Contains cs d × (HasFewMembers d → ⊥)) → (a b : Bool) → nat_lt (length c.fields) 65536 ≡ a → nat_lt (length c.methods) 65536 ≡ b → (d : ClassFile) × Contains (c ∷ cs) d × (HasFewMembers d → ⊥)
-    go others false b p q = here (λ few. let f = few.fields in grind (arith, nat_tests))
-    go others true false p q = here (λ few. let m = few.methods in grind (arith, nat_tests))
-    go others true true p q = let few : HasFewMembers c = record { fields = grind (arith, nat_tests); methods = grind (arith, nat_tests) } in later (others (λ all. none (few, all)))
+    go : ((AllByRecursion HasFewFields cs → ⊥) → (d : ClassFile) × Contains cs d × (2 ^ 16 ≤ length d.fields)) → (b : Bool) → nat_lt (length c.fields) 65536 ≡ b → (d : ClassFile) × Contains (c ∷ cs) d × (2 ^ 16 ≤ length d.fields)
+    go others false p = (c, (0, omega arith, refl), grind (arith, nat_tests))
+    go others true p = let few : HasFewFields c = grind (arith, nat_tests) in later (others (λ all. none (few, all)))

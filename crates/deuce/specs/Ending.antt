@@ -30,7 +30,7 @@ use Rattle.rewriter.specs.RewrittenClasses.{rewritten_classes}
 use Rattle.script.specs.Script.{Script, IsScript, IsFault, script_limit}
 use Rattle.deuce.specs.Folder.{IsClassFileName, depth, class_limit, IsFolder, HoldsClasses, IsTooDeep, IsOverfull, IsFrontOf, Holds, HoldsContents, IsFileFault, IsFileOf, HasClasses, with_files, placed_in, ArePutUpTo}
 use Rattle.deuce.specs.Headline.{name_in, linked_files, IsRun, CanRun, IsRunnable}
-use Rattle.deuce.specs.Rewritten.{IsRewriting, CanRewrite, HasManyMembers}
+use Rattle.deuce.specs.Rewritten.{IsRewriting, CanRewrite, HasManyFields}
 use Rattle.deuce.specs.declared.inputs.ClassInput.{ClassInput}
 use Rattle.deuce.specs.declared.inputs.Inputs.{Inputs}
 use Rattle.deuce.specs.declared.inputs.InputEnd.{InputEnd}
@@ -183,13 +183,13 @@ pub record IsUnopened (bytes name : List ℕ) (x : Answer) (files : List ClassFi
   pub is_script : IsScript (in_order files) program bytes script
   pub shut : IsShut program (in_order files) script.region script.budget name x
 
--- the classes of class files have no fault, but aren't of the form that is built so far
+-- the classes of class files have no fault, but aren't of the form that is taken
 abbrev pub IsOutsideForm : List ClassFile → Type 0
 IsOutsideForm files = linking_files files ≡ Ok None
 
--- They aren't of the form that is built so far, or of their rewriting a class would have too many members.
+-- They aren't of the form that is taken, or of their rewriting a class would have too many fields.
 abbrev pub IsNotRewritten : List ClassFile → Type 0
-IsNotRewritten files = IsOutsideForm files ⊎ HasManyMembers files
+IsNotRewritten files = IsOutsideForm files ⊎ HasManyFields files
 
 -- A folder has good class files, for which the script, of which at most one byte over the limit is looked at, has this fault.
 pub record HasBadScript (files : Option Files) (dir script : List ℕ) (r : Refusal) : Type 0 where

@@ -89,11 +89,11 @@ IsBadScriptOfWords words files r = (dir : List ℕ) × (script : List ℕ) × (s
 abbrev pub IsUnopenedOfWords : List (String Global) → Option Files → List ℕ → Answer → Type 0
 IsUnopenedOfWords words files class x = (dir : List ℕ) × (script : List ℕ) × (seen_words words ≡ run_words dir script) × HasUnopened files dir script class x
 
--- The words ask for a run, and its class files are good, and not of the form that is built so far.
+-- The words ask for a run, and its class files are good, and not of the form that is taken.
 abbrev pub IsUnbuiltRun : List (String Global) → Option Files → Type 0
 IsUnbuiltRun words files = (dir : List ℕ) × (script : List ℕ) × (seen_words words ≡ run_words dir script) × HasClasses files dir IsOutsideForm
 
--- The words ask for a rewriting, and its class files are good, but not of the form, or a rewritten class would have too many members.
+-- The words ask for a rewriting, and its class files are good, but not of the form, or a rewritten class would have too many fields.
 abbrev pub IsUnbuiltRewriting : List (String Global) → Option Files → Type 0
 IsUnbuiltRewriting words files = (dir : List ℕ) × (out : List ℕ) × (seen_words words ≡ rewrite_words dir out) × HasClasses files dir IsNotRewritten
 

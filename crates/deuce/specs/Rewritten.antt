@@ -1,5 +1,5 @@
 -- What `rewrite` promises: the files that it puts are the rewriting of the class files, each of its own.
-use Rattle.std.specs.Prelude.{◌≡◌, ℕ, List, ◌++◌, length, filter, Some, Ok, Contains, codes}
+use Rattle.std.specs.Prelude.{◌≡◌, ◌<◌, ◌≤◌, ◌^◌, ℕ, List, ◌++◌, length, filter, Some, Ok, Contains, codes}
 use Rattle.std.specs.List.{AllByRecursion, AllZip}
 use Rattle.std.specs.Fmt.{decimal}
 use Rattle.jmodel.specs.ClassFile.{ClassFile}
@@ -12,7 +12,6 @@ use Rattle.jmodel.specs.ClassesLinking.{relinked}
 use Rattle.jmodel.specs.Rewriting.{rewritten}
 use Rattle.jmodel.specs.Typing.{IsTypable}
 use Rattle.jmodel.specs.Output.{◌and◌, line}
-use Rattle.rewriter.specs.Meaning.{HasFewMembers}
 use Rattle.rewriter.specs.RewrittenClasses.{rewritten_classes}
 use Rattle.deuce.specs.Folder.{IsFileOf}
 use Rattle.deuce.specs.Headline.{linked_files, IsRunnable}
@@ -45,18 +44,22 @@ pub record IsRewriting (class_files news : List (List ℕ)) (taken marked : ℕ)
   pub stays_typed : AllByRecursion (IsTypable (rewritten program)) (rewritten program).methods
   pub counts : AreCountsOf program taken marked
 
--- Class files can be rewritten: of what they can be run as no class has more members than a class file counts.
+-- the count of a class file's fields has two bytes
+abbrev pub HasFewFields : ClassFile → Type 0
+HasFewFields c = length c.fields < 2 ^ 16
+
+-- Class files can be rewritten: of what they can be run as no class has more fields than a class file counts.
 pub record CanRewrite (files : List ClassFile) : Type 0 where
   pub program : Program
   pub runnable : IsRunnable files program
-  pub few : AllByRecursion HasFewMembers runnable.instrumented
+  pub few : AllByRecursion HasFewFields runnable.instrumented
 
--- of the rewriting of class files one class would have more fields or methods than a class file counts
-pub record HasManyMembers (files : List ClassFile) : Type 0 where
+-- of the rewriting of class files one class would have more fields than a class file counts
+pub record HasManyFields (files : List ClassFile) : Type 0 where
   pub program : Program
   pub links : linked_files files ≡ Some program
   pub instrumented : List ClassFile
   pub rewrites : rewritten_classes (in_order files) program ≡ Ok instrumented
   pub class : ClassFile
   pub there : Contains instrumented class
-  pub many : HasFewMembers class → ⊥
+  pub many : 2 ^ 16 ≤ length class.fields

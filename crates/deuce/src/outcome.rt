@@ -42,7 +42,7 @@ pub enum Outcome {
     Outside(String),
     /// The put at this path failed.
     NotPut(String),
-    /// The classes aren't of the form that is built so far, or a rewritten class would have too many members.
+    /// The classes aren't of the form that is taken, or a rewritten class would have too many fields.
     NotBuilt,
 }
 

@@ -4,11 +4,11 @@ ghost use Rattle.std.specs.List.{AllByRecursion, AllZip};
 ghost use Rattle.jmodel.specs.ClassFile.{ClassFile as Form};
 ghost use Rattle.jmodel.specs.ClassRules.{IsClassFile};
 ghost use Rattle.jmodel.specs.Superclasses.{own_name as own_name_of, class_named};
-ghost use Rattle.rewriter.specs.Meaning.{AreFiled, HasFewMembers};
+ghost use Rattle.rewriter.specs.Meaning.{AreFiled};
 ghost use Rattle.jmodel.specs.Schedule.{is_marked};
 ghost use Rattle.deuce.specs.Ending.{EndsOnClasses, NoScript, NoOpening, IsNotRewritten, AreUnderNames};
 ghost use Rattle.deuce.specs.Folder.{IsFileOf};
-ghost use Rattle.deuce.specs.Rewritten.{IsNewOf, IsRewriting};
+ghost use Rattle.deuce.specs.Rewritten.{HasFewFields, IsNewOf, IsRewriting};
 
 use crate::run::{RunEnd, prepare};
 use class_writer::write_class;
@@ -50,7 +50,7 @@ pub fn write_rewriting(alloc: Global, files: &[ClassFile]) -> Result<WrittenClas
 {
     let prepared = prepare(alloc, files)?;
     let classes = prepared.rewriting.classes.as_slice();
-    if !have_few_members(classes) {
+    if !have_few_fields(classes) {
         return Err(RunEnd::NotBuilt);
     }
     let written = write_each(alloc, files, classes)?;
@@ -97,18 +97,18 @@ fn write_each(
     Ok(written)
 }
 
-/// Whether a class has no more fields and methods than a class file counts.
-fn has_few_members(class: &ClassFile) -> bool
-    ensures { IsTrue result ↔ HasFewMembers class.now }
+/// Whether a class has no more fields than a class file counts.
+fn has_few_fields(class: &ClassFile) -> bool
+    ensures { IsTrue result ↔ HasFewFields class.now }
 {
-    class.fields.len() <= 65_535 && class.methods.len() <= 65_535
+    class.fields.len() <= 65_535
 }
 
 /// The same of each class.
-fn have_few_members(classes: &[ClassFile]) -> bool
-    ensures { IsTrue result ↔ AllByRecursion HasFewMembers classes.now }
+fn have_few_fields(classes: &[ClassFile]) -> bool
+    ensures { IsTrue result ↔ AllByRecursion HasFewFields classes.now }
 {
-    classes.iter().all(has_few_members)
+    classes.iter().all(has_few_fields)
 }
 
 /// How many methods are marked.

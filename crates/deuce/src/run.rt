@@ -44,7 +44,7 @@ pub enum RunEnd {
     BadScript(Refusal),
     /// A static initialiser of the class of this name doesn't return, but ends so.
     Unopened { class: Bytes, answer: Answer },
-    /// The classes aren't of the form that is built so far, or a rewritten class would have too many members.
+    /// The classes aren't of the form that is taken, or a rewritten class would have too many fields.
     NotBuilt,
     NoMemory,
 }
@@ -120,6 +120,7 @@ pub fn prepare(alloc: Global, files: &[ClassFile]) -> Result<Prepared<'_>, RunEn
     ensures rewritten { IfOk result (λ p. (p.rewriting.program ≡ rewritten_program p.original) × (rewritten_classes (order_of_classes files.now) p.original ≡ Ok p.rewriting.classes.items)) }
     ensures keeps { IfOk result (λ p. AllZip Keeps (order_of_classes files.now) p.rewriting.classes.items) }
     ensures stays_typed { IfOk result (λ p. AllByRecursion (IsTypable p.rewriting.program) p.rewriting.program.methods) }
+    ensures few { IfOk result (λ p. AllByRecursion (λ (c : Form). length c.methods < 2 ^ 16) p.rewriting.classes.items) }
     ensures rules { IfOk result (λ p. AllByRecursion (λ (c : Form). HasFewMembers c → IsClassFile c) p.rewriting.classes.items) }
     ensures cause { IfErr result (EndsOnClasses files.now NoScript NoOpening IsOutsideForm) }
 {
@@ -172,6 +173,7 @@ fn instrument(
     ensures rewritten { IfOk result (λ r. (r.program ≡ rewritten_program original.now) × (rewritten_classes (map (λ c. c.now) classes.now) original.now ≡ Ok r.classes.items)) }
     ensures keeps { IfOk result (λ r. AllZip Keeps (map (λ c. c.now) classes.now) r.classes.items) }
     ensures typed { IfOk result (λ r. AllByRecursion (IsTypable r.program) r.program.methods) }
+    ensures few { IfOk result (λ r. AllByRecursion (λ (c : Form). length c.methods < 2 ^ 16) r.classes.items) }
     ensures rules { IfOk result (λ r. AllByRecursion (λ (c : Form). HasFewMembers c → IsClassFile c) r.classes.items) }
     ensures cause { IfErr result (EndsRewriting original.now (map (λ c. c.now) classes.now)) }
 {

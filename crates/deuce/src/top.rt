@@ -33,7 +33,7 @@ use std::thread::Threads;
 /// | 9 | the sink failed; a front of the output was written |
 /// | 10 | memory ran out; nothing was written, or a front of the output |
 /// | 11 | the put of a rewritten class file failed; those before it, in the order of their paths, were put |
-/// | 12 | the classes aren't of the form that is built so far, or a rewritten class would have too many members |
+/// | 12 | the classes aren't of the form that is taken, or a rewritten class would have too many fields |
 pub fn deuce<R: Threads + Sync, F: Folder, O: Sink>(
     rt: &R,
     alloc: Global,
@@ -96,7 +96,7 @@ pub fn deuce<R: Threads + Sync, F: Folder, O: Sink>(
         (error_text (codes "7") (class and answer_text answer)) }
 
     // The class files are good and their classes without a fault, but not of the form, or a
-    // rewritten class would have too many members.
+    // rewritten class would have too many fields.
     ensures not_built { result ≡ 12 → IsNotBuilt words.now (F.seen folder.old).files }
     ensures not_built_line { result ≡ 12
         → Appends (O.written out.old) (O.written out.new)

@@ -1,4 +1,4 @@
-use Rattle.std.proofs.Common.{Err, ap}
+use Rattle.std.proofs.Common.{Err, ap, inr}
 use Rattle.deuce.proofs.Printed.{journal_printed, rewriting_printed, fault_printed, program_printed, untyped_printed, script_printed, unopened_printed, refusal_keeps}
 use Rattle.deuce.proofs.Complete.{complete, complete_rewriting}
 use Rattle.deuce.proofs.top.deuce.Goals as goal
@@ -51,3 +51,18 @@ pub returns-in-Ok-print-clause-refused_keeps : goal.returns-in-Ok-print-clause-r
 returns-in-Ok-print-clause-refused_keeps g c = λ refused.
     refusal_keeps c.in-Ok.outcome (g.F.Folder.seen c.args.folder.now) (g.F.Folder.seen c.outcome_of.new.folder) c.status-status.result
     c.in-Ok.ensures.outcome.0 c.status-status.ensures refused
+
+pub returns-clause-cut_or_none : goal.returns-clause-cut_or_none
+returns-clause-cut_or_none g c = λ ten.
+    let front = rw c.as_slice.ensures at c.in-Err-NoMemory.ensures.front in
+    inr (
+      c.in-Err-NoMemory.ensures.shortage (ap Err c.in-Err-NoMemory.field-0-is),
+      record {
+        outcome = c.in-Ok.outcome;
+        is_outcome = c.in-Ok.ensures.outcome;
+        text = c.in-Ok-text_of.text;
+        is_text = c.in-Ok-text_of.ensures;
+        many = front.0;
+        front = front.1;
+      },
+    )
