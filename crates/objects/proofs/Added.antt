@@ -6,8 +6,6 @@ use Rattle.jmodel.specs.declared.typing.VType.{VType}
 use Rattle.jmodel.specs.declared.typing.VType.TheVariants as type
 use Rattle.objects.specs.declared.op.WordType.{WordType}
 use Rattle.objects.specs.declared.op.WordType.TheVariants as word
-use Rattle.objects.specs.declared.op.Dispatch.{Dispatch}
-use Rattle.objects.specs.declared.op.Dispatch.TheVariants as dispatch
 use Rattle.objects.specs.declared.op.Op.{Op}
 use Rattle.objects.specs.declared.op.Op.TheVariants as op
 use Rattle.objects.specs.Program.{Field, Method, Program, method_at, selected}
@@ -172,7 +170,7 @@ module _ (P : Program) (Ts : List Table) (S : IsSource P) (selects : (t m to : �
   stub_inner = (tt, tt)
 
   copy_added : (k : Method) (T : Table) → IsSourceMethod P k → IsAddedCode (duplicate_method P k T)
-  copy_added k T src = by k.dispatch
+  copy_added k T src = by k.ops
     where
       xs : List Typed
       xs = typed_from 0 T k.ops
@@ -183,11 +181,9 @@ module _ (P : Program) (Ts : List Table) (S : IsSource P) (selects : (t m to : �
         entries = inr (record { source = k; code = xs; many = typed_length 0 T k.ops; kept = src; is = refl });
       }
 
-      by : (d : Dispatch) → IsAddedCode (abstracted d (duplicate_code P k xs))
-      by dispatch.Abstract = record { ops = tt; entries = inl refl }
-      by dispatch.Static = code
-      by dispatch.Exact = code
-      by dispatch.Virtual = code
+      by : (os : List Op) → IsAddedCode (abstracted os (duplicate_code P k xs))
+      by [] = record { ops = tt; entries = inl refl }
+      by (o ∷ os) = code
 
   copies_added : (ks : List Method) (Us : List Table) → AllByRecursion (IsSourceMethod P) ks → AllByRecursion IsAddedCode (duplicates P ks Us)
   copies_added [] Us s = tt

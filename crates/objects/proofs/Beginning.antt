@@ -9,6 +9,7 @@ use Rattle.jmodel.specs.declared.typing.VType.{VType}
 use Rattle.jmodel.specs.History.{Words}
 use Rattle.objects.specs.declared.op.Slot.{Slot}
 use Rattle.objects.specs.declared.op.Slot.TheVariants.{Context, Empty}
+use Rattle.objects.specs.declared.op.Op.TheVariants.{Throw}
 use Rattle.objects.specs.declared.op.Phase.TheVariants.{Open}
 use Rattle.objects.specs.declared.op.Dispatch.TheVariants as dispatch
 use Rattle.objects.specs.Value.{slots_of}
@@ -22,7 +23,7 @@ use Rattle.objects.specs.Meaning.{Represents}
 use Rattle.objects.specs.Typing.{Table}
 use Rattle.objects.specs.TypingLaw.{IsTypedProgram}
 use Rattle.objects.specs.Source.{AreArguments}
-use Rattle.objects.specs.Rewriting.{Typed, load_all, duplicate, duplicate_code}
+use Rattle.objects.specs.Rewriting.{Typed, blocks, load_all, duplicate, duplicate_code}
 use Rattle.objects.specs.Law.{Matched, state_of}
 use Rattle.objects.proofs.Frames.{frame}
 use Rattle.objects.proofs.Inner.{IsAdded, IsInnerOp}
@@ -31,6 +32,7 @@ use Rattle.objects.proofs.Wrapper.{IsWrapper, HaveAll, call_first, loads_args}
 use Rattle.objects.proofs.Lost.{IsSet}
 use Rattle.objects.proofs.Replies.{Leads}
 use Rattle.objects.proofs.Places.{Rewrites}
+use Rattle.objects.proofs.Selection.{last_is_code}
 use Rattle.objects.proofs.Entered.{stands_first, arguments_many, takes_context}
 use Rattle.objects.proofs.Safety.{IsFine, call_fine}
 use Rattle.objects.proofs.TypedFrames.{AreTyped}
@@ -102,7 +104,7 @@ module _ (P : Program) (Ts : List Table) (S : IsTypedProgram P Ts) (Q : Program)
     enters_goal n zero e = ends n 0 Budget σ _ (starts_as B.budget ∙ ap (λ (b : ℕ). turned (frame m 0 l [] ∷ []) b σ) e) (out Budget M [] refl tt)
     enters_goal n (suc b) e =
         let start : call_start P m args B.budget σ ≡ call.On (frame m 0 l [] ∷ []) b σ = starts_as B.budget ∙ ap (λ (b : ℕ). turned (frame m 0 l [] ∷ []) b σ) e in
-        let typed : AreTyped P Ts S σ (frame m 0 l [] ∷ []) = (subst (IsFine P Ts S B.region.size) start (call_fine P Ts S B.region B.budget m k original static args fit σ represents.heap)).0 in
+        let typed : AreTyped P Ts S σ (frame m 0 l [] ∷ []) = (subst (IsFine P Ts S B.region.size) start (call_fine P Ts S B.region B.budget m k original static t.code args fit σ represents.heap)).0 in
         main n (frame m 0 l [] ∷ []) gs σ (record M { turns = b }) [] [] (record { reach = (0, start); stands = record { represents = represents; own = own ∙ sym f.used; others = λ region other. refl }; agrees = tt; typed = typed }) tie
 
     -- the call
@@ -110,7 +112,8 @@ module _ (P : Program) (Ts : List Table) (S : IsTypedProgram P Ts) (Q : Program)
     calls_goal n =
         let there = there_of P Ts S m q k.result k.places slots Q R uncounted m (duplicate P m) k T t in
         let taken = takes_context slots j k.places many in
-        goal.steps n [] [] _ (with_depth B false B.budget gs M [] []) (refl, refl) far tt (λ v. let turns = f.turns in simp (is, W.call.1.0, there, taken, W.counted, turns)) (enters_goal n B.budget refl)
+        let code = last_is_code (blocks P k.places k.locals xs) Throw in
+        goal.steps n [] [] _ (with_depth B false B.budget gs M [] []) (refl, refl) far tt (λ v. let turns = f.turns in simp (is, W.call.1.0, there, code, taken, W.counted, turns)) (enters_goal n B.budget refl)
 
     -- the arguments, and the context
     pub begin_goal : (n : ℕ) → Goal (suc (suc (suc n))) (On Open (frame m 6 wl j ∷ []) M [] [])

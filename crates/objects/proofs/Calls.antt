@@ -24,7 +24,7 @@ use Rattle.objects.specs.declared.op.Asking.{Asking as Wanted}
 use Rattle.objects.specs.declared.op.Asking.TheVariants as asking
 use Rattle.objects.specs.declared.op.Phase.TheVariants.{Open}
 use Rattle.objects.specs.Library.{trap_type}
-use Rattle.objects.specs.Program.{Method, Program, is_counted, is_instance, method_at, has_code, selected}
+use Rattle.objects.specs.Program.{Method, Program, is_counted, is_instance, method_at, is_code, has_code, selected}
 use Rattle.objects.specs.Region.{Region}
 use Rattle.objects.specs.State.{Object, State, length_of}
 use Rattle.objects.specs.Step.{Frame, Frames, Did, Does, Wrong, Asked, Asks, Fails, Taken, Took, TooFew, take_args, started, with_stack, depth, does, on_did, step, invokes, with_args, enters, found, enters_found, over_object, slot_in, ref_in, not_null, runs, receiver, told, or_trap, catch_at, unwinds}
@@ -36,6 +36,7 @@ use Rattle.objects.specs.Meaning.{IsHeap}
 use Rattle.objects.specs.Typing.{Table, types_at, arguments}
 use Rattle.objects.specs.TypingLaw.{IsTypedProgram, HasTyping}
 use Rattle.objects.specs.Source.{IsSourceMethod, IsSourceOp, HasObject}
+use Rattle.objects.specs.TypeOrder.{name_read}
 use Rattle.objects.specs.Rewriting.{Typed, block_at, block_of, block_len_of, duplicate, duplicate_method, duplicate_code, is_stray, more_locals}
 use Rattle.objects.proofs.Frames.{frame}
 use Rattle.objects.proofs.Fields.{each_at}
@@ -48,7 +49,7 @@ use Rattle.objects.proofs.Lost.{IsSet}
 use Rattle.objects.proofs.Replies.{Leads}
 use Rattle.objects.proofs.Caught.{instance_moved}
 use Rattle.objects.proofs.Places.{Rewrites, HasAt}
-use Rattle.objects.proofs.Selection.{duplicate_dispatch}
+use Rattle.objects.proofs.Selection.{duplicate_has_code}
 use Rattle.objects.proofs.Entered.{stands_first, has_op, takes_context, pushed_last}
 use Rattle.objects.proofs.Safety.{step_fine}
 use Rattle.objects.proofs.TypedFrames.{AreTyped, Fine, Heads, LastHeads}
@@ -78,12 +79,10 @@ was_pushed (suc n) acc (v ∷ s) args s1 e =
       pushed = ap (λ (t : List Slot). v ∷ t) h.pushed ∙ sym (pushed_last h.taken v s1);
     }
 
--- a method whose code has types isn't abstract
-pub code_of : (P : Program) (k : Method) → IsSourceMethod P k → 0 < length k.ops → k.dispatch ≢ dispatch.Abstract
-code_of P k src some abstract =
-    let h : (k.ops ≡ []) × (k.catches ≡ []) × (k.retries ≡ None) = subst (λ (d : Dispatch). Rattle.objects.specs.Source.HasCode d k) abstract src.code in
-    let e : length k.ops ≡ 0 = ap length h.0 in
-    omega (arith, e, some)
+-- instructions are code
+code_of : (os : List Op) → 0 < length os → is_code os ≡ true
+code_of [] some = absurd (omega (arith, some))
+code_of (o ∷ os) some = refl
 
 -- the object of a call lies under the context too
 pub receiver_moved : (n : ℕ) (s : List Slot) → 1 ≤ n → slice_get (Context ∷ s) (n + 1 - 1) ≡ slice_get s (n - 1)
@@ -97,10 +96,10 @@ takes_object P k src over = by k.dispatch refl src.object
     some : (c : List ℕ) → k.parameters ≡ type.Ref c ∷ arguments k → 1 ≤ k.places
     some c e = let m = src.many in let l : length k.parameters ≡ suc (length (arguments k)) = ap length e in omega (arith, m, l)
 
-    by : (d : Dispatch) → k.dispatch ≡ d → HasObject d k → 1 ≤ k.places
+    by : (d : Dispatch) → k.dispatch ≡ d → HasObject P d k → 1 ≤ k.places
     by dispatch.Static e h = absurd (over e)
-    by dispatch.Exact e h = some k.name.class h
-    by dispatch.Virtual e h = some k.name.class h
+    by dispatch.Exact e h = some (name_read P k.name.class) h
+    by dispatch.Virtual e h = some (name_read P k.name.class) h
     by dispatch.Abstract e h = some h.0 h.1
 
 module _ (P : Program) (Ts : List Table) (S : IsTypedProgram P Ts) (Q : Program) (R : Rewrites P Ts Q) (dup_is : (i : ℕ) (o : Method) → method_at P i ≡ Some o → (T : Table) × (method_at Q (duplicate P i) ≡ Some (duplicate_method P o T)))
@@ -228,7 +227,7 @@ module _ (P : Program) (Ts : List Table) (S : IsTypedProgram P Ts) (Q : Program)
     tied_to : (typing : HasTyping P Ts m2 k2) → Tied P Ts S m2 (duplicate P m2) k2 typing.table
     tied_to typing = record {
       is = is2;
-      code = code_of P k2 (source_of P Ts S m2 k2 is2) (has_op P k2 typing.table typing.typing 0 _ typing.typing.first);
+      code = code_of k2.ops (has_op P k2 typing.table typing.typing 0 _ typing.typing.first);
       table = typing.there;
       typing = typing.typing;
       dup = refl;
@@ -312,11 +311,11 @@ module _ (P : Program) (Ts : List Table) (S : IsTypedProgram P Ts) (Q : Program)
   called_inner = all_at (IsInnerOp Q first_added) (duplicate_code P k xs).ops (a + 1) (called o) (ops_inner dn (duplicate_code P k xs) added_dup down_there) stands_there.1.0
 
   dup_places : (k1 : Method) (T1 : Table) → (duplicate_method P k1 T1).places ≡ k1.places + 1
-  dup_places k1 T1 = by k1.dispatch
+  dup_places k1 T1 = by k1.ops
     where
-      by : (y : Dispatch) → (Rattle.objects.specs.Rewriting.abstracted y (duplicate_code P k1 (typed_code P Ts S k1 T1))).places ≡ k1.places + 1
-      by dispatch.Abstract = refl
-      by y = refl
+      by : (os : List Op) → (Rattle.objects.specs.Rewriting.abstracted os (duplicate_code P k1 (typed_code P Ts S k1 T1))).places ≡ k1.places + 1
+      by [] = refl
+      by (x ∷ os) = refl
 
   -- null, or an object
   on_receiver : (v : Option Slot) (f g : ℕ → Did) → IsFineWith (Heads P Ts S B.region.size τ heap (LastHeads P Ts S B.region.size τ heap)) (on_did P (slot_in v (λ v. ref_in v (λ x. not_null x up (f x)))) fs)
@@ -336,6 +335,22 @@ module _ (P : Program) (Ts : List Table) (S : IsTypedProgram P Ts) (Q : Program)
 
   abbrev First : ℕ → Use → Frames → Type 0
   First = Heads P Ts S B.region.size τ heap (LastHeads P Ts S B.region.size τ heap)
+
+  -- a call by its name
+  runs_served : (m1 : ℕ) (b : Bool) → IsFineWith First (on_did P (runs b m1 up) fs) → next_direct P G X ≡ call.on_asked P G (on_did P (runs b m1 up) fs) M.turns τ
+      → ((y : Reply) → next_run Q B y d ≡ attempt.on_asked Q B (on_did Q (runs b (duplicate P m1) down) gs) Open y M w r) → Goal (suc n) d
+  runs_served m1 true fine eP eQ = invoked n X d r stage kk m1 First fine eP eQ
+  runs_served m1 false fine eP eQ = traps n X d r stage kk AbstractMethod First fine eP eQ
+
+  -- a call of a static method
+  static_served : (m1 : ℕ) (k1 : Method) → method_at P m1 ≡ Some k1 → IsFineWith First (on_did P (does P (op.InvokeStatic m1) up) fs) → next_direct P G X ≡ call.on_asked P G (on_did P (does P (op.InvokeStatic m1) up) fs) M.turns τ
+      → ((y : Reply) → next_run Q B y d ≡ attempt.on_asked Q B (on_did Q (does Q (op.InvokeStatic (duplicate P m1)) down) gs) Open y M w r) → Goal (suc n) d
+  static_served m1 k1 is1 fine eP eQ =
+      let dup = dup_is m1 k1 is1 in
+      let above : does P (op.InvokeStatic m1) up ≡ runs (has_code (Some k1)) m1 up = rw is1 refl in
+      let below : does Q (op.InvokeStatic (duplicate P m1)) down ≡ runs (has_code (Some k1)) (duplicate P m1) down = (let there = dup.1 in let same = duplicate_has_code P k1 dup.0 in rw there (ap (λ (b : Bool). runs b (duplicate P m1) down) same)) in
+      runs_served m1 (has_code (Some k1)) (subst (λ (y : Did). IsFineWith First (on_did P y fs)) above fine) (eP ∙ ap (λ (y : Did). call.on_asked P G (on_did P y fs) M.turns τ) above)
+      (λ v. eQ v ∙ ap (λ (y : Did). attempt.on_asked Q B (on_did Q y gs) Open v M w r) below)
 
   -- a call over an object
   module _ (m1 : ℕ) (k1 : Method) (is1 : method_at P m1 ≡ Some k1) (over : k1.dispatch ≢ dispatch.Static) where
@@ -365,17 +380,8 @@ module _ (P : Program) (Ts : List Table) (S : IsTypedProgram P Ts) (Q : Program)
         on_receiver under (f k1) (g kd1) (subst (λ (y : Did). IsFineWith First (on_did P y fs)) (over_up f) fine) (eP ∙ ap (λ (y : Did). call.on_asked P G (on_did P y fs) M.turns τ) (over_up f))
         (λ v. eQ v ∙ ap (λ (y : Did). attempt.on_asked Q B (on_did Q y gs) Open v M w r) (over_down g)) go
 
-    -- by its name
-    runs_served : (b : Bool) → IsFineWith First (on_did P (runs b m1 up) fs) → next_direct P G X ≡ call.on_asked P G (on_did P (runs b m1 up) fs) M.turns τ
-        → ((y : Reply) → next_run Q B y d ≡ attempt.on_asked Q B (on_did Q (runs b (duplicate P m1) down) gs) Open y M w r) → Goal (suc n) d
-    runs_served true fine eP eQ = invoked n X d r stage kk m1 First fine eP eQ
-    runs_served false fine eP eQ = traps n X d r stage kk AbstractMethod First fine eP eQ
-
     same_code : has_code (Some kd1) ≡ has_code (Some k1)
-    same_code = by_dispatch k1 kd1 (duplicate_dispatch P k1 T1)
-      where
-        by_dispatch : (x y : Method) → y.dispatch ≡ x.dispatch → has_code (Some y) ≡ has_code (Some x)
-        by_dispatch x y e = rw e refl
+    same_code = duplicate_has_code P k1 T1
 
     -- by the header of its object
     selected_served : (x : ℕ) (u v : Use) → IsInnerUse Q first_added v → IsFineWith First (Asks (asking.Head (suc x) u) (up ∷ fs)) → next_direct P G X ≡ call.on_asking P G (asking.Head (suc x) u) (up ∷ fs) M.turns τ
@@ -409,10 +415,10 @@ module _ (P : Program) (Ts : List Table) (S : IsTypedProgram P Ts) (Q : Program)
 
   served : (x : Op) → IsCallOp x → IsSourceOp P k x → IsInnerOp Q first_added (called x) → IsFineWith First (on_did P (does P x up) fs) → next_direct P G X ≡ call.on_asked P G (on_did P (does P x up) fs) M.turns τ
       → ((y : Reply) → next_run Q B y d ≡ attempt.on_asked Q B (on_did Q (does Q (called x) down) gs) Open y M w r) → Goal (suc n) d
-  served (op.InvokeStatic m1) i src inner_op fine eP eQ = invoked n X d r stage kk m1 First fine eP eQ
+  served (op.InvokeStatic m1) i src inner_op fine eP eQ = static_served m1 src.method src.there fine eP eQ
   served (op.InvokeSpecial m1) i src inner_op fine eP eQ =
       over_served m1 src.method src.there src.over_object (λ k1 x. runs (has_code (Some k1)) m1 up) (λ k1 x. runs (has_code (Some k1)) (duplicate P m1) down) fine eP eQ
-      (λ x fine eP eQ. runs_served m1 src.method src.there src.over_object (has_code (Some src.method)) fine eP (λ y. eQ y ∙ ap (λ (b : Bool). attempt.on_asked Q B (on_did Q (runs b (duplicate P m1) down) gs) Open y M w r) (same_code m1 src.method src.there src.over_object)))
+      (λ x fine eP eQ. runs_served m1 (has_code (Some src.method)) fine eP (λ y. eQ y ∙ ap (λ (b : Bool). attempt.on_asked Q B (on_did Q (runs b (duplicate P m1) down) gs) Open y M w r) (same_code m1 src.method src.there src.over_object)))
   served (op.InvokeVirtual m1) i src inner_op fine eP eQ =
       over_served m1 src.method src.there src.over_object (λ k1 x. Does (doing.Head x (Selects m1)) up) (λ k1 x. Does (doing.Head x (Selects (duplicate P m1))) down) fine eP eQ
       (λ x fine eP eQ. virtual_served m1 src.method src.there src.over_object x inner_op fine eP eQ)

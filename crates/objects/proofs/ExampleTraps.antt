@@ -124,32 +124,53 @@ no_interface : with_a (GetStatic 3 ∷ InvokeInterface 4 (codes "I") ∷ gives) 
 no_interface = refl
 
 -- B's method has another part in which method runs
-abbrev f_as : Dispatch → Method
-f_as d = record make {
+abbrev f_as : Dispatch → List Op → Method
+f_as d ops = record make {
   name = record { class = codes "B"; name = codes "f"; descriptor = codes "()I" };
   dispatch = d;
   parameters = type.Ref (codes "B") ∷ [];
   places = 1;
   locals = 1;
   retries = None;
-  ops = Constant (Int (pos 1)) ∷ ReturnValue sort.Int ∷ [];
+  ops = ops;
 }
 
-abbrev with_f : Dispatch → Program
-with_f d = record program { methods = slice_set methods 5 (f_as d) }
+abbrev with_f : Dispatch → List Op → Program
+with_f d ops = record program { methods = slice_set methods 5 (f_as d ops) }
 
-abbrev calls_f : Dispatch → Option Answer
-calls_f d = answer_of (direct (with_f d) region 60 (call_start (with_f d) 8 [] 9 (state_with a_b)))
+abbrev calls_f : Dispatch → List Op → Option Answer
+calls_f d ops = answer_of (direct (with_f d ops) region 60 (call_start (with_f d ops) 8 [] 9 (state_with a_b)))
 
-selects_f : calls_f dispatch.Virtual ≡ gave 1
+abbrev gives_one : List Op
+gives_one = Constant (Int (pos 1)) ∷ ReturnValue sort.Int ∷ []
+
+selects_f : calls_f dispatch.Virtual gives_one ≡ gave 1
 selects_f = refl
 
 -- an abstract method, or none where that one is private
-abstract_f : calls_f dispatch.Abstract ≡ threw (codes "AbstractMethodError")
+abstract_f : calls_f dispatch.Abstract [] ≡ threw (codes "AbstractMethodError")
 abstract_f = refl
 
-private_f : calls_f dispatch.Exact ≡ threw (codes "AbstractMethodError")
+private_f : calls_f dispatch.Exact gives_one ≡ threw (codes "AbstractMethodError")
 private_f = refl
+
+-- a method without code, whatever its dispatch
+abbrev calls_codeless : Dispatch → List Op → Option Answer
+calls_codeless d ops =
+    let P = record (with_code ops []) { methods = slice_set (with_code ops []).methods 5 (f_as d []) } in
+    answer_of (direct P region 60 (call_start P 7 [] 9 (state_with a_b)))
+
+codeless_virtual : calls_codeless dispatch.Virtual (GetStatic 3 ∷ InvokeVirtual 5 ∷ gives) ≡ threw (codes "AbstractMethodError")
+codeless_virtual = refl
+
+codeless_private : calls_codeless dispatch.Exact (GetStatic 3 ∷ InvokeSpecial 5 ∷ gives) ≡ threw (codes "AbstractMethodError")
+codeless_private = refl
+
+codeless_selected : calls_codeless dispatch.Exact (GetStatic 3 ∷ InvokeVirtual 5 ∷ gives) ≡ threw (codes "AbstractMethodError")
+codeless_selected = refl
+
+codeless_static : calls_codeless dispatch.Static (GetStatic 3 ∷ InvokeStatic 5 ∷ gives) ≡ threw (codes "AbstractMethodError")
+codeless_static = refl
 
 -- a constructor is selected by its name
 selected_itself : selected program 22 0 ≡ Some 0

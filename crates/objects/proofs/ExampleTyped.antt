@@ -1,12 +1,16 @@
 -- The example is a typed program, so the rules of sources can be met.
 use Rattle.std.proofs.Common.{◌≡◌, ◌≢◌, ℕ, zero, suc, ◌+◌, List, [], ◌∷◌, ◌++◌, length, Option, Some, None, true, false, refl, sym, ap, subst, ◌∙◌, arith, inl, inr}
-use Rattle.std.specs.Prelude.{slice_get, bytes_eq, codes, nat_lt, if◌then◌else◌}
+use Rattle.std.specs.Prelude.{pos, slice_get, bytes_eq, codes, nat_lt, if◌then◌else◌}
 use Rattle.std.specs.List.{AllByRecursion}
 use Rattle.std.proofs.lemmas.Slice.Eq.{bytes_eq-Decides}
+use Rattle.jmodel.specs.declared.value.Value.TheVariants.{Int}
 use Rattle.jmodel.specs.declared.typing.VType.{VType}
 use Rattle.jmodel.specs.declared.typing.VType.TheVariants as type
+use Rattle.objects.specs.declared.op.Dispatch.{Dispatch}
 use Rattle.objects.specs.declared.op.Dispatch.TheVariants as dispatch
-use Rattle.objects.specs.Program.{Field, Row, Method, Program, method_at, row_at}
+use Rattle.objects.specs.declared.op.Op.TheVariants.{Constant, ReturnValue}
+use Rattle.objects.specs.declared.op.Sort.TheVariants as sort
+use Rattle.objects.specs.Program.{Field, Row, Method, Program, has_code, method_at, row_at}
 use Rattle.objects.specs.LibraryClasses.{object, runtime_exception, library_rows}
 use Rattle.objects.specs.TypeOrder.{object_class}
 use Rattle.objects.specs.Typing.{Table, IsTyping, arguments}
@@ -199,46 +203,63 @@ names = record {
 -- ---- methods
 
 source_init_a : IsSourceMethod program methods.init_a
-source_init_a = record { counted = refl; parameters = tt; many = refl; object = refl; code = tt; result = tt; room = omega arith; entries = tt; each = (omega arith, (tt, (tt, tt))) }
+source_init_a = record { counted = refl; parameters = tt; many = refl; object = refl; code = λ e. cc; result = tt; room = omega arith; entries = tt; each = (omega arith, (tt, (tt, tt))) }
 
 source_get_a : IsSourceMethod program methods.get_a
-source_get_a = record { counted = refl; parameters = tt; many = refl; object = refl; code = tt; result = tt; room = omega arith; entries = tt; each = (omega arith, (record { field = _; there = refl; base_is = refl }, (tt, tt))) }
+source_get_a = record { counted = refl; parameters = tt; many = refl; object = refl; code = λ e. cc; result = tt; room = omega arith; entries = tt; each = (omega arith, (record { field = _; there = refl; base_is = refl }, (tt, tt))) }
 
 source_get_b : IsSourceMethod program methods.get_b
-source_get_b = record { counted = refl; parameters = tt; many = refl; object = refl; code = tt; result = tt; room = omega arith; entries = tt; each = (omega arith, (omega arith, (record { field = _; there = refl; base_is = refl }, (omega arith, (record { field = _; there = refl; base_is = refl }, (omega arith, (tt, (tt, tt)))))))) }
+source_get_b = record { counted = refl; parameters = tt; many = refl; object = refl; code = λ e. cc; result = tt; room = omega arith; entries = tt; each = (omega arith, (omega arith, (record { field = _; there = refl; base_is = refl }, (omega arith, (record { field = _; there = refl; base_is = refl }, (omega arith, (tt, (tt, tt)))))))) }
 
 source_init_b : IsSourceMethod program methods.init_b
-source_init_b = record { counted = refl; parameters = tt; many = refl; object = refl; code = tt; result = tt; room = omega arith; entries = tt; each = (omega arith, (record { method = _; there = refl; over_object = λ e. cc }, (omega arith, (omega arith, (record { field = _; there = refl; base_is = refl }, (tt, tt)))))) }
+source_init_b = record { counted = refl; parameters = tt; many = refl; object = refl; code = λ e. cc; result = tt; room = omega arith; entries = tt; each = (omega arith, (record { method = _; there = refl; over_object = λ e. cc }, (omega arith, (omega arith, (record { field = _; there = refl; base_is = refl }, (tt, tt)))))) }
 
 source_f_i : IsSourceMethod program methods.f_i
-source_f_i = record { counted = refl; parameters = tt; many = refl; object = (codes "java/lang/Object", refl); code = (refl, refl, refl); result = tt; room = omega arith; entries = tt; each = tt }
+source_f_i = record { counted = refl; parameters = tt; many = refl; object = (codes "java/lang/Object", refl); code = (refl, refl); result = tt; room = omega arith; entries = tt; each = tt }
 
 source_f_b : IsSourceMethod program methods.f_b
-source_f_b = record { counted = refl; parameters = tt; many = refl; object = refl; code = tt; result = tt; room = omega arith; entries = tt; each = (omega arith, (record { field = _; there = refl; base_is = refl }, (tt, (tt, tt)))) }
+source_f_b = record { counted = refl; parameters = tt; many = refl; object = refl; code = λ e. cc; result = tt; room = omega arith; entries = tt; each = (omega arith, (record { field = _; there = refl; base_is = refl }, (tt, (tt, tt)))) }
 
 source_init_e : IsSourceMethod program methods.init_e
-source_init_e = record { counted = refl; parameters = tt; many = refl; object = refl; code = tt; result = tt; room = omega arith; entries = tt; each = (omega arith, (tt, (tt, tt))) }
+source_init_e = record { counted = refl; parameters = tt; many = refl; object = refl; code = λ e. cc; result = tt; room = omega arith; entries = tt; each = (omega arith, (tt, (tt, tt))) }
 
 source_make : IsSourceMethod program methods.make
-source_make = record { counted = refl; parameters = tt; many = refl; object = refl; code = tt; result = tt; room = omega arith; entries = tt; each = (record { row = _; there = refl; below = refl; holds = refl }, (tt, (omega arith, (record { method = _; there = refl; over_object = λ e. cc }, ((2, record { field = _; there = refl; base_is = refl }), ((2, record { field = _; there = refl; base_is = refl }), (record { method = _; there = refl; over_object = λ e. cc }, (tt, tt)))))))) }
+source_make = record { counted = refl; parameters = tt; many = refl; object = refl; code = λ e. cc; result = tt; room = omega arith; entries = tt; each = (record { row = _; there = refl; below = refl; holds = refl }, (tt, (omega arith, (record { method = _; there = refl; over_object = λ e. cc }, ((2, record { field = _; there = refl; base_is = refl }), ((2, record { field = _; there = refl; base_is = refl }), (record { method = _; there = refl; over_object = λ e. cc; constructor = λ e. cc }, (tt, tt)))))))) }
 
 source_call : IsSourceMethod program methods.call
-source_call = record { counted = refl; parameters = tt; many = refl; object = refl; code = tt; result = tt; room = omega arith; entries = tt; each = ((2, record { field = _; there = refl; base_is = refl }), (tt, (record { method = _; there = refl; over_object = λ e. cc }, (tt, tt)))) }
+source_call = record { counted = refl; parameters = tt; many = refl; object = refl; code = λ e. cc; result = tt; room = omega arith; entries = tt; each = ((2, record { field = _; there = refl; base_is = refl }), (tt, (record { method = _; there = refl; over_object = λ e. cc; constructor = λ e. cc }, (tt, tt)))) }
 
 source_elements : IsSourceMethod program methods.elements
-source_elements = record { counted = refl; parameters = tt; many = refl; object = refl; code = tt; result = tt; room = omega arith; entries = tt; each = (omega arith, (record { row = _; there = refl; below = refl; holds = tt }, ((2, record { field = _; there = refl; base_is = refl }), ((2, record { field = _; there = refl; base_is = refl }), (omega arith, ((2, record { field = _; there = refl; base_is = refl }), (tt, ((2, record { field = _; there = refl; base_is = refl }), (omega arith, (tt, (record { method = _; there = refl; over_object = λ e. cc }, ((2, record { field = _; there = refl; base_is = refl }), (tt, (tt, (tt, tt))))))))))))))) }
+source_elements = record { counted = refl; parameters = tt; many = refl; object = refl; code = λ e. cc; result = tt; room = omega arith; entries = tt; each = (omega arith, (record { row = _; there = refl; below = refl; holds = tt }, ((2, record { field = _; there = refl; base_is = refl }), ((2, record { field = _; there = refl; base_is = refl }), (omega arith, ((2, record { field = _; there = refl; base_is = refl }), (tt, ((2, record { field = _; there = refl; base_is = refl }), (omega arith, (tt, (record { method = _; there = refl; over_object = λ e. cc; constructor = λ e. cc }, ((2, record { field = _; there = refl; base_is = refl }), (tt, (tt, (tt, tt))))))))))))))) }
 
 source_store : IsSourceMethod program methods.store
-source_store = record { counted = refl; parameters = tt; many = refl; object = refl; code = tt; result = tt; room = omega arith; entries = tt; each = (omega arith, (record { row = _; there = refl; below = refl; holds = tt }, ((2, record { field = _; there = refl; base_is = refl }), ((2, record { field = _; there = refl; base_is = refl }), (omega arith, ((2, record { field = _; there = refl; base_is = refl }), (tt, (omega arith, (tt, tt))))))))) }
+source_store = record { counted = refl; parameters = tt; many = refl; object = refl; code = λ e. cc; result = tt; room = omega arith; entries = tt; each = (omega arith, (record { row = _; there = refl; below = refl; holds = tt }, ((2, record { field = _; there = refl; base_is = refl }), ((2, record { field = _; there = refl; base_is = refl }), (omega arith, ((2, record { field = _; there = refl; base_is = refl }), (tt, (omega arith, (tt, tt))))))))) }
 
 source_text : IsSourceMethod program methods.text
-source_text = record { counted = refl; parameters = tt; many = refl; object = refl; code = tt; result = tt; room = omega arith; entries = tt; each = (omega arith, (tt, (tt, tt))) }
+source_text = record { counted = refl; parameters = tt; many = refl; object = refl; code = λ e. cc; result = tt; room = omega arith; entries = tt; each = (omega arith, (tt, (tt, tt))) }
 
 source_caught : IsSourceMethod program methods.caught
-source_caught = record { counted = refl; parameters = tt; many = refl; object = refl; code = tt; result = tt; room = omega arith; entries = (record { from = omega arith; to = omega arith; catches = tt }, tt); each = (record { row = _; there = refl; below = refl; holds = refl }, (tt, (record { method = _; there = refl; over_object = λ e. cc }, (tt, (tt, (omega arith, (tt, tt))))))) }
+source_caught = record { counted = refl; parameters = tt; many = refl; object = refl; code = λ e. cc; result = tt; room = omega arith; entries = (record { from = omega arith; to = omega arith; catches = tt }, tt); each = (record { row = _; there = refl; below = refl; holds = refl }, (tt, (record { method = _; there = refl; over_object = λ e. cc }, (tt, (tt, (omega arith, (tt, tt))))))) }
 
 source_narrow : IsSourceMethod program methods.narrow
-source_narrow = record { counted = refl; parameters = tt; many = refl; object = refl; code = tt; result = tt; room = omega arith; entries = tt; each = (omega arith, (record { row = _; there = refl; below = refl; holds = tt }, (omega arith, (omega arith, (omega arith, (omega arith, (tt, ((2, record { field = _; there = refl; base_is = refl }), (omega arith, (omega arith, (tt, (record { field = _; there = refl; base_is = refl }, ((2, record { field = _; there = refl; base_is = refl }), (record { field = _; there = refl; base_is = refl }, (tt, tt))))))))))))))) }
+source_narrow = record { counted = refl; parameters = tt; many = refl; object = refl; code = λ e. cc; result = tt; room = omega arith; entries = tt; each = (omega arith, (record { row = _; there = refl; below = refl; holds = tt }, (omega arith, (omega arith, (omega arith, (omega arith, (tt, ((2, record { field = _; there = refl; base_is = refl }), (omega arith, (omega arith, (tt, (record { field = _; there = refl; base_is = refl }, ((2, record { field = _; there = refl; base_is = refl }), (record { field = _; there = refl; base_is = refl }, (tt, tt))))))))))))))) }
+
+-- a method of an interface may have code: its object is any
+abbrev coded_f_i : Method
+coded_f_i = record methods.f_i { dispatch = dispatch.Virtual; max_stack = 1; ops = Constant (Int (pos 1)) ∷ ReturnValue sort.Int ∷ [] }
+
+source_coded_f_i : IsSourceMethod program coded_f_i
+source_coded_f_i = record { counted = refl; parameters = tt; many = refl; object = refl; code = λ e. cc; result = tt; room = omega arith; entries = tt; each = (omega arith, (tt, tt)) }
+
+-- a static method may have none, and one over objects of a class
+abbrev codeless : Dispatch → Method → Method
+codeless d k = record k { dispatch = d; retries = None; ops = [] }
+
+source_codeless_make : IsSourceMethod program (codeless dispatch.Static methods.make)
+source_codeless_make = record { counted = refl; parameters = tt; many = refl; object = refl; code = (refl, refl); result = tt; room = omega arith; entries = tt; each = tt }
+
+source_codeless_get : IsSourceMethod program (codeless dispatch.Exact methods.get_a)
+source_codeless_get = record { counted = refl; parameters = tt; many = refl; object = refl; code = (refl, refl); result = tt; room = omega arith; entries = tt; each = tt }
 
 pub source : IsSource program
 source = record {
@@ -253,12 +274,12 @@ source = record {
 abbrev AreTyped : List Method → List Table → Type 0
 AreTyped [] Ts = Unit {0}
 AreTyped (k ∷ ks) [] = ⊥
-AreTyped (k ∷ ks) (T ∷ Ts) = (k.dispatch ≢ dispatch.Abstract → IsTyping program k T) × AreTyped ks Ts
+AreTyped (k ∷ ks) (T ∷ Ts) = (has_code (Some k) ≡ true → IsTyping program k T) × AreTyped ks Ts
 
-typed_item : (ks : List Method) (Ts : List Table) → AreTyped ks Ts → (m : ℕ) (k : Method) → slice_get ks m ≡ Some k → k.dispatch ≢ dispatch.Abstract → (T : Table) × (slice_get Ts m ≡ Some T) × IsTyping program k T
+typed_item : (ks : List Method) (Ts : List Table) → AreTyped ks Ts → (m : ℕ) (k : Method) → slice_get ks m ≡ Some k → has_code (Some k) ≡ true → (T : Table) × (slice_get Ts m ≡ Some T) × IsTyping program k T
 typed_item [] Ts all m k e h = cc
 typed_item (x ∷ ks) [] all m k e h = absurd all
-typed_item (x ∷ ks) (T ∷ Ts) all zero k e h = let s : x ≡ k = cc in (T, refl, subst (λ k. IsTyping program k T) s (all.0 (subst (λ k. k.dispatch ≢ dispatch.Abstract) (sym s) h)))
+typed_item (x ∷ ks) (T ∷ Ts) all zero k e h = let s : x ≡ k = cc in (T, refl, subst (λ k. IsTyping program k T) s (all.0 (subst (λ (k : Method). has_code (Some k) ≡ true) (sym s) h)))
 typed_item (x ∷ ks) (T ∷ Ts) all (suc m) k e h = typed_item ks Ts all.1 m k e h
 
 all_typed : AreTyped program.methods tables.tables
@@ -271,7 +292,7 @@ all_typed = (
       (
         λ h. checked program methods.init_b tables.init_b refl refl,
         (
-          λ h. absurd (h refl),
+          λ h. cc,
           (
             λ h. checked program methods.f_b tables.f_b refl refl,
             (

@@ -1,16 +1,14 @@
 -- Where methods and blocks stand in a rewritten program.
-use Rattle.std.proofs.Common.{◌≡◌, ◌≢◌, ℕ, ℤ, zero, suc, ◌+◌, ◌*◌, ◌<◌, ◌≤◌, List, [], ◌∷◌, ◌++◌, map, length, take, Option, Some, refl, sym, ap, ◌∙◌, subst, arith, append_assoc, length-append, None}
+use Rattle.std.proofs.Common.{◌≡◌, ℕ, ℤ, zero, suc, ◌+◌, ◌*◌, ◌<◌, ◌≤◌, List, [], ◌∷◌, ◌++◌, map, length, take, Option, Some, true, refl, sym, ap, ◌∙◌, subst, arith, append_assoc, length-append, None}
 use Rattle.std.specs.Prelude.{slice_get}
 use Rattle.std.specs.List.{flat_map}
 use Rattle.std.proofs.lemmas.List.{append-nil}
 use Rattle.std.proofs.lemmas.List.Sums.{sum_by-cons}
-use Rattle.objects.specs.declared.op.Dispatch.{Dispatch}
-use Rattle.objects.specs.declared.op.Dispatch.TheVariants as dispatch
 use Rattle.objects.specs.declared.op.WordType.{WordType}
 use Rattle.objects.specs.declared.op.WordType.TheVariants as word
 use Rattle.objects.specs.declared.op.Op.{Op}
 use Rattle.objects.specs.declared.op.Op.TheVariants.{Throw, LoadElement}
-use Rattle.objects.specs.Program.{Field, Method, Program}
+use Rattle.objects.specs.Program.{Field, Method, Program, is_code, has_code}
 use Rattle.objects.specs.Typing.{Types, Table, types_at}
 use Rattle.objects.specs.Rewriting.{getter, setter, duplicate, element_getter, element_setter, helper_place, getter_method, setter_method, element_getter_method, element_setter_method, helper_methods, accessors, Typed, typed_from, after_load, array_under, block, block_of, block_len, block_len_of, block_at, blocks, duplicate_code, duplicate_method, abstracted, duplicates, wrapper_method, old_method, next_id, old_methods, rewritten}
 
@@ -216,14 +214,12 @@ cut P p n at (x ∷ code) (suc pc) o h =
     (block P p n at x ++ a.0, a.1, ap (λ l. block P p n at x ++ l) a.2 ∙ sym (append_assoc (block P p n at x) a.0 _), omega (arith, length-append (block P p n at x) a.0, one_len P p n at x, a.3, at_cons x code pc))
 
 -- a duplicate that has code
-pub has_duplicate : (P : Program) (k : Method) (T : Table) → k.dispatch ≢ dispatch.Abstract → duplicate_method P k T ≡ duplicate_code P k (typed_from 0 T k.ops)
-has_duplicate P k T h = go k.dispatch h
+pub has_duplicate : (P : Program) (k : Method) (T : Table) → has_code (Some k) ≡ true → duplicate_method P k T ≡ duplicate_code P k (typed_from 0 T k.ops)
+has_duplicate P k T h = go k.ops h
   where
-    go : (d : Dispatch) → d ≢ dispatch.Abstract → abstracted d (duplicate_code P k (typed_from 0 T k.ops)) ≡ duplicate_code P k (typed_from 0 T k.ops)
-    go dispatch.Static h = refl
-    go dispatch.Exact h = refl
-    go dispatch.Virtual h = refl
-    go dispatch.Abstract h = absurd (h refl)
+    go : (os : List Op) → is_code os ≡ true → abstracted os (duplicate_code P k (typed_from 0 T k.ops)) ≡ duplicate_code P k (typed_from 0 T k.ops)
+    go [] h = cc
+    go (o ∷ os) h = refl
 
 -- the block of an instruction stands in the duplicate
 pub has_block : (P : Program) (k : Method) (xs : List Typed) (pc : ℕ) (o : Typed) → slice_get xs pc ≡ Some o → HasAt (duplicate_code P k xs).ops (block_at xs pc) (block P k.places k.locals (block_at xs) o)

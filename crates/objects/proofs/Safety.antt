@@ -12,7 +12,7 @@ use Rattle.objects.specs.declared.op.Dispatch.TheVariants as dispatch
 use Rattle.objects.specs.declared.op.Request.TheVariants as request
 use Rattle.objects.specs.declared.op.Asking.TheVariants as asking
 use Rattle.objects.specs.Value.{slots_of}
-use Rattle.objects.specs.Program.{Row, Method, Program, op_at, method_at, row_at, name_at}
+use Rattle.objects.specs.Program.{Row, Method, Program, has_code, op_at, method_at, row_at, name_at}
 use Rattle.objects.specs.Region.{Region, next_reference, has_words}
 use Rattle.objects.specs.State.{Object, State, type_at, put, words_of, length_of, with_object, object_of}
 use Rattle.objects.specs.Meaning.{IsHeap}
@@ -139,12 +139,12 @@ module _ (P : Program) (Ts : List Table) (S : IsTypedProgram P Ts) where
   run_fine G (suc n) c h = run_fine G n (next_direct P G c) (next_fine G c h)
 
   -- a call from outside
-  pub call_fine : (G : Region) (budget m : ℕ) (k : Method) → slice_get P.methods m ≡ Some k → k.dispatch ≡ dispatch.Static → (args : List Value) → AreArguments k.parameters args → (σ : State) → IsHeap P G.size σ → IsFine G.size (call_start P m args budget σ)
-  call_fine G budget m k there static args fit σ H =
+  pub call_fine : (G : Region) (budget m : ℕ) (k : Method) → slice_get P.methods m ≡ Some k → k.dispatch ≡ dispatch.Static → has_code (Some k) ≡ true → (args : List Value) → AreArguments k.parameters args → (σ : State) → IsHeap P G.size σ → IsFine G.size (call_start P m args budget σ)
+  call_fine G budget m k there static code args fit σ H =
       let src = each_at (IsSourceMethod P) P.methods m k S.source.methods there in
-      let plain : is_constructor k ≡ false = subst (λ (y : Dispatch). HasObject y k) static src.object in
+      let plain : is_constructor k ≡ false = subst (λ (y : Dispatch). HasObject P y k) static src.object in
       let slots : HaveTypes P k σ (first_locals (is_constructor k) k.parameters) (flat_map slots_of args) = subst (λ (b : Bool). HaveTypes P k σ (first_locals b k.parameters) (flat_map slots_of args)) (sym plain) (argument_slots P S.source.types k σ k.parameters args fit) in
-      let typing = S.typed m k there (λ a. let z : dispatch.Static ≡ dispatch.Abstract = sym static ∙ a in let fall : ⊥ = cc in fall) in
+      let typing = S.typed m k there code in
       rw there (turned_fine G σ H (started m k (flat_map slots_of args) ∷ []) budget (k, starts_typed P Ts S σ m k (flat_map slots_of args) there typing slots, tt))
 
 pub safe : (P : Program) (Ts : List Table) (S : IsTypedProgram P Ts) (size : ℕ) (d : Direct) → IsFine P Ts S size d → IsSafe P size d
@@ -154,4 +154,4 @@ safe P Ts S size (Ended x σ) h = h
 safe P Ts S size Stuck h = h
 
 pub safety : TypedSafety
-safety P Ts S budget m G k there static args fit σ H n = safe P Ts S G.size _ (run_fine P Ts S G n _ (call_fine P Ts S G budget m k there static args fit σ H))
+safety P Ts S budget m G k there static code args fit σ H n = safe P Ts S G.size _ (run_fine P Ts S G n _ (call_fine P Ts S G budget m k there static code args fit σ H))

@@ -5,12 +5,13 @@ use Rattle.std.specs.List.{AllByRecursion, position_from}
 use Rattle.std.proofs.lemmas.Iterator.Adapters.{position_from-zero}
 use Rattle.std.proofs.lemmas.Slice.Eq.{bytes_eq-Decides}
 use Rattle.std.proofs.lemmas.Bool.Decides.{same_from_decides}
-use Rattle.objects.specs.declared.op.Dispatch.{Dispatch}
 use Rattle.objects.specs.declared.op.Dispatch.TheVariants as dispatch
-use Rattle.objects.specs.Program.{Field, Method, Program, method_at, row_at, is_selectable, overrides, or_else, first_in, lineage_in, has_code, runnable, selected_by, selected}
+use Rattle.objects.specs.declared.op.Op.{Op}
+use Rattle.objects.specs.declared.op.Op.TheVariants.{Throw}
+use Rattle.objects.specs.Program.{Field, Method, Program, method_at, row_at, is_selectable, overrides, or_else, first_in, lineage_in, is_code, has_code, runnable, selected_by, selected}
 use Rattle.objects.specs.Typing.{Table}
 use Rattle.objects.specs.Source.{AreNamed}
-use Rattle.objects.specs.Rewriting.{duplicate, getter_method, setter_method, accessors, helper_methods, typed_from, duplicate_name, with_context, duplicate_code, duplicate_method, abstracted, duplicates, old_method, next_id, old_methods, rewritten}
+use Rattle.objects.specs.Rewriting.{duplicate, getter_method, setter_method, accessors, helper_methods, Typed, typed_from, duplicate_name, with_context, duplicate_code, duplicate_method, abstracted, blocks, duplicates, old_method, next_id, old_methods, rewritten}
 use Rattle.objects.proofs.Contexts.{with_context_told}
 use Rattle.objects.proofs.Places.{get_back, get_front, old_length, accessors_length}
 
@@ -81,24 +82,36 @@ accessors_pass k c n (f ∷ fs) = (static_is_none k c (getter_method n f) (gette
 helpers_pass : (k : Method) (c : List ℕ) → AllByRecursion (λ (o : Method). overrides k c o ≡ false) helper_methods
 helpers_pass k c = (refl, (refl, (refl, (refl, (refl, (refl, (refl, (refl, (refl, (refl, (refl, (refl, (refl, (refl, tt))))))))))))))
 
-abstracted_name : (d : Dispatch) (k : Method) → (abstracted d k).name ≡ k.name
-abstracted_name dispatch.Static k = refl
-abstracted_name dispatch.Exact k = refl
-abstracted_name dispatch.Virtual k = refl
-abstracted_name dispatch.Abstract k = refl
+abstracted_name : (os : List Op) (k : Method) → (abstracted os k).name ≡ k.name
+abstracted_name [] k = refl
+abstracted_name (o ∷ os) k = refl
 
-abstracted_dispatch : (d : Dispatch) (k : Method) → (abstracted d k).dispatch ≡ k.dispatch
-abstracted_dispatch dispatch.Static k = refl
-abstracted_dispatch dispatch.Exact k = refl
-abstracted_dispatch dispatch.Virtual k = refl
-abstracted_dispatch dispatch.Abstract k = refl
+abstracted_dispatch : (os : List Op) (k : Method) → (abstracted os k).dispatch ≡ k.dispatch
+abstracted_dispatch [] k = refl
+abstracted_dispatch (o ∷ os) k = refl
+
+-- instructions with one behind them are code
+pub last_is_code : (os : List Op) (o : Op) → is_code (os ++ o ∷ []) ≡ true
+last_is_code [] o = refl
+last_is_code (x ∷ os) o = refl
+
+-- a duplicate has code where its original has
+pub duplicate_has_code : (P : Program) (k : Method) (T : Table) → has_code (Some (duplicate_method P k T)) ≡ has_code (Some k)
+duplicate_has_code P k T = by k.ops
+  where
+    xs : List Typed
+    xs = typed_from 0 T k.ops
+
+    by : (os : List Op) → has_code (Some (abstracted os (duplicate_code P k xs))) ≡ is_code os
+    by [] = refl
+    by (o ∷ os) = last_is_code (blocks P k.places k.locals xs) Throw
 
 -- a duplicate is called as its original is
 pub duplicate_dispatch : (P : Program) (k : Method) (T : Table) → (duplicate_method P k T).dispatch ≡ k.dispatch
-duplicate_dispatch P k T = abstracted_dispatch k.dispatch (duplicate_code P k (typed_from 0 T k.ops))
+duplicate_dispatch P k T = abstracted_dispatch k.ops (duplicate_code P k (typed_from 0 T k.ops))
 
 duplicate_named : (P : Program) (k : Method) (T : Table) → (duplicate_method P k T).name ≡ record { class = k.name.class; name = duplicate_name k.name.name; descriptor = with_context k.name.descriptor }
-duplicate_named P k T = abstracted_name k.dispatch (duplicate_code P k (typed_from 0 T k.ops))
+duplicate_named P k T = abstracted_name k.ops (duplicate_code P k (typed_from 0 T k.ops))
 
 old_named : (P : Program) (id m : ℕ) (r : Option ℤ) (k : Method) → (old_method P id m r k).name ≡ k.name
 old_named P id m None k = refl
@@ -266,15 +279,12 @@ module _ (P : Program) (Ts : List Table) where
       ap (λ i. or_else i (first_in after (duplicate_method P k T) cs)) here ∙ ap (or_else (option_map (duplicate P) (position (overrides k c) P.methods))) rest
       ∙ or_else_moved (duplicate P) (position (overrides k c) P.methods) (first_in P k cs)
 
-  code_moved : (o : Method) (T : Table) → has_code (Some (duplicate_method P o T)) ≡ has_code (Some o)
-  code_moved o T = rw (duplicate_dispatch P o T) refl
-
   runnable_moved : (i : Option ℕ) → ((j : ℕ) → i ≡ Some j → (o : Method) × (method_at P j ≡ Some o)) → runnable after (option_map (duplicate P) i) ≡ option_map (duplicate P) (runnable P i)
   runnable_moved None h = refl
   runnable_moved (Some j) h =
       let o = h j refl in
       let d = duplicate_is j o.0 o.1 in
-      let new : has_code (method_at after (duplicate P j)) ≡ has_code (Some o.0) = ap has_code d.1 ∙ code_moved o.0 d.0 in
+      let new : has_code (method_at after (duplicate P j)) ≡ has_code (Some o.0) = ap has_code d.1 ∙ duplicate_has_code P o.0 d.0 in
       let old : has_code (method_at P j) ≡ has_code (Some o.0) = ap has_code o.1 in
       rw (new, old) (go (has_code (Some o.0)))
     where
@@ -293,7 +303,7 @@ module _ (P : Program) (Ts : List Table) where
       let same : first_in after (duplicate_method P k T) (lineage_in (row_at after t)) ≡ option_map (duplicate P) (first_in P k cs) =
       ap (λ r. first_in after (duplicate_method P k T) (lineage_in r)) (same_row t) ∙ first_moved names m k there virtual T cs in
       ap (runnable after) same ∙ runnable_moved (first_in P k cs) (λ j e. let a = among P k cs j e in (a.method, a.there))
-  by_moved names t m k there T false virtual = refl
+  by_moved names t m k there T false virtual = runnable_moved (Some m) (λ j e. let same : m ≡ j = cc in (k, ap (method_at P) (sym same) ∙ there))
 
   -- What is selected for a duplicate is the duplicate of what is selected for its original.
   pub selected_moved : AreNamed P → (t m : ℕ) (k : Method) → method_at P m ≡ Some k → selected after t (duplicate P m) ≡ option_map (duplicate P) (selected P t m)

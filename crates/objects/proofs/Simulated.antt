@@ -1,21 +1,22 @@
 -- A wrapper's call over each engine, and the original method's call from a state.
-use Rattle.std.proofs.Common.{◌≡◌, ◌≢◌, ℕ, ℤ, zero, suc, ◌+◌, ◌≤◌, List, [], length, Option, Some, None, false, refl, sym, ap, ◌∙◌, arith, ◌⊎◌}
+use Rattle.std.proofs.Common.{◌≡◌, ℕ, ℤ, zero, suc, ◌+◌, ◌≤◌, List, [], ◌∷◌, length, Option, Some, None, true, false, refl, sym, ap, ◌∙◌, arith, ◌⊎◌}
 use Rattle.std.specs.Prelude.{slice_get, nat_eq, option_map}
 use Rattle.std.specs.List.{AllByRecursion, flat_map}
 use Rattle.jmodel.specs.declared.value.Value.{Value}
 use Rattle.jmodel.specs.History.{Words}
 use Rattle.objects.specs.declared.op.Slot.{Slot}
+use Rattle.objects.specs.declared.op.Op.{Op}
 use Rattle.objects.specs.declared.op.Dispatch.TheVariants as dispatch
 use Rattle.objects.specs.declared.op.Phase.TheVariants.{Open}
 use Rattle.objects.specs.Value.{slots_of}
-use Rattle.objects.specs.Program.{Method, Program, is_counted, is_counted_in, method_at, selected}
+use Rattle.objects.specs.Program.{Method, Program, is_counted, is_counted_in, method_at, has_code, is_code, selected}
 use Rattle.objects.specs.State.{State}
 use Rattle.objects.specs.Step.{Frames, catch_at}
 use Rattle.objects.specs.Attempt.{Log, Reply, Bounds, Meter, Run, On, run, run_start}
 use Rattle.objects.specs.Meaning.{Represents}
 use Rattle.objects.specs.Typing.{Table}
 use Rattle.objects.specs.TypingLaw.{IsTypedProgram, HasTyping}
-use Rattle.objects.specs.Source.{AreArguments}
+use Rattle.objects.specs.Source.{HasCode, AreArguments}
 use Rattle.objects.specs.Rewriting.{rewritten, duplicate, wrapper_method, conflict_at}
 use Rattle.objects.proofs.Inner.{IsAdded, IsInnerOp}
 use Rattle.objects.proofs.Added.{IsCopy, added_at}
@@ -68,16 +69,21 @@ module _ (P : Program) (Ts : List Table) (S : IsTypedProgram P Ts) (B : Bounds) 
   pub is_wrapper : IsWrapper wm k.places id (duplicate P m) n k.parameters k.result q z
   is_wrapper = wrapper_is P id m n k static
 
-  pub has_typing : HasTyping P Ts m k
-  has_typing = S.typed m k there not_abstract
+  -- a marked method has code
+  code : has_code (Some k) ≡ true
+  code = by k.ops (tied.source_of P Ts S m k there).code
     where
-      not_abstract : k.dispatch ≢ dispatch.Abstract
-      not_abstract a = let e : dispatch.Static ≡ dispatch.Abstract = sym static ∙ a in cc
+      by : (os : List Op) → HasCode os k → is_code os ≡ true
+      by [] h = let fall : Some n ≡ None = sym marked ∙ h.1 in cc
+      by (o ∷ os) h = refl
+
+  pub has_typing : HasTyping P Ts m k
+  has_typing = S.typed m k there code
 
   pub is_tied : Tied P Ts S m (duplicate P m) k has_typing.table
   is_tied = record {
     is = there;
-    code = λ a. (let e : dispatch.Static ≡ dispatch.Abstract = sym static ∙ a in let fall : ⊥ = cc in fall);
+    code = code;
     table = has_typing.there;
     typing = has_typing.typing;
     dup = refl;

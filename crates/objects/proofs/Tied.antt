@@ -1,5 +1,5 @@
 -- Frames of original code, and those of duplicates over the call of a wrapper.
-use Rattle.std.proofs.Common.{◌≡◌, ◌≢◌, ℕ, ◌+◌, ◌<◌, ◌≤◌, List, [], ◌∷◌, length, Option, Some, None, Bool, true, false, cond, refl, sym, ap, subst, ◌∙◌, arith, ◌&&◌, nat_le}
+use Rattle.std.proofs.Common.{◌≡◌, ℕ, ◌+◌, ◌<◌, ◌≤◌, List, [], ◌∷◌, length, Option, Some, None, Bool, true, false, cond, refl, sym, ap, subst, ◌∙◌, arith, ◌&&◌, nat_le}
 use Rattle.std.specs.Prelude.{slice_get, nat_eq, nat_lt, option_map, if◌then◌else◌}
 use Rattle.std.proofs.lemmas.List.Sums.{sum_by-cons}
 use Rattle.jmodel.specs.declared.typing.VType.{VType}
@@ -8,9 +8,8 @@ use Rattle.objects.specs.declared.op.Slot.TheVariants.{Ref}
 use Rattle.objects.specs.declared.op.Catch.{Catch}
 use Rattle.objects.specs.declared.op.Op.{Op}
 use Rattle.objects.specs.declared.op.Op.TheVariants as op
-use Rattle.objects.specs.declared.op.Dispatch.TheVariants as dispatch
 use Rattle.objects.specs.declared.op.Asking.TheVariants as asking
-use Rattle.objects.specs.Program.{Method, Program, method_at, is_counted, is_counted_in}
+use Rattle.objects.specs.Program.{Method, Program, method_at, has_code, is_counted, is_counted_in}
 use Rattle.objects.specs.Typing.{Types, Table, types_at, Flow, Leads, Wrong, is_guarded, AreCaught, flow, KeepsFlow, KeepsAt, IsTyping}
 use Rattle.objects.specs.TypingLaw.{IsTypedProgram}
 use Rattle.objects.specs.Source.{IsSourceMethod}
@@ -36,7 +35,7 @@ module _ (P : Program) (Ts : List Table) (S : IsTypedProgram P Ts) where
   -- a method with code, its table, and its duplicate
   pub record Tied (m dn : ℕ) (k : Method) (T : Table) : Type 0 where
     pub is : method_at P m ≡ Some k
-    pub code : k.dispatch ≢ dispatch.Abstract
+    pub code : has_code (Some k) ≡ true
     pub table : slice_get Ts m ≡ Some T
     pub typing : IsTyping P k T
     pub dup : dn ≡ duplicate P m

@@ -41,12 +41,12 @@ use Rattle.objects.specs.declared.op.Doing.TheVariants as doing
 use Rattle.objects.specs.declared.op.Asking.TheVariants as asking
 use Rattle.objects.specs.WordTypes.{narrowed}
 use Rattle.objects.specs.Value.{pushed, kept_by}
-use Rattle.objects.specs.Program.{Declared, Holds, Words, Elements, Row, Field, Method, Program, method_at, field_at, row_at, is_instance, is_counted, is_counted_in, has_code, is_selectable, overrides, first_in, or_else, lineage_in, runnable, selected, selected_by}
+use Rattle.objects.specs.Program.{Declared, Holds, Words, Elements, Row, Field, Method, Program, method_at, field_at, row_at, is_instance, is_counted, is_counted_in, has_code, is_code, is_selectable, overrides, first_in, or_else, lineage_in, runnable, selected, selected_by}
 use Rattle.objects.specs.TypeOrder.{object_class, throwable_class, string_class, is_array, element_class, name_read, stack_types, is_within, IsWithin}
 use Rattle.objects.specs.State.{Object, State, value_held, type_at, put, length_of}
 use Rattle.objects.specs.Meaning.{IsObjectOf, IsReferenceTo, IsValueOf, IsHeld, IsTyped, IsHolding, HasBase, IsFieldHeld, IsHeap}
-use Rattle.objects.specs.Step.{Frame, Frames, Did, Does, Asked, Asks, at, next, received, does, on_top, on_int, on_ref, on_long, on_number, on_value, on_word, int_in, ref_in, long_in, second_in, object_in, slot_in, number_in, field_in, static_in, inner, sort_of, not_null, if_object, throws, receiver, over_object, runs, sized, holds, same, switched, distance, numbered, converted, divides, branches, loads, stores, set_local, set_long, rearranged, without, Took, take_args, goes, enters, invokes, trapped, found, gives, on_did, truth, or_trap, enters_found, stored, kept_in, element_name, has_address, if_addressed, told}
-use Rattle.objects.specs.Source.{CanMake, HasField, HasMethod, HasObject, IsSourceOp, IsSourceCatches, IsSourceCatch, IsSourceMethod, AreTypes, IsTrapClass, IsArray}
+use Rattle.objects.specs.Step.{Frame, Frames, Did, Does, Asked, Asks, at, next, received, does, on_top, on_int, on_ref, on_long, on_number, on_value, on_word, int_in, ref_in, long_in, second_in, object_in, slot_in, number_in, field_in, static_in, method_in, inner, sort_of, not_null, if_object, throws, receiver, over_object, runs, sized, holds, same, switched, distance, numbered, converted, divides, branches, loads, stores, set_local, set_long, rearranged, without, Took, take_args, goes, enters, invokes, trapped, found, gives, on_did, truth, or_trap, enters_found, stored, kept_in, element_name, has_address, if_addressed, told}
+use Rattle.objects.specs.Source.{CanMake, HasField, HasMethod, HasVirtual, HasObject, HasCode, IsSourceOp, IsSourceCatches, IsSourceCatch, IsSourceMethod, AreTypes, IsTrapClass, IsArray}
 use Rattle.objects.specs.Source as source
 use Rattle.objects.specs.Typing.{freed, freed_by, Types, Table, types_at, FitsIn, Flow, Leads, Wrong, flow, first_types, first_locals, is_constructor, arguments, results, result_types, number_types, become, is_uninit, built_as, this_built, new_class, is_named, direct_superclass, constructs, is_one, is_reference, Covers, caught_type, is_guarded, AreCaught, KeepsFlow, KeepsAt, IsTypedAt, IsTyping, fits_elements, element_types, stored_types}
 use Rattle.objects.specs.Typing as typed
@@ -94,36 +94,28 @@ first_found P d (c ∷ cs) to e = by (first_found P d cs to) (position (override
     by rest (Some i) is e = let x = found_at (overrides d c) P.methods to (is ∙ e) in record { class = c; among = first c cs; method = x.0; there = x.1; overrides = x.2 }
 
 -- a method that has its object first
-pub object_first : (d : Method) → d.dispatch ≢ dispatch.Static → d.dispatch ≢ dispatch.Abstract → HasObject d.dispatch d → d.parameters ≡ Ref d.name.class ∷ arguments d
-object_first d s a h = by d.dispatch s a h
+pub object_first : (P : Program) (d : Method) → d.dispatch ≢ dispatch.Static → d.dispatch ≢ dispatch.Abstract → HasObject P d.dispatch d → d.parameters ≡ Ref (name_read P d.name.class) ∷ arguments d
+object_first P d s a h = by d.dispatch s a h
   where
-    by : (x : Dispatch) → x ≢ dispatch.Static → x ≢ dispatch.Abstract → HasObject x d → d.parameters ≡ Ref d.name.class ∷ arguments d
+    by : (x : Dispatch) → x ≢ dispatch.Static → x ≢ dispatch.Abstract → HasObject P x d → d.parameters ≡ Ref (name_read P d.name.class) ∷ arguments d
     by dispatch.Static s a h = absurd (s refl)
     by dispatch.Abstract s a h = absurd (a refl)
     by dispatch.Exact s a h = h
     by dispatch.Virtual s a h = h
 
-pub some_first : (d : Method) → d.dispatch ≢ dispatch.Static → HasObject d.dispatch d → (c : List ℕ) × (d.parameters ≡ Ref c ∷ arguments d)
-some_first d s h = by d.dispatch s h
+pub some_first : (P : Program) (d : Method) → d.dispatch ≢ dispatch.Static → HasObject P d.dispatch d → (c : List ℕ) × (d.parameters ≡ Ref c ∷ arguments d)
+some_first P d s h = by d.dispatch s h
   where
-    by : (x : Dispatch) → x ≢ dispatch.Static → HasObject x d → (c : List ℕ) × (d.parameters ≡ Ref c ∷ arguments d)
+    by : (x : Dispatch) → x ≢ dispatch.Static → HasObject P x d → (c : List ℕ) × (d.parameters ≡ Ref c ∷ arguments d)
     by dispatch.Static s h = absurd (s refl)
     by dispatch.Abstract s h = (h.0, h.1)
-    by dispatch.Exact s h = (d.name.class, h)
-    by dispatch.Virtual s h = (d.name.class, h)
+    by dispatch.Exact s h = (name_read P d.name.class, h)
+    by dispatch.Virtual s h = (name_read P d.name.class, h)
 
--- an abstract method has no code, and each other has
-pub code_of : (d : Method) → (has_code (Some d) ≡ true → d.dispatch ≢ dispatch.Abstract) × (has_code (Some d) ≡ false → d.dispatch ≡ dispatch.Abstract)
-code_of d = by d.dispatch refl
-  where
-    with_dispatch : Dispatch → Bool
-    with_dispatch x = has_code (Some (record d { dispatch = x }))
-
-    by : (x : Dispatch) → d.dispatch ≡ x → (has_code (Some d) ≡ true → d.dispatch ≢ dispatch.Abstract) × (has_code (Some d) ≡ false → d.dispatch ≡ dispatch.Abstract)
-    by dispatch.Abstract e = (λ h a. never (has_code (Some d)) h (ap with_dispatch e), λ h. e)
-    by dispatch.Static e = (λ h a. let no : dispatch.Static ≡ dispatch.Abstract = sym e ∙ a in let fall : ⊥ = cc in fall, λ h. absurd (never (has_code (Some d)) (ap with_dispatch e) h))
-    by dispatch.Exact e = (λ h a. let no : dispatch.Exact ≡ dispatch.Abstract = sym e ∙ a in let fall : ⊥ = cc in fall, λ h. absurd (never (has_code (Some d)) (ap with_dispatch e) h))
-    by dispatch.Virtual e = (λ h a. let no : dispatch.Virtual ≡ dispatch.Abstract = sym e ∙ a in let fall : ⊥ = cc in fall, λ h. absurd (never (has_code (Some d)) (ap with_dispatch e) h))
+-- a method with code isn't abstract
+not_abstract : (d : Method) (os : List Op) → is_code os ≡ true → HasCode os d → d.dispatch ≢ dispatch.Abstract
+not_abstract d [] h c = cc
+not_abstract d (o ∷ os) h c = c
 
 -- an object that isn't null is a reference
 pub reference_of : (P : Program) (σ : State) (n : List ℕ) (o : ℕ) → IsObjectOf P σ n o → IsReferenceTo P σ n o
@@ -560,7 +552,7 @@ module _ (P : Program) (Ts : List Table) (S : IsTypedProgram P Ts) (size : ℕ) 
     enters_fine N false gs h = h
 
     -- a method that takes what was found, and gives what the caller waits for
-    entered_fine : (N : ℕ → Use → Frames → Type 0) (c : ℕ) (d : Method) (s args left : List Slot) → method_at P c ≡ Some d → d.dispatch ≢ dispatch.Abstract → take_args d.places [] s ≡ Took args left
+    entered_fine : (N : ℕ → Use → Frames → Type 0) (c : ℕ) (d : Method) (s args left : List Slot) → method_at P c ≡ Some d → has_code (Some d) ≡ true → take_args d.places [] s ≡ Took args left
         → HaveTypes P d σ (first_locals (is_constructor d) d.parameters) args → Returns P Ts S σ d.result (here l left) k → Fine P Ts S size σ H N (invokes P (Some d) c (here l s) fs)
     entered_fine N c d s args left there ne is given returns = rw is (enters_fine N d.counted _ (d, starts_typed P Ts S σ c d args there (S.typed c d there ne) given, (k, (code, returns, hn), w)))
 
@@ -577,18 +569,23 @@ module _ (P : Program) (Ts : List Table) (S : IsTypedProgram P Ts) (size : ℕ) 
             let p = pushed_on v s in
             rw p (frame_at τ _ (pc + 1) l (pushed v [] ++ s) e.0 (types_kept P k σ τ keeps h.locals l hl) (joined P k τ (results d) us (pushed v []) s i now))
 
-    static_fine : (c : ℕ) (s : List Slot) → source.HasStatic P c → Has h.stack s → Keeps (typed.method_in (method_at P c) (λ d. typed.calls P pc d h)) → DidFine (Does (doing.Invoke c) (here l s))
-    static_fine c s x hs e =
-        let d = x.method in
-        let there = x.there in
-        let src = source_of c d there in
-        let f = finds (reverse d.parameters) [] [] h.stack s _ tt hs (subst (λ (o : Option Method). Keeps (typed.method_in o (λ d. typed.calls P pc d h))) there e) in
-        let many : length (reverse d.parameters) ≡ d.places = length-reverse d.parameters ∙ src.many in
-        let plain : is_constructor d ≡ false = subst (λ (y : Dispatch). HasObject y d) x.static src.object in
-        let given : HaveTypes P d σ d.parameters f.args = parameters_moved P k d σ false d.parameters f.args src.parameters (subst (λ (ts : List VType). Has ts f.args) (reverse-reverse d.parameters) f.given) in
-        let no_abstract : d.dispatch ≢ dispatch.Abstract = λ a. let z : dispatch.Static ≡ dispatch.Abstract = sym x.static ∙ a in let fall : ⊥ = cc in fall in
-        rw there (entered_fine FirstHeads c d s f.args f.left there no_abstract (ap (λ (n : ℕ). take_args n [] s) (sym many) ∙ f.is)
-        (subst (λ (b : Bool). HaveTypes P d σ (first_locals b d.parameters) f.args) (sym plain) given) (gives_back d f.left f.types f.others f.keeps))
+    static_fine : (c : ℕ) (s : List Slot) → source.HasStatic P c → Has h.stack s → Keeps (typed.method_in (method_at P c) (λ d. typed.calls P pc d h)) → DidFine (method_in (method_at P c) (λ d. runs (has_code (Some d)) c (here l s)))
+    static_fine c s x hs e = let there = x.there in rw there (by (has_code (Some x.method)) refl)
+      where
+        d : Method
+        d = x.method
+
+        by : (b : Bool) → has_code (Some d) ≡ b → DidFine (runs b c (here l s))
+        by false code = traps FirstHeads AbstractMethod s
+        by true code =
+            let there = x.there in
+            let src = source_of c d there in
+            let f = finds (reverse d.parameters) [] [] h.stack s _ tt hs (subst (λ (o : Option Method). Keeps (typed.method_in o (λ d. typed.calls P pc d h))) there e) in
+            let many : length (reverse d.parameters) ≡ d.places = length-reverse d.parameters ∙ src.many in
+            let plain : is_constructor d ≡ false = subst (λ (y : Dispatch). HasObject P y d) x.static src.object in
+            let given : HaveTypes P d σ d.parameters f.args = parameters_moved P k d σ false d.parameters f.args src.parameters (subst (λ (ts : List VType). Has ts f.args) (reverse-reverse d.parameters) f.given) in
+            rw there (entered_fine FirstHeads c d s f.args f.left there code (ap (λ (n : ℕ). take_args n [] s) (sym many) ∙ f.is)
+            (subst (λ (b : Bool). HaveTypes P d σ (first_locals b d.parameters) f.args) (sym plain) given) (gives_back d f.left f.types f.others f.keeps))
 
     -- what a call over an object finds
     record OverObject (d : Method) (s : List Slot) : Type 0 where
@@ -698,20 +695,22 @@ module _ (P : Program) (Ts : List Table) (S : IsTypedProgram P Ts) (size : ℕ) 
     over_fine : (c : ℕ) (d : Method) (s : List Slot) → method_at P c ≡ Some d → (x : OverObject d s) → (on : Method → ℕ → Did) → (0 < x.o → DidFine (on d x.o)) → DidFine (over_object P c (here l s) on)
     over_fine c d s there x on p = let at = x.at in rw (there, at) (not_null_fine x.o s (on d x.o) p)
 
-    -- a method over an object of its class
+    -- a method over an object of its class; that of a constructor isn't built
     record IsOver (d e : Method) (o : ℕ) : Type 0 where
-      runs_code : e.dispatch ≢ dispatch.Abstract
-      first : e.parameters ≡ Ref e.name.class ∷ arguments e
+      runs_code : has_code (Some e) ≡ true
+      class : List ℕ
+      first : e.parameters ≡ Ref class ∷ arguments e
       arguments_are : arguments d ≡ arguments e
       result : d.result ≡ e.result
-      this : IsThis P σ e.name.class o
+      own : is_constructor e ≡ false → IsReferenceTo P σ class o
+      this : is_constructor e ≡ true → IsThis P σ e.name.class o
 
-    object_arguments : (e : Method) (o : ℕ) (rest : List Slot) → e.parameters ≡ Ref e.name.class ∷ arguments e → IsThis P σ e.name.class o → HaveTypes P e σ (arguments e) rest → HaveTypes P e σ (first_locals (is_constructor e) e.parameters) (slot.Ref o ∷ rest)
-    object_arguments e o rest first this given = subst (λ (ts : List VType). HaveTypes P e σ (first_locals (is_constructor e) ts) (slot.Ref o ∷ rest)) (sym first) (by (is_constructor e))
+    object_arguments : (d e : Method) (o : ℕ) (rest : List Slot) → (x : IsOver d e o) → HaveTypes P e σ (arguments e) rest → HaveTypes P e σ (first_locals (is_constructor e) e.parameters) (slot.Ref o ∷ rest)
+    object_arguments d e o rest x given = subst (λ (ts : List VType). HaveTypes P e σ (first_locals (is_constructor e) ts) (slot.Ref o ∷ rest)) (sym x.first) (by (is_constructor e) refl)
       where
-        by : (b : Bool) → HaveTypes P e σ (first_locals b (Ref e.name.class ∷ arguments e)) (slot.Ref o ∷ rest)
-        by true = (this, given)
-        by false = (reference_of P σ e.name.class o this.object, given)
+        by : (b : Bool) → is_constructor e ≡ b → HaveTypes P e σ (first_locals b (Ref x.class ∷ arguments e)) (slot.Ref o ∷ rest)
+        by true is = (x.this is, given)
+        by false is = (x.own is, given)
 
     object_entered : (N : ℕ → Use → Frames → Type 0) (c : ℕ) (d : Method) (s : List Slot) → method_at P c ≡ Some d → (n : List ℕ) → d.parameters ≡ Ref n ∷ arguments d → (x : OverObject d s) → (to : ℕ) (e : Method) → method_at P to ≡ Some e → IsOver d e x.o
         → Fine P Ts S size σ H N (invokes P (method_at P to) to (here l s) fs)
@@ -720,18 +719,16 @@ module _ (P : Program) (Ts : List Table) (S : IsTypedProgram P Ts) (size : ℕ) 
         let same : d.places ≡ e.places = sym (source_of c d there).many ∙ ap length first ∙ ap (λ (ts : List VType). suc (length ts)) y.arguments_are ∙ sym (ap length y.first) ∙ src.many in
         let given : Has (arguments e) x.rest = subst (λ (ts : List VType). Has ts x.rest) y.arguments_are x.given in
         let plain : HaveTypes P e σ (arguments e) x.rest = parameters_moved P k e σ false (arguments e) x.rest (subst (source.AreParametersAfter false) y.first src.parameters) given in
-        rw at (entered_fine N to e s (slot.Ref x.o ∷ x.rest) x.left at y.runs_code (ap (λ (n : ℕ). take_args n [] s) (sym same) ∙ x.taken) (object_arguments e x.o x.rest y.first y.this plain)
+        rw at (entered_fine N to e s (slot.Ref x.o ∷ x.rest) x.left at y.runs_code (ap (λ (n : ℕ). take_args n [] s) (sym same) ∙ x.taken) (object_arguments d e x.o x.rest y plain)
         (subst (λ (r : Option VType). Returns P Ts S σ r (here l x.left) k) y.result x.returns))
 
-    runs_fine : (c : ℕ) (d : Method) (s : List Slot) → method_at P c ≡ Some d → d.dispatch ≢ dispatch.Static → (x : OverObject d s) → ((d.parameters ≡ Ref d.name.class ∷ arguments d) → IsThis P σ d.name.class x.o) → DidFine (runs (has_code (Some d)) c (here l s))
-    runs_fine c d s there over x this = by (has_code (Some d)) refl
+    runs_fine : (c : ℕ) (d : Method) (s : List Slot) → method_at P c ≡ Some d → (n : List ℕ) → d.parameters ≡ Ref n ∷ arguments d → (x : OverObject d s) → (is_constructor d ≡ false → IsReferenceTo P σ n x.o) → (is_constructor d ≡ true → IsThis P σ d.name.class x.o)
+        → DidFine (runs (has_code (Some d)) c (here l s))
+    runs_fine c d s there n first x own this = by (has_code (Some d)) refl
       where
         by : (b : Bool) → has_code (Some d) ≡ b → DidFine (runs b c (here l s))
         by false e = traps FirstHeads AbstractMethod s
-        by true e =
-            let no = (code_of d).0 e in
-            let first = object_first d over no (source_of c d there).object in
-            object_entered FirstHeads c d s there d.name.class first x c d there (record { runs_code = no; first = first; arguments_are = refl; result = refl; this = this first })
+        by true e = object_entered FirstHeads c d s there n first x c d there (record { runs_code = e; class = n; first = first; arguments_are = refl; result = refl; own = own; this = this })
 
     -- a constructor's arguments, and what waits for it
     over_constructor : (c : ℕ) (d : Method) (s : List Slot) → method_at P c ≡ Some d → d.dispatch ≢ dispatch.Static → d.result ≡ None → Has h.stack s
@@ -740,7 +737,7 @@ module _ (P : Program) (Ts : List Table) (S : IsTypedProgram P Ts) (size : ℕ) 
         let src = source_of c d there in
         let f = finds (reverse (arguments d)) [] [] h.stack s _ tt hs e in
         by f.args f.left f.types (subst (λ (ts : List VType). Has ts f.args) (reverse-reverse (arguments d)) f.given) f.others f.keeps (ap (λ (n : ℕ). take_args n [] s) (sym (length-reverse (arguments d))) ∙ f.is)
-        (sym src.many ∙ ap length (some_first d over src.object).1)
+        (sym src.many ∙ ap length (some_first P d over src.object).1)
       where
         by : (args left : List Slot) (types : List VType) → Has (arguments d) args → Has types left → Keeps (typed.on_top types (λ t s. constructs P k pc d.name.class h t s)) → take_args (length (arguments d)) [] s ≡ Took args left
             → d.places ≡ suc (length (arguments d)) → (x : OverObject d s) × IsThis P σ d.name.class x.o
@@ -780,16 +777,14 @@ module _ (P : Program) (Ts : List Table) (S : IsTypedProgram P Ts) (size : ℕ) 
 
         by : (b : Bool) → is_constructor x.method ≡ b → Keeps (typed.special b P k pc x.method h) → DidFine (over_object P c (here l s) (λ d o. runs (has_code (Some d)) c (here l s)))
         by true new e = if_so_fine (not (is_some x.method.result)) _ (DidFine (over_object P c (here l s) (λ d o. runs (has_code (Some d)) c (here l s)))) (λ gives e.
+            let n = some_first P x.method x.over_object (source_of c x.method x.there).object in
             let y = over_constructor c x.method s x.there x.over_object (gives_nothing x.method.result gives) hs e in
-            over_fine c x.method s x.there y.0 _ (λ past. runs_fine c x.method s x.there x.over_object y.0 (λ first. y.1))) e
+            over_fine c x.method s x.there y.0 _ (λ past. runs_fine c x.method s x.there n.0 n.1 y.0 (λ other. absurd (never (is_constructor x.method) new other)) (λ is. y.1))) e
         by false other e =
             let inner = each_inner (reverse (arguments x.method)) h.stack _ e in
-            let n = some_first x.method x.over_object (source_of c x.method x.there).object in
+            let n = some_first P x.method x.over_object (source_of c x.method x.there).object in
             let y = over_calls c x.method s n.0 x.there n.1 hs (below inner.0 inner.1) in
-            over_fine c x.method s x.there y.0 _ (λ past. runs_fine c x.method s x.there x.over_object y.0 (λ first.
-            let both_first : Ref n.0 ∷ arguments x.method ≡ Ref x.method.name.class ∷ arguments x.method = sym n.1 ∙ first in
-            let same : n.0 ≡ x.method.name.class = cc in
-            record { object = subst (λ (n : List ℕ). IsObjectOf P σ n y.0.o) same (object_of_reference P σ n.0 y.0.o past y.1); past = past }))
+            over_fine c x.method s x.there y.0 _ (λ past. runs_fine c x.method s x.there n.0 n.1 y.0 (λ is. y.1) (λ new. absurd (never (is_constructor x.method) new other)))
           where
             below : (us : List VType) → Keeps (typed.on_top us (λ t u. typed.if_so (is_within P t (Ref k.name.class)) (typed.on_each P (reverse x.method.parameters) h.stack (λ s. typed.leaves pc h (results x.method ++ s))))) → Keeps (typed.calls P pc x.method h)
             below [] e = absurd e
@@ -801,31 +796,34 @@ module _ (P : Program) (Ts : List Table) (S : IsTypedProgram P Ts) (size : ℕ) 
       there : method_at P to ≡ Some e
       over : IsOver d e o
 
-    target_of : (c : ℕ) (d : Method) → method_at P c ≡ Some d → d.dispatch ≢ dispatch.Static → (n : List ℕ) → d.parameters ≡ Ref n ∷ arguments d → (o : ℕ) → 0 < o → (x : IsObjectOf P σ n o) → (to : ℕ) → selected P x.object.type c ≡ Some to → IsTarget d o to
-    target_of c d there over n first o past x to e = by (is_selectable d.dispatch) refl (ap (λ (m : Option Method). option_and_then (λ (k : Method). selected_by (is_selectable k.dispatch) P x.object.type c k) m) (sym there) ∙ e)
+    target_of : (c : ℕ) (d : Method) → method_at P c ≡ Some d → d.dispatch ≢ dispatch.Static → (is_constructor d ≡ true → name_read P d.name.class ≡ d.name.class) → (n : List ℕ) → d.parameters ≡ Ref n ∷ arguments d → (o : ℕ) → 0 < o → (x : IsObjectOf P σ n o) → (to : ℕ) → selected P x.object.type c ≡ Some to → IsTarget d o to
+    target_of c d there over named n first o past x to e = by (is_selectable d.dispatch) refl (ap (λ (m : Option Method). option_and_then (λ (k : Method). selected_by (is_selectable k.dispatch) P x.object.type c k) m) (sym there) ∙ e)
       where
-        exact : (y : Dispatch) → y ≢ dispatch.Static → is_selectable y ≡ false → y ≢ dispatch.Abstract
-        exact dispatch.Static s h a = s refl
-        exact dispatch.Abstract s h a = let fall : ⊥ = cc in fall
-        exact dispatch.Exact s h a = let fall : ⊥ = cc in fall
-        exact dispatch.Virtual s h a = let fall : ⊥ = cc in fall
-
         not_static : (y : Dispatch) → is_selectable y ≡ true → y ≢ dispatch.Static
         not_static dispatch.Static h a = let fall : ⊥ = cc in fall
         not_static dispatch.Abstract h a = let fall : ⊥ = cc in fall
         not_static dispatch.Exact h a = let fall : ⊥ = cc in fall
         not_static dispatch.Virtual h a = let fall : ⊥ = cc in fall
 
-        itself : is_selectable d.dispatch ≡ false → c ≡ to → IsTarget d o to
-        itself h same =
-            let no = exact d.dispatch over h in
-            let own = object_first d over no (source_of c d there).object in
-            let both_first : Ref n ∷ arguments d ≡ Ref d.name.class ∷ arguments d = sym first ∙ own in
-            let class : n ≡ d.name.class = cc in
+        itself : has_code (Some d) ≡ true → c ≡ to → IsTarget d o to
+        itself code same =
+            let src = source_of c d there in
             record {
               e = d;
               there = ap (method_at P) (sym same) ∙ there;
-              over = record { runs_code = no; first = own; arguments_are = refl; result = refl; this = record { object = subst (λ (n : List ℕ). IsObjectOf P σ n o) class x; past = past } };
+              over = record {
+                runs_code = code;
+                class = n;
+                first = first;
+                arguments_are = refl;
+                result = refl;
+                own = λ other. reference_of P σ n o x;
+                this = λ is.
+                    let read = object_first P d over (not_abstract d d.ops code src.code) src.object in
+                    let both_first : Ref n ∷ arguments d ≡ Ref (name_read P d.name.class) ∷ arguments d = sym first ∙ read in
+                    let class : n ≡ name_read P d.name.class = cc in
+                    record { object = subst (λ (n : List ℕ). IsObjectOf P σ n o) (class ∙ named is) x; past = past };
+              };
             }
 
         declared : IsFirst P d (lineage_in (row_at P x.object.type)) to → has_code (method_at P to) ≡ true → IsTarget d o to
@@ -837,22 +835,29 @@ module _ (P : Program) (Ts : List Table) (S : IsTypedProgram P Ts) (size : ℕ) 
             let g = both (bytes_eq m.name.name d.name.name) _ b.1 in
             let class : m.name.class ≡ f.class = (bytes_eq-Decides m.name.class f.class).0 b.0 in
             let descriptor : m.name.descriptor ≡ d.name.descriptor = (bytes_eq-Decides m.name.descriptor d.name.descriptor).0 g.1 in
-            let no = (code_of m).0 (ap has_code (sym f.there) ∙ runs) in
+            let code : has_code (Some m) ≡ true = ap has_code (sym f.there) ∙ runs in
             let dynamic = not_static m.dispatch a.0 in
             let alike = S.source.names.described c to d m there f.there over dynamic (sym descriptor) in
             let among : Among f.class x.row.lineage = subst (λ (r : Option Row). Among f.class (lineage_in r)) x.is f.among in
             let within : IsWithin P (Ref x.row.read) (Ref m.name.class) = subst (λ (n : List ℕ). IsWithin P (Ref x.row.read) (Ref n)) (sym class) (class_within P C x.object.type x.row x.is f.class among) in
+            let read : IsWithin P (Ref x.row.read) (Ref (name_read P m.name.class)) = S.source.types.instances x.object.type x.row m.name.class x.is (S.source.types.within x.object.type x.row m.name.class x.is within) in
             record {
               e = m;
               there = f.there;
               over = record {
-                runs_code = no;
-                first = object_first m dynamic no src.object;
+                runs_code = code;
+                class = name_read P m.name.class;
+                first = object_first P m dynamic (not_abstract m m.ops code src.code) src.object;
                 arguments_are = alike.0;
                 result = alike.1;
-                this = record { object = record { object = x.object; row = x.row; there = x.there; is = x.is; below = within }; past = past };
+                own = λ other. reference_of P σ (name_read P m.name.class) o (record { object = x.object; row = x.row; there = x.there; is = x.is; below = read });
+                this = λ is. record { object = record { object = x.object; row = x.row; there = x.there; is = x.is; below = within }; past = past };
               };
             }
+
+        itself_runs : (b : Bool) → has_code (method_at P c) ≡ b → (if b then Some c else None) ≡ Some to → IsTarget d o to
+        itself_runs false code e = cc
+        itself_runs true code e = itself (ap has_code (sym there) ∙ code) cc
 
         runs_first : (a : Option ℕ) → first_in P d (lineage_in (row_at P x.object.type)) ≡ a → runnable P a ≡ Some to → IsTarget d o to
         runs_first None is e = cc
@@ -863,17 +868,17 @@ module _ (P : Program) (Ts : List Table) (S : IsTypedProgram P Ts) (size : ℕ) 
             go true is_code e = let same : i ≡ to = cc in declared (first_found P d _ to (is ∙ e)) (ap (λ (i : ℕ). has_code (method_at P i)) (sym same) ∙ is_code)
 
         by : (b : Bool) → is_selectable d.dispatch ≡ b → selected_by (is_selectable d.dispatch) P x.object.type c d ≡ Some to → IsTarget d o to
-        by false h e = let same : c ≡ to = let f = ap (λ (b : Bool). selected_by b P x.object.type c d) (sym h) ∙ e in cc in itself h same
+        by false h e = itself_runs (has_code (method_at P c)) refl (ap (λ (b : Bool). selected_by b P x.object.type c d) (sym h) ∙ e)
         by true h e = runs_first _ refl (ap (λ (b : Bool). selected_by b P x.object.type c d) (sym h) ∙ e)
 
-    found_fine : (N : ℕ → Use → Frames → Type 0) (c : ℕ) (d : Method) (s : List Slot) → method_at P c ≡ Some d → d.dispatch ≢ dispatch.Static → (n : List ℕ) → d.parameters ≡ Ref n ∷ arguments d → (x : OverObject d s) → 0 < x.o → (y : IsObjectOf P σ n x.o)
+    found_fine : (N : ℕ → Use → Frames → Type 0) (c : ℕ) (d : Method) (s : List Slot) → method_at P c ≡ Some d → d.dispatch ≢ dispatch.Static → (is_constructor d ≡ true → name_read P d.name.class ≡ d.name.class) → (n : List ℕ) → d.parameters ≡ Ref n ∷ arguments d → (x : OverObject d s) → 0 < x.o → (y : IsObjectOf P σ n x.o)
         → Fine P Ts S size σ H N (enters_found P (selected P y.object.type c) (here l s ∷ fs))
-    found_fine N c d s there over n first x past y = by (selected P y.object.type c) refl
+    found_fine N c d s there over named n first x past y = by (selected P y.object.type c) refl
       where
         by : (a : Option ℕ) → selected P y.object.type c ≡ a → Fine P Ts S size σ H N (found P a (here l s) fs)
         by None is = traps N AbstractMethod s
         by (Some to) is =
-            let t = target_of c d there over n first x.o past y to is in
+            let t = target_of c d there over named n first x.o past y to is in
             object_entered N c d s there n first x to t.e t.there t.over
 
     or_trap_fine : (N : ℕ → Use → Frames → Type 0) (b : Bool) (t : Trap) (s : List Slot) (a : Asked) → (b ≡ true → Fine P Ts S size σ H N a) → Fine P Ts S size σ H N (or_trap b t (here l s ∷ fs) a)
@@ -881,23 +886,23 @@ module _ (P : Program) (Ts : List Table) (S : IsTypedProgram P Ts) (size : ℕ) 
     or_trap_fine N false t s a p = traps N t s
 
     -- a call that goes by the class of its object
-    virtual_fine : (c : ℕ) (s : List Slot) → HasMethod P c → Has h.stack s → Keeps (typed.method_in (method_at P c) (λ d. typed.calls P pc d h)) → DidFine (over_object P c (here l s) (λ d o. Does (doing.Head o (Selects c)) (here l s)))
+    virtual_fine : (c : ℕ) (s : List Slot) → HasVirtual P c → Has h.stack s → Keeps (typed.method_in (method_at P c) (λ d. typed.calls P pc d h)) → DidFine (over_object P c (here l s) (λ d o. Does (doing.Head o (Selects c)) (here l s)))
     virtual_fine c s x hs e =
         let d = x.method in
-        let n = some_first d x.over_object (source_of c d x.there).object in
+        let n = some_first P d x.over_object (source_of c d x.there).object in
         let y = over_calls c d s n.0 x.there n.1 hs (subst (λ (o : Option Method). Keeps (typed.method_in o (λ d. typed.calls P pc d h))) x.there e) in
         over_fine c d s x.there y.0 _ (λ past.
         let o = object_of_reference P σ n.0 y.0.o past y.1 in
-        record { object = o.object; there = o.there; about = tt; goes = found_fine (LastHeads P Ts S size σ H) c d s x.there x.over_object n.0 n.1 y.0 past o })
+        record { object = o.object; there = o.there; about = tt; goes = found_fine (LastHeads P Ts S size σ H) c d s x.there x.over_object x.constructor n.0 n.1 y.0 past o })
 
-    interface_fine : (c : ℕ) (name : List ℕ) (s : List Slot) → HasMethod P c → Has h.stack s → Keeps (typed.method_in (method_at P c) (λ d. typed.calls P pc d h)) → DidFine (over_object P c (here l s) (λ d o. Does (doing.Head o (Implements c name)) (here l s)))
+    interface_fine : (c : ℕ) (name : List ℕ) (s : List Slot) → HasVirtual P c → Has h.stack s → Keeps (typed.method_in (method_at P c) (λ d. typed.calls P pc d h)) → DidFine (over_object P c (here l s) (λ d o. Does (doing.Head o (Implements c name)) (here l s)))
     interface_fine c name s x hs e =
         let d = x.method in
-        let n = some_first d x.over_object (source_of c d x.there).object in
+        let n = some_first P d x.over_object (source_of c d x.there).object in
         let y = over_calls c d s n.0 x.there n.1 hs (subst (λ (o : Option Method). Keeps (typed.method_in o (λ d. typed.calls P pc d h))) x.there e) in
         over_fine c d s x.there y.0 _ (λ past.
         let o = object_of_reference P σ n.0 y.0.o past y.1 in
-        record { object = o.object; there = o.there; about = tt; goes = or_trap_fine (LastHeads P Ts S size σ H) (is_instance P o.object.type name) IncompatibleClassChange s _ (λ is. found_fine (LastHeads P Ts S size σ H) c d s x.there x.over_object n.0 n.1 y.0 past o) })
+        record { object = o.object; there = o.there; about = tt; goes = or_trap_fine (LastHeads P Ts S size σ H) (is_instance P o.object.type name) IncompatibleClassChange s _ (λ is. found_fine (LastHeads P Ts S size σ H) c d s x.there x.over_object x.constructor n.0 n.1 y.0 past o) })
 
     -- the constructor of a library class
     without_fine : (n : ℕ) (t : VType) (ts : List VType) (s : List Slot) (j : List VType → Flow) (d : List Slot → Did) → Has ts s

@@ -120,13 +120,15 @@ abbrev pub lineage_in : Option Row → List (List ℕ)
 lineage_in None = []
 lineage_in (Some r) = r.lineage
 
+-- whether there are instructions
+abbrev pub is_code : List Op → Bool
+is_code [] = false
+is_code (o ∷ os) = true
+
+-- whether a method has code: one of any dispatch may have none
 abbrev pub has_code : Option Method → Bool
 has_code None = false
-has_code (Some k) = is_code k.dispatch
-  where
-    is_code : Dispatch → Bool
-    is_code dispatch.Abstract = false
-    is_code d = true
+has_code (Some k) = is_code k.ops
 
 -- a method that can run
 abbrev pub runnable : Program → Option ℕ → Option ℕ
@@ -135,9 +137,9 @@ runnable P (Some m) = if has_code (method_at P m) then Some m else None
 
 abbrev pub selected_by : Bool → Program → ℕ → ℕ → Method → Option ℕ
 selected_by true P type m k = runnable P (first_in P k (lineage_in (row_at P type)))
-selected_by false P type m k = Some m
+selected_by false P type m k = runnable P (Some m)
 
 -- The method that a call of method m runs over an object of a type: itself, where calls find it by its name; else the first from the object's class upward.
--- There is none where that one is abstract (JVM Specification, Java SE 7, section 6.5, invokevirtual).
+-- There is none where that one has no code (JVM Specification, Java SE 7, section 6.5, invokevirtual).
 abbrev pub selected : Program → ℕ → ℕ → Option ℕ
 selected P type m = option_and_then (λ (k : Method). selected_by (is_selectable k.dispatch) P type m k) (method_at P m)

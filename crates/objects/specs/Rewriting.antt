@@ -339,13 +339,14 @@ duplicate_code P k xs = record {
   catches = catch 0 (block_at xs (length xs)) (block_at xs (length xs)) Conflict ∷ map (moved_catch (block_at xs)) k.catches;
 }
 
-abbrev pub abstracted : Dispatch → Method → Method
-abstracted dispatch.Abstract k = record k { ops = []; catches = [] }
-abstracted d k = k
+-- without code, where these instructions are none
+abbrev pub abstracted : List Op → Method → Method
+abstracted [] k = record k { ops = []; catches = [] }
+abstracted (o ∷ os) k = k
 
--- that of an abstract method has no code
+-- that of a method without code has none
 abbrev pub duplicate_method : Program → Method → Table → Method
-duplicate_method P k T = abstracted k.dispatch (duplicate_code P k (typed_from 0 T k.ops))
+duplicate_method P k T = abstracted k.ops (duplicate_code P k (typed_from 0 T k.ops))
 
 -- those of methods by their tables
 abbrev pub duplicates : Program → List Method → List Table → List Method

@@ -129,6 +129,13 @@ pub record HasMethod (P : Program) (m : ℕ) : Type 0 where
   pub there : method_at P m ≡ Some method
   pub over_object : method.dispatch ≢ dispatch.Static
 
+-- A method over an object, by whose class a call finds what runs. Where it is a constructor, its class is no interface: typing reads it by its name.
+pub record HasVirtual (P : Program) (m : ℕ) : Type 0 where
+  pub method : Method
+  pub there : method_at P m ≡ Some method
+  pub over_object : method.dispatch ≢ dispatch.Static
+  pub constructor : is_constructor method ≡ true → name_read P method.name.class ≡ method.name.class
+
 pub record HasStatic (P : Program) (m : ℕ) : Type 0 where
   pub method : Method
   pub there : method_at P m ≡ Some method
@@ -165,8 +172,8 @@ IsSourceOp P k (op.GetField f) = HasField P f None
 IsSourceOp P k (op.PutField f) = HasField P f None
 IsSourceOp P k (op.InvokeStatic m) = HasStatic P m
 IsSourceOp P k (op.InvokeSpecial m) = HasMethod P m
-IsSourceOp P k (op.InvokeVirtual m) = HasMethod P m
-IsSourceOp P k (op.InvokeInterface m c) = HasMethod P m
+IsSourceOp P k (op.InvokeVirtual m) = HasVirtual P m
+IsSourceOp P k (op.InvokeInterface m c) = HasVirtual P m
 IsSourceOp P k (op.New t) = CanMake P t false
 IsSourceOp P k (op.NewArray t) = CanMake P t true
 IsSourceOp P k op.GetContext = ⊥
@@ -205,23 +212,23 @@ IsResult (Some type.Long) = Unit {0}
 IsResult (Some (type.Ref n)) = Unit {0}
 IsResult (Some t) = ⊥
 
--- a method that isn't static has its object first: one of its class, or of an interface's, which is any; a constructor isn't static
-abbrev pub HasObject : Dispatch → Method → Type 0
-HasObject dispatch.Static k = is_constructor k ≡ false
-HasObject dispatch.Abstract k = (c : List ℕ) × (k.parameters ≡ type.Ref c ∷ arguments k)
-HasObject d k = k.parameters ≡ type.Ref k.name.class ∷ arguments k
+-- A method that isn't static has its object first: one of its class as typing reads it, so any object where that is an interface. A constructor isn't static.
+abbrev pub HasObject : Program → Dispatch → Method → Type 0
+HasObject P dispatch.Static k = is_constructor k ≡ false
+HasObject P dispatch.Abstract k = (c : List ℕ) × (k.parameters ≡ type.Ref c ∷ arguments k)
+HasObject P d k = k.parameters ≡ type.Ref (name_read P k.name.class) ∷ arguments k
 
--- an abstract method has no code, and isn't marked
-abbrev pub HasCode : Dispatch → Method → Type 0
-HasCode dispatch.Abstract k = (k.ops ≡ []) × (k.catches ≡ []) × (k.retries ≡ None)
-HasCode d k = Unit {0}
+-- a method without code, whatever its dispatch, has no entries and isn't marked; one that is found as abstract has none
+abbrev pub HasCode : List Op → Method → Type 0
+HasCode [] k = (k.catches ≡ []) × (k.retries ≡ None)
+HasCode (o ∷ os) k = k.dispatch ≢ dispatch.Abstract
 
 pub record IsSourceMethod (P : Program) (k : Method) : Type 0 where
   pub counted : k.counted ≡ true
   pub parameters : AreParameters k.parameters
   pub many : length k.parameters ≡ k.places
-  pub object : HasObject k.dispatch k
-  pub code : HasCode k.dispatch k
+  pub object : HasObject P k.dispatch k
+  pub code : HasCode k.ops k
   pub result : IsResult k.result
   pub room : k.places ≤ k.locals
   pub entries : AllByRecursion (IsSourceCatch P k) k.catches

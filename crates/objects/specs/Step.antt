@@ -322,7 +322,7 @@ receiver k s = slice_get s (k.places - 1)
 abbrev pub over_object : Program → ℕ → Frame → (Method → ℕ → Did) → Did
 over_object P m f on = method_in (method_at P m) (λ k. slot_in (receiver k f.stack) (λ v. ref_in v (λ o. not_null o f (on k o))))
 
--- an abstract method can't be entered
+-- a method without code is abstract, and can't be entered
 abbrev pub runs : Bool → ℕ → Frame → Did
 runs true m f = Does (Invoke m) f
 runs false m f = Does (Trap AbstractMethod) f
@@ -374,7 +374,7 @@ does P (op.PutStatic n) f = static_in (field_at P n) (λ x p. on_word x.declared
 does P (op.GetField n) f = field_in (field_at P n) (λ x. on_ref f.stack (λ o s. not_null o (with_stack f s) (Does (Ask (request.Get (inner o x))) (with_stack f s))))
 does P (op.PutField n) f = field_in (field_at P n) (λ x. on_word x.declared.word f.stack (λ v s. on_ref s (λ o s.
     not_null o (with_stack f s) (Does (Ask (request.Put (inner o x) v)) (with_stack f s)))))
-does P (op.InvokeStatic m) f = Does (Invoke m) f
+does P (op.InvokeStatic m) f = method_in (method_at P m) (λ k. runs (has_code (Some k)) m f)
 does P (op.InvokeSpecial m) f = over_object P m f (λ k o. runs (has_code (Some k)) m f)
 does P (op.InvokeVirtual m) f = over_object P m f (λ k o. Does (Head o (Selects m)) f)
 does P (op.InvokeInterface m c) f = over_object P m f (λ k o. Does (Head o (Implements m c)) f)

@@ -1,8 +1,8 @@
 -- The law of typed code.
-use Rattle.std.specs.Prelude.{◌≡◌, ◌≢◌, ℕ, List, Some, slice_get}
+use Rattle.std.specs.Prelude.{◌≡◌, ℕ, List, Some, true, slice_get}
 use Rattle.jmodel.specs.declared.value.Value.{Value}
 use Rattle.objects.specs.declared.op.Dispatch.TheVariants as dispatch
-use Rattle.objects.specs.Program.{Method, Program, method_at}
+use Rattle.objects.specs.Program.{Method, Program, method_at, has_code}
 use Rattle.objects.specs.Source.{IsSource, AreArguments}
 use Rattle.objects.specs.Region.{Region}
 use Rattle.objects.specs.State.{State}
@@ -19,7 +19,7 @@ pub record HasTyping (P : Program) (Ts : List Table) (m : ℕ) (k : Method) : Ty
 -- a program with tables that are typings of its methods that have code
 pub record IsTypedProgram (P : Program) (Ts : List Table) : Type 0 where
   pub source : IsSource P
-  pub typed : (m : ℕ) (k : Method) → method_at P m ≡ Some k → k.dispatch ≢ dispatch.Abstract → HasTyping P Ts m k
+  pub typed : (m : ℕ) (k : Method) → method_at P m ≡ Some k → has_code (Some k) ≡ true → HasTyping P Ts m k
 
 -- a run that isn't stuck, over a heap whose objects have values of their types
 abbrev pub IsSafe : Program → ℕ → Direct → Type 0
@@ -28,7 +28,7 @@ IsSafe P size (Asking a fs k σ) = IsHeap P size σ
 IsSafe P size (Ended x σ) = IsHeap P size σ
 IsSafe P size Stuck = ⊥
 
--- A call of a static method of a typed program over such a heap is never stuck, and keeps it so.
+-- A call of a static method that has code, of a typed program, over such a heap is never stuck, and keeps it so.
 abbrev pub TypedSafety : Type 0
-TypedSafety = (P : Program) (Ts : List Table) → IsTypedProgram P Ts → (budget m : ℕ) (G : Region) (k : Method) → slice_get P.methods m ≡ Some k → k.dispatch ≡ dispatch.Static
+TypedSafety = (P : Program) (Ts : List Table) → IsTypedProgram P Ts → (budget m : ℕ) (G : Region) (k : Method) → slice_get P.methods m ≡ Some k → k.dispatch ≡ dispatch.Static → has_code (Some k) ≡ true
     → (args : List Value) → AreArguments k.parameters args → (σ : State) → IsHeap P G.size σ → (n : ℕ) → IsSafe P G.size (direct P G n (call_start P m args budget σ))
