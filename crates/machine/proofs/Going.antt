@@ -1,19 +1,21 @@
 -- Instructions that ask for nothing, one after another.
-use Rattle.std.proofs.Common.{◌≡◌, ℕ, suc, Bool, true, false, ◌&&◌, nat_le, ◌∷◌, Result, Ok, Err, Option, Some, None, option_and_then, slice_get, refl, ap, ◌∙◌}
+use Rattle.std.proofs.Common.{◌≡◌, ℕ, suc, Bool, true, false, ◌&&◌, nat_le, [], ◌∷◌, Result, Ok, Err, Option, Some, None, option_and_then, slice_get, ◌⊎◌, inl, inr, refl, ap, ◌∙◌}
 use Rattle.jmodel.specs.declared.op.Op.{Op}
 use Rattle.jmodel.specs.declared.op.Doing.{Doing}
-use Rattle.jmodel.specs.declared.op.Doing.TheVariants.{Next, Jump}
+use Rattle.jmodel.specs.declared.op.Doing.TheVariants.{Next, Jump, Trap}
 use Rattle.jmodel.specs.declared.op.Phase.{Phase}
 use Rattle.jmodel.specs.declared.op.Phase.TheVariants.{Open}
 use Rattle.jmodel.specs.Program.{Program, Method, method_at, op_at, is_counted, is_counted_in}
 use Rattle.jmodel.specs.Step.{Frame, Frames, Asked, Does, Wrong, Fails, step, acts, does, next, at as at_place, jumps, goes, on_did, on_doing}
-use Rattle.jmodel.specs.Attempt.{Log, Bounds, Meter, Run, On, Gives, on_asked, next_run, with_turns, Comes}
+use Rattle.jmodel.specs.Attempt.{Log, Bounds, Meter, On, Gives, on_asked, next_run, with_turns, Comes}
 use Rattle.machine.specs.declared.failure.Failure.{Failure}
 use Rattle.machine.specs.declared.failure.Failure.TheVariants as failure
 use Rattle.machine.specs.declared.running.Running.{Running}
-use Rattle.machine.specs.Meets.{Meets, IsDone}
-use Rattle.machine.specs.Running.{at, meter, phase_of}
-use Rattle.machine.proofs.Comes.{comes_on}
+use Rattle.machine.specs.declared.plain.Flow.{Flow}
+use Rattle.machine.specs.declared.plain.Flow.TheVariants as flow
+use Rattle.machine.specs.Meets.{Meets, IsDone, Flows, IsFlow}
+use Rattle.machine.specs.Running.{at, meter, phase_of, Reaches, HasDone, IsStraight, IsGone}
+use Rattle.machine.proofs.Comes.{comes_here, comes_on, comes_trans}
 
 -- the instruction that a frame stands at
 pub step_at : (P : Program) (f : Frame) (fs : Frames) (o : Op) → op_at P f.method f.pc ≡ Some o → step P (f ∷ fs) ≡ on_did P (does P o f) fs
@@ -72,13 +74,55 @@ jumps_turn P B counts to k f fs m w r e h t =
     ∙ ap (λ (x : Bool). on_asked P B (goes x (at_place to f ∷ fs)) Open (Gives 0) m w r) h
     ∙ ap (λ (n : ℕ). with_turns B n (at_place to f ∷ fs) m w r) t
 
-module _ (P : Program) (B : Bounds) (c : Run) (a b : Running) (w r : Log) where
-  -- one more instruction that goes on behind it
-  pub goes_next : (g : Frame) → Comes P B c (at a w r) → step P (a.frame ∷ a.callers) ≡ on_doing P Next g a.callers
-      → b.frame ≡ next g → b.callers ≡ a.callers → b.stage ≡ a.stage → meter b ≡ meter a → Comes P B c (at b w r)
-  goes_next g k e f cs s m = comes_on P B c (at a w r) (at b w r) (Gives 0) k (runs_step P B (a.frame ∷ a.callers) _ (phase_of a.stage) (meter a) w r e ∙ rw (f, cs, s, m) refl)
+-- what an instruction that may not be done leads to, seen from the step
+pub flow_of : (P : Program) (f g : Frame) (fs : Frames) (o : Op) (x : Result Flow Failure) → op_at P f.method f.pc ≡ Some o → Flows x g f (does P o f) → IsFlow P x g f fs (step P (f ∷ fs))
+flow_of P f g fs o (Ok flow.Next) e h = step_does P f g fs o Next e h
+flow_of P f g fs o (Ok (flow.Jump to)) e h = step_does P f g fs o (Jump to) e h
+flow_of P f g fs o (Ok (flow.Trap t)) e h = step_does P f g fs o (Trap t) e h
+flow_of P f g fs o (Ok flow.Full) e h = h
+flow_of P f g fs o (Ok flow.Other) e h = h
+flow_of P f g fs o (Err x) e h = done_of P f g fs o (Err x) e h
 
-  -- or one that jumps
-  pub goes_jump : (g : Frame) (to : ℕ) → Comes P B c (at a w r) → step P (a.frame ∷ a.callers) ≡ on_doing P (Jump to) g a.callers
-      → on_asked P B (jumps P to g a.callers) (phase_of a.stage) (Gives 0) (meter a) w r ≡ at b w r → Comes P B c (at b w r)
-  goes_jump g to k e j = comes_on P B c (at a w r) (at b w r) (Gives 0) k (runs_step P B (a.frame ∷ a.callers) _ (phase_of a.stage) (meter a) w r e ∙ j)
+module _ (P : Program) (f g f' : Frame) where
+  -- one more instruction of a frame that goes on to the next
+  pub reaches_next : (h : Frame) → Reaches P f g → ((fs : Frames) → step P (g ∷ fs) ≡ on_doing P Next f' fs) → h ≡ next f' → Reaches P f h
+  reaches_next h k e q = λ B p fs m w r. comes_on P B (On p (f ∷ fs) m w r) (On p (g ∷ fs) m w r) (On p (h ∷ fs) m w r) (Gives 0) (k B p fs m w r)
+      (runs_step P B (g ∷ fs) _ p m w r (e fs) ∙ rw q refl)
+
+  -- or one that doesn't
+  pub straight_ends : (x : Result Flow Failure) → Reaches P f g → ((fs : Frames) → IsFlow P x f' g fs (step P (g ∷ fs))) → IsStraight P f f' x
+  straight_ends (Ok flow.Next) k h = record { frame = g; reaches = k; does = h }
+  straight_ends (Ok (flow.Jump to)) k h = record { frame = g; reaches = k; does = h }
+  straight_ends (Ok (flow.Trap t)) k h = record { frame = g; reaches = k; does = h }
+  straight_ends (Ok flow.Full) k h = rw (h []) k
+  straight_ends (Ok flow.Other) k h = rw (h []) k
+  straight_ends (Err e) k h = record { frame = g; reaches = k; does = h }
+
+pub reaches_here : (P : Program) (f : Frame) → Reaches P f f
+reaches_here P f = λ B p fs m w r. comes_here P B (On p (f ∷ fs) m w r)
+
+module _ (P : Program) (a b : Running) where
+  -- instructions of the current frame behind others
+  pub goes_on : (g : Frame) → ((B : Bounds) (w r : Log) → Comes P B (at a w r) (at b w r)) → Reaches P b.frame g
+      → (B : Bounds) (w r : Log) → Comes P B (at a w r) (at (record b { frame = g }) w r)
+  goes_on g k h = λ B w r. comes_trans P B (at a w r) (at b w r) (at (record b { frame = g }) w r) (k B w r) (h B (phase_of b.stage) b.callers (meter b) w r)
+
+  pub gone_ends : (f : Frame) (x : Result Flow Failure) → ((B : Bounds) (w r : Log) → Comes P B (at a w r) (at b w r)) → IsStraight P b.frame f x → IsGone P a (record b { frame = f }) x
+  gone_ends f (Ok flow.Next) k h = record { frame = h.frame; comes = goes_on h.frame k h.reaches; does = h.does }
+  gone_ends f (Ok (flow.Jump to)) k h = record { frame = h.frame; comes = goes_on h.frame k h.reaches; does = h.does }
+  gone_ends f (Ok (flow.Trap t)) k h = record { frame = h.frame; comes = goes_on h.frame k h.reaches; does = h.does }
+  gone_ends f (Ok flow.Full) k h = goes_on f k h
+  gone_ends f (Ok flow.Other) k h = goes_on f k h
+  gone_ends f (Err e) k h = record { frame = h.frame; comes = goes_on h.frame k h.reaches; does = h.does }
+
+  -- where the last one wasn't done, it stands still to be done
+  pub gone_stays : (x : Flow) → (x ≡ flow.Full) ⊎ (x ≡ flow.Other) → IsGone P a b (Ok x) → (B : Bounds) (w r : Log) → Comes P B (at a w r) (at b w r)
+  gone_stays x (inl e) h = rw e at h
+  gone_stays x (inr e) h = rw e at h
+
+  -- and a jump behind them
+  pub goes_jump : (f : Frame) (to : ℕ) (c : Running) → ((B : Bounds) (w r : Log) → Comes P B (at a w r) (at b w r)) → HasDone P b.frame f (Ok (Jump to))
+      → ((B : Bounds) (w r : Log) → on_asked P B (jumps P to f b.callers) (phase_of b.stage) (Gives 0) (meter b) w r ≡ at c w r)
+      → (B : Bounds) (w r : Log) → Comes P B (at a w r) (at c w r)
+  goes_jump f to c k h j = λ B w r. comes_on P B (at a w r) (On (phase_of b.stage) (h.frame ∷ b.callers) (meter b) w r) (at c w r) (Gives 0)
+      (goes_on h.frame k h.reaches B w r) (runs_step P B (h.frame ∷ b.callers) _ (phase_of b.stage) (meter b) w r (h.does b.callers) ∙ j B w r)

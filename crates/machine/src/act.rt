@@ -1,31 +1,20 @@
 //! What one instruction does to its frame (JVM Specification, Java SE 7, chapter 6).
-ghost use Rattle.std.specs.Prelude.{◌≡◌, ◌∷◌, ◌+◌, ◌<◌, ◌^◌, IfOk, MatchResult, slice_get};
+ghost use Rattle.std.specs.Prelude.{◌≡◌, ◌∷◌, ◌+◌, ◌<◌, ◌^◌, IfOk, MatchResult, slice_get, length};
 ghost use Rattle.jmodel.specs.Program.{Program as JProgram, method_at};
-ghost use Rattle.jmodel.specs.Step.{Frame as JFrame, Frames, Does, does, step, branches};
+ghost use Rattle.jmodel.specs.Step.{Frames, does, step};
 ghost use Rattle.jmodel.specs.declared.op.Op.TheVariants as op;
 ghost use Rattle.machine.specs.declared.failure.Failure.TheVariants as failure;
-ghost use Rattle.machine.specs.Meets.{Meets, CanDo, IsDone};
+ghost use Rattle.machine.specs.Meets.{Meets, CanDo, IsDone, Flows};
 
-use crate::arithmetic::{binary, divided, holds, unary};
 use crate::failure::Failure;
 use crate::frame::Frame;
+use crate::plain::Flow;
 use crate::value::{given, stored};
 use hierarchy::program::{Method, Program};
-use jmodel::Cases;
-use jmodel::op::{Binary, Division, Doing, Op, Request, Slot, Test, Trap, Unary};
-use jmodel::value::Value;
+use jmodel::op::{Doing, Op, Request};
 
-/// Where a branch goes, whose test holds or doesn't.
-fn branched(is_taken: bool, to: usize) -> Doing
-    ensures does { (f : JFrame) → branches is_taken to f ≡ Does result f }
-    ensures can { CanDo result }
-{
-    if is_taken {
-        Doing::Jump(to)
-    } else {
-        Doing::Next
-    }
-}
+/// The most slots that an instruction puts on the stack beyond those that it takes.
+const MOST_PUT: usize = 2;
 
 /// The method of a number, or `Wrong` where the program has none.
 pub(crate) fn method_of(program: &Program, number: usize) -> Result<&Method, Failure>
@@ -38,9 +27,11 @@ pub(crate) fn method_of(program: &Program, number: usize) -> Result<&Method, Fai
 }
 
 /// The instruction at a place of a method, or `Wrong` where it has none.
-fn op_of(method: &Method, pc: usize) -> Result<&Op, Failure>
+#[inline(always)]
+pub(crate) fn op_of(method: &Method, pc: usize) -> Result<&Op, Failure>
     ensures op { MatchResult result (λ o. slice_get method.now.ops pc ≡ Some o.now) (λ e. (e ≡ failure.Wrong) × (slice_get method.now.ops pc ≡ None)) }
     ensures next { IfOk result (λ _. pc + 1 < 2 ^ 64) }
+    ensures within { IfOk result (λ _. pc < length method.now.ops) }
 {
     match method.ops().get(pc) {
         Some(op) => Ok(op),
@@ -50,7 +41,6 @@ fn op_of(method: &Method, pc: usize) -> Result<&Op, Failure>
 
 impl Frame {
     /// Does the instruction that the frame stands at, all but what lies outside the frame. `Wrong` where there is none.
-    #[inline(always)]
     pub(crate) fn act_in(&mut self, program: &Program, method: &Method) -> Result<Doing, Failure>
         requires { method_at program.now self.old.method ≡ Some method.now }
         ensures does { (fs : Frames) → IsDone program.now result self.new fs (step program.now (self.old ∷ fs)) }
@@ -70,134 +60,41 @@ impl Frame {
         ensures place { (self.new.method ≡ self.old.method) × (self.new.pc ≡ self.old.pc) }
     {
         match op {
-            Op::Constant(value) => self.constant(*value),
-            Op::Load(i) => self.load(*i),
-            Op::Store(i) => self.store(*i),
-            Op::Rearrange(r) => self.rearrange(*r),
-            Op::Binary(b) => self.binary(*b),
-            Op::Divide(d) => self.divide(*d),
-            Op::Unary(u) => self.unary(*u),
-            Op::Increment(i, n) => self.increment(*i, *n),
-            Op::Branch(test, to) => self.branch(*test, *to),
-            Op::BranchInts(test, to) => self.branch_ints(*test, *to),
-            Op::Goto(to) => Ok(Doing::Jump(*to)),
-            Op::Switch { other, cases } => self.switch(*other, cases),
             Op::GetStatic(n) => self.get_static(program, *n),
             Op::PutStatic(n) => self.put_static(program, *n),
             Op::InvokeStatic(method) => Ok(Doing::Invoke(*method)),
             Op::Return => Ok(Doing::Give(None)),
             Op::ReturnValue => self.return_value(),
             Op::Throw => self.throw(),
-            Op::GetContext => self.get_context(),
             Op::Context(call) => self.context(*call),
+            _ => self.act_plainly(op),
         }
     }
 
-    fn constant(&mut self, value: Value) -> Result<Doing, Failure>
-        ensures does { (P : JProgram) → Meets result self.new (does P (op.Constant value) self.old) }
-        ensures can { IfOk result CanDo }
+    /// Does an instruction that neither leaves its frame nor asks anything, if the stack has room for what it puts there.
+    fn plain_or_rearranged(&mut self, op: &Op) -> Result<Flow, Failure>
+        ensures does { (P : JProgram) → Flows result self.new self.old (does P op.now self.old) }
         ensures place { (self.new.method ≡ self.old.method) × (self.new.pc ≡ self.old.pc) }
     {
-        self.stack.push_value(value)?;
-        Ok(Doing::Next)
-    }
-
-    fn load(&mut self, i: usize) -> Result<Doing, Failure>
-        ensures does { (P : JProgram) → Meets result self.new (does P (op.Load i) self.old) }
-        ensures can { IfOk result CanDo }
-        ensures place { (self.new.method ≡ self.old.method) × (self.new.pc ≡ self.old.pc) }
-    {
-        let slot = self.locals.get(i).ok_or(Failure::Wrong)?;
-        self.stack.push(slot)?;
-        Ok(Doing::Next)
-    }
-
-    fn store(&mut self, i: usize) -> Result<Doing, Failure>
-        ensures does { (P : JProgram) → Meets result self.new (does P (op.Store i) self.old) }
-        ensures can { IfOk result CanDo }
-        ensures place { (self.new.method ≡ self.old.method) × (self.new.pc ≡ self.old.pc) }
-    {
-        let slot = self.stack.take()?;
-        if self.locals.set(i, slot) {
-            Ok(Doing::Next)
-        } else {
-            Err(Failure::Wrong)
+        match op {
+            Op::Rearrange(r) => self.rearrange(*r),
+            _ => self.plain(op),
         }
     }
 
-    fn binary(&mut self, b: Binary) -> Result<Doing, Failure>
-        ensures does { (P : JProgram) → Meets result self.new (does P (op.Binary b) self.old) }
+    /// The same, for which room is made.
+    fn act_plainly(&mut self, op: &Op) -> Result<Doing, Failure>
+        ensures does { (P : JProgram) → Meets result self.new (does P op.now self.old) }
         ensures can { IfOk result CanDo }
         ensures place { (self.new.method ≡ self.old.method) × (self.new.pc ≡ self.old.pc) }
     {
-        let y = self.stack.take_int()?;
-        let x = self.stack.take_int()?;
-        self.stack.push(Slot::Int(binary(b, x, y)))?;
-        Ok(Doing::Next)
-    }
-
-    fn divide(&mut self, d: Division) -> Result<Doing, Failure>
-        ensures does { (P : JProgram) → Meets result self.new (does P (op.Divide d) self.old) }
-        ensures can { IfOk result CanDo }
-        ensures place { (self.new.method ≡ self.old.method) × (self.new.pc ≡ self.old.pc) }
-    {
-        let y = self.stack.take_int()?;
-        let x = self.stack.take_int()?;
-        if y == 0 {
-            return Ok(Doing::Trap(Trap::Arithmetic));
+        self.stack.make_room(MOST_PUT)?;
+        match self.plain_or_rearranged(op)? {
+            Flow::Next => Ok(Doing::Next),
+            Flow::Jump(to) => Ok(Doing::Jump(to)),
+            Flow::Trap(trap) => Ok(Doing::Trap(trap)),
+            Flow::Full | Flow::Other => Err(Failure::NoMemory),
         }
-        self.stack.push(Slot::Int(divided(d, x, y)))?;
-        Ok(Doing::Next)
-    }
-
-    fn unary(&mut self, u: Unary) -> Result<Doing, Failure>
-        ensures does { (P : JProgram) → Meets result self.new (does P (op.Unary u) self.old) }
-        ensures can { IfOk result CanDo }
-        ensures place { (self.new.method ≡ self.old.method) × (self.new.pc ≡ self.old.pc) }
-    {
-        let x = self.stack.take_int()?;
-        self.stack.push(Slot::Int(unary(u, x)))?;
-        Ok(Doing::Next)
-    }
-
-    fn increment(&mut self, i: usize, n: i32) -> Result<Doing, Failure>
-        ensures does { (P : JProgram) → Meets result self.new (does P (op.Increment i n) self.old) }
-        ensures can { IfOk result CanDo }
-        ensures place { (self.new.method ≡ self.old.method) × (self.new.pc ≡ self.old.pc) }
-    {
-        let Some(Slot::Int(x)) = self.locals.get(i) else {
-            return Err(Failure::Wrong);
-        };
-        self.locals.set(i, Slot::Int(x.wrapping_add(n)));
-        Ok(Doing::Next)
-    }
-
-    fn branch(&mut self, test: Test, to: usize) -> Result<Doing, Failure>
-        ensures does { (P : JProgram) → Meets result self.new (does P (op.Branch test to) self.old) }
-        ensures can { IfOk result CanDo }
-        ensures place { (self.new.method ≡ self.old.method) × (self.new.pc ≡ self.old.pc) }
-    {
-        let x = self.stack.take_int()?;
-        Ok(branched(holds(test, x, 0), to))
-    }
-
-    fn branch_ints(&mut self, test: Test, to: usize) -> Result<Doing, Failure>
-        ensures does { (P : JProgram) → Meets result self.new (does P (op.BranchInts test to) self.old) }
-        ensures can { IfOk result CanDo }
-        ensures place { (self.new.method ≡ self.old.method) × (self.new.pc ≡ self.old.pc) }
-    {
-        let y = self.stack.take_int()?;
-        let x = self.stack.take_int()?;
-        Ok(branched(holds(test, x, y), to))
-    }
-
-    fn switch(&mut self, other: usize, cases: &Cases) -> Result<Doing, Failure>
-        ensures does { (P : JProgram) → Meets result self.new (does P (op.Switch other cases.now) self.old) }
-        ensures can { IfOk result CanDo }
-        ensures place { (self.new.method ≡ self.old.method) × (self.new.pc ≡ self.old.pc) }
-    {
-        let x = self.stack.take_int()?;
-        Ok(Doing::Jump(cases.target(x, other)))
     }
 
     fn get_static(&mut self, program: &Program, n: usize) -> Result<Doing, Failure>
@@ -240,14 +137,5 @@ impl Frame {
             return Err(Failure::Wrong);
         }
         Ok(Doing::Throw(object))
-    }
-
-    fn get_context(&mut self) -> Result<Doing, Failure>
-        ensures does { (P : JProgram) → Meets result self.new (does P op.GetContext self.old) }
-        ensures can { IfOk result CanDo }
-        ensures place { (self.new.method ≡ self.old.method) × (self.new.pc ≡ self.old.pc) }
-    {
-        self.stack.push(Slot::Context)?;
-        Ok(Doing::Next)
     }
 }

@@ -5,6 +5,7 @@ ghost use Rattle.jmodel.specs.Step.{binary as binary_of, divided as divided_of, 
 use jmodel::op::{Binary, Division, Test, Unary};
 
 /// Two ints to one. Sums and products wrap around, and shifts go by the low five bits of the second.
+#[inline(always)]
 pub fn binary(operation: Binary, x: i32, y: i32) -> i32
     ensures { result ≡ binary_of operation x y }
 {
@@ -22,6 +23,7 @@ pub fn binary(operation: Binary, x: i32, y: i32) -> i32
 }
 
 /// Two ints to one, the second of which isn't 0. The quotient of the least int by -1 wraps around.
+#[inline(always)]
 pub fn divided(operation: Division, x: i32, y: i32) -> i32
     requires { y ≢ pos 0 }
     ensures { result ≡ divided_of operation x y }
@@ -33,6 +35,7 @@ pub fn divided(operation: Division, x: i32, y: i32) -> i32
 }
 
 /// An int to another: its negative, which wraps around, or its low bits.
+#[inline(always)]
 pub fn unary(operation: Unary, x: i32) -> i32
     ensures { result ≡ unary_of operation x }
 {
@@ -45,6 +48,7 @@ pub fn unary(operation: Unary, x: i32) -> i32
 }
 
 /// Whether a test holds of two ints, with their signs.
+#[inline(always)]
 pub fn holds(test: Test, x: i32, y: i32) -> bool
     ensures { result ≡ test_holds test x y }
 {

@@ -102,6 +102,7 @@ impl Frame {
     }
 
     /// Goes on to another instruction.
+    #[inline(always)]
     pub fn jump(&mut self, to: usize)
         ensures { self.new ≡ record self.old { pc = to } }
     {
@@ -137,6 +138,7 @@ impl Frame {
     }
 
     /// Goes on to the next instruction.
+    #[inline(always)]
     pub fn advance(&mut self)
         requires { self.old.pc + 1 < 2 ^ 64 }
         ensures { self.new ≡ next self.old }

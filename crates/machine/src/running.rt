@@ -397,7 +397,7 @@ impl Running {
         ensures depth { result ≡ Ok Todo.Depth → self.new.stage ≡ stage.Open }
         ensures heap { (wanted : ℕ) → result ≡ Ok (Todo.Heap wanted) → self.new.stage ≡ stage.Open }
     {
-        let doing = self.go(program)?;
+        let doing = self.go(alloc, program)?;
         match settle(alloc, program, doing, &mut self.frame, &mut self.callers)? {
             Asking::Go => Ok(Todo::Go),
             Asking::Turn => self.count(false),
