@@ -106,13 +106,13 @@ module _ (P : Program) (Ts : List Table) (S : IsSource P) (selects : (t m to : �
     (
       element_puts word.Byte,
       (
-        element_gets word.Char,
+        element_gets word.Boolean,
         (
-          element_puts word.Char,
+          element_puts word.Boolean,
           (
-            element_gets word.Boolean,
+            element_gets word.Char,
             (
-              element_puts word.Boolean,
+              element_puts word.Char,
               (
                 element_gets word.Short,
                 (
@@ -150,13 +150,13 @@ module _ (P : Program) (Ts : List Table) (S : IsSource P) (selects : (t m to : �
   block_inner : (k : Method) (at : ℕ → ℕ) (h : Option Types) (o : Op) → IsSourceOp P k o → AreInner (block_of P k.places k.locals at h o)
   block_inner k at h (op.GetStatic f) s = (tt, (getter_high f, tt))
   block_inner k at h (op.PutStatic f) s = (tt, (setter_high f, tt))
-  block_inner k at h (op.GetField f) s = (tt, (getter_high f, tt))
-  block_inner k at h (op.PutField f) s = (tt, (setter_high f, tt))
+  block_inner k at h (op.GetField f c) s = (tt, (getter_high f, tt))
+  block_inner k at h (op.PutField f c) s = (tt, (setter_high f, tt))
   block_inner k at h (op.LoadElement t) s = (tt, (element_getter_high (helped (array_under 1 h) t), after_inner t (array_under 1 h)))
   block_inner k at h (op.StoreElement t) s = (tt, (element_setter_high (helped (array_under _ h) t), tt))
   block_inner k at h (op.InvokeStatic m) s = (tt, (high m, tt))
   block_inner k at h (op.InvokeSpecial m) s = (tt, (high m, tt))
-  block_inner k at h (op.InvokeVirtual m) s = (tt, ((λ t to e. selects t m to s.method s.there e), tt))
+  block_inner k at h (op.InvokeVirtual m c) s = (tt, ((λ t to e. selects t m to s.method s.there e), tt))
   block_inner k at h (op.InvokeInterface m c) s = (tt, ((λ t to e. selects t m to s.method s.there e), tt))
   block_inner k at h (op.Context c) s = absurd s
   block_inner k at h op.GetContext s = absurd s

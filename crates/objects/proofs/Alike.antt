@@ -4,6 +4,7 @@ use Rattle.std.specs.Prelude.{pos, negsuc, slice_get, slice_set, nat_lt, if◌th
 use Rattle.std.specs.Ordering.{int_eq}
 use Rattle.std.specs.List.{AllByRecursion, list_any}
 use Rattle.std.proofs.lemmas.Bool.Decides.{nat_tests}
+use Rattle.std.proofs.lemmas.Option.{slice_get_within}
 use Rattle.jmodel.specs.declared.value.Value.{Value}
 use Rattle.jmodel.specs.declared.value.Value.TheVariants as value
 use Rattle.jmodel.specs.declared.typing.VType.{VType}
@@ -39,13 +40,13 @@ use Rattle.objects.proofs.Switched.{switched_moved, exit_has}
 abbrev pub IsSimple : Op → Type 0
 IsSimple (op.GetStatic f) = ⊥
 IsSimple (op.PutStatic f) = ⊥
-IsSimple (op.GetField f) = ⊥
-IsSimple (op.PutField f) = ⊥
+IsSimple (op.GetField f c) = ⊥
+IsSimple (op.PutField f c) = ⊥
 IsSimple (op.LoadElement t) = ⊥
 IsSimple (op.StoreElement t) = ⊥
 IsSimple (op.InvokeStatic m) = ⊥
 IsSimple (op.InvokeSpecial m) = ⊥
-IsSimple (op.InvokeVirtual m) = ⊥
+IsSimple (op.InvokeVirtual m c) = ⊥
 IsSimple (op.InvokeInterface m c) = ⊥
 IsSimple op.GetContext = ⊥
 IsSimple (op.Context c) = ⊥
@@ -55,7 +56,7 @@ IsSimple o = Unit {0}
 abbrev pub IsCallOp : Op → Type 0
 IsCallOp (op.InvokeStatic m) = Unit {0}
 IsCallOp (op.InvokeSpecial m) = Unit {0}
-IsCallOp (op.InvokeVirtual m) = Unit {0}
+IsCallOp (op.InvokeVirtual m c) = Unit {0}
 IsCallOp (op.InvokeInterface m c) = Unit {0}
 IsCallOp o = ⊥
 
@@ -303,6 +304,30 @@ module _ (P Q : Program) (texts : Q.texts ≡ P.texts) (k : Method) (T : Table) 
   long_set true i s keeps = keeps
   long_set false i s keeps = absurd keeps
 
+  -- a local in which typed code stores is there
+  inside_locals : (i : ℕ) → nat_lt i (length h.locals) ≡ true → i < k.locals
+  inside_locals i e =
+      let many = (typed.each pc h there).locals in
+      let low : i < length h.locals = grind (arith, nat_tests) in
+      omega (arith, low, many)
+
+  set_inside : (b : Bool) (i : ℕ) (t : VType) (s : List VType) → KeepsFlow P k T pc h (typing.set_local b i t pc h s) → b ≡ true
+  set_inside true i t s keeps = refl
+  set_inside false i t s keeps = absurd keeps
+
+  int_inside : (i : ℕ) (s : List VType) → KeepsFlow P k T pc h (typing.on_int s (λ s. typing.set_local (nat_lt i (length h.locals)) i type.Int pc h s)) → i < k.locals
+  int_inside i [] keeps = absurd keeps
+  int_inside i (type.Int ∷ s) keeps = inside_locals i (set_inside _ i type.Int s keeps)
+  int_inside i (t ∷ s) keeps = absurd keeps
+
+  ref_inside : (i : ℕ) (s : List VType) → KeepsFlow P k T pc h (typing.on_top s (λ t s. if_so (is_reference t) (typing.set_local (nat_lt i (length h.locals)) i t pc h s))) → i < k.locals
+  ref_inside i [] keeps = absurd keeps
+  ref_inside i (t ∷ s) keeps = let b = so_kept (is_reference t) _ keeps in inside_locals i (set_inside _ i t s b.1)
+
+  long_inside : (b : Bool) (i : ℕ) (s : List VType) → KeepsFlow P k T pc h (typing.set_long b i pc h s) → b ≡ true
+  long_inside true i s keeps = refl
+  long_inside false i s keeps = absurd keeps
+
   one_stored : (i : ℕ) → i < k.locals → (t : VType) → IsOneKind t → (u : List VType) → KeepsFlow P k T pc h (Leads ((pc + 1) ∷ []) (record h { locals = slice_set (freed i h.locals) i t; stack = u })) → (v : Slot) (s : List Slot)
       → Are (set_local true i v (up s)) (set_local true (moved k.places i) v (down s))
   one_stored i lt t one u keeps v s = goes _ _ s (next_of _ keeps _ _ (agree_store k room h.locals l l' fits i lt t one v))
@@ -310,26 +335,31 @@ module _ (P Q : Program) (texts : Q.texts ≡ P.texts) (k : Method) (T : Table) 
   stray_long : (i : ℕ) → i + 1 ≡ k.places → is_stray k.places (op.Store sort.Long i) ≡ true
   stray_long i d = grind (arith, nat_tests)
 
-  stores_alike : (t : Sort) (i : ℕ) → slice_get k.ops pc ≡ Some (op.Store t i) → IsSourceOp P k (op.Store t i) → (s : List Slot) → Are (stores t i (up s)) (stores t (moved_to t k.places k.locals i) (down s))
-  stores_alike sort.Int i e src s =
+  stores_alike : (t : Sort) (i : ℕ) → slice_get k.ops pc ≡ Some (op.Store t i) → (s : List Slot) → Are (stores t i (up s)) (stores t (moved_to t k.places k.locals i) (down s))
+  stores_alike sort.Int i e s =
+      let src = int_inside i h.stack (kept _ e) in
       let g = int_set i h.stack (kept _ e) in
       let b = one_room k room h.locals l l' fits i src in
       rw (b.0, b.1) (int s _ _ (λ x t. one_stored i src type.Int tt g.0 g.1 (Int x) t))
-  stores_alike sort.Reference i e src s =
+  stores_alike sort.Reference i e s =
+      let src = ref_inside i h.stack (kept _ e) in
       let g = ref_set i h.stack (kept _ e) in
       let b = one_room k room h.locals l l' fits i src in
       rw (b.0, b.1) (top s _ _ (λ v t. an_object v _ _ (one_stored i src g.0 g.1 g.2 g.3 v t)))
-  stores_alike sort.Long i e src s =
+  stores_alike sort.Long i e s =
       let c = each_kept (type.Second ∷ type.Long ∷ []) h.stack (λ s. typing.set_long (nat_lt (i + 1) (length h.locals)) i pc h s) (kept _ e) in
       let g = long_set _ i c.0 c.1 in
+      let src : i + 1 < k.locals = inside_locals (i + 1) (long_inside _ i c.0 c.1) in
       let b = long_room k room h.locals l l' fits (op.Store sort.Long i) pc e i src (λ d. stray_long i d) in
       let low : nat_lt (moved_long k.places k.locals i + 1) (length l') ≡ true = let w = b.1 in grind (arith, nat_tests) in
       rw (b.0, low) (long s _ _ (λ x t. goes _ _ t (next_of _ g _ _ (agree_store_long k room h.locals l l' fits i src (Long x) Second b.1))))
 
-  increments : (i : ℕ) (n : ℤ) → slice_get k.ops pc ≡ Some (op.Increment i n) → i < k.locals → (s : List Slot) → Are (does P (op.Increment i n) (up s)) (does Q (op.Increment (moved k.places i) n) (down s))
-  increments i n e lt s =
+  increments : (i : ℕ) (n : ℤ) → slice_get k.ops pc ≡ Some (op.Increment i n) → (s : List Slot) → Are (does P (op.Increment i n) (up s)) (does Q (op.Increment (moved k.places i) n) (down s))
+  increments i n e s =
       let r = (exits_reached P k T typed pc h there _ e tt).0 in
       let is = int_there i (typing.leaves pc h h.stack) (slice_get h.locals i) refl (kept _ e) in
+      let many = (typed.each pc h there).locals in
+      let lt : i < k.locals = omega (arith, slice_get_within h.locals i type.Int is, many) in
       rw (fits.one i type.Int is tt) (some_slot (slice_get l i) _ _ (λ v. an_int v _ _ (λ x.
       goes _ _ s (record { inside = r.inside; types = r.types; there = r.there; agree = agree_within P k h.locals r.types.locals _ _ r.wider (agree_set k room h.locals l l' fits i lt is (Int _)) }))))
 
@@ -398,7 +428,7 @@ module _ (P Q : Program) (texts : Q.texts ≡ P.texts) (k : Method) (T : Table) 
   simple_alike (op.Constant v) e a src s = left (exits _ e tt).0 _
   simple_alike (op.Text n) e a src s = rw texts (some_number (slice_get P.texts n) _ _ (λ o. left (exits _ e tt).0 _))
   simple_alike (op.Load t i) e a src s = loads_alike t i e s
-  simple_alike (op.Store t i) e a src s = stores_alike t i e src s
+  simple_alike (op.Store t i) e a src s = stores_alike t i e s
   simple_alike (op.Stack Nop) e a src s = left (exits _ e tt).0 _
   simple_alike (op.Stack Pop) e a src s = top s _ _ (λ v t. left (exits _ e tt).0 _)
   simple_alike (op.Stack Pop2) e a src s = top s _ _ (λ v t. top t _ _ (λ u t. left (exits _ e tt).0 _))
@@ -419,7 +449,7 @@ module _ (P Q : Program) (texts : Q.texts ≡ P.texts) (k : Method) (T : Table) 
   simple_alike (op.Convert IntToLong) e a src s = int s _ _ (λ x t. left (exits _ e tt).0 _)
   simple_alike (op.Convert LongToInt) e a src s = long s _ _ (λ x t. left (exits _ e tt).0 _)
   simple_alike op.CompareLongs e a src s = long s _ _ (λ x t. long t _ _ (λ y t. left (exits _ e tt).0 _))
-  simple_alike (op.Increment i n) e a src s = increments i n e src s
+  simple_alike (op.Increment i n) e a src s = increments i n e s
   simple_alike (op.Branch t to) e a src s = let r = exits _ e tt in int s _ _ (λ x t. chooses r.0 to r.1.0 t _)
   simple_alike (op.BranchInts t to) e a src s = let r = exits _ e tt in int s _ _ (λ x t. int t _ _ (λ y t. chooses r.0 to r.1.0 t _))
   simple_alike (op.BranchNull b to) e a src s = let r = exits _ e tt in ref s _ _ (λ x t. chooses r.0 to r.1.0 t _)
@@ -453,16 +483,16 @@ module _ (P Q : Program) (texts : Q.texts ≡ P.texts) (k : Method) (T : Table) 
       constructs_kept c.name.class b.0 b.1 b.2
   special_stands false c keeps =
       let after : List VType → Flow = λ s. typing.leaves pc h (typing.results c ++ s) in
-      let ends : VType → List VType → Flow = λ t u. if_so (typing.is_within P t (type.Ref k.name.class)) (on_each P (reverse c.parameters) h.stack after) in
+      let ends : VType → List VType → Flow = λ t u. if_so (typing.is_within P t (type.Ref (typing.name_read P k.name.class))) (on_each P (reverse c.parameters) h.stack after) in
       let g = each_kept _ h.stack (λ s. typing.on_top s ends) keeps in
       let b = top_kept g.0 ends g.1 in
-      let d = each_kept _ h.stack after (so_kept (typing.is_within P b.0 (type.Ref k.name.class)) _ b.2).1 in
+      let d = each_kept _ h.stack after (so_kept (typing.is_within P b.0 (type.Ref (typing.name_read P k.name.class))) _ b.2).1 in
       next_of _ d.1 l l' fits
 
   -- the locals agree behind a call
   pub call_stands : (o : Op) → slice_get k.ops pc ≡ Some o → IsCallOp o → Stands k T (pc + 1) l l'
   call_stands (op.InvokeStatic m) e a = stands (pc + 1) (exits _ e tt).0
-  call_stands (op.InvokeVirtual m) e a = stands (pc + 1) (exits _ e tt).0
+  call_stands (op.InvokeVirtual m c) e a = stands (pc + 1) (exits _ e tt).0
   call_stands (op.InvokeInterface m c) e a = stands (pc + 1) (exits _ e tt).0
   call_stands (op.InvokeSpecial m) e a = let g = method_kept (method_at P m) (λ c. typing.special (is_constructor c) P k pc c h) (kept _ e) in special_stands (is_constructor g.0) g.0 g.1
   call_stands o e a = absurd a

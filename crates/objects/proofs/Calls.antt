@@ -51,10 +51,12 @@ use Rattle.objects.proofs.Caught.{instance_moved}
 use Rattle.objects.proofs.Places.{Rewrites, HasAt}
 use Rattle.objects.proofs.Selection.{duplicate_has_code}
 use Rattle.objects.proofs.Entered.{stands_first, has_op, takes_context, pushed_last}
+use Rattle.objects.proofs.LocalRoom.{has_room}
 use Rattle.objects.proofs.Safety.{step_fine}
 use Rattle.objects.proofs.TypedFrames.{AreTyped, Fine, Heads, LastHeads}
 use Rattle.objects.proofs.Tied.{Tied, Callers, caller, top, typed_code, source_of, counted_of, counted_dup, there_of, depth_both, depth_callers, callers_above, call_len}
 use Rattle.objects.proofs.Tied as tied
+use Rattle.objects.proofs.Makes.{open_asks, run_asks, used_in, heads_synced}
 use Rattle.objects.proofs.Goals.{Here, IsGoal, Continues, reaches_next}
 use Rattle.objects.proofs.Simple.{Stage, at_entry, at_make, at_head, onward, throws_on}
 use Rattle.objects.proofs.Singles.{block_stands}
@@ -164,10 +166,10 @@ module _ (P : Program) (Ts : List Table) (S : IsTypedProgram P Ts) (Q : Program)
   throws : (s2 s3 : List Slot) (x y : ℕ) → nat_eq y 0 ≡ false → tied.Thrown P Ts S mn q gives_type c slots Q R uncounted z (suc x) (unwinds P (suc x) y (frame m pc l s2 ∷ fs)) (unwinds Q (suc x) y (frame dn (a + 1) l' s3 ∷ gs))
   throws s2 s3 = throws_on P Ts S Q R B mn args ws σ gives_type c q z slots first_added ops_inner uncounted catch catch_other Goal Astray goal high n m pc dn k T l l' s fs gs t here callers o e (a + 1) (omega arith) (omega (arith, len)) s2 s3
 
-  traps : (N : ℕ) (Y : Direct) (c0 : Run) (r2 : Log) → IsStage Y c0 r2 → Goes N Y → (x : Trapping) (Next : ℕ → Use → Frames → Type 0) → IsFineWith Next (Asks (asking.Make (trap_type x) 0 Raised) (up ∷ fs)) → next_direct P G Y ≡ call.on_asking P G (asking.Make (trap_type x) 0 Raised) (up ∷ fs) M.turns τ
+  traps : (N : ℕ) (Y : Direct) (c0 : Run) (r2 : Log) → IsStage Y c0 r2 → Goes N Y → (x : Trapping) (Next : ℕ → Use → Frames → Type 0) → IsFineWith Next (Asks (asking.Make (trap_type x) 0 Raised) (up ∷ fs)) → run_asks P Y ≡ Asks (asking.Make (trap_type x) 0 Raised) (up ∷ fs) → open_asks Q c0 ≡ Asks (asking.Make (trap_type x) 0 Raised) (down ∷ gs) → used_in c0 ≡ M.used → next_direct P G Y ≡ call.on_asking P G (asking.Make (trap_type x) 0 Raised) (up ∷ fs) M.turns τ
       → ((v : Reply) → next_run Q B v c0 ≡ attempt.on_asking Q B (asking.Make (trap_type x) 0 Raised) Open v (down ∷ gs) M w r2) → Goal (suc N) c0
-  traps N Y c0 r2 st ky x Next fine eP eQ =
-      at_make P Ts S Q R B mn args ws σ gives_type c q z slots first_added ops_inner uncounted catch catch_other Goal Astray goal N Y c0 τ M w r2 st ky (trap_type x) 0 Raised (up ∷ fs) (down ∷ gs) fine.row fine.is fine.few fine.goes (throws s (Context ∷ s)) eP eQ above.0 above.1
+  traps N Y c0 r2 st ky x Next fine asks_up asks_down same eP eQ =
+      at_make P Ts S Q R B mn args ws σ gives_type c q z slots first_added ops_inner uncounted catch catch_other Goal Astray goal N Y c0 τ M w r2 st ky (trap_type x) 0 Raised (up ∷ fs) (down ∷ gs) fine.row fine.is fine.few fine.goes (throws s (Context ∷ s)) asks_up asks_down same eP eQ above.0 above.1
       (inner down gs added_dup above.2)
 
   -- ---- a method is entered
@@ -183,7 +185,7 @@ module _ (P : Program) (Ts : List Table) (S : IsTypedProgram P Ts) (Q : Program)
 
   module _ (m2 : ℕ) (k2 : Method) (is2 : method_at P m2 ≡ Some k2) where
     after : Stands k T (pc + 1) l l'
-    after = call_stands P Q R.texts k T t.typing (source_of P Ts S m k t.is).room m pc dn a (block_at xs) (counted_of P Ts S m k t.is) (counted_dup P Ts S mn q gives_type c slots Q R uncounted m dn k T t) l l' here.types here.there here.agree o e is_call
+    after = call_stands P Q R.texts k T t.typing (has_room P k T t.typing (source_of P Ts S m k t.is).many) m pc dn a (block_at xs) (counted_of P Ts S m k t.is) (counted_dup P Ts S mn q gives_type c slots Q R uncounted m dn k T t) l l' here.types here.there here.agree o e is_call
 
     module _ (T2 : Table) (t2 : Tied P Ts S m2 (duplicate P m2) k2 T2) (args2 s1 : List Slot) (many : length args2 ≡ k2.places) (lies : s ≡ pushed_on args2 s1) where
       abbrev fs1 : Frames
@@ -266,7 +268,7 @@ module _ (P : Program) (Ts : List Table) (S : IsTypedProgram P Ts) (Q : Program)
 
     trapped_behind : (x : Trapping) (Next : ℕ → Use → Frames → Type 0) → IsFineWith Next (Asks (asking.Make (trap_type x) 0 Raised) (up ∷ fs)) → next_direct P G X ≡ call.Asking (asking.Make (trap_type x) 0 Raised) (up ∷ fs) M.turns τ
         → Goal (suc n) (Asking (asking.Make (trap_type x) 0 Raised) (down ∷ gs) M w rl)
-    trapped_behind x Next fine f = traps n _ _ rl (next_stage (asking.Make (trap_type x) 0 Raised) (up ∷ fs) (down ∷ gs) f) (goes_on f) x Next fine refl (λ v. refl)
+    trapped_behind x Next fine f = traps n _ _ rl (next_stage (asking.Make (trap_type x) 0 Raised) (up ∷ fs) (down ∷ gs) f) (goes_on f) x Next fine refl refl refl refl (λ v. refl)
       where
         goes_on : {Y : Direct} → next_direct P G X ≡ Y → Goes n Y
         goes_on {Y} f = onward P Ts S Q R B mn args ws σ gives_type c q z slots first_added ops_inner uncounted catch catch_other Goal Astray goal n X Y f kk
@@ -287,14 +289,14 @@ module _ (P : Program) (Ts : List Table) (S : IsTypedProgram P Ts) (Q : Program)
   abbrev called : Op → Op
   called (op.InvokeStatic m1) = op.InvokeStatic (duplicate P m1)
   called (op.InvokeSpecial m1) = op.InvokeSpecial (duplicate P m1)
-  called (op.InvokeVirtual m1) = op.InvokeVirtual (duplicate P m1)
+  called (op.InvokeVirtual m1 n) = op.InvokeVirtual (duplicate P m1) n
   called (op.InvokeInterface m1 name) = op.InvokeInterface (duplicate P m1) name
   called x = x
 
   block_is : (x : Op) → IsCallOp x → block_of P k.places k.locals (block_at xs) (types_at T pc) x ≡ op.Load sort.Reference k.places ∷ called x ∷ []
   block_is (op.InvokeStatic m1) i = refl
   block_is (op.InvokeSpecial m1) i = refl
-  block_is (op.InvokeVirtual m1) i = refl
+  block_is (op.InvokeVirtual m1 n) i = refl
   block_is (op.InvokeInterface m1 name) i = refl
   block_is x i = absurd i
 
@@ -317,14 +319,20 @@ module _ (P : Program) (Ts : List Table) (S : IsTypedProgram P Ts) (Q : Program)
       by [] = refl
       by (x ∷ os) = refl
 
+  next_up : (A : Asked) → step P (up ∷ fs) ≡ A → next_direct P G X ≡ call.on_asked P G A M.turns τ
+  next_up A e = ap (λ (x : Asked). call.on_asked P G x M.turns τ) e
+
+  next_down : (A : Asked) → step Q (down ∷ gs) ≡ A → (y : Reply) → next_run Q B y d ≡ attempt.on_asked Q B A Open y M w r
+  next_down A e y = ap (λ (x : Asked). attempt.on_asked Q B x Open y M w r) e
+
   -- null, or an object
   on_receiver : (v : Option Slot) (f g : ℕ → Did) → IsFineWith (Heads P Ts S B.region.size τ heap (LastHeads P Ts S B.region.size τ heap)) (on_did P (slot_in v (λ v. ref_in v (λ x. not_null x up (f x)))) fs)
-      → next_direct P G X ≡ call.on_asked P G (on_did P (slot_in v (λ v. ref_in v (λ x. not_null x up (f x)))) fs) M.turns τ
-      → ((y : Reply) → next_run Q B y d ≡ attempt.on_asked Q B (on_did Q (slot_in v (λ v. ref_in v (λ x. not_null x down (g x)))) gs) Open y M w r)
-      → ((x : ℕ) → IsFineWith (Heads P Ts S B.region.size τ heap (LastHeads P Ts S B.region.size τ heap)) (on_did P (f (suc x)) fs) → next_direct P G X ≡ call.on_asked P G (on_did P (f (suc x)) fs) M.turns τ
-      → ((y : Reply) → next_run Q B y d ≡ attempt.on_asked Q B (on_did Q (g (suc x)) gs) Open y M w r) → Goal (suc n) d) → Goal (suc n) d
+      → step P (up ∷ fs) ≡ on_did P (slot_in v (λ v. ref_in v (λ x. not_null x up (f x)))) fs
+      → step Q (down ∷ gs) ≡ on_did Q (slot_in v (λ v. ref_in v (λ x. not_null x down (g x)))) gs
+      → ((x : ℕ) → IsFineWith (Heads P Ts S B.region.size τ heap (LastHeads P Ts S B.region.size τ heap)) (on_did P (f (suc x)) fs) → step P (up ∷ fs) ≡ on_did P (f (suc x)) fs
+      → step Q (down ∷ gs) ≡ on_did Q (g (suc x)) gs → Goal (suc n) d) → Goal (suc n) d
   on_receiver None f g fine eP eQ go = absurd fine
-  on_receiver (Some (Ref zero)) f g fine eP eQ go = traps n X d r stage kk NullPointer (Heads P Ts S B.region.size τ heap (LastHeads P Ts S B.region.size τ heap)) fine eP eQ
+  on_receiver (Some (Ref zero)) f g fine eP eQ go = traps n X d r stage kk NullPointer (Heads P Ts S B.region.size τ heap (LastHeads P Ts S B.region.size τ heap)) fine eP eQ refl (next_up _ eP) (next_down _ eQ)
   on_receiver (Some (Ref (suc x))) f g fine eP eQ go = go x fine eP eQ
   on_receiver (Some (Int x)) f g fine eP eQ go = absurd fine
   on_receiver (Some (Long x)) f g fine eP eQ go = absurd fine
@@ -337,20 +345,20 @@ module _ (P : Program) (Ts : List Table) (S : IsTypedProgram P Ts) (Q : Program)
   First = Heads P Ts S B.region.size τ heap (LastHeads P Ts S B.region.size τ heap)
 
   -- a call by its name
-  runs_served : (m1 : ℕ) (b : Bool) → IsFineWith First (on_did P (runs b m1 up) fs) → next_direct P G X ≡ call.on_asked P G (on_did P (runs b m1 up) fs) M.turns τ
-      → ((y : Reply) → next_run Q B y d ≡ attempt.on_asked Q B (on_did Q (runs b (duplicate P m1) down) gs) Open y M w r) → Goal (suc n) d
-  runs_served m1 true fine eP eQ = invoked n X d r stage kk m1 First fine eP eQ
-  runs_served m1 false fine eP eQ = traps n X d r stage kk AbstractMethod First fine eP eQ
+  runs_served : (m1 : ℕ) (b : Bool) → IsFineWith First (on_did P (runs b m1 up) fs) → step P (up ∷ fs) ≡ on_did P (runs b m1 up) fs
+      → step Q (down ∷ gs) ≡ on_did Q (runs b (duplicate P m1) down) gs → Goal (suc n) d
+  runs_served m1 true fine eP eQ = invoked n X d r stage kk m1 First fine (next_up _ eP) (next_down _ eQ)
+  runs_served m1 false fine eP eQ = traps n X d r stage kk AbstractMethod First fine eP eQ refl (next_up _ eP) (next_down _ eQ)
 
   -- a call of a static method
-  static_served : (m1 : ℕ) (k1 : Method) → method_at P m1 ≡ Some k1 → IsFineWith First (on_did P (does P (op.InvokeStatic m1) up) fs) → next_direct P G X ≡ call.on_asked P G (on_did P (does P (op.InvokeStatic m1) up) fs) M.turns τ
-      → ((y : Reply) → next_run Q B y d ≡ attempt.on_asked Q B (on_did Q (does Q (op.InvokeStatic (duplicate P m1)) down) gs) Open y M w r) → Goal (suc n) d
+  static_served : (m1 : ℕ) (k1 : Method) → method_at P m1 ≡ Some k1 → IsFineWith First (on_did P (does P (op.InvokeStatic m1) up) fs) → step P (up ∷ fs) ≡ on_did P (does P (op.InvokeStatic m1) up) fs
+      → step Q (down ∷ gs) ≡ on_did Q (does Q (op.InvokeStatic (duplicate P m1)) down) gs → Goal (suc n) d
   static_served m1 k1 is1 fine eP eQ =
       let dup = dup_is m1 k1 is1 in
       let above : does P (op.InvokeStatic m1) up ≡ runs (has_code (Some k1)) m1 up = rw is1 refl in
       let below : does Q (op.InvokeStatic (duplicate P m1)) down ≡ runs (has_code (Some k1)) (duplicate P m1) down = (let there = dup.1 in let same = duplicate_has_code P k1 dup.0 in rw there (ap (λ (b : Bool). runs b (duplicate P m1) down) same)) in
-      runs_served m1 (has_code (Some k1)) (subst (λ (y : Did). IsFineWith First (on_did P y fs)) above fine) (eP ∙ ap (λ (y : Did). call.on_asked P G (on_did P y fs) M.turns τ) above)
-      (λ v. eQ v ∙ ap (λ (y : Did). attempt.on_asked Q B (on_did Q y gs) Open v M w r) below)
+      runs_served m1 (has_code (Some k1)) (subst (λ (y : Did). IsFineWith First (on_did P y fs)) above fine) (eP ∙ ap (λ (y : Did). on_did P y fs) above)
+      (eQ ∙ ap (λ (y : Did). on_did Q y gs) below)
 
   -- a call over an object
   module _ (m1 : ℕ) (k1 : Method) (is1 : method_at P m1 ≡ Some k1) (over : k1.dispatch ≢ dispatch.Static) where
@@ -372,37 +380,37 @@ module _ (P : Program) (Ts : List Table) (S : IsTypedProgram P Ts) (Q : Program)
         let lies : receiver kd1 (Context ∷ s) ≡ under = ap (λ (i : ℕ). slice_get (Context ∷ s) (i - 1)) (dup_places k1 T1) ∙ receiver_moved k1.places s (takes_object P k1 (source_of P Ts S m1 k1 is1) over) in
         ap (λ (y : Option Method). Rattle.objects.specs.Step.method_in y (λ (k : Method). slot_in (receiver k (Context ∷ s)) (λ v. ref_in v (λ x. not_null x down (g k x))))) there ∙ ap (λ (y : Option Slot). slot_in y (λ v. ref_in v (λ x. not_null x down (g kd1 x)))) lies
 
-    over_served : (f g : Method → ℕ → Did) → IsFineWith First (on_did P (over_object P m1 up f) fs) → next_direct P G X ≡ call.on_asked P G (on_did P (over_object P m1 up f) fs) M.turns τ
-        → ((y : Reply) → next_run Q B y d ≡ attempt.on_asked Q B (on_did Q (over_object Q (duplicate P m1) down g) gs) Open y M w r)
-        → ((x : ℕ) → IsFineWith First (on_did P (f k1 (suc x)) fs) → next_direct P G X ≡ call.on_asked P G (on_did P (f k1 (suc x)) fs) M.turns τ
-        → ((y : Reply) → next_run Q B y d ≡ attempt.on_asked Q B (on_did Q (g kd1 (suc x)) gs) Open y M w r) → Goal (suc n) d) → Goal (suc n) d
+    over_served : (f g : Method → ℕ → Did) → IsFineWith First (on_did P (over_object P m1 up f) fs) → step P (up ∷ fs) ≡ on_did P (over_object P m1 up f) fs
+        → step Q (down ∷ gs) ≡ on_did Q (over_object Q (duplicate P m1) down g) gs
+        → ((x : ℕ) → IsFineWith First (on_did P (f k1 (suc x)) fs) → step P (up ∷ fs) ≡ on_did P (f k1 (suc x)) fs
+        → step Q (down ∷ gs) ≡ on_did Q (g kd1 (suc x)) gs → Goal (suc n) d) → Goal (suc n) d
     over_served f g fine eP eQ go =
-        on_receiver under (f k1) (g kd1) (subst (λ (y : Did). IsFineWith First (on_did P y fs)) (over_up f) fine) (eP ∙ ap (λ (y : Did). call.on_asked P G (on_did P y fs) M.turns τ) (over_up f))
-        (λ v. eQ v ∙ ap (λ (y : Did). attempt.on_asked Q B (on_did Q y gs) Open v M w r) (over_down g)) go
+        on_receiver under (f k1) (g kd1) (subst (λ (y : Did). IsFineWith First (on_did P y fs)) (over_up f) fine) (eP ∙ ap (λ (y : Did). on_did P y fs) (over_up f))
+        (eQ ∙ ap (λ (y : Did). on_did Q y gs) (over_down g)) go
 
     same_code : has_code (Some kd1) ≡ has_code (Some k1)
     same_code = duplicate_has_code P k1 T1
 
     -- by the header of its object
-    selected_served : (x : ℕ) (u v : Use) → IsInnerUse Q first_added v → IsFineWith First (Asks (asking.Head (suc x) u) (up ∷ fs)) → next_direct P G X ≡ call.on_asking P G (asking.Head (suc x) u) (up ∷ fs) M.turns τ
-        → ((y : Reply) → next_run Q B y d ≡ attempt.on_head y Q v (suc x) (down ∷ gs) M w r)
+    selected_served : (x : ℕ) (u v : Use) → IsInnerUse Q first_added v → IsFineWith First (Asks (asking.Head (suc x) u) (up ∷ fs)) → step P (up ∷ fs) ≡ Asks (asking.Head (suc x) u) (up ∷ fs)
+        → step Q (down ∷ gs) ≡ Asks (asking.Head (suc x) v) (down ∷ gs) → ((y : Reply) → next_run Q B y d ≡ attempt.on_head y Q v (suc x) (down ∷ gs) M w r)
         → ((b : Object) → IsFineWith (LastHeads P Ts S B.region.size τ heap) (told P u (suc x) b.type (length_of b) (up ∷ fs)) → (rl : Log) → Agrees ws rl → next_direct P G X ≡ call.followed (told P u (suc x) b.type (length_of b) (up ∷ fs)) M.turns τ
         → Goal (suc n) (attempt.followed (told Q v (suc x) b.type (length_of b) (down ∷ gs)) M w rl)) → Goal (suc n) d
-    selected_served x u v inner_use fine eP eQ go =
-        goal.more (suc n) d (at_head P Ts S Q R B mn args ws σ gives_type c q z slots first_added ops_inner uncounted catch catch_other Goal Astray goal (suc n) X d τ M w r stage (suc x) fine.object fine.there u v (up ∷ fs) (down ∷ gs) inner_use eP eQ above.0 above.1
-        (added_dup, above.2) (λ rl agrees f. go fine.object fine.goes rl agrees f))
+    selected_served x u v inner_use fine eP asks eQ go =
+        goal.more (suc n) d (at_head P Ts S Q R B mn args ws σ gives_type c q z slots first_added ops_inner uncounted catch catch_other Goal Astray goal (suc n) X d τ M w r stage (suc x) fine.object fine.there u v (up ∷ fs) (down ∷ gs) inner_use (next_up _ eP) eQ above.0 above.1
+        (heads_synced P Q B mn args σ d (suc x) v (down ∷ gs) asks) (added_dup, above.2) (λ rl agrees f. go fine.object fine.goes rl agrees f))
 
     abbrev Last : ℕ → Use → Frames → Type 0
     Last = LastHeads P Ts S B.region.size τ heap
 
-    virtual_served : (x : ℕ) → SelectsAdded Q first_added (duplicate P m1) → IsFineWith First (Asks (asking.Head (suc x) (Selects m1)) (up ∷ fs)) → next_direct P G X ≡ call.on_asking P G (asking.Head (suc x) (Selects m1)) (up ∷ fs) M.turns τ
-        → ((y : Reply) → next_run Q B y d ≡ attempt.on_head y Q (Selects (duplicate P m1)) (suc x) (down ∷ gs) M w r) → Goal (suc n) d
-    virtual_served x inner_use fine eP eQ = selected_served x (Selects m1) (Selects (duplicate P m1)) inner_use fine eP eQ (λ b fine rl agrees f.
+    virtual_served : (x : ℕ) → SelectsAdded Q first_added (duplicate P m1) → IsFineWith First (Asks (asking.Head (suc x) (Selects m1)) (up ∷ fs)) → step P (up ∷ fs) ≡ Asks (asking.Head (suc x) (Selects m1)) (up ∷ fs)
+        → step Q (down ∷ gs) ≡ Asks (asking.Head (suc x) (Selects (duplicate P m1))) (down ∷ gs) → Goal (suc n) d
+    virtual_served x inner_use fine eP eQ = selected_served x (Selects m1) (Selects (duplicate P m1)) inner_use fine eP eQ (next_down _ eQ) (λ b fine rl agrees f.
         subst (λ (y : Option ℕ). Goal (suc n) (attempt.followed (found Q y down gs) M w rl)) (sym (moved b.type m1 k1 is1)) (found_behind rl agrees (selected P b.type m1) Last fine f))
 
-    interface_served : (x : ℕ) (name : List ℕ) → SelectsAdded Q first_added (duplicate P m1) → IsFineWith First (Asks (asking.Head (suc x) (Implements m1 name)) (up ∷ fs)) → next_direct P G X ≡ call.on_asking P G (asking.Head (suc x) (Implements m1 name)) (up ∷ fs) M.turns τ
-        → ((y : Reply) → next_run Q B y d ≡ attempt.on_head y Q (Implements (duplicate P m1) name) (suc x) (down ∷ gs) M w r) → Goal (suc n) d
-    interface_served x name inner_use fine eP eQ = selected_served x (Implements m1 name) (Implements (duplicate P m1) name) inner_use fine eP eQ (λ b fine rl agrees f.
+    interface_served : (x : ℕ) (name : List ℕ) → SelectsAdded Q first_added (duplicate P m1) → IsFineWith First (Asks (asking.Head (suc x) (Implements m1 name)) (up ∷ fs)) → step P (up ∷ fs) ≡ Asks (asking.Head (suc x) (Implements m1 name)) (up ∷ fs)
+        → step Q (down ∷ gs) ≡ Asks (asking.Head (suc x) (Implements (duplicate P m1) name)) (down ∷ gs) → Goal (suc n) d
+    interface_served x name inner_use fine eP eQ = selected_served x (Implements m1 name) (Implements (duplicate P m1) name) inner_use fine eP eQ (next_down _ eQ) (λ b fine rl agrees f.
         subst (λ (y : Bool). Goal (suc n) (attempt.followed (or_trap y IncompatibleClassChange (down ∷ gs) (found Q (selected Q b.type (duplicate P m1)) down gs)) M w rl)) (sym (instance_moved P Q Ts R b.type name))
         (subst (λ (y : Option ℕ). Goal (suc n) (attempt.followed (or_trap (is_instance P b.type name) IncompatibleClassChange (down ∷ gs) (found Q y down gs)) M w rl)) (sym (moved b.type m1 k1 is1))
         (by (is_instance P b.type name) b rl agrees fine f)))
@@ -413,13 +421,13 @@ module _ (P : Program) (Ts : List Table) (S : IsTypedProgram P Ts) (Q : Program)
         by true b rl agrees fine f = found_behind rl agrees (selected P b.type m1) Last fine f
         by false b rl agrees fine f = trapped_behind rl agrees IncompatibleClassChange Last fine f
 
-  served : (x : Op) → IsCallOp x → IsSourceOp P k x → IsInnerOp Q first_added (called x) → IsFineWith First (on_did P (does P x up) fs) → next_direct P G X ≡ call.on_asked P G (on_did P (does P x up) fs) M.turns τ
-      → ((y : Reply) → next_run Q B y d ≡ attempt.on_asked Q B (on_did Q (does Q (called x) down) gs) Open y M w r) → Goal (suc n) d
+  served : (x : Op) → IsCallOp x → IsSourceOp P k x → IsInnerOp Q first_added (called x) → IsFineWith First (on_did P (does P x up) fs) → step P (up ∷ fs) ≡ on_did P (does P x up) fs
+      → step Q (down ∷ gs) ≡ on_did Q (does Q (called x) down) gs → Goal (suc n) d
   served (op.InvokeStatic m1) i src inner_op fine eP eQ = static_served m1 src.method src.there fine eP eQ
   served (op.InvokeSpecial m1) i src inner_op fine eP eQ =
       over_served m1 src.method src.there src.over_object (λ k1 x. runs (has_code (Some k1)) m1 up) (λ k1 x. runs (has_code (Some k1)) (duplicate P m1) down) fine eP eQ
-      (λ x fine eP eQ. runs_served m1 (has_code (Some src.method)) fine eP (λ y. eQ y ∙ ap (λ (b : Bool). attempt.on_asked Q B (on_did Q (runs b (duplicate P m1) down) gs) Open y M w r) (same_code m1 src.method src.there src.over_object)))
-  served (op.InvokeVirtual m1) i src inner_op fine eP eQ =
+      (λ x fine eP eQ. runs_served m1 (has_code (Some src.method)) fine eP (eQ ∙ ap (λ (b : Bool). on_did Q (runs b (duplicate P m1) down) gs) (same_code m1 src.method src.there src.over_object)))
+  served (op.InvokeVirtual m1 n) i src inner_op fine eP eQ =
       over_served m1 src.method src.there src.over_object (λ k1 x. Does (doing.Head x (Selects m1)) up) (λ k1 x. Does (doing.Head x (Selects (duplicate P m1))) down) fine eP eQ
       (λ x fine eP eQ. virtual_served m1 src.method src.there src.over_object x inner_op fine eP eQ)
   served (op.InvokeInterface m1 name) i src inner_op fine eP eQ =
@@ -433,4 +441,4 @@ module _ (P : Program) (Ts : List Table) (S : IsTypedProgram P Ts) (Q : Program)
       let step_up : step P (up ∷ fs) ≡ on_did P (does P o up) fs = (let i = t.is in rw i (rw e refl)) in
       let step_down : step Q (down ∷ gs) ≡ on_did Q (does Q (called o) down) gs = (let i = down_there in let j = stands_there.1.0 in rw i (rw j refl)) in
       goal.more (suc n) _ (goal.leads 0 (suc n) _ _ context_first
-      (served o is_call src called_inner (subst (IsFineWith First) step_up (step_fine P Ts S B.region.size τ heap (up ∷ fs) hr.typed)) (ap (λ (x : Asked). call.on_asked P G x M.turns τ) step_up) (λ v. ap (λ (x : Asked). attempt.on_asked Q B x Open v M w r) step_down)))
+      (served o is_call src called_inner (subst (IsFineWith First) step_up (step_fine P Ts S B.region.size τ heap (up ∷ fs) hr.typed)) step_up step_down))

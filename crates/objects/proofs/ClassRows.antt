@@ -68,7 +68,7 @@ absent n (r ∷ rs) e = ap (λ b. cond b (Some r) (find (λ (r : Row). bytes_eq 
 
 -- no class that is left has one of the names before it
 module _ (names : List (List ℕ)) where
-  new_head : (c : ClassFile) (cs : List ClassFile) → doubled_among names (c ∷ cs) ≡ None → (list_any (bytes_eq (own_name c)) names ≡ false) × (doubled_among (own_name c ∷ names) cs ≡ None)
+  pub new_head : (c : ClassFile) (cs : List ClassFile) → doubled_among names (c ∷ cs) ≡ None → (list_any (bytes_eq (own_name c)) names ≡ false) × (doubled_among (own_name c ∷ names) cs ≡ None)
   new_head c cs e = go (list_any (bytes_eq (own_name c)) names) refl e
     where
       go : (b : Bool) → list_any (bytes_eq (own_name c)) names ≡ b → (if b then Some (DoubledClass (own_name c)) else doubled_among (own_name c ∷ names) cs) ≡ None
@@ -76,7 +76,7 @@ module _ (names : List (List ℕ)) where
       go true is e = cc
       go false is e = (is, e)
 
-any_later : (n m : List ℕ) (names : List (List ℕ)) → list_any (bytes_eq n) (m ∷ names) ≡ false → (bytes_eq n m ≡ false) × (list_any (bytes_eq n) names ≡ false)
+pub any_later : (n m : List ℕ) (names : List (List ℕ)) → list_any (bytes_eq n) (m ∷ names) ≡ false → (bytes_eq n m ≡ false) × (list_any (bytes_eq n) names ≡ false)
 any_later n m names e = go (bytes_eq n m) refl e
   where
     go : (b : Bool) → bytes_eq n m ≡ b → (b || list_any (bytes_eq n) names) ≡ false → (bytes_eq n m ≡ false) × (list_any (bytes_eq n) names ≡ false)

@@ -1,5 +1,5 @@
 -- The rows of a folder's classes, in a program that has them behind the library's, keep the rules of types.
-use Rattle.std.proofs.Common.{◌≡◌, ℕ, zero, suc, List, [], ◌∷◌, ◌++◌, length, map, Option, Some, None, Bool, true, false, not, refl, sym, ap, subst, ◌∙◌, inl, inr}
+use Rattle.std.proofs.Common.{◌≡◌, ◌≢◌, ℕ, zero, suc, List, [], ◌∷◌, ◌++◌, length, map, Option, Some, None, Bool, true, false, not, refl, sym, ap, subst, ◌∙◌, inl, inr}
 use Rattle.std.specs.Prelude.{slice_get, find, filter, cond, bytes_eq, ◌&&◌, ◌||◌, ◌==◌, reverse, is_some, codes, if◌then◌else◌}
 use Rattle.std.specs.List.{AllByRecursion, list_any, flat_map}
 use Rattle.std.specs.Option.{option_or}
@@ -30,7 +30,7 @@ use Rattle.objects.proofs.ClassRows.{find_front, find_back, found_at, found_pass
 
 -- ---- faults
 
-no_first : (a b : Option Refusal) → option_or a b ≡ None → (a ≡ None) × (b ≡ None)
+pub no_first : (a b : Option Refusal) → option_or a b ≡ None → (a ≡ None) × (b ≡ None)
 no_first None b e = (refl, e)
 no_first (Some r) b e = cc
 
@@ -99,11 +99,11 @@ all_filter p Given Rule each (x ∷ xs) all = go (p x) refl (all_filter p Given 
     go true is rest = (each x is all.0, rest)
     go false is rest = rest
 
-all_map : {A : Type 0} (Given Rule : A → Type 0) → ((x : A) → Given x → Rule x) → (xs : List A) → AllByRecursion Given xs → AllByRecursion Rule xs
+pub all_map : {A : Type 0} (Given Rule : A → Type 0) → ((x : A) → Given x → Rule x) → (xs : List A) → AllByRecursion Given xs → AllByRecursion Rule xs
 all_map Given Rule each [] all = tt
 all_map Given Rule each (x ∷ xs) all = (each x all.0, all_map Given Rule each xs all.1)
 
-each_none : {A : Type 0} (fault : A → Option Refusal) (xs : List A) → first_fault fault xs ≡ None → AllByRecursion (λ x. fault x ≡ None) xs
+pub each_none : {A : Type 0} (fault : A → Option Refusal) (xs : List A) → first_fault fault xs ≡ None → AllByRecursion (λ x. fault x ≡ None) xs
 each_none fault [] e = tt
 each_none fault (x ∷ xs) e = let a = no_first (fault x) (first_fault fault xs) e in (a.0, each_none fault xs a.1)
 
@@ -132,6 +132,13 @@ no_array (c ∷ cs) e = go (c == 91) e
     go : (b : Bool) → not b ≡ true → b ≡ false
     go true e = cc
     go false e = refl
+
+no_names : (n : List ℕ) (ns : List (List ℕ)) → n ∷ ns ≡ [] → ⊥
+no_names n ns e = cc
+
+-- those of the library are classes
+library_classes : AllByRecursion (λ (r : Row). r.lineage ≢ []) library_rows
+library_classes = (λ e. cc, (λ e. cc, (λ e. cc, (λ e. cc, (λ e. cc, (λ e. cc, (λ e. cc, (λ e. cc, (λ e. cc, (λ e. cc, (λ e. cc, (λ e. cc, (λ e. cc, (λ e. cc, (λ e. cc, (λ e. cc, (λ e. cc, (λ e. cc, (λ e. cc, (λ e. cc, tt))))))))))))))))))))
 
 -- ---- a folder
 
@@ -275,13 +282,18 @@ module _ (cs : List ClassFile) (fine : supers_fault cs ≡ None) (new : doubled_
           let own : own_name d ≡ super_name c = (bytes_eq-Decides (own_name d) (super_name c)).0 (found_passes (λ x. bytes_eq (own_name x) (super_name c)) cs d found) in
           let at = place_of (super_name c) (class_row cs d) (class_found (super_name c) d found plain_d) in
           let upper : class_row cs d ≡ record { name = own_name d; read = own_name d; holds = Words (words_upward cs (own_name d)); lineage = names_upward cs (own_name d); instance_of = class_instances cs (own_name d) } = rw plain_d refl in
+          let lines : (class_row cs d).lineage ≡ names_upward cs (super_name c) = ap (λ (r : Row). r.lineage) upper ∙ ap (names_upward cs) own in
+          let step : lineage cs (super_name c) ≡ d ∷ lineage cs (super_name d) = up.supers (super_name c) ∙ ap (with_above (λ c. lineage cs (super_name c))) found in
+          let names : names_upward cs (super_name c) ≡ own_name d ∷ (map own_name (lineage cs (super_name d)) ++ library_lineage (above_last (super_name d) (lineage cs (super_name d)))) =
+          ap (λ (l : List ClassFile). map own_name l ++ library_lineage (above_last (super_name c) l)) step in
           record {
             number = at.0;
             upper = class_row cs d;
             upper_words = words_upward cs (super_name c);
             own = own_words cs c;
             is = at.1;
-            lineage = names_step ∙ ap (λ (l : List (List ℕ)). own_name c ∷ l) (ap (names_upward cs) (sym own) ∙ ap (λ (r : Row). r.lineage) (sym upper));
+            class = λ e. no_names _ _ (sym (lines ∙ names) ∙ e);
+            lineage = names_step ∙ ap (λ (l : List (List ℕ)). own_name c ∷ l) (sym lines);
             holds = ap (λ (r : Row). r.holds) upper ∙ ap (λ n. Words (words_upward cs n)) own;
             words_are = words_step;
           }
@@ -296,6 +308,7 @@ module _ (cs : List ClassFile) (fine : supers_fault cs ≡ None) (new : doubled_
             upper_words = [];
             own = own_words cs c;
             is = at.1;
+            class = found_has (is_row (super_name c)) (λ (r : Row). r.lineage ≢ []) library_rows l.row l.found library_classes;
             lineage = names_step ∙ ap (λ (u : List (List ℕ)). own_name c ∷ u) (above_is ∙ sym l.lineage);
             holds = l.empty;
             words_are = words_step ∙ ap (λ (u : List ClassFile). flat_map (own_words cs) (reverse u) ++ own_words cs c) top;

@@ -99,8 +99,8 @@ module _ (P : Program) (Ts : List Table) (S : IsTypedProgram P Ts) (Q : Program)
       more = λ n d g. g;
       leads = λ j n d e l g. by_leads (suc j) d e l g;
       steps = λ n w r d e way far agrees step g. by_reply (Gives 0) d (subst Completes (sym (step (Gives 0))) g);
-      looks = λ n wl gs M w r d e way set above far agrees refused step g. by_reply (Gives 0) d (subst Completes (sym (step 0)) g);
-      reads = λ n wl gs M w r d a next way set above far agrees refused step astray g.
+      looks = λ n wl gs M w r d e way synced set above far agrees refused step g. by_reply (Gives 0) d (subst Completes (sym (step 0)) g);
+      reads = λ n wl gs M w r d a next way synced set above far agrees refused step astray g.
           by_reply (Gives (ws a)) d (subst Completes (sym (step (ws a))) (g (recorded (written w a) a (ws a) r) (honest (written w a) a r agrees)));
       stray_on = λ n wl gs M w s set inside gone. tt;
       stray_follows = λ n wl a M w s set inner gone. tt;

@@ -378,7 +378,7 @@ module _ (P : Program) (C : AreTypes P) where
 
     in_class : (r : Row) (ds : List Declared) → IsClass P r ds → HasPlace r ds
     in_class = by_class P C HasPlace
-        (λ r ds c e h a. ⊎_elim (same_class r ds c h) (λ (f : Among d.name []). let no : ⊥ = cc in absurd no) (either d.name r.name [] (subst (Among d.name) e a)))
+        (λ r ds c o e h a. ⊎_elim (same_class r ds c h) (λ (f : Among d.name []). let no : ⊥ = cc in absurd no) (either d.name r.name [] (subst (Among d.name) e a)))
         (λ r ds c u k rest h a. ⊎_elim
         (same_class r ds c h)
         (λ (f : Among d.name u.upper.lineage). ap (λ (ds : List Declared). slice_get ds i) u.words_are ∙ get_front u.upper_words u.own i w (rest u.holds f))

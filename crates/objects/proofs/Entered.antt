@@ -1,5 +1,5 @@
 -- A method and its duplicate are entered with the same arguments, the duplicate with the context behind them.
-use Rattle.std.proofs.Common.{◌≡◌, ℕ, suc, ◌+◌, ◌-◌, ◌<◌, List, [], ◌∷◌, ◌++◌, length, Option, Some, None, Bool, true, false, refl, sym, ap, ◌∙◌, arith, length-append}
+use Rattle.std.proofs.Common.{◌≡◌, ℕ, suc, ◌+◌, ◌-◌, ◌<◌, List, [], ◌∷◌, ◌++◌, length, Option, Some, None, refl, sym, ap, ◌∙◌, arith, length-append}
 use Rattle.std.specs.Prelude.{slice_get, replicate}
 use Rattle.std.specs.List.{flat_map, list_any}
 use Rattle.std.proofs.lemmas.List.{append-nil}
@@ -20,6 +20,7 @@ use Rattle.objects.specs.Rewriting.{is_stray, more_locals}
 use Rattle.objects.proofs.Agreeing.{agree_start}
 use Rattle.objects.proofs.Alike.{Stands}
 use Rattle.objects.proofs.Moved.{pushed_on, takes_back}
+use Rattle.objects.proofs.LocalRoom.{first_many, has_room}
 
 -- a place that has types has an instruction
 pub has_op : (P : Program) (k : Method) (T : Table) → IsTyping P k T → (pc : ℕ) (h : Types) → types_at T pc ≡ Some h → pc < length k.ops
@@ -29,11 +30,6 @@ has_op P k T typing pc h there = by (slice_get k.ops pc) refl (typing.each pc h 
     by None e keeps = absurd keeps
     by (Some o) e keeps = slice_get_within k.ops pc o e
 
-first_many : (b : Bool) (ts : List VType) → length (first_locals b ts) ≡ length ts
-first_many true [] = refl
-first_many true (t ∷ ts) = refl
-first_many false ts = refl
-
 -- the first places of both
 pub stands_first : (P : Program) (k : Method) (T : Table) → IsTyping P k T → IsSourceMethod P k → (args : List Slot) → length args ≡ k.places
     → Stands k T 0 (args ++ replicate (k.locals - k.places) Empty) ((args ++ Context ∷ []) ++ replicate (k.locals + more_locals (list_any (is_stray k.places) k.ops) - (k.places + 1)) Empty)
@@ -41,7 +37,7 @@ stands_first P k T typing source args len = record {
   inside = has_op P k T typing 0 (first_types k) typing.first;
   types = first_types k;
   there = typing.first;
-  agree = agree_start k (first_locals (is_constructor k) k.parameters) (first_many (is_constructor k) k.parameters ∙ source.many) source.room args len;
+  agree = agree_start k (first_locals (is_constructor k) k.parameters) (first_many (is_constructor k) k.parameters ∙ source.many) (has_room P k T typing source.many) args len;
 }
 
 -- how many places arguments have

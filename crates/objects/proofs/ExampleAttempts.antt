@@ -8,7 +8,9 @@ use Rattle.objects.specs.Attempt.{Bounds, Reply, Gives, Refuses, Run, Ended, run
 use Rattle.objects.specs.Rewriting.{rewritten}
 use Rattle.objects.proofs.ExampleProgram.{program}
 use Rattle.objects.proofs.ExampleTables.{tables}
-use Rattle.objects.proofs.Example.{region}
+use Rattle.objects.proofs.Example.{region, state_with, an_a}
+use Rattle.objects.specs.Call.{call_start}
+use Rattle.objects.specs.Traps.{traps, traps_met}
 
 abbrev code : Program
 code = rewritten program tables
@@ -52,6 +54,17 @@ stores : attempt (replicate 43 (Gives 64) ++ replicate 80 (Gives a)) 10
     ≡ Ended (Threw (codes "java/lang/ArrayStoreException")) (record { turns = 8; tried = 1; used = 13; thrown = Some (record { reference = 76; type = 9 }) })
     (access 76 (9 * 2 ^ 32) ∷ access 4 74 ∷ access 74 (26 * 2 ^ 32 + 1) ∷ []) (access 64 a ∷ access 64 a ∷ access 3 64 ∷ [])
 stores = refl
+
+-- alone and as an attempt it meets one trap
+stores_alone : traps program region 60 (call_start program 10 [] 9 (state_with an_a)) ≡ 9 ∷ []
+stores_alone = refl
+
+stores_meets : traps_met code bounds (replicate 43 (Gives 64) ++ replicate 80 (Gives a)) (run_start code bounds 10 []) [] ≡ 9 ∷ []
+stores_meets = refl
+
+-- where each attempt meets a conflict at its first look, none meets a trap
+spent_meets : traps_met code bounds (replicate 160 Refuses) (run_start code bounds 10 []) [] ≡ []
+spent_meets = refl
 
 -- the header of the text
 is_text : attempt (replicate 60 (Gives (2 * 2 ^ 32))) 11

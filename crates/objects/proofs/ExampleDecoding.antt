@@ -147,7 +147,7 @@ loads_constants : map (λ i. means 18 (operands.Pool i)) (9 ∷ 10 ∷ 12 ∷ 14
 loads_constants = refl
 
 fields_mean : means 178 (operands.Pool 15) ∷ means 179 (operands.Pool 15) ∷ means 180 (operands.Pool 17) ∷ means 181 (operands.Pool 17) ∷ []
-    ≡ Some (op.GetStatic 0) ∷ Some (op.PutStatic 0) ∷ Some (op.GetField 1) ∷ Some (op.PutField 1) ∷ []
+    ≡ Some (op.GetStatic 0) ∷ Some (op.PutStatic 0) ∷ Some (op.GetField 1 (codes "A")) ∷ Some (op.PutField 1 (codes "A")) ∷ []
 unfolding type_of
 fields_mean = refl
 

@@ -145,9 +145,23 @@ special_above = refl
 special_own : home (special_method folder class_b (record { class = codes "B"; name = codes "f"; descriptor = codes "()V" })) ≡ Some (codes "B")
 special_own = refl
 
--- a class C under B that names A selects from B upward
+-- a class C under B that names A, or itself, selects from B upward
 abbrev class_c : ClassFile
 class_c = class 0x21 (codes "C") (codes "B") [] [] []
 
 special_between : home (special_method (class_c ∷ folder) class_c (record { class = codes "A"; name = codes "f"; descriptor = codes "()V" })) ≡ Some (codes "B")
 special_between = refl
+
+special_inherited : home (special_method (class_c ∷ folder) class_c (record { class = codes "C"; name = codes "f"; descriptor = codes "()V" })) ≡ Some (codes "B")
+special_inherited = refl
+
+-- K lists I and declares nothing; L under K declares f, and M stands under L. In M the name K.f stands for that of the interface, which isn't a
+-- class above M.
+abbrev class_m : ClassFile
+class_m = class 0x21 (codes "M") (codes "L") [] [] []
+
+abbrev folder_m : List ClassFile
+folder_m = interface_i ∷ class 0x421 (codes "K") object (5 ∷ []) [] [] ∷ class 0x21 (codes "L") (codes "K") [] [] (method_f 1 ∷ []) ∷ class_m ∷ []
+
+special_interface : home (special_method folder_m class_m (record { class = codes "K"; name = codes "f"; descriptor = codes "()V" })) ≡ Some (codes "I")
+special_interface = refl

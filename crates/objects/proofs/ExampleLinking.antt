@@ -114,7 +114,7 @@ second_method = record {
   result = None;
   counted = true;
   retries = None;
-  ops = op.Load sort.Reference 0 ∷ op.InitLibrary (codes "java/lang/Object") 0 ∷ op.Load sort.Reference 0 ∷ op.Constant (Int (pos 7)) ∷ op.PutField 1 ∷ op.Return ∷ [];
+  ops = op.Load sort.Reference 0 ∷ op.InitLibrary (codes "java/lang/Object") 0 ∷ op.Load sort.Reference 0 ∷ op.Constant (Int (pos 7)) ∷ op.PutField 1 (codes "A") ∷ op.Return ∷ [];
   catches = [];
 }
 

@@ -55,7 +55,7 @@ getter_x : seen (method_at code (getter program 0)) ≡ Some (record {
   name = named (codes "A") (codes "x__Getter$") (codes "(LA;Lorg/deuce/transaction/Context;)I");
   locals = 2;
   most = 5;
-  ops = aload 1 ∷ aload 0 ∷ address 1 ∷ Context BeforeRead ∷ aload 1 ∷ aload 0 ∷ aload 0 ∷ GetField 0 ∷ address 1 ∷ Context (OnRead word.Int) ∷ ReturnValue sort.Int ∷ [];
+  ops = aload 1 ∷ aload 0 ∷ address 1 ∷ Context BeforeRead ∷ aload 1 ∷ aload 0 ∷ aload 0 ∷ GetField 0 (codes "A") ∷ address 1 ∷ Context (OnRead word.Int) ∷ ReturnValue sort.Int ∷ [];
 })
 getter_x = refl
 
@@ -72,7 +72,7 @@ getter_next : seen (method_at code (getter program 1)) ≡ Some (record {
   name = named (codes "A") (codes "next__Getter$") (codes "(LA;Lorg/deuce/transaction/Context;)LA;");
   locals = 2;
   most = 5;
-  ops = aload 1 ∷ aload 0 ∷ address 2 ∷ Context BeforeRead ∷ aload 1 ∷ aload 0 ∷ aload 0 ∷ GetField 1 ∷ address 2 ∷ Context (OnRead word.Reference) ∷ CheckCast (codes "A") ∷ ReturnValue sort.Reference ∷ [];
+  ops = aload 1 ∷ aload 0 ∷ address 2 ∷ Context BeforeRead ∷ aload 1 ∷ aload 0 ∷ aload 0 ∷ GetField 1 (codes "A") ∷ address 2 ∷ Context (OnRead word.Reference) ∷ CheckCast (codes "A") ∷ ReturnValue sort.Reference ∷ [];
 })
 getter_next = refl
 

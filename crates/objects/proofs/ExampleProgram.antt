@@ -136,17 +136,17 @@ init_a = method (codes "A") (codes "<init>") (codes "()V") dispatch.Exact (type.
 -- 1: int get() { return x; }
 abbrev pub get_a : Method
 get_a = method (codes "A") (codes "get") (codes "()I") dispatch.Virtual (type.Ref (codes "A") ∷ []) (Some type.Int) 1
-    (Load sort.Reference 0 ∷ GetField 0 ∷ ReturnValue sort.Int ∷ [])
+    (Load sort.Reference 0 ∷ GetField 0 (codes "A") ∷ ReturnValue sort.Int ∷ [])
 
 -- 2: in B: int get() { x = 5; return x + 2; }
 abbrev pub get_b : Method
 get_b = method (codes "B") (codes "get") (codes "()I") dispatch.Virtual (type.Ref (codes "B") ∷ []) (Some type.Int) 2
-    (Load sort.Reference 0 ∷ Constant (Int (pos 5)) ∷ PutField 0 ∷ Load sort.Reference 0 ∷ GetField 0 ∷ Constant (Int (pos 2)) ∷ Binary width.Int Add ∷ ReturnValue sort.Int ∷ [])
+    (Load sort.Reference 0 ∷ Constant (Int (pos 5)) ∷ PutField 0 (codes "A") ∷ Load sort.Reference 0 ∷ GetField 0 (codes "A") ∷ Constant (Int (pos 2)) ∷ Binary width.Int Add ∷ ReturnValue sort.Int ∷ [])
 
 -- 3: B(long n) { super(); wide = n; }
 abbrev pub init_b : Method
 init_b = method (codes "B") (codes "<init>") (codes "(J)V") dispatch.Exact (type.Ref (codes "B") ∷ type.Long ∷ type.Second ∷ []) None 3
-    (Load sort.Reference 0 ∷ InvokeSpecial 0 ∷ Load sort.Reference 0 ∷ Load sort.Long 1 ∷ PutField 5 ∷ Return ∷ [])
+    (Load sort.Reference 0 ∷ InvokeSpecial 0 ∷ Load sort.Reference 0 ∷ Load sort.Long 1 ∷ PutField 5 (codes "B") ∷ Return ∷ [])
 
 -- 4: in the interface I: int f();
 abbrev pub f_i : Method
@@ -155,7 +155,7 @@ f_i = method (codes "I") (codes "f") (codes "()I") dispatch.Abstract (type.Ref (
 -- 5: in B: public int f() { return (int) wide; }
 abbrev pub f_b : Method
 f_b = method (codes "B") (codes "f") (codes "()I") dispatch.Virtual (type.Ref (codes "B") ∷ []) (Some type.Int) 2
-    (Load sort.Reference 0 ∷ GetField 5 ∷ Convert LongToInt ∷ ReturnValue sort.Int ∷ [])
+    (Load sort.Reference 0 ∷ GetField 5 (codes "B") ∷ Convert LongToInt ∷ ReturnValue sort.Int ∷ [])
 
 -- 6: E() {}
 abbrev pub init_e : Method
@@ -165,7 +165,7 @@ init_e = method (codes "E") (codes "<init>") (codes "()V") dispatch.Exact (type.
 -- 7: static int make() { s = new B(9); return s.get(); }
 abbrev pub make : Method
 make = marked (codes "make") (Some type.Int) 4
-    (New 22 ∷ Stack Dup ∷ Constant (Long (pos 9)) ∷ InvokeSpecial 3 ∷ PutStatic 3 ∷ GetStatic 3 ∷ InvokeVirtual 1 ∷ ReturnValue sort.Int ∷ [])
+    (New 22 ∷ Stack Dup ∷ Constant (Long (pos 9)) ∷ InvokeSpecial 3 ∷ PutStatic 3 ∷ GetStatic 3 ∷ InvokeVirtual 1 (codes "A") ∷ ReturnValue sort.Int ∷ [])
 
 -- 8: static int call() { return ((I) s).f(); }
 abbrev pub call : Method
@@ -176,7 +176,7 @@ call = marked (codes "call") (Some type.Int) 1
 abbrev pub elements : Method
 elements = marked (codes "elements") (Some type.Int) 3
     (Constant (Int (pos 2)) ∷ NewArray 25 ∷ PutStatic 4 ∷ GetStatic 4 ∷ Constant (Int (pos 1)) ∷ GetStatic 3 ∷ StoreElement word.Reference
-    ∷ GetStatic 4 ∷ Constant (Int (pos 1)) ∷ LoadElement word.Reference ∷ InvokeVirtual 1 ∷ GetStatic 4 ∷ ArrayLength ∷ Binary width.Int Add ∷ ReturnValue sort.Int ∷ [])
+    ∷ GetStatic 4 ∷ Constant (Int (pos 1)) ∷ LoadElement word.Reference ∷ InvokeVirtual 1 (codes "A") ∷ GetStatic 4 ∷ ArrayLength ∷ Binary width.Int Add ∷ ReturnValue sort.Int ∷ [])
 
 -- 10: static int store() { all = new B[1]; all[0] = s; return 0; }
 abbrev pub store : Method
@@ -197,7 +197,7 @@ caught = record (marked (codes "caught") (Some type.Int) 2 (New 23 ∷ Stack Dup
 abbrev pub narrow : Method
 narrow = record (marked (codes "narrow") (Some type.Int) 3 (
     Constant (Int (pos 1)) ∷ NewArray 27 ∷ Store sort.Reference 0 ∷ Load sort.Reference 0 ∷ Constant (Int (pos 0)) ∷ Constant (Int (pos 200)) ∷ StoreElement word.Byte
-    ∷ GetStatic 3 ∷ Load sort.Reference 0 ∷ Constant (Int (pos 0)) ∷ LoadElement word.Byte ∷ PutField 2 ∷ GetStatic 3 ∷ GetField 2 ∷ ReturnValue sort.Int ∷ [])) {
+    ∷ GetStatic 3 ∷ Load sort.Reference 0 ∷ Constant (Int (pos 0)) ∷ LoadElement word.Byte ∷ PutField 2 (codes "A") ∷ GetStatic 3 ∷ GetField 2 (codes "A") ∷ ReturnValue sort.Int ∷ [])) {
       locals = 1;
     }
 

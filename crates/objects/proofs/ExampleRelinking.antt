@@ -70,21 +70,21 @@ b_store_is : means false helper members.b_store ≡ made 9
 unfolding code_at attributes_at handlers_at handler_at body_at number_at run_at items_at element_rest type_rest type_of types_at result_of signature_of is_field_descriptor signed_at target_at jump_at local_at entry_operand_at signed_operand_at parts_at instrs_at targets_fit instrs_of retries_in all_annotations
 b_store_is = refl
 
-c_load_is : means false helper members.c_load ≡ made 10
-unfolding code_at attributes_at handlers_at handler_at body_at number_at run_at items_at element_rest type_rest type_of types_at result_of signature_of is_field_descriptor signed_at target_at jump_at local_at entry_operand_at signed_operand_at parts_at instrs_at targets_fit instrs_of retries_in all_annotations
-c_load_is = refl
-
-c_store_is : means false helper members.c_store ≡ made 11
-unfolding code_at attributes_at handlers_at handler_at body_at number_at run_at items_at element_rest type_rest type_of types_at result_of signature_of is_field_descriptor signed_at target_at jump_at local_at entry_operand_at signed_operand_at parts_at instrs_at targets_fit instrs_of retries_in all_annotations
-c_store_is = refl
-
-z_load_is : means false helper members.z_load ≡ made 12
+z_load_is : means false helper members.z_load ≡ made 10
 unfolding code_at attributes_at handlers_at handler_at body_at number_at run_at items_at element_rest type_rest type_of types_at result_of signature_of is_field_descriptor signed_at target_at jump_at local_at entry_operand_at signed_operand_at parts_at instrs_at targets_fit instrs_of retries_in all_annotations
 z_load_is = refl
 
-z_store_is : means false helper members.z_store ≡ made 13
+z_store_is : means false helper members.z_store ≡ made 11
 unfolding code_at attributes_at handlers_at handler_at body_at number_at run_at items_at element_rest type_rest type_of types_at result_of signature_of is_field_descriptor signed_at target_at jump_at local_at entry_operand_at signed_operand_at parts_at instrs_at targets_fit instrs_of retries_in all_annotations
 z_store_is = refl
+
+c_load_is : means false helper members.c_load ≡ made 12
+unfolding code_at attributes_at handlers_at handler_at body_at number_at run_at items_at element_rest type_rest type_of types_at result_of signature_of is_field_descriptor signed_at target_at jump_at local_at entry_operand_at signed_operand_at parts_at instrs_at targets_fit instrs_of retries_in all_annotations
+c_load_is = refl
+
+c_store_is : means false helper members.c_store ≡ made 13
+unfolding code_at attributes_at handlers_at handler_at body_at number_at run_at items_at element_rest type_rest type_of types_at result_of signature_of is_field_descriptor signed_at target_at jump_at local_at entry_operand_at signed_operand_at parts_at instrs_at targets_fit instrs_of retries_in all_annotations
+c_store_is = refl
 
 s_load_is : means false helper members.s_load ≡ made 14
 unfolding code_at attributes_at handlers_at handler_at body_at number_at run_at items_at element_rest type_rest type_of types_at result_of signature_of is_field_descriptor signed_at target_at jump_at local_at entry_operand_at signed_operand_at parts_at instrs_at targets_fit instrs_of retries_in all_annotations

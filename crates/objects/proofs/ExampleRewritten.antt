@@ -162,4 +162,4 @@ abbrev pub a_store : Member
 a_store = coded 55 4105 82 83 4 4 (45 ∷ 42 ∷ 44 ∷ 27 ∷ 182 ∷ 0 ∷ 54 ∷ 177 ∷ []) ([])
 
 abbrev pub helper : ClassFile
-helper = class helper_pool 2 4 [] (b_load ∷ b_store ∷ c_load ∷ c_store ∷ z_load ∷ z_store ∷ s_load ∷ s_store ∷ i_load ∷ i_store ∷ l_load ∷ l_store ∷ a_load ∷ a_store ∷ [])
+helper = class helper_pool 2 4 [] (b_load ∷ b_store ∷ z_load ∷ z_store ∷ c_load ∷ c_store ∷ s_load ∷ s_store ∷ i_load ∷ i_store ∷ l_load ∷ l_store ∷ a_load ∷ a_store ∷ [])

@@ -78,7 +78,7 @@ empty_array = refl
 
 -- ---- null
 
-null_field : with_null (GetStatic 3 ∷ GetField 0 ∷ gives) ≡ threw (codes "NullPointerException")
+null_field : with_null (GetStatic 3 ∷ GetField 0 (codes "A") ∷ gives) ≡ threw (codes "NullPointerException")
 null_field = refl
 
 null_call : with_null (GetStatic 3 ∷ InvokeSpecial 1 ∷ gives) ≡ threw (codes "NullPointerException")
@@ -110,10 +110,10 @@ same_text = refl
 
 -- ---- calls
 
-virtual_a : with_a (GetStatic 3 ∷ InvokeVirtual 1 ∷ gives) ≡ gave 4
+virtual_a : with_a (GetStatic 3 ∷ InvokeVirtual 1 (codes "A") ∷ gives) ≡ gave 4
 virtual_a = refl
 
-virtual_b : with_b (GetStatic 3 ∷ InvokeVirtual 1 ∷ gives) ≡ gave 7
+virtual_b : with_b (GetStatic 3 ∷ InvokeVirtual 1 (codes "A") ∷ gives) ≡ gave 7
 virtual_b = refl
 
 -- super.get()
@@ -160,13 +160,13 @@ calls_codeless d ops =
     let P = record (with_code ops []) { methods = slice_set (with_code ops []).methods 5 (f_as d []) } in
     answer_of (direct P region 60 (call_start P 7 [] 9 (state_with a_b)))
 
-codeless_virtual : calls_codeless dispatch.Virtual (GetStatic 3 ∷ InvokeVirtual 5 ∷ gives) ≡ threw (codes "AbstractMethodError")
+codeless_virtual : calls_codeless dispatch.Virtual (GetStatic 3 ∷ InvokeVirtual 5 (codes "A") ∷ gives) ≡ threw (codes "AbstractMethodError")
 codeless_virtual = refl
 
 codeless_private : calls_codeless dispatch.Exact (GetStatic 3 ∷ InvokeSpecial 5 ∷ gives) ≡ threw (codes "AbstractMethodError")
 codeless_private = refl
 
-codeless_selected : calls_codeless dispatch.Exact (GetStatic 3 ∷ InvokeVirtual 5 ∷ gives) ≡ threw (codes "AbstractMethodError")
+codeless_selected : calls_codeless dispatch.Exact (GetStatic 3 ∷ InvokeVirtual 5 (codes "A") ∷ gives) ≡ threw (codes "AbstractMethodError")
 codeless_selected = refl
 
 codeless_static : calls_codeless dispatch.Static (GetStatic 3 ∷ InvokeStatic 5 ∷ gives) ≡ threw (codes "AbstractMethodError")

@@ -16,8 +16,8 @@ use Rattle.objects.specs.TypeOrder.{object_class}
 use Rattle.objects.specs.Typing.{Table, IsTyping, arguments}
 use Rattle.objects.specs.TypingLaw.{IsTypedProgram}
 use Rattle.objects.specs.Rewriting.{with_context}
-use Rattle.objects.specs.Source.{IsClass, IsDeclared, AreTypes, IsSourceMethod, AreNamed, IsSource}
-use Rattle.objects.proofs.LibraryRows.{IsRow, AreRows, row_of, class_row, for_any, IsReadIn, library, traps, conflict}
+use Rattle.objects.specs.Source.{IsReadName, IsClass, IsDeclared, AreTypes, IsSourceMethod, AreNamed, IsSource}
+use Rattle.objects.proofs.LibraryRows.{IsRow, AreRows, row_of, class_row, for_any, IsReadIn, library, traps, conflict, context}
 use Rattle.objects.proofs.ArrayRows.{references_within, primitives_within}
 use Rattle.objects.proofs.Checking.{checked}
 use Rattle.objects.proofs.ExampleProgram.{ints, longs, bytes, of_class, class_a, class_b, class_e, static_base, array_a, array_b, array_bytes, fields, program}
@@ -34,7 +34,7 @@ a_is = record {
   named = refl;
   read = refl;
   found = refl;
-  placed = inr (record { number = 1; upper = object; upper_words = []; own = ints ∷ of_class (codes "A") ∷ bytes ∷ []; is = refl; lineage = refl; holds = refl; words_are = refl });
+  placed = inr (record { number = 1; upper = object; upper_words = []; own = ints ∷ of_class (codes "A") ∷ bytes ∷ []; is = refl; class = λ e. cc; lineage = refl; holds = refl; words_are = refl });
 }
 
 b_is : IsClass program class_b (ints ∷ of_class (codes "A") ∷ bytes ∷ longs ∷ [])
@@ -42,7 +42,7 @@ b_is = record {
   named = refl;
   read = refl;
   found = refl;
-  placed = inr (record { number = 21; upper = class_a; upper_words = ints ∷ of_class (codes "A") ∷ bytes ∷ []; own = longs ∷ []; is = refl; lineage = refl; holds = refl; words_are = refl });
+  placed = inr (record { number = 21; upper = class_a; upper_words = ints ∷ of_class (codes "A") ∷ bytes ∷ []; own = longs ∷ []; is = refl; class = λ e. cc; lineage = refl; holds = refl; words_are = refl });
 }
 
 row_a : IsRow program 21 class_a
@@ -54,7 +54,7 @@ row_b = class_row program 22 class_b (codes "I" ∷ []) refl (inr b_is) (refl, (
 row_e : IsRow program 23 class_e
 row_e =
     class_row program 23 class_e [] refl
-    (inr (record { named = refl; read = refl; found = refl; placed = inr (record { number = 7; upper = runtime_exception; upper_words = []; own = []; is = refl; lineage = refl; holds = refl; words_are = refl }) }))
+    (inr (record { named = refl; read = refl; found = refl; placed = inr (record { number = 7; upper = runtime_exception; upper_words = []; own = []; is = refl; class = λ e. cc; lineage = refl; holds = refl; words_are = refl }) }))
     (refl, (refl, (refl, (refl, (refl, tt))))) (λ n. refl) refl
 
 row_base : IsRow program 24 static_base
@@ -118,6 +118,7 @@ types = record {
   fields = λ i f e. item IsPlaced fields i f declared e;
   traps = traps own_rows program.texts program.fields program.methods;
   conflict = conflict own_rows program.texts program.fields program.methods refl;
+  context = context own_rows program.texts program.fields program.methods refl;
 }
 
 -- ---- names
@@ -200,71 +201,97 @@ names = record {
   reserved = λ i k e same. let fall : false ≡ true = sym (named i k e).unreserved ∙ (bytes_eq-Decides k.name.name (codes "__CLINIT__")).1 same in cc;
 }
 
+-- ---- names as typing reads them
+
+read_a : IsReadName program (codes "A")
+read_a = record { itself = refl; top = refl; read = refl }
+
+read_b : IsReadName program (codes "B")
+read_b = record { itself = refl; top = refl; read = refl }
+
+read_e : IsReadName program (codes "E")
+read_e = record { itself = refl; top = refl; read = refl }
+
+read_as : IsReadName program (codes "[LA;")
+read_as = record { itself = refl; top = refl; read = refl }
+
+read_object : IsReadName program object_class
+read_object = record { itself = refl; top = refl; read = refl }
+
 -- ---- methods
 
 source_init_a : IsSourceMethod program methods.init_a
-source_init_a = record { counted = refl; parameters = tt; many = refl; object = refl; code = λ e. cc; result = tt; room = omega arith; entries = tt; each = (omega arith, (tt, (tt, tt))) }
+source_init_a = record { counted = refl; parameters = tt; many = refl; object = refl; code = λ e. cc; result = tt; takes = (read_a, tt); gives = tt; unmarked = λ e. refl; entries = tt; each = (tt, (tt, (tt, tt))) }
 
 source_get_a : IsSourceMethod program methods.get_a
-source_get_a = record { counted = refl; parameters = tt; many = refl; object = refl; code = λ e. cc; result = tt; room = omega arith; entries = tt; each = (omega arith, (record { field = _; there = refl; base_is = refl }, (tt, tt))) }
+source_get_a = record { counted = refl; parameters = tt; many = refl; object = refl; code = λ e. cc; result = tt; takes = (read_a, tt); gives = (tt, tt); unmarked = λ e. refl; entries = tt; each = (tt, (record { field = _; there = refl; base_is = refl }, (tt, tt))) }
 
 source_get_b : IsSourceMethod program methods.get_b
-source_get_b = record { counted = refl; parameters = tt; many = refl; object = refl; code = λ e. cc; result = tt; room = omega arith; entries = tt; each = (omega arith, (omega arith, (record { field = _; there = refl; base_is = refl }, (omega arith, (record { field = _; there = refl; base_is = refl }, (omega arith, (tt, (tt, tt)))))))) }
+source_get_b = record { counted = refl; parameters = tt; many = refl; object = refl; code = λ e. cc; result = tt; takes = (read_b, tt); gives = (tt, tt); unmarked = λ e. refl; entries = tt; each = (tt, (omega arith, (record { field = _; there = refl; base_is = refl }, (tt, (record { field = _; there = refl; base_is = refl }, (omega arith, (tt, (tt, tt)))))))) }
 
 source_init_b : IsSourceMethod program methods.init_b
-source_init_b = record { counted = refl; parameters = tt; many = refl; object = refl; code = λ e. cc; result = tt; room = omega arith; entries = tt; each = (omega arith, (record { method = _; there = refl; over_object = λ e. cc }, (omega arith, (omega arith, (record { field = _; there = refl; base_is = refl }, (tt, tt)))))) }
+source_init_b = record { counted = refl; parameters = tt; many = refl; object = refl; code = λ e. cc; result = tt; takes = (read_b, (tt, (tt, tt))); gives = tt; unmarked = λ e. refl; entries = tt; each = (tt, (record { method = _; there = refl; over_object = λ e. cc }, (tt, (tt, (record { field = _; there = refl; base_is = refl }, (tt, tt)))))) }
 
 source_f_i : IsSourceMethod program methods.f_i
-source_f_i = record { counted = refl; parameters = tt; many = refl; object = (codes "java/lang/Object", refl); code = (refl, refl); result = tt; room = omega arith; entries = tt; each = tt }
+source_f_i = record { counted = refl; parameters = tt; many = refl; object = (codes "java/lang/Object", refl); code = (refl, refl); result = tt; takes = (read_object, tt); gives = (tt, tt); unmarked = λ e. refl; entries = tt; each = tt }
 
 source_f_b : IsSourceMethod program methods.f_b
-source_f_b = record { counted = refl; parameters = tt; many = refl; object = refl; code = λ e. cc; result = tt; room = omega arith; entries = tt; each = (omega arith, (record { field = _; there = refl; base_is = refl }, (tt, (tt, tt)))) }
+source_f_b = record { counted = refl; parameters = tt; many = refl; object = refl; code = λ e. cc; result = tt; takes = (read_b, tt); gives = (tt, tt); unmarked = λ e. refl; entries = tt; each = (tt, (record { field = _; there = refl; base_is = refl }, (tt, (tt, tt)))) }
 
 source_init_e : IsSourceMethod program methods.init_e
-source_init_e = record { counted = refl; parameters = tt; many = refl; object = refl; code = λ e. cc; result = tt; room = omega arith; entries = tt; each = (omega arith, (tt, (tt, tt))) }
+source_init_e = record { counted = refl; parameters = tt; many = refl; object = refl; code = λ e. cc; result = tt; takes = (read_e, tt); gives = tt; unmarked = λ e. refl; entries = tt; each = (tt, (tt, (tt, tt))) }
 
 source_make : IsSourceMethod program methods.make
-source_make = record { counted = refl; parameters = tt; many = refl; object = refl; code = λ e. cc; result = tt; room = omega arith; entries = tt; each = (record { row = _; there = refl; below = refl; holds = refl }, (tt, (omega arith, (record { method = _; there = refl; over_object = λ e. cc }, ((2, record { field = _; there = refl; base_is = refl }), ((2, record { field = _; there = refl; base_is = refl }), (record { method = _; there = refl; over_object = λ e. cc; constructor = λ e. cc }, (tt, tt)))))))) }
+source_make = record { counted = refl; parameters = tt; many = refl; object = refl; code = λ e. cc; result = tt; takes = tt; gives = (tt, tt); unmarked = λ e. cc; entries = tt; each = (record { row = _; there = refl; below = refl; holds = refl }, (tt, (omega arith, (record { method = _; there = refl; over_object = λ e. cc }, ((2, record { field = _; there = refl; base_is = refl }), ((2, record { field = _; there = refl; base_is = refl }), (record { method = _; there = refl; over_object = λ e. cc; constructor = λ e. cc }, (tt, tt)))))))) }
 
 source_call : IsSourceMethod program methods.call
-source_call = record { counted = refl; parameters = tt; many = refl; object = refl; code = λ e. cc; result = tt; room = omega arith; entries = tt; each = ((2, record { field = _; there = refl; base_is = refl }), (tt, (record { method = _; there = refl; over_object = λ e. cc; constructor = λ e. cc }, (tt, tt)))) }
+source_call = record { counted = refl; parameters = tt; many = refl; object = refl; code = λ e. cc; result = tt; takes = tt; gives = (tt, tt); unmarked = λ e. cc; entries = tt; each = ((2, record { field = _; there = refl; base_is = refl }), (tt, (record { method = _; there = refl; over_object = λ e. cc; constructor = λ e. cc }, (tt, tt)))) }
 
 source_elements : IsSourceMethod program methods.elements
-source_elements = record { counted = refl; parameters = tt; many = refl; object = refl; code = λ e. cc; result = tt; room = omega arith; entries = tt; each = (omega arith, (record { row = _; there = refl; below = refl; holds = tt }, ((2, record { field = _; there = refl; base_is = refl }), ((2, record { field = _; there = refl; base_is = refl }), (omega arith, ((2, record { field = _; there = refl; base_is = refl }), (tt, ((2, record { field = _; there = refl; base_is = refl }), (omega arith, (tt, (record { method = _; there = refl; over_object = λ e. cc; constructor = λ e. cc }, ((2, record { field = _; there = refl; base_is = refl }), (tt, (tt, (tt, tt))))))))))))))) }
+source_elements = record { counted = refl; parameters = tt; many = refl; object = refl; code = λ e. cc; result = tt; takes = tt; gives = (tt, tt); unmarked = λ e. cc; entries = tt; each = (omega arith, (record { row = _; there = refl; below = refl; holds = tt }, ((2, record { field = _; there = refl; base_is = refl }), ((2, record { field = _; there = refl; base_is = refl }), (omega arith, ((2, record { field = _; there = refl; base_is = refl }), (tt, ((2, record { field = _; there = refl; base_is = refl }), (omega arith, (tt, (record { method = _; there = refl; over_object = λ e. cc; constructor = λ e. cc }, ((2, record { field = _; there = refl; base_is = refl }), (tt, (tt, (tt, tt))))))))))))))) }
 
 source_store : IsSourceMethod program methods.store
-source_store = record { counted = refl; parameters = tt; many = refl; object = refl; code = λ e. cc; result = tt; room = omega arith; entries = tt; each = (omega arith, (record { row = _; there = refl; below = refl; holds = tt }, ((2, record { field = _; there = refl; base_is = refl }), ((2, record { field = _; there = refl; base_is = refl }), (omega arith, ((2, record { field = _; there = refl; base_is = refl }), (tt, (omega arith, (tt, tt))))))))) }
+source_store = record { counted = refl; parameters = tt; many = refl; object = refl; code = λ e. cc; result = tt; takes = tt; gives = (tt, tt); unmarked = λ e. cc; entries = tt; each = (omega arith, (record { row = _; there = refl; below = refl; holds = tt }, ((2, record { field = _; there = refl; base_is = refl }), ((2, record { field = _; there = refl; base_is = refl }), (omega arith, ((2, record { field = _; there = refl; base_is = refl }), (tt, (omega arith, (tt, tt))))))))) }
 
 source_text : IsSourceMethod program methods.text
-source_text = record { counted = refl; parameters = tt; many = refl; object = refl; code = λ e. cc; result = tt; room = omega arith; entries = tt; each = (omega arith, (tt, (tt, tt))) }
+source_text = record { counted = refl; parameters = tt; many = refl; object = refl; code = λ e. cc; result = tt; takes = tt; gives = (tt, tt); unmarked = λ e. cc; entries = tt; each = (omega arith, (tt, (tt, tt))) }
 
 source_caught : IsSourceMethod program methods.caught
-source_caught = record { counted = refl; parameters = tt; many = refl; object = refl; code = λ e. cc; result = tt; room = omega arith; entries = (record { from = omega arith; to = omega arith; catches = tt }, tt); each = (record { row = _; there = refl; below = refl; holds = refl }, (tt, (record { method = _; there = refl; over_object = λ e. cc }, (tt, (tt, (omega arith, (tt, tt))))))) }
+source_caught = record { counted = refl; parameters = tt; many = refl; object = refl; code = λ e. cc; result = tt; takes = tt; gives = (tt, tt); unmarked = λ e. cc; entries = (record { from = omega arith; to = omega arith; catches = tt }, tt); each = (record { row = _; there = refl; below = refl; holds = refl }, (tt, (record { method = _; there = refl; over_object = λ e. cc }, (tt, (tt, (omega arith, (tt, tt))))))) }
 
 source_narrow : IsSourceMethod program methods.narrow
-source_narrow = record { counted = refl; parameters = tt; many = refl; object = refl; code = λ e. cc; result = tt; room = omega arith; entries = tt; each = (omega arith, (record { row = _; there = refl; below = refl; holds = tt }, (omega arith, (omega arith, (omega arith, (omega arith, (tt, ((2, record { field = _; there = refl; base_is = refl }), (omega arith, (omega arith, (tt, (record { field = _; there = refl; base_is = refl }, ((2, record { field = _; there = refl; base_is = refl }), (record { field = _; there = refl; base_is = refl }, (tt, tt))))))))))))))) }
+source_narrow = record { counted = refl; parameters = tt; many = refl; object = refl; code = λ e. cc; result = tt; takes = tt; gives = (tt, tt); unmarked = λ e. cc; entries = tt; each = (omega arith, (record { row = _; there = refl; below = refl; holds = tt }, (tt, (tt, (omega arith, (omega arith, (tt, ((2, record { field = _; there = refl; base_is = refl }), (tt, (omega arith, (tt, (record { field = _; there = refl; base_is = refl }, ((2, record { field = _; there = refl; base_is = refl }), (record { field = _; there = refl; base_is = refl }, (tt, tt))))))))))))))) }
 
 -- a method of an interface may have code: its object is any
 abbrev coded_f_i : Method
 coded_f_i = record methods.f_i { dispatch = dispatch.Virtual; max_stack = 1; ops = Constant (Int (pos 1)) ∷ ReturnValue sort.Int ∷ [] }
 
 source_coded_f_i : IsSourceMethod program coded_f_i
-source_coded_f_i = record { counted = refl; parameters = tt; many = refl; object = refl; code = λ e. cc; result = tt; room = omega arith; entries = tt; each = (omega arith, (tt, tt)) }
+source_coded_f_i = record { counted = refl; parameters = tt; many = refl; object = refl; code = λ e. cc; result = tt; takes = (read_object, tt); gives = (tt, tt); unmarked = λ e. refl; entries = tt; each = (omega arith, (tt, tt)) }
 
 -- a static method may have none, and one over objects of a class
 abbrev codeless : Dispatch → Method → Method
 codeless d k = record k { dispatch = d; retries = None; ops = [] }
 
 source_codeless_make : IsSourceMethod program (codeless dispatch.Static methods.make)
-source_codeless_make = record { counted = refl; parameters = tt; many = refl; object = refl; code = (refl, refl); result = tt; room = omega arith; entries = tt; each = tt }
+source_codeless_make = record { counted = refl; parameters = tt; many = refl; object = refl; code = (refl, refl); result = tt; takes = tt; gives = (tt, tt); unmarked = λ e. refl; entries = tt; each = tt }
 
 source_codeless_get : IsSourceMethod program (codeless dispatch.Exact methods.get_a)
-source_codeless_get = record { counted = refl; parameters = tt; many = refl; object = refl; code = (refl, refl); result = tt; room = omega arith; entries = tt; each = tt }
+source_codeless_get = record { counted = refl; parameters = tt; many = refl; object = refl; code = (refl, refl); result = tt; takes = (read_a, tt); gives = (tt, tt); unmarked = λ e. refl; entries = tt; each = tt }
 
 pub source : IsSource program
 source = record {
   types = types;
-  fields = (omega arith, (omega arith, (omega arith, (record { object = omega arith; address = omega arith }, (record { object = omega arith; address = omega arith }, (omega arith, tt))))));
+  fields = (
+    record { based = omega arith; read = tt },
+    (
+      record { based = omega arith; read = read_a },
+      (
+        record { based = omega arith; read = tt },
+        (record { based = record { object = omega arith; address = omega arith }; read = read_a }, (record { based = record { object = omega arith; address = omega arith }; read = read_as }, (record { based = omega arith; read = tt }, tt))),
+      ),
+    ),
+  );
   methods = (source_init_a, (source_get_a, (source_get_b, (source_init_b, (source_f_i, (source_f_b, (source_init_e, (source_make, (source_call, (source_elements, (source_store, (source_text, (source_caught, (source_narrow, tt))))))))))))));
   names = names;
 }

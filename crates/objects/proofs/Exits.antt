@@ -15,7 +15,7 @@ use Rattle.objects.specs.declared.op.StackOp.TheVariants.{Nop, Pop, Pop2, Dup, D
 use Rattle.objects.specs.declared.op.Op.{Op}
 use Rattle.objects.specs.declared.op.Op.TheVariants as op
 use Rattle.objects.specs.Program.{Row, Field, Method, Program, method_at, field_at, row_at}
-use Rattle.objects.specs.Typing.{Types, Table, types_at, Flow, Leads, Wrong, with_stack, leaves, ends, if_so, on, on_each, on_int, on_number, on_reference, on_top, on_one, on_two, is_one, is_reference, local_in, int_in, long_at, field_in, method_in, row_in, loads, rearranged, converted, on_array, fits_elements, element_types, is_within, puts, exits, returns, result_types, flow, Covers, KeepsFlow, KeepsAt, IsTyping, AreWithin, stack_types, object_class, throwable_class, name_read, results, stored_types}
+use Rattle.objects.specs.Typing.{is_received, value_places, argument_places, Types, Table, types_at, Flow, Leads, Wrong, with_stack, leaves, ends, if_so, on, on_each, on_int, on_number, on_reference, on_top, on_one, on_two, is_one, is_reference, local_in, int_in, long_at, field_in, method_in, row_in, loads, rearranged, converted, on_array, fits_elements, element_types, is_within, puts, exits, returns, result_types, flow, Covers, KeepsFlow, KeepsAt, IsTyping, AreWithin, stack_types, object_class, throwable_class, name_read, results, stored_types}
 
 -- where an instruction goes on
 abbrev pub exits_of : ℕ → Op → List ℕ
@@ -163,10 +163,10 @@ module _ (P : Program) (k : Method) (pc : ℕ) (h : Types) where
   flow_goes (op.Switch other cases) a = int _ _ h.stack _ (λ s. (refl, refl))
   flow_goes (op.GetStatic n) a = a_field _ _ (field_at P n) _ (λ f. so _ _ (is_some f.base) (leaves pc h (stack_types f.declared ++ h.stack)) (refl, refl))
   flow_goes (op.PutStatic n) a = a_field _ _ (field_at P n) _ (λ f. so _ _ (is_some f.base) _ (each _ _ P (stack_types f.declared) h.stack (λ s. leaves pc h s) (λ s. (refl, refl))))
-  flow_goes (op.GetField n) a = a_field _ _ (field_at P n) _ (λ f. one _ _ P (Ref f.class) h.stack (λ s. leaves pc h (stack_types f.declared ++ s)) (λ s. (refl, refl)))
-  flow_goes (op.PutField n) a = a_field _ _ (field_at P n) _ (λ f. each _ _ P (stack_types f.declared) h.stack (λ s. puts P k pc f h s) (λ s. top _ _ s _ (λ t s. so _ _ _ (leaves pc h s) (refl, refl))))
+  flow_goes (op.GetField n c) a = so _ _ (is_received P c (slice_get h.stack 0)) _ (a_field _ _ (field_at P n) _ (λ f. one _ _ P (Ref f.class) h.stack (λ s. leaves pc h (stack_types f.declared ++ s)) (λ s. (refl, refl))))
+  flow_goes (op.PutField n c) a = so _ _ (is_received P c (slice_get h.stack (value_places (field_at P n)))) _ (a_field _ _ (field_at P n) _ (λ f. each _ _ P (stack_types f.declared) h.stack (λ s. puts P k pc f h s) (λ s. top _ _ s _ (λ t s. so _ _ _ (leaves pc h s) (refl, refl)))))
   flow_goes (op.InvokeStatic m) a = a_method _ _ (method_at P m) _ (λ c. each _ _ P (reverse c.parameters) h.stack (λ s. leaves pc h (results c ++ s)) (λ s. (refl, refl)))
-  flow_goes (op.InvokeVirtual m) a = a_method _ _ (method_at P m) _ (λ c. each _ _ P (reverse c.parameters) h.stack (λ s. leaves pc h (results c ++ s)) (λ s. (refl, refl)))
+  flow_goes (op.InvokeVirtual m n) a = so _ _ (is_received P n (slice_get h.stack (argument_places (method_at P m)))) _ (a_method _ _ (method_at P m) _ (λ c. each _ _ P (reverse c.parameters) h.stack (λ s. leaves pc h (results c ++ s)) (λ s. (refl, refl))))
   flow_goes (op.InvokeInterface m n) a = a_method _ _ (method_at P m) _ (λ c. each _ _ P (reverse c.parameters) h.stack (λ s. leaves pc h (results c ++ s)) (λ s. (refl, refl)))
   flow_goes (op.NewArray t) a = a_row _ _ (row_at P t) _ (λ r. int _ _ h.stack (λ s. leaves pc h (Ref r.read ∷ s)) (λ s. (refl, refl)))
   flow_goes op.ArrayLength a = array _ _ h.stack _ (λ t s. (refl, refl))

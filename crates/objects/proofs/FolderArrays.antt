@@ -28,17 +28,17 @@ use Rattle.objects.proofs.MadeArrays.{IsMade}
 
 -- ---- brackets
 
-all_brackets : (k : ℕ) (d : List ℕ) → brackets d ≡ 0 → brackets (replicate k 91 ++ d) ≡ k
+pub all_brackets : (k : ℕ) (d : List ℕ) → brackets d ≡ 0 → brackets (replicate k 91 ++ d) ≡ k
 all_brackets zero d e = e
 all_brackets (suc k) d e = let r = all_brackets k d e in omega (arith, r)
 
-behind_brackets : (k : ℕ) (d : List ℕ) → drop k (replicate k 91 ++ d) ≡ d
+pub behind_brackets : (k : ℕ) (d : List ℕ) → drop k (replicate k 91 ++ d) ≡ d
 behind_brackets zero d = refl
 behind_brackets (suc k) d = behind_brackets k d
 
 -- ---- known names
 
-known_is : (cs : List ClassFile) (n : List ℕ) → unknown_core cs (Some n) ≡ None → is_known cs n ≡ true
+pub known_is : (cs : List ClassFile) (n : List ℕ) → unknown_core cs (Some n) ≡ None → is_known cs n ≡ true
 known_is cs n e = go (is_known cs n) e
   where
     go : (b : Bool) → (if b then None else Some (UnknownClass n)) ≡ None → b ≡ true

@@ -19,7 +19,7 @@ use Rattle.objects.specs.Layout.{class_row, declared_as, field_type, own_words, 
 use Rattle.objects.proofs.Places.{get_back}
 use Rattle.jmodel.specs.Layout.{library as library_names}
 use Rattle.objects.proofs.ClassRows.{find_back, found_at, found_by_name, is_row}
-use Rattle.objects.proofs.LibraryRows.{IsRow, traps, conflict}
+use Rattle.objects.proofs.LibraryRows.{IsRow, traps, conflict, context}
 use Rattle.objects.proofs.ClassTypes.{new_to_library, none_found, words_step, is_class}
 use Rattle.objects.proofs.FolderRows.{parted, IsArrayOf, behind, Q, no_classes, each_row}
 
@@ -110,10 +110,10 @@ module _ (cs : List ClassFile) (fine : supers_fault cs ≡ None) (new : doubled_
             ∙ ap (slice_get (words_upward cs (super_name c) ++ own_words cs c)) own.index ∙ get_back (words_upward cs (super_name c)) (own_words cs c) own.place ∙ own.word;
       }
 
-  no_row : find (λ (r : Row). bytes_eq r.name conflict_class) (map (class_row cs) cs ++ tail) ≡ None
-  no_row =
-      sym (find_back (is_row conflict_class) library_rows (map (class_row cs) cs ++ tail) refl)
-      ∙ none_found cs fine new tail others texts (fields_of cs) methods up named conflict_class refl refl (ap (holds_of (λ d. not (is_interface d))) no_conflict)
+  no_row : (n : List ℕ) → is_class_name n ≡ true → is_library n ≡ false → class_named cs n ≡ None → find (λ (r : Row). bytes_eq r.name n) library_rows ≡ None → find (λ (r : Row). bytes_eq r.name n) (map (class_row cs) cs ++ tail) ≡ None
+  no_row n class apart none absent =
+      sym (find_back (is_row n) library_rows (map (class_row cs) cs ++ tail) absent)
+      ∙ none_found cs fine new tail others texts (fields_of cs) methods up named n class apart (ap (holds_of (λ d. not (is_interface d))) none)
 
   -- The types of a folder's program keep the rules.
   pub types_are : AreTypes R
@@ -123,5 +123,6 @@ module _ (cs : List ClassFile) (fine : supers_fault cs ≡ None) (new : doubled_
     within = λ t r n e. (rules t r e).within n;
     fields = declared;
     traps = traps (map (class_row cs) cs ++ tail) texts (fields_of cs) methods;
-    conflict = conflict (map (class_row cs) cs ++ tail) texts (fields_of cs) methods no_row;
+    conflict = conflict (map (class_row cs) cs ++ tail) texts (fields_of cs) methods (no_row conflict_class refl refl no_conflict refl);
+    context = context (map (class_row cs) cs ++ tail) texts (fields_of cs) methods (no_row context_class refl refl no_context refl);
   }

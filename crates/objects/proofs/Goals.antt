@@ -27,6 +27,7 @@ use Rattle.objects.proofs.Inner.{IsAdded, IsInnerOp}
 use Rattle.objects.proofs.Above.{AboveCall, InsideCall, IsInnerAsked}
 use Rattle.objects.proofs.Lost.{IsSet}
 use Rattle.objects.proofs.Replies.{Leads}
+use Rattle.objects.proofs.Makes.{IsSynced}
 use Rattle.objects.proofs.Alike.{IsGivenAs}
 use Rattle.objects.proofs.TypedFrames.{AreTyped}
 use Rattle.objects.proofs.Tied.{Run as Tie}
@@ -83,9 +84,9 @@ module _ (P : Program) (Ts : List Table) (S : IsTypedProgram P Ts) (Q : Program)
       pub more : (n : ℕ) (d : Run) → Goal (suc n) d → Goal n d
       pub leads : (j n : ℕ) (d e : Run) → Leads Q B (suc j) d e → Goal n e → Goal (suc n) d
       pub steps : (n : ℕ) (w r : Log) (d e : Run) → IsOnWay w r d → SoFar w → Agrees ws r → ((v : Reply) → next_run Q B v d ≡ e) → Goal n e → Goal (suc n) d
-      pub looks : (n : ℕ) (wl : List Slot) (gs : Frames) (M : Meter) (w r : Log) (d e : Run) → IsOnWay w r d → IsSet gives c slots wl → AboveCall Q first_added mn q wl gs → SoFar w → Agrees ws r
+      pub looks : (n : ℕ) (wl : List Slot) (gs : Frames) (M : Meter) (w r : Log) (d e : Run) → IsOnWay w r d → IsSynced P Q B mn args σ d → IsSet gives c slots wl → AboveCall Q first_added mn q wl gs → SoFar w → Agrees ws r
           → next_run Q B Refuses d ≡ unwound (unwinds Q 1 0 gs) M w r → ((x : ℕ) → next_run Q B (Gives x) d ≡ e) → Goal n e → Goal (suc n) d
-      pub reads : (n : ℕ) (wl : List Slot) (gs : Frames) (M : Meter) (w r : Log) (d : Run) (a : ℕ) (next : ℕ → Log → Run) → IsOnWay w r d → IsSet gives c slots wl → AboveCall Q first_added mn q wl gs → SoFar w → Agrees ws r
+      pub reads : (n : ℕ) (wl : List Slot) (gs : Frames) (M : Meter) (w r : Log) (d : Run) (a : ℕ) (next : ℕ → Log → Run) → IsOnWay w r d → IsSynced P Q B mn args σ d → IsSet gives c slots wl → AboveCall Q first_added mn q wl gs → SoFar w → Agrees ws r
           → next_run Q B Refuses d ≡ unwound (unwinds Q 1 0 gs) M w r → ((x : ℕ) → next_run Q B (Gives x) d ≡ next (answered w a x) (recorded (written w a) a x r))
           → ((y : ℕ) (s : Log) → IsAstray ws s → Astray n (next y s)) → ((s : Log) → Agrees ws s → Goal n (next (overlaid w ws a) s)) → Goal (suc n) d
       pub stray_on : (n : ℕ) (wl : List Slot) (gs : Frames) (M : Meter) (w s : Log) → IsSet gives c slots wl → InsideCall Q first_added mn q wl gs → IsAstray ws s → Astray n (On Open gs M w s)

@@ -65,7 +65,7 @@ module _ (Q : Program) (first : ℕ) where
   abbrev pub IsInnerOp : Op → Type 0
   IsInnerOp (op.InvokeStatic m) = IsAdded m
   IsInnerOp (op.InvokeSpecial m) = IsAdded m
-  IsInnerOp (op.InvokeVirtual m) = SelectsAdded m
+  IsInnerOp (op.InvokeVirtual m n) = SelectsAdded m
   IsInnerOp (op.InvokeInterface m c) = SelectsAdded m
   IsInnerOp (op.Context c) = IsInnerCall c
   IsInnerOp o = Unit {0}
@@ -264,11 +264,11 @@ module _ (Q : Program) (first : ℕ) where
     does_inner (op.Switch other cases) a g e = int g.stack _ (λ x s. (e, tt))
     does_inner (op.GetStatic n) a g e = static (field_at Q n) (λ x p. Does (Ask (request.Get p)) g) (λ x p. (e, tt))
     does_inner (op.PutStatic n) a g e = static (field_at Q n) _ (λ x p. a_word x.declared.word g.stack (λ v s. Does (Ask (request.Put p v)) (with_stack g s)) (λ v s. (e, tt)))
-    does_inner (op.GetField n) a g e = field (field_at Q n) _ (λ x. ref g.stack _ (λ o s. some o (with_stack g s) _ e (e, tt)))
-    does_inner (op.PutField n) a g e = field (field_at Q n) _ (λ x. a_word x.declared.word g.stack _ (λ v s. ref s (λ o s. not_null o (with_stack g s) (Does (Ask (request.Put (inner o x) v)) (with_stack g s))) (λ o s. some o (with_stack g s) (Does (Ask (request.Put (inner o x) v)) (with_stack g s)) e (e, tt))))
+    does_inner (op.GetField n c) a g e = field (field_at Q n) _ (λ x. ref g.stack _ (λ o s. some o (with_stack g s) _ e (e, tt)))
+    does_inner (op.PutField n c) a g e = field (field_at Q n) _ (λ x. a_word x.declared.word g.stack _ (λ v s. ref s (λ o s. not_null o (with_stack g s) (Does (Ask (request.Put (inner o x) v)) (with_stack g s))) (λ o s. some o (with_stack g s) (Does (Ask (request.Put (inner o x) v)) (with_stack g s)) e (e, tt))))
     does_inner (op.InvokeStatic c) a g e = method (method_at Q c) _ (λ k. ran (has_code (Some k)) c g e a)
     does_inner (op.InvokeSpecial c) a g e = over c g _ e (λ k o. ran (has_code (Some k)) c g e a)
-    does_inner (op.InvokeVirtual c) a g e = over c g _ e (λ k o. (e, a))
+    does_inner (op.InvokeVirtual c n) a g e = over c g _ e (λ k o. (e, a))
     does_inner (op.InvokeInterface c n) a g e = over c g _ e (λ k o. (e, a))
     does_inner (op.InitLibrary c n) a g e = dropped n g.stack _ (λ s. ref s _ (λ o s. (e, tt)))
     does_inner (op.New t) a g e = (e, tt)

@@ -8,7 +8,7 @@ use Rattle.objects.specs.declared.op.Trap.{Trap}
 use Rattle.objects.specs.declared.op.Trap.TheVariants.{Arithmetic, NullPointer, ArrayIndex, ArrayStore, NegativeArraySize, ClassCast, AbstractMethod, IncompatibleClassChange}
 use Rattle.objects.specs.Program.{Row, Field, Method, Program, row_at, is_instance}
 use Rattle.objects.specs.LibraryClasses.{under, object, throwable, exception, error, runtime_exception, index_out_of_bounds, linkage_error, class_change_error, library_rows}
-use Rattle.objects.specs.TypeOrder.{conflict_class, conflict_classes, from_class, classes_from, is_within, IsWithin, name_read}
+use Rattle.objects.specs.TypeOrder.{context_class, conflict_class, conflict_classes, from_class, classes_from, is_within, IsWithin, name_read}
 use Rattle.objects.specs.Source.{IsRowOf, IsTrapClass}
 
 -- ---- lists of names
@@ -75,45 +75,45 @@ module _ (more : List Row) (texts : List ℕ) (fields : List Field) (methods : L
 
   pub library : AreRows whole 1 library_rows
   library = (
-    class_row whole 1 (object) [] refl (inr (record { named = refl; read = refl; found = refl; placed = inl refl })) (refl, tt) (λ n. refl) refl,
+    class_row whole 1 (object) [] refl (inr (record { named = refl; read = refl; found = refl; placed = inl (refl, refl) })) (refl, tt) (λ n. refl) refl,
     (
-      class_row whole 2 (under object (codes "String")) [] refl (inr (record { named = refl; read = refl; found = refl; placed = inr (record { number = 1; upper = object; upper_words = []; own = []; is = refl; lineage = refl; holds = refl; words_are = refl }) })) (refl, (refl, tt)) (λ n. refl) refl,
+      class_row whole 2 (under object (codes "String")) [] refl (inr (record { named = refl; read = refl; found = refl; placed = inr (record { number = 1; upper = object; upper_words = []; own = []; is = refl; class = λ e. cc; lineage = refl; holds = refl; words_are = refl }) })) (refl, (refl, tt)) (λ n. refl) refl,
       (
-        class_row whole 3 (under object (codes "Math")) [] refl (inr (record { named = refl; read = refl; found = refl; placed = inr (record { number = 1; upper = object; upper_words = []; own = []; is = refl; lineage = refl; holds = refl; words_are = refl }) })) (refl, (refl, tt)) (λ n. refl) refl,
+        class_row whole 3 (under object (codes "Math")) [] refl (inr (record { named = refl; read = refl; found = refl; placed = inr (record { number = 1; upper = object; upper_words = []; own = []; is = refl; class = λ e. cc; lineage = refl; holds = refl; words_are = refl }) })) (refl, (refl, tt)) (λ n. refl) refl,
         (
-          class_row whole 4 (throwable) [] refl (inr (record { named = refl; read = refl; found = refl; placed = inr (record { number = 1; upper = object; upper_words = []; own = []; is = refl; lineage = refl; holds = refl; words_are = refl }) })) (refl, (refl, tt)) (λ n. refl) refl,
+          class_row whole 4 (throwable) [] refl (inr (record { named = refl; read = refl; found = refl; placed = inr (record { number = 1; upper = object; upper_words = []; own = []; is = refl; class = λ e. cc; lineage = refl; holds = refl; words_are = refl }) })) (refl, (refl, tt)) (λ n. refl) refl,
           (
-            class_row whole 5 (exception) [] refl (inr (record { named = refl; read = refl; found = refl; placed = inr (record { number = 4; upper = throwable; upper_words = []; own = []; is = refl; lineage = refl; holds = refl; words_are = refl }) })) (refl, (refl, (refl, tt))) (λ n. refl) refl,
+            class_row whole 5 (exception) [] refl (inr (record { named = refl; read = refl; found = refl; placed = inr (record { number = 4; upper = throwable; upper_words = []; own = []; is = refl; class = λ e. cc; lineage = refl; holds = refl; words_are = refl }) })) (refl, (refl, (refl, tt))) (λ n. refl) refl,
             (
-              class_row whole 6 (error) [] refl (inr (record { named = refl; read = refl; found = refl; placed = inr (record { number = 4; upper = throwable; upper_words = []; own = []; is = refl; lineage = refl; holds = refl; words_are = refl }) })) (refl, (refl, (refl, tt))) (λ n. refl) refl,
+              class_row whole 6 (error) [] refl (inr (record { named = refl; read = refl; found = refl; placed = inr (record { number = 4; upper = throwable; upper_words = []; own = []; is = refl; class = λ e. cc; lineage = refl; holds = refl; words_are = refl }) })) (refl, (refl, (refl, tt))) (λ n. refl) refl,
               (
-                class_row whole 7 (runtime_exception) [] refl (inr (record { named = refl; read = refl; found = refl; placed = inr (record { number = 5; upper = exception; upper_words = []; own = []; is = refl; lineage = refl; holds = refl; words_are = refl }) })) (refl, (refl, (refl, (refl, tt)))) (λ n. refl) refl,
+                class_row whole 7 (runtime_exception) [] refl (inr (record { named = refl; read = refl; found = refl; placed = inr (record { number = 5; upper = exception; upper_words = []; own = []; is = refl; class = λ e. cc; lineage = refl; holds = refl; words_are = refl }) })) (refl, (refl, (refl, (refl, tt)))) (λ n. refl) refl,
                 (
-                  class_row whole 8 (under runtime_exception (codes "ArithmeticException")) [] refl (inr (record { named = refl; read = refl; found = refl; placed = inr (record { number = 7; upper = runtime_exception; upper_words = []; own = []; is = refl; lineage = refl; holds = refl; words_are = refl }) })) (refl, (refl, (refl, (refl, (refl, tt))))) (λ n. refl) refl,
+                  class_row whole 8 (under runtime_exception (codes "ArithmeticException")) [] refl (inr (record { named = refl; read = refl; found = refl; placed = inr (record { number = 7; upper = runtime_exception; upper_words = []; own = []; is = refl; class = λ e. cc; lineage = refl; holds = refl; words_are = refl }) })) (refl, (refl, (refl, (refl, (refl, tt))))) (λ n. refl) refl,
                   (
-                    class_row whole 9 (under runtime_exception (codes "ArrayStoreException")) [] refl (inr (record { named = refl; read = refl; found = refl; placed = inr (record { number = 7; upper = runtime_exception; upper_words = []; own = []; is = refl; lineage = refl; holds = refl; words_are = refl }) })) (refl, (refl, (refl, (refl, (refl, tt))))) (λ n. refl) refl,
+                    class_row whole 9 (under runtime_exception (codes "ArrayStoreException")) [] refl (inr (record { named = refl; read = refl; found = refl; placed = inr (record { number = 7; upper = runtime_exception; upper_words = []; own = []; is = refl; class = λ e. cc; lineage = refl; holds = refl; words_are = refl }) })) (refl, (refl, (refl, (refl, (refl, tt))))) (λ n. refl) refl,
                     (
-                      class_row whole 10 (under runtime_exception (codes "ClassCastException")) [] refl (inr (record { named = refl; read = refl; found = refl; placed = inr (record { number = 7; upper = runtime_exception; upper_words = []; own = []; is = refl; lineage = refl; holds = refl; words_are = refl }) })) (refl, (refl, (refl, (refl, (refl, tt))))) (λ n. refl) refl,
+                      class_row whole 10 (under runtime_exception (codes "ClassCastException")) [] refl (inr (record { named = refl; read = refl; found = refl; placed = inr (record { number = 7; upper = runtime_exception; upper_words = []; own = []; is = refl; class = λ e. cc; lineage = refl; holds = refl; words_are = refl }) })) (refl, (refl, (refl, (refl, (refl, tt))))) (λ n. refl) refl,
                       (
-                        class_row whole 11 (under runtime_exception (codes "IllegalArgumentException")) [] refl (inr (record { named = refl; read = refl; found = refl; placed = inr (record { number = 7; upper = runtime_exception; upper_words = []; own = []; is = refl; lineage = refl; holds = refl; words_are = refl }) })) (refl, (refl, (refl, (refl, (refl, tt))))) (λ n. refl) refl,
+                        class_row whole 11 (under runtime_exception (codes "IllegalArgumentException")) [] refl (inr (record { named = refl; read = refl; found = refl; placed = inr (record { number = 7; upper = runtime_exception; upper_words = []; own = []; is = refl; class = λ e. cc; lineage = refl; holds = refl; words_are = refl }) })) (refl, (refl, (refl, (refl, (refl, tt))))) (λ n. refl) refl,
                         (
-                          class_row whole 12 (under runtime_exception (codes "IllegalStateException")) [] refl (inr (record { named = refl; read = refl; found = refl; placed = inr (record { number = 7; upper = runtime_exception; upper_words = []; own = []; is = refl; lineage = refl; holds = refl; words_are = refl }) })) (refl, (refl, (refl, (refl, (refl, tt))))) (λ n. refl) refl,
+                          class_row whole 12 (under runtime_exception (codes "IllegalStateException")) [] refl (inr (record { named = refl; read = refl; found = refl; placed = inr (record { number = 7; upper = runtime_exception; upper_words = []; own = []; is = refl; class = λ e. cc; lineage = refl; holds = refl; words_are = refl }) })) (refl, (refl, (refl, (refl, (refl, tt))))) (λ n. refl) refl,
                           (
-                            class_row whole 13 (index_out_of_bounds) [] refl (inr (record { named = refl; read = refl; found = refl; placed = inr (record { number = 7; upper = runtime_exception; upper_words = []; own = []; is = refl; lineage = refl; holds = refl; words_are = refl }) })) (refl, (refl, (refl, (refl, (refl, tt))))) (λ n. refl) refl,
+                            class_row whole 13 (index_out_of_bounds) [] refl (inr (record { named = refl; read = refl; found = refl; placed = inr (record { number = 7; upper = runtime_exception; upper_words = []; own = []; is = refl; class = λ e. cc; lineage = refl; holds = refl; words_are = refl }) })) (refl, (refl, (refl, (refl, (refl, tt))))) (λ n. refl) refl,
                             (
-                              class_row whole 14 (under runtime_exception (codes "NegativeArraySizeException")) [] refl (inr (record { named = refl; read = refl; found = refl; placed = inr (record { number = 7; upper = runtime_exception; upper_words = []; own = []; is = refl; lineage = refl; holds = refl; words_are = refl }) })) (refl, (refl, (refl, (refl, (refl, tt))))) (λ n. refl) refl,
+                              class_row whole 14 (under runtime_exception (codes "NegativeArraySizeException")) [] refl (inr (record { named = refl; read = refl; found = refl; placed = inr (record { number = 7; upper = runtime_exception; upper_words = []; own = []; is = refl; class = λ e. cc; lineage = refl; holds = refl; words_are = refl }) })) (refl, (refl, (refl, (refl, (refl, tt))))) (λ n. refl) refl,
                               (
-                                class_row whole 15 (under runtime_exception (codes "NullPointerException")) [] refl (inr (record { named = refl; read = refl; found = refl; placed = inr (record { number = 7; upper = runtime_exception; upper_words = []; own = []; is = refl; lineage = refl; holds = refl; words_are = refl }) })) (refl, (refl, (refl, (refl, (refl, tt))))) (λ n. refl) refl,
+                                class_row whole 15 (under runtime_exception (codes "NullPointerException")) [] refl (inr (record { named = refl; read = refl; found = refl; placed = inr (record { number = 7; upper = runtime_exception; upper_words = []; own = []; is = refl; class = λ e. cc; lineage = refl; holds = refl; words_are = refl }) })) (refl, (refl, (refl, (refl, (refl, tt))))) (λ n. refl) refl,
                                 (
-                                  class_row whole 16 (under runtime_exception (codes "UnsupportedOperationException")) [] refl (inr (record { named = refl; read = refl; found = refl; placed = inr (record { number = 7; upper = runtime_exception; upper_words = []; own = []; is = refl; lineage = refl; holds = refl; words_are = refl }) })) (refl, (refl, (refl, (refl, (refl, tt))))) (λ n. refl) refl,
+                                  class_row whole 16 (under runtime_exception (codes "UnsupportedOperationException")) [] refl (inr (record { named = refl; read = refl; found = refl; placed = inr (record { number = 7; upper = runtime_exception; upper_words = []; own = []; is = refl; class = λ e. cc; lineage = refl; holds = refl; words_are = refl }) })) (refl, (refl, (refl, (refl, (refl, tt))))) (λ n. refl) refl,
                                   (
-                                    class_row whole 17 (under index_out_of_bounds (codes "ArrayIndexOutOfBoundsException")) [] refl (inr (record { named = refl; read = refl; found = refl; placed = inr (record { number = 13; upper = index_out_of_bounds; upper_words = []; own = []; is = refl; lineage = refl; holds = refl; words_are = refl }) })) (refl, (refl, (refl, (refl, (refl, (refl, tt)))))) (λ n. refl) refl,
+                                    class_row whole 17 (under index_out_of_bounds (codes "ArrayIndexOutOfBoundsException")) [] refl (inr (record { named = refl; read = refl; found = refl; placed = inr (record { number = 13; upper = index_out_of_bounds; upper_words = []; own = []; is = refl; class = λ e. cc; lineage = refl; holds = refl; words_are = refl }) })) (refl, (refl, (refl, (refl, (refl, (refl, tt)))))) (λ n. refl) refl,
                                     (
-                                      class_row whole 18 (linkage_error) [] refl (inr (record { named = refl; read = refl; found = refl; placed = inr (record { number = 6; upper = error; upper_words = []; own = []; is = refl; lineage = refl; holds = refl; words_are = refl }) })) (refl, (refl, (refl, (refl, tt)))) (λ n. refl) refl,
+                                      class_row whole 18 (linkage_error) [] refl (inr (record { named = refl; read = refl; found = refl; placed = inr (record { number = 6; upper = error; upper_words = []; own = []; is = refl; class = λ e. cc; lineage = refl; holds = refl; words_are = refl }) })) (refl, (refl, (refl, (refl, tt)))) (λ n. refl) refl,
                                       (
-                                        class_row whole 19 (class_change_error) [] refl (inr (record { named = refl; read = refl; found = refl; placed = inr (record { number = 18; upper = linkage_error; upper_words = []; own = []; is = refl; lineage = refl; holds = refl; words_are = refl }) })) (refl, (refl, (refl, (refl, (refl, tt))))) (λ n. refl) refl,
+                                        class_row whole 19 (class_change_error) [] refl (inr (record { named = refl; read = refl; found = refl; placed = inr (record { number = 18; upper = linkage_error; upper_words = []; own = []; is = refl; class = λ e. cc; lineage = refl; holds = refl; words_are = refl }) })) (refl, (refl, (refl, (refl, (refl, tt))))) (λ n. refl) refl,
                                         (
-                                          class_row whole 20 (under class_change_error (codes "AbstractMethodError")) [] refl (inr (record { named = refl; read = refl; found = refl; placed = inr (record { number = 19; upper = class_change_error; upper_words = []; own = []; is = refl; lineage = refl; holds = refl; words_are = refl }) })) (refl, (refl, (refl, (refl, (refl, (refl, tt)))))) (λ n. refl) refl,
+                                          class_row whole 20 (under class_change_error (codes "AbstractMethodError")) [] refl (inr (record { named = refl; read = refl; found = refl; placed = inr (record { number = 19; upper = class_change_error; upper_words = []; own = []; is = refl; class = λ e. cc; lineage = refl; holds = refl; words_are = refl }) })) (refl, (refl, (refl, (refl, (refl, (refl, tt)))))) (λ n. refl) refl,
                                           tt,
                                         ),
                                       ),
@@ -149,3 +149,7 @@ module _ (more : List Row) (texts : List ℕ) (fields : List Field) (methods : L
   -- where no class has the name of the conflict's
   pub conflict : find (λ (r : Row). bytes_eq r.name conflict_class) more ≡ None → AllByRecursion (λ n. classes_from whole n ≡ from_class n conflict_classes) conflict_classes
   conflict none = (rw none refl, (refl, (refl, (refl, (refl, tt)))))
+
+  -- where no class has that of the context's
+  pub context : find (λ (r : Row). bytes_eq r.name context_class) more ≡ None → classes_from whole context_class ≡ from_class context_class conflict_classes
+  context none = rw none refl

@@ -54,7 +54,7 @@ module _ (P : Program) (Ts : List Table) (S : IsTypedProgram P Ts) (Q : Program)
   abbrev Sound : Run → Type 0
   Sound = IsSound P Q B m args ws σ
 
-  abbrev fine : IsOfEnds Sound
+  abbrev fine : IsOfEnds Q B Sound
   fine = sound_of_ends P Q B m args ws σ
 
   abbrev Hold : ℕ → Run → Type 0
@@ -74,10 +74,10 @@ module _ (P : Program) (Ts : List Table) (S : IsTypedProgram P Ts) (Q : Program)
     Looping = Loops P Ts S Q same first_added code_added ops_inner B m args ws σ wm is k.places id (duplicate P m) retries k.parameters k.result q z W slots many uncounted catch catch_other
 
     loop : (n : ℕ) → Looping n
-    loop zero wl j set M = at_none Q B Sound fine _ (λ a. far P Ts S Q R B m k original static T t args fit ws σ represents own wm is id retries q z W first_added ops_inner uncounted catch catch_other SoundGoal SoundGoal is_goal main (sound_ends P Ts S Q same R.types first_added code_added ops_inner B m args ws σ wm is k.places id (duplicate P m) retries k.parameters k.result q z W slots many uncounted catch catch_other represents own))
+    loop zero wl j set M = at_none Q B Sound fine _ (λ a. (far P Ts S Q R B m k original static T t args fit ws σ represents own wm is id retries q z W first_added ops_inner uncounted catch catch_other SoundGoal SoundGoal is_goal main (sound_ends P Ts S Q same R.types first_added code_added ops_inner B m args ws σ wm is k.places id (duplicate P m) retries k.parameters k.result q z W slots many uncounted catch catch_other represents own), λ t len made gs row asks is room. cc))
     loop (suc n) wl j set M =
         on_more Q B Sound fine 2 n _ _ (loop_first Q B m wm is k.places id (duplicate P m) retries k.parameters q z k.result W wl set.here (set_back B M) [] [] j)
-        (on_reply Q B Sound fine n _ (λ a. start) (λ v. subst (Hold n) (sym (loop_begins Q B m wm is k.places id (duplicate P m) retries k.parameters q z k.result W wl set.here (set_back B M) [] [] j v)) (by (nat_lt M.tried (min (count_of retries) B.attempts)) (loop n))))
+        (on_reply Q B Sound fine n _ (λ a. (start, λ t len made gs row asks is room. cc)) (λ v. subst (Hold n) (sym (loop_begins Q B m wm is k.places id (duplicate P m) retries k.parameters q z k.result W wl set.here (set_back B M) [] [] j v)) (by (nat_lt M.tried (min (count_of retries) B.attempts)) (loop n))))
       where
         start : Matched P B m args [] ws σ
         start = far P Ts S Q R B m k original static T t args fit ws σ represents own wm is id retries q z W first_added ops_inner uncounted catch catch_other SoundGoal SoundGoal is_goal main (sound_ends P Ts S Q same R.types first_added code_added ops_inner B m args ws σ wm is k.places id (duplicate P m) retries k.parameters k.result q z W slots many uncounted catch catch_other represents own)

@@ -65,7 +65,7 @@ reads_of (Asking a fs m w r) = r
 reads_of (Ended x m w r) = r
 reads_of (Stuck r) = r
 
-module _ (Q : Program) (B : Bounds) (F : Run → Type 0) (fine : IsOfEnds F) (IsLost : Log → Type 0) (grows : (l : Access) (r : Log) → IsLost r → IsLost (l ∷ r)) (vacuous : (c : Run) → IsLost (reads_of c) → F c) where
+module _ (Q : Program) (B : Bounds) (F : Run → Type 0) (fine : IsOfEnds Q B F) (IsLost : Log → Type 0) (grows : (l : Access) (r : Log) → IsLost r → IsLost (l ∷ r)) (vacuous : (c : Run) → IsLost (reads_of c) → F c) where
   abbrev Hold : ℕ → Run → Type 0
   Hold = Holds Q B F
 

@@ -60,6 +60,7 @@ use Rattle.objects.proofs.Caught.{row_moved, instance_moved}
 use Rattle.objects.proofs.Above.{AboveCall, inner as added_frame, InsideCall, above_inside, told_inner}
 use Rattle.objects.proofs.Tied.{Tied, Callers, Thrown, typed_code, there_of}
 use Rattle.objects.proofs.Tied as tied
+use Rattle.objects.proofs.Makes.{run_asks, IsSynced, on, casts_on, goes_synced, heads_synced, requests_synced}
 use Rattle.objects.proofs.Goals.{Here, StandsFor, IsGoal, Continues, reaches_next, Reaches, SoFar}
 use Rattle.objects.proofs.Simple.{onward, Stage, stage_so_far, at_make, throws_on, next_tie}
 use Rattle.objects.proofs.Heap.{held_at, put_keeps}
@@ -70,7 +71,7 @@ use Rattle.objects.proofs.TypedFrames.{AreTyped, frames_kept, AsksFine, GetsFine
 use Rattle.objects.proofs.Safety.{step_fine}
 use Rattle.objects.proofs.Standing.{header_back, place_near}
 use Rattle.objects.proofs.Steps.{value_is, gets, cast_holds, puts, put_stands}
-use Rattle.objects.proofs.Rows.{known_field, known_static, far, cast_cases, static_end, field_end, returns, passes, cast_null, cast_asks, cast_returns, static_first, static_look, static_second, static_read, static_put, static_write, static_last, field_first, field_null, field_look, field_second, field_read, field_put, put_null, field_write, field_last, element_end, element_first, element_null, element_look, element_second, element_read, element_put, element_put_null, element_write, element_last}
+use Rattle.objects.proofs.Rows.{known_field, known_static, far, cast_cases, static_end, field_end, returns, passes, cast_null, cast_asks, cast_returns, static_first, static_look, static_second, static_read, static_put, static_write, static_last, field_first, field_null, field_look, field_second, field_read, field_put, put_null, field_write, field_last, element_end, element_first, element_null, element_look, element_look_asks, element_second, element_read, element_put, element_put_null, element_write, element_write_asks, element_last}
 
 -- a value on top of a stack
 pub record Popped (t : Sort) (s : List Slot) : Type 0 where
@@ -136,15 +137,15 @@ module _ (P : Program) (Ts : List Table) (S : IsTypedProgram P Ts) (Q : Program)
   -- an attempt asks the engine while the original stands before the instruction
   module _ (n : ℕ) (X : Direct) (τ : State) (M : Meter) (w r : Log) (reach : Reaches P Ts S Q B mn args ws σ X) (stands : StandsFor P Ts S Q B mn args ws σ τ M.used w) (so_far : SoFar P Ts S Q B mn args ws σ w) (wl : List Slot) (set : IsSet gives_type c slots wl) where
     pub looks_at : (agrees : Agrees ws r) (hs gs : Frames) → IsAbove wl hs → ((v : Reply) → next_run Q B v (On Open gs M w r) ≡ on_look v Q hs M w r) → Goal n (On Open (advanced hs) M w r) → Goal (suc n) (On Open gs M w r)
-    looks_at agrees hs gs inside step go = goal.looks n wl hs M w r (On Open gs M w r) (On Open (advanced hs) M w r) (refl, refl) set inside so_far agrees (step Refuses) (λ x. step (Gives x)) go
+    looks_at agrees hs gs inside step go = goal.looks n wl hs M w r (On Open gs M w r) (On Open (advanced hs) M w r) (refl, refl) (goes_synced P Q B mn args σ (On Open gs M w r) (let f = step (Gives 0) in rw f (on Open _ M _ _ refl))) set inside so_far agrees (step Refuses) (λ x. step (Gives x)) go
 
     pub writes_at : (agrees : Agrees ws r) (p : Place) (y : ℕ) (hs gs : Frames) → IsAbove wl hs → ((v : Reply) → next_run Q B v (On Open gs M w r) ≡ on_write v Q p y hs M w r) → Goal n (On Open (advanced hs) M (access (address p) y ∷ w) r) → Goal (suc n) (On Open gs M w r)
-    writes_at agrees p y hs gs inside step go = goal.looks n wl hs M w r (On Open gs M w r) (On Open (advanced hs) M (access (address p) y ∷ w) r) (refl, refl) set inside so_far agrees (step Refuses) (λ x. step (Gives x)) go
+    writes_at agrees p y hs gs inside step go = goal.looks n wl hs M w r (On Open gs M w r) (On Open (advanced hs) M (access (address p) y ∷ w) r) (refl, refl) (goes_synced P Q B mn args σ (On Open gs M w r) (let f = step (Gives 0) in rw f (on Open _ M _ _ refl))) set inside so_far agrees (step Refuses) (λ x. step (Gives x)) go
 
     pub reads_at : (agrees : Agrees ws r) (p : Place) (t : WordType) (f : Frame) (hs gs : Frames) → Inside wl (f ∷ hs) → ((v : Reply) → next_run Q B v (On Open gs M w r) ≡ on_read v Q p t (f ∷ hs) M w r)
         → ((l : Log) → Agrees ws l → Goal n (On Open (resumed (pushed (value_of t (overlaid w ws (address p))) []) (f ∷ hs)) M w l)) → Goal (suc n) (On Open gs M w r)
     reads_at agrees p t f hs gs inside step go =
-        goal.reads n wl (f ∷ hs) M w r (On Open gs M w r) (address p) (λ y l. On Open (resumed (pushed (value_of t y) []) (f ∷ hs)) M w l) (refl, refl) set (above_inside Q first_added mn q wl (f ∷ hs) inside) so_far agrees (step Refuses) (λ x. step (Gives x))
+        goal.reads n wl (f ∷ hs) M w r (On Open gs M w r) (address p) (λ y l. On Open (resumed (pushed (value_of t y) []) (f ∷ hs)) M w l) (refl, refl) (goes_synced P Q B mn args σ (On Open gs M w r) (let f = step (Gives 0) in rw f (on Open _ M _ _ refl))) set (above_inside Q first_added mn q wl (f ∷ hs) inside) so_far agrees (step Refuses) (λ x. step (Gives x))
         (λ y l gone. goal.stray_on n wl (resumed (pushed (value_of t y) []) (f ∷ hs)) M w l set inside gone) go
 
   module _ (low : first_added ≤ length P.methods) (n : ℕ) (m pc dn : ℕ) (k : Method) (T : Table) (l l' : List Slot) (fs gs : Frames) (t : Tied P Ts S m dn k T) (here : Stands k T pc l l') (callers : Callers P Ts S mn q gives_type c slots k.result fs gs)
@@ -265,7 +266,7 @@ module _ (P : Program) (Ts : List Table) (S : IsTypedProgram P Ts) (Q : Program)
             object_end o2 e =
                 let v : read_value ≡ value.Ref (suc o2) = value_ref ∙ ap value.Ref e in
                 subst (λ (v : Value). Goal (suc n) (On Open (given (pushed v [])) M w j)) (sym v)
-                (goal.reads n over.0 hs M w j (On Open hs M w j) (suc o2) (λ y i. attempt.followed (told Q (Casts F.declared.class) (suc o2) (type_in y) (length_in y) hs) M w i) (refl, refl) over.1 (above_inside Q first_added mn q over.0 hs (inside (Ref (suc o2) ∷ []))) so_far agrees (asks Refuses) (λ x. asks (Gives x))
+                (goal.reads n over.0 hs M w j (On Open hs M w j) (suc o2) (λ y i. attempt.followed (told Q (Casts F.declared.class) (suc o2) (type_in y) (length_in y) hs) M w i) (refl, refl) (goes_synced P Q B mn args σ (On Open hs M w j) (let f = asks (Gives 0) in rw f (casts_on Q F.declared.class (suc o2) hs M w j))) over.1 (above_inside Q first_added mn q over.0 hs (inside (Ref (suc o2) ∷ []))) so_far agrees (asks Refuses) (λ x. asks (Gives x))
                 (λ y i gone. goal.stray_follows n over.0 (told Q (Casts F.declared.class) (suc o2) (type_in y) (length_in y) hs) M w i over.1
                 (told_inner Q first_added ops_inner mn q z uncounted catch catch_other over.0 (Casts F.declared.class) tt (suc o2) (type_in y) (length_in y) hs (inside (Ref (suc o2) ∷ []))) gone)
                 found)
@@ -349,7 +350,7 @@ module _ (P : Program) (Ts : List Table) (S : IsTypedProgram P Ts) (Q : Program)
         null_in step_is =
             let F : MakesFine P Ts S B.region.size τ heap (trap_type NullPointer) 0 Raised (frame m pc l s1 ∷ fs) = fine _ asks in
             at_make P Ts S Q R B mn args ws σ gives_type c q z slots first_added ops_inner uncounted catch catch_other Goal Astray goal n X (On Open (thrower st) M w r) τ M w r
-            (record { reach = hr.reach; has = refl; on_way = (refl, refl); stands = hr.stands; agrees = hr.agrees }) kk (trap_type NullPointer) 0 Raised (frame m pc l s1 ∷ fs) (thrower []) F.row F.is F.few F.goes null_tie (goes_at _ asks)
+            (record { reach = hr.reach; has = refl; on_way = (refl, refl); stands = hr.stands; agrees = hr.agrees }) kk (trap_type NullPointer) 0 Raised (frame m pc l s1 ∷ fs) (thrower []) F.row F.is F.few F.goes null_tie asks step_is refl (goes_at _ asks)
             (λ x. ap (λ (b : Asked). attempt.on_asked Q B b Open x M w r) step_is) over.0 over.1 (above_two g pcg zl [] s2 lowg)
 
       -- ---- what is written
@@ -386,7 +387,7 @@ module _ (P : Program) (Ts : List Table) (S : IsTypedProgram P Ts) (Q : Program)
           let gm = static_getter i f (suc o) in
           let h : slice_get Q.methods (getter P i) ≡ Some gm = R.getters i f there ∙ ap (λ (b : Option ℕ). Some (getter_method i (record f { base = b }))) base in
           let there2 : slice_get Q.fields i ≡ Some f = ap (λ (xs : List Field). slice_get xs i) R.fields ∙ there in
-          let known = known_static f o (each_at IsSourceField P.fields i f S.source.fields there) base in
+          let known = known_static f o (each_at (IsSourceField P) P.fields i f S.source.fields there).based base in
           let is = there_of P Ts S mn q gives_type c slots Q R uncounted m dn k T t in
           let at = has_block P k xs pc (record { op = op.GetStatic i; types = types_at T pc }) (typed_o (op.GetStatic i) e) in
           let lowg : first_added ≤ getter P i = omega (arith, low) in
@@ -405,20 +406,20 @@ module _ (P : Program) (Ts : List Table) (S : IsTypedProgram P Ts) (Q : Program)
           goal.leads 4 n _ _ (static_first Q B dn a _ is l' k.places ctx (getter P i) [] at i f gs M w r s o known h there2 base) (goal.more n _ first)
 
     -- a field of an object that is read
-    module _ (i : ℕ) (e : slice_get k.ops pc ≡ Some (op.GetField i)) (f : Field) (there : slice_get P.fields i ≡ Some f) (base : f.base ≡ None) where
+    module _ (i : ℕ) (cn : List ℕ) (e : slice_get k.ops pc ≡ Some (op.GetField i cn)) (f : Field) (there : slice_get P.fields i ≡ Some f) (base : f.base ≡ None) where
       get_null : (s1 : List Slot) → s ≡ Ref 0 ∷ s1 → Goal (suc n) (On Open (frame dn a l' (Ref 0 ∷ s1) ∷ gs) M w r)
       get_null s1 same =
           let gm = field_getter i f in
           let h : slice_get Q.methods (getter P i) ≡ Some gm = R.getters i f there ∙ ap (λ (b : Option ℕ). Some (getter_method i (record f { base = b }))) base in
           let there2 : slice_get Q.fields i ≡ Some f = ap (λ (xs : List Field). slice_get xs i) R.fields ∙ there in
           let is = there_of P Ts S mn q gives_type c slots Q R uncounted m dn k T t in
-          let at = has_block P k xs pc (record { op = op.GetField i; types = types_at T pc }) (typed_o (op.GetField i) e) in
+          let at = has_block P k xs pc (record { op = op.GetField i cn; types = types_at T pc }) (typed_o (op.GetField i cn) e) in
           let lowg : first_added ≤ getter P i = omega (arith, low) in
           let ctx = here.agree.context in
           let isp = t.is in
           let asks : step P (frame m pc l s ∷ fs) ≡ Asks (asking.Make (trap_type NullPointer) 0 Raised) (frame m pc l s1 ∷ fs) = simp (same, isp, e, there) in
           goal.leads 4 n _ _ (field_first Q B dn a _ is l' k.places ctx (getter P i) [] at i f gs M w r s1 h there2 0)
-          (goal.more n _ (null_in (op.GetField i) e (omega arith) s1 asks (getter P i) 3 gm h refl lowg (Ref 0 ∷ Context ∷ []) _ s1 (field_null Q B dn a _ is l' k.places ctx (getter P i) [] at i f gs M w r s1 h there2)))
+          (goal.more n _ (null_in (op.GetField i cn) e (omega arith) s1 asks (getter P i) 3 gm h refl lowg (Ref 0 ∷ Context ∷ []) _ s1 (field_null Q B dn a _ is l' k.places ctx (getter P i) [] at i f gs M w r s1 h there2)))
 
       get_object : (o : ℕ) (s1 : List Slot) → s ≡ Ref (suc o) ∷ s1 → Goal (suc n) (On Open (frame dn a l' (Ref (suc o) ∷ s1) ∷ gs) M w r)
       get_object o s1 same =
@@ -426,18 +427,18 @@ module _ (P : Program) (Ts : List Table) (S : IsTypedProgram P Ts) (Q : Program)
           let h : slice_get Q.methods (getter P i) ≡ Some gm = R.getters i f there ∙ ap (λ (b : Option ℕ). Some (getter_method i (record f { base = b }))) base in
           let there2 : slice_get Q.fields i ≡ Some f = ap (λ (xs : List Field). slice_get xs i) R.fields ∙ there in
           let is = there_of P Ts S mn q gives_type c slots Q R uncounted m dn k T t in
-          let at = has_block P k xs pc (record { op = op.GetField i; types = types_at T pc }) (typed_o (op.GetField i) e) in
+          let at = has_block P k xs pc (record { op = op.GetField i cn; types = types_at T pc }) (typed_o (op.GetField i cn) e) in
           let lowg : first_added ≤ getter P i = omega (arith, low) in
           let ctx = here.agree.context in
           let isp = t.is in
           let asks : step P (frame m pc l s ∷ fs) ≡ Asks (asking.Ask (request.Get (inner (suc o) f))) (frame m pc l s1 ∷ fs) = simp (same, isp, e, there) in
-          let F : GetsFine P Ts S B.region.size τ heap (inner (suc o) f) (frame m pc l s1 ∷ fs) = fine (op.GetField i) e _ asks in
-          let known = known_field f o (each_at IsSourceField P.fields i f S.source.fields there) (place_near P B.region.size (overlaid w ws) τ hr.stands.represents (inner (suc o) f) F.v F.held) in
-          let d : F.declared ≡ f.declared = read_declared i f F.declared there (at_this (op.GetField i) e s1 (λ o h. IsReadAt P o h F.declared) F.read) in
-          let st = stands_next (op.GetField i) e tt refl in
-          let above = above_two (op.GetField i) e (getter P i) 3 (Ref (suc o) ∷ Context ∷ []) [] s1 lowg in
+          let F : GetsFine P Ts S B.region.size τ heap (inner (suc o) f) (frame m pc l s1 ∷ fs) = fine (op.GetField i cn) e _ asks in
+          let known = known_field f o (each_at (IsSourceField P) P.fields i f S.source.fields there).based (place_near P B.region.size (overlaid w ws) τ hr.stands.represents (inner (suc o) f) F.v F.held) in
+          let d : F.declared ≡ f.declared = read_declared i f F.declared there (at_this (op.GetField i cn) e s1 (λ o h. IsReadAt P o h F.declared) F.read) in
+          let st = stands_next (op.GetField i cn) e tt refl in
+          let above = above_two (op.GetField i cn) e (getter P i) 3 (Ref (suc o) ∷ Context ∷ []) [] s1 lowg in
           let end : HasAt gm.ops 10 (cast_of F.declared (ReturnValue (sort_of F.declared.word) ∷ [])) = subst (λ (d : Declared). HasAt gm.ops 10 (cast_of d (ReturnValue (sort_of d.word) ∷ []))) (sym d) (field_end i f) in
-          let third = getter_reads (op.GetField i) e refl st s1 (inner (suc o) f) asks (getter P i) 9 gm h lowg (Ref (suc o) ∷ Context ∷ []) end _ r hr.agrees
+          let third = getter_reads (op.GetField i cn) e refl st s1 (inner (suc o) f) asks (getter P i) 9 gm h lowg (Ref (suc o) ∷ Context ∷ []) end _ r hr.agrees
           (λ v. field_read Q B dn a _ is l' k.places ctx (getter P i) [] at i f gs M w r s1 h there2 o known v ∙ ap (λ (x : WordType). on_read v Q (inner (suc o) f) x (frame (getter P i) 9 (Ref (suc o) ∷ Context ∷ []) [] ∷ frame dn (a + 1) l' s1 ∷ gs) M w r) (sym (ap (λ (d : Declared). d.word) d))) in
           let second = goal.leads 4 n _ _ (field_second Q B dn a _ is l' k.places ctx (getter P i) [] at i f gs M w r s1 h there2 o known) (goal.more n _ third) in
           let first = looks_at n X τ M w r hr.reach hr.stands so_far over.0 over.1 hr.agrees _ _ above (field_look Q B dn a _ is l' k.places ctx (getter P i) [] at i f gs M w r s1 h there2 o known) (goal.more n _ second) in
@@ -446,7 +447,7 @@ module _ (P : Program) (Ts : List Table) (S : IsTypedProgram P Ts) (Q : Program)
       pub get_field : Goal (suc n) (On Open (frame dn a l' s ∷ gs) M w r)
       get_field =
           let isp = t.is in
-          let f1 = fine (op.GetField i) e _ (step_of isp) in
+          let f1 = fine (op.GetField i cn) e _ (step_of isp) in
           let x = ref_popped P fs IsFineAsk (λ h. h) s _ f1 in
           subst (λ (s : List Slot). Goal (suc n) (On Open (frame dn a l' s ∷ gs) M w r)) (sym x.2) (by x.0 x.1 x.2)
         where
@@ -467,7 +468,7 @@ module _ (P : Program) (Ts : List Table) (S : IsTypedProgram P Ts) (Q : Program)
       put_static_at : (v : Value) (s1 : List Slot) → s ≡ pushed v s1 → value_sort v ≡ sort_of f.declared.word → Goal (suc n) (On Open (frame dn a l' (pushed v s1) ∷ gs) M w r)
       put_static_at v s1 same kind =
           let h : slice_get Q.methods (setter P i) ≡ Some (static_setter f (suc o)) = R.setters i f there ∙ ap (λ (b : Option ℕ). Some (setter_method (record f { base = b }))) base in
-          let known = known_static f o (each_at IsSourceField P.fields i f S.source.fields there) base in
+          let known = known_static f o (each_at (IsSourceField P) P.fields i f S.source.fields there).based base in
           let is = there_of P Ts S mn q gives_type c slots Q R uncounted m dn k T t in
           let at = has_block P k xs pc (record { op = op.PutStatic i; types = types_at T pc }) (typed_o (op.PutStatic i) e) in
           let lowg : first_added ≤ setter P i = omega (arith, low) in
@@ -488,7 +489,7 @@ module _ (P : Program) (Ts : List Table) (S : IsTypedProgram P Ts) (Q : Program)
           step_of isp = simp (isp, e, there, base)
 
     -- a field of an object that is written
-    module _ (i : ℕ) (e : slice_get k.ops pc ≡ Some (op.PutField i)) (f : Field) (there : slice_get P.fields i ≡ Some f) (base : f.base ≡ None) where
+    module _ (i : ℕ) (cn : List ℕ) (e : slice_get k.ops pc ≡ Some (op.PutField i cn)) (f : Field) (there : slice_get P.fields i ≡ Some f) (base : f.base ≡ None) where
       put_null_asks : (v : Value) (s1 : List Slot) → s ≡ pushed v (Ref 0 ∷ s1) → value_sort v ≡ sort_of f.declared.word → slice_get P.methods m ≡ Some k → step P (frame m pc l s ∷ fs) ≡ Asks (asking.Make (trap_type NullPointer) 0 Raised) (frame m pc l s1 ∷ fs)
       put_null_asks (value.Int x) s1 same kind isp = let y = sym kind in simp (same, isp, e, there, y)
       put_null_asks (value.Long x) s1 same kind isp = let y = sym kind in simp (same, isp, e, there, y)
@@ -510,7 +511,7 @@ module _ (P : Program) (Ts : List Table) (S : IsTypedProgram P Ts) (Q : Program)
           is = there_of P Ts S mn q gives_type c slots Q R uncounted m dn k T t
 
           at : HasAt (duplicate_code P k xs).ops a (op.Load sort.Reference k.places ∷ op.InvokeStatic (setter P i) ∷ [])
-          at = has_block P k xs pc (record { op = op.PutField i; types = types_at T pc }) (typed_o (op.PutField i) e)
+          at = has_block P k xs pc (record { op = op.PutField i cn; types = types_at T pc }) (typed_o (op.PutField i cn) e)
 
           lowg : first_added ≤ setter P i
           lowg = omega (arith, low)
@@ -519,18 +520,18 @@ module _ (P : Program) (Ts : List Table) (S : IsTypedProgram P Ts) (Q : Program)
           ctx = here.agree.context
 
           by : (o : ℕ) → s ≡ pushed v (Ref o ∷ s1) → Goal (suc n) (On Open (frame (setter P i) 4 (Ref o ∷ slots_of v ++ Context ∷ []) (Second ∷ Long (far f) ∷ pushed v (Ref o ∷ Context ∷ [])) ∷ frame dn (a + 1) l' s1 ∷ gs) M w r)
-          by zero same = null_in (op.PutField i) e (omega arith) s1 (put_null_asks v s1 same kind t.is) (setter P i) 4 (field_setter f) h refl lowg (Ref 0 ∷ slots_of v ++ Context ∷ []) _ s1 (put_null Q B dn a _ is l' k.places ctx (setter P i) [] at i f gs M w r s1 h v kind (Ref 0 ∷ slots_of v ++ Context ∷ []))
+          by zero same = null_in (op.PutField i cn) e (omega arith) s1 (put_null_asks v s1 same kind t.is) (setter P i) 4 (field_setter f) h refl lowg (Ref 0 ∷ slots_of v ++ Context ∷ []) _ s1 (put_null Q B dn a _ is l' k.places ctx (setter P i) [] at i f gs M w r s1 h v kind (Ref 0 ∷ slots_of v ++ Context ∷ []))
           by (suc o) same =
               let asks = put_object_asks v o s1 same kind t.is in
-              let F : PutsFine P Ts S B.region.size τ heap (inner (suc o) f) (kept_by f.declared.word v) (frame m pc l s1 ∷ fs) = fine (op.PutField i) e _ asks in
-              let known = known_field f o (each_at IsSourceField P.fields i f S.source.fields there) (place_near P B.region.size (overlaid w ws) τ hr.stands.represents (inner (suc o) f) F.old F.held) in
-              let st = stands_next (op.PutField i) e tt refl in
-              setter_writes (op.PutField i) e refl st s1 (inner (suc o) f) (kept_by f.declared.word v) asks (setter P i) 4 lowg (Ref (suc o) ∷ slots_of v ++ Context ∷ []) _
+              let F : PutsFine P Ts S B.region.size τ heap (inner (suc o) f) (kept_by f.declared.word v) (frame m pc l s1 ∷ fs) = fine (op.PutField i cn) e _ asks in
+              let known = known_field f o (each_at (IsSourceField P) P.fields i f S.source.fields there).based (place_near P B.region.size (overlaid w ws) τ hr.stands.represents (inner (suc o) f) F.old F.held) in
+              let st = stands_next (op.PutField i cn) e tt refl in
+              setter_writes (op.PutField i cn) e refl st s1 (inner (suc o) f) (kept_by f.declared.word v) asks (setter P i) 4 lowg (Ref (suc o) ∷ slots_of v ++ Context ∷ []) _
               (field_write Q B dn a _ is l' k.places ctx (setter P i) [] at i f gs M w r s1 h o known v kind (Ref (suc o) ∷ slots_of v ++ Context ∷ []))
               (field_last Q B dn a _ is l' k.places ctx (setter P i) [] at i f gs M (access (address (inner (suc o) f)) (word_of (kept_by f.declared.word v)) ∷ w) r s1 h (Ref (suc o) ∷ slots_of v ++ Context ∷ []))
 
       pub put_field : Goal (suc n) (On Open (frame dn a l' s ∷ gs) M w r)
-      put_field = let start = fine (op.PutField i) e _ (step_of t.is) in first_of (popped P fs IsFineAsk (λ h. h) (sort_of f.declared.word) s _ start) start
+      put_field = let start = fine (op.PutField i cn) e _ (step_of t.is) in first_of (popped P fs IsFineAsk (λ h. h) (sort_of f.declared.word) s _ start) start
         where
           then_puts : Value → List Slot → Did
           then_puts v s1 = on_ref s1 (λ o s2. not_null o (frame m pc l s2) (Does (doing.Ask (request.Put (inner o f) (kept_by f.declared.word v))) (frame m pc l s2)))
@@ -567,10 +568,10 @@ module _ (P : Program) (Ts : List Table) (S : IsTypedProgram P Ts) (Q : Program)
     stood_next y Z f = record { at = Z; reach = reaches_next P Ts S Q B mn args ws σ y.at Z y.reach f; goes = onward P Ts S Q R B mn args ws σ gives_type c q z slots first_added ops_inner uncounted catch catch_other Goal Astray goal n y.at Z f y.goes }
 
     -- the header of an object is read
-    heads_at : (d : Run) (j : Log) → IsOnWay w j d → Agrees ws j → (o : ℕ) (b : Object) → τ.objects o ≡ Some b → (u : Use) → IsInnerUse Q first_added u → (f : Frame) (hs : Frames) → Inside over.0 (f ∷ hs)
+    heads_at : (d : Run) (j : Log) → IsOnWay w j d → IsSynced P Q B mn args σ d → Agrees ws j → (o : ℕ) (b : Object) → τ.objects o ≡ Some b → (u : Use) → IsInnerUse Q first_added u → (f : Frame) (hs : Frames) → Inside over.0 (f ∷ hs)
         → ((v : Reply) → next_run Q B v d ≡ on_head v Q u o (f ∷ hs) M w j) → ((l : Log) → Agrees ws l → Goal n (attempt.followed (told Q u o b.type (length_of b) (f ∷ hs)) M w l)) → Goal (suc n) d
-    heads_at d j on_way agrees o b there u inner_use f hs inside step go =
-        goal.reads n over.0 (f ∷ hs) M w j d o (λ y l. attempt.followed (told Q u o (type_in y) (length_in y) (f ∷ hs)) M w l) on_way over.1 (above_inside Q first_added mn q over.0 (f ∷ hs) inside) so_far agrees (step Refuses) (λ x. step (Gives x))
+    heads_at d j on_way synced agrees o b there u inner_use f hs inside step go =
+        goal.reads n over.0 (f ∷ hs) M w j d o (λ y l. attempt.followed (told Q u o (type_in y) (length_in y) (f ∷ hs)) M w l) on_way synced over.1 (above_inside Q first_added mn q over.0 (f ∷ hs) inside) so_far agrees (step Refuses) (λ x. step (Gives x))
         (λ y l gone. goal.stray_follows n over.0 (told Q u o (type_in y) (length_in y) (f ∷ hs)) M w l over.1 (told_inner Q first_added ops_inner mn q z uncounted catch catch_other over.0 u inner_use o (type_in y) (length_in y) (f ∷ hs) inside) gone)
         (λ l agrees2.
         let x = header_back P B.region.size (overlaid w ws) τ hr.stands.represents o b there in
@@ -601,7 +602,7 @@ module _ (P : Program) (Ts : List Table) (S : IsTypedProgram P Ts) (Q : Program)
         pub traps_at : (y : Stood) (j : Log) → Agrees ws j → (x : Trap) → y.at ≡ call.Asking (asking.Make (trap_type x) 0 Raised) ups1 M.turns τ → MakesFine P Ts S B.region.size τ heap (trap_type x) 0 Raised ups1 → Goal (suc n) (attempt.Asking (asking.Make (trap_type x) 0 Raised) accessor M w j)
         traps_at y j agrees x at F =
             at_make P Ts S Q R B mn args ws σ gives_type c q z slots first_added ops_inner uncounted catch catch_other Goal Astray goal n y.at (attempt.Asking (asking.Make (trap_type x) 0 Raised) accessor M w j) τ M w j
-            (record { reach = y.reach; has = ap state_of at; on_way = (refl, refl); stands = hr.stands; agrees = agrees }) y.goes (trap_type x) 0 Raised ups1 accessor F.row F.is F.few F.goes accessor_tie (ap (next_direct P G) at)
+            (record { reach = y.reach; has = ap state_of at; on_way = (refl, refl); stands = hr.stands; agrees = agrees }) y.goes (trap_type x) 0 Raised ups1 accessor F.row F.is F.few F.goes accessor_tie (ap (run_asks P) at) refl refl (ap (next_direct P G) at)
             (λ v. refl) over.0 over.1 (above_two o e g pcg zl [] s2 lowg)
 
       -- the types before this instruction
@@ -754,7 +755,7 @@ module _ (P : Program) (Ts : List Table) (S : IsTypedProgram P Ts) (Q : Program)
             cast_object1 : (j : Log) → Agrees ws j → (o2 : ℕ) → word1 ≡ suc o2 → Goal (suc n) (On Open (frame dn (a + 1 + 1) l' (pushed value1 s1) ∷ gs) M w j)
             cast_object1 j agrees o2 e0 =
                 subst (λ (v : Value). Goal (suc n) (On Open (frame dn (a + 1 + 1) l' (pushed v s1) ∷ gs) M w j)) (sym v)
-                (goal.reads n over.0 hs M w j (On Open hs M w j) (suc o2) (λ y i. attempt.followed (told Q (Casts c1) (suc o2) (type_in y) (length_in y) hs) M w i) (refl, refl) over.1 (above_inside Q first_added mn q over.0 hs within) so_far agrees (asks Refuses) (λ x. asks (Gives x))
+                (goal.reads n over.0 hs M w j (On Open hs M w j) (suc o2) (λ y i. attempt.followed (told Q (Casts c1) (suc o2) (type_in y) (length_in y) hs) M w i) (refl, refl) (goes_synced P Q B mn args σ (On Open hs M w j) (let f = asks (Gives 0) in rw f (casts_on Q c1 (suc o2) hs M w j))) over.1 (above_inside Q first_added mn q over.0 hs within) so_far agrees (asks Refuses) (λ x. asks (Gives x))
                 (λ y i gone. goal.stray_follows n over.0 (told Q (Casts c1) (suc o2) (type_in y) (length_in y) hs) M w i over.1
                 (told_inner Q first_added ops_inner mn q z uncounted catch catch_other over.0 (Casts c1) tt (suc o2) (type_in y) (length_in y) hs within) gone)
                 found)
@@ -827,13 +828,13 @@ module _ (P : Program) (Ts : List Table) (S : IsTypedProgram P Ts) (Q : Program)
               let ctx = here.agree.context in
               let second = goal.leads 5 n _ _ (element_second Q B dn a _ dup_is l' k.places ctx g1 _ dup_at th gs M w j s1 i loader o) (goal.more n _ (read1 j agrees)) in
               subst (λ (x : Asked). Goal n (attempt.followed x M w j)) (sym toldQ)
-              (goal.more n _ (goal.looks n over.0 looker M w j (attempt.Asking (asking.Ask (request.Look place1)) looker M w j) (On Open (advanced looker) M w j) (refl, refl) over.1 (above_inside Q first_added mn q over.0 looker inside1) so_far agrees refl (λ y. refl) (goal.more n _ second)))
+              (goal.more n _ (goal.looks n over.0 looker M w j (attempt.Asking (asking.Ask (request.Look place1)) looker M w j) (On Open (advanced looker) M w j) (refl, refl) (requests_synced P Q B mn args σ (attempt.Asking (asking.Ask (request.Look place1)) looker M w j) _ _ refl) over.1 (above_inside Q first_added mn q over.0 looker inside1) so_far agrees refl (λ y. refl) (goal.more n _ second)))
 
         load_object : Goal (suc n) (On Open (frame dn a l' (Int i ∷ Ref (suc o) ∷ s1) ∷ gs) M w r)
         load_object =
             let ctx = here.agree.context in
             goal.leads 4 n _ _ (element_first Q B dn a _ dup_is l' k.places ctx g1 _ dup_at th gs M w r s1 i loader (suc o))
-            (goal.more n _ (heads_at _ r (refl, refl) hr.agrees (suc o) array1 F1.there (Indexes i element.Look) tt (frame g1 3 taken1 []) (caller1 ∷ gs) inside1
+            (goal.more n _ (heads_at _ r (refl, refl) (heads_synced P Q B mn args σ (On Open (frame g1 3 (Ref (suc o) ∷ Int i ∷ Context ∷ []) (Int i ∷ Ref (suc o) ∷ Context ∷ []) ∷ frame dn (a + 1) l' s1 ∷ gs) M w r) _ _ _ (element_look_asks Q B dn a _ dup_is l' k.places ctx g1 _ dup_at th gs M w r s1 i loader o)) hr.agrees (suc o) array1 F1.there (Indexes i element.Look) tt (frame g1 3 taken1 []) (caller1 ∷ gs) inside1
             (element_look Q B dn a _ dup_is l' k.places ctx g1 _ dup_at th gs M w r s1 i loader o) (λ j agrees. by (in_bounds i (length_of array1)) refl j agrees)))
           where
             addressed : (b : Bool) → has_address (element_place (suc o) i) ≡ b → in_bounds i (length_of array1) ≡ true → has_address (element_place (suc o) i) ≡ true
@@ -1008,7 +1009,7 @@ module _ (P : Program) (Ts : List Table) (S : IsTypedProgram P Ts) (Q : Program)
                 let landed = lands (op.StoreElement t1) e stood (a + 1 + 1) two st s1 (put τ place2 y) log j (ap (next_direct P G) at ∙ puts P Ts S G ups3 M.turns τ heap w ws hr.stands.represents place2 y F)
                 (frames_kept P Ts S τ (put τ place2 y) (put_keeps τ place2 y F.old (held_at τ place2 F.old F.held)) (advanced ups3) F.goes)
                 (record { represents = put_stands P Ts S G ups3 M.turns τ heap w ws hr.stands.represents place2 y F; own = hr.stands.own; others = hr.stands.others }) agrees in
-                goal.looks n over.0 (writer2 4) M w j (attempt.Asking (asking.Ask (request.Write place2 (word_of y))) (writer2 4) M w j) (On Open (advanced (writer2 4)) M log j) (refl, refl) over.1 (above_inside Q first_added mn q over.0 (writer2 4) (inside2 4)) so_far agrees refl (λ x. refl)
+                goal.looks n over.0 (writer2 4) M w j (attempt.Asking (asking.Ask (request.Write place2 (word_of y))) (writer2 4) M w j) (On Open (advanced (writer2 4)) M log j) (refl, refl) (requests_synced P Q B mn args σ (attempt.Asking (asking.Ask (request.Write place2 (word_of y))) (writer2 4) M w j) _ _ refl) over.1 (above_inside Q first_added mn q over.0 (writer2 4) (inside2 4)) so_far agrees refl (λ x. refl)
                 (goal.more n _ (goal.leads 0 n _ _ (element_last Q B dn a _ dup_is2 l' k.places ctx g2 [] dup_at2 th2 gs M log j s1 i storer local2) landed))
 
             -- a stored object is asked for its own header
@@ -1044,7 +1045,7 @@ module _ (P : Program) (Ts : List Table) (S : IsTypedProgram P Ts) (Q : Program)
                   subst (λ (x : Asked). Goal n (attempt.followed x M w j)) (sym toldQ) (goal.more n _ (write2 (value.Ref (suc q2)) y refl F3 j agrees))
 
               fits2 : (j : Log) → Agrees ws j → Goal (suc n) (attempt.Asking (asking.Head (suc q2) (Fits type2 place2 (element.Write (value.Ref (suc q2))))) (writer2 4) M w j)
-              fits2 j agrees = heads_at _ j (refl, refl) agrees (suc q2) F.object F.there (Fits type2 place2 (element.Write (value.Ref (suc q2)))) tt (frame g2 4 local2 []) (caller2 ∷ gs) (inside2 4) (λ x. refl)
+              fits2 j agrees = heads_at _ j (refl, refl) (heads_synced P Q B mn args σ (attempt.Asking (asking.Head (suc q2) (Fits type2 place2 (element.Write (value.Ref (suc q2))))) (writer2 4) M w j) _ _ _ refl) agrees (suc q2) F.object F.there (Fits type2 place2 (element.Write (value.Ref (suc q2)))) tt (frame g2 4 local2 []) (caller2 ∷ gs) (inside2 4) (λ x. refl)
                   (λ i agrees2. fits_by (is_instance P F.object.type (element_name (row_at P type2))) refl i agrees2)
 
             stored_by : (y : Value) → kept2 ≡ y → (j : Log) → Agrees ws j → Goal n (attempt.followed told3 M w j)
@@ -1068,7 +1069,7 @@ module _ (P : Program) (Ts : List Table) (S : IsTypedProgram P Ts) (Q : Program)
           store_object =
               let ctx = here.agree.context in
               goal.leads 5 n _ _ (element_put Q B dn a _ dup_is2 l' k.places ctx g2 [] dup_at2 th2 gs M w r s1 i storer v kind2 (suc o))
-              (goal.more n _ (heads_at _ r (refl, refl) hr.agrees (suc o) array2 H1.there (Indexes i (element.Write kept2)) tt (frame g2 4 local2 []) (caller2 ∷ gs) (inside2 4)
+              (goal.more n _ (heads_at _ r (refl, refl) (heads_synced P Q B mn args σ (On Open (frame g2 4 (Ref (suc o) ∷ Int i ∷ slots_of v ++ Context ∷ []) (Int i ∷ pushed v (Ref (suc o) ∷ Context ∷ [])) ∷ frame dn (a + 1) l' s1 ∷ gs) M w r) _ _ _ (element_write_asks Q B dn a _ dup_is2 l' k.places ctx g2 [] dup_at2 th2 gs M w r s1 i storer o v kind2 local2)) hr.agrees (suc o) array2 H1.there (Indexes i (element.Write kept2)) tt (frame g2 4 local2 []) (caller2 ∷ gs) (inside2 4)
               (λ x. element_write Q B dn a _ dup_is2 l' k.places ctx g2 [] dup_at2 th2 gs M w r s1 i storer o v kind2 local2 x) (λ j agrees. by (in_bounds i (length_of array2)) refl j agrees)))
             where
               addressed : (b : Bool) → has_address (element_place (suc o) i) ≡ b → in_bounds i (length_of array2) ≡ true → has_address (element_place (suc o) i) ≡ true
@@ -1116,8 +1117,8 @@ module _ (P : Program) (Ts : List Table) (S : IsTypedProgram P Ts) (Q : Program)
     abbrev pub IsMemory : Op → Type 0
     IsMemory (op.GetStatic i) = Unit {0}
     IsMemory (op.PutStatic i) = Unit {0}
-    IsMemory (op.GetField i) = Unit {0}
-    IsMemory (op.PutField i) = Unit {0}
+    IsMemory (op.GetField i cn) = Unit {0}
+    IsMemory (op.PutField i cn) = Unit {0}
     IsMemory (op.LoadElement t) = Unit {0}
     IsMemory (op.StoreElement t) = Unit {0}
     IsMemory o = ⊥
@@ -1125,7 +1126,7 @@ module _ (P : Program) (Ts : List Table) (S : IsTypedProgram P Ts) (Q : Program)
     -- a static field's object isn't null
     based : (i : ℕ) (f : Field) (o : ℕ) → slice_get P.fields i ≡ Some f → f.base ≡ Some o → (x : ℕ) × (f.base ≡ Some (suc x))
     based i f o there base =
-        let h : IsBase f o = subst (IsBased f) base (each_at IsSourceField P.fields i f S.source.fields there) in
+        let h : IsBase f o = subst (IsBased f) base (each_at (IsSourceField P) P.fields i f S.source.fields there).based in
         by o h.object base
       where
         by : (o : ℕ) → 1 < o → f.base ≡ Some o → (x : ℕ) × (f.base ≡ Some (suc x))
@@ -1139,8 +1140,8 @@ module _ (P : Program) (Ts : List Table) (S : IsTypedProgram P Ts) (Q : Program)
         by : (o : Op) → slice_get k.ops pc ≡ Some o → IsMemory o → IsSourceOp P k o → Goal (suc n) (On Open (frame dn a l' s ∷ gs) M w r)
         by (op.GetStatic i) e memory src = let x = based i src.1.field src.0 src.1.there src.1.base_is in get_static i e src.1.field x.0 src.1.there x.1
         by (op.PutStatic i) e memory src = let x = based i src.1.field src.0 src.1.there src.1.base_is in put_static i e src.1.field x.0 src.1.there x.1
-        by (op.GetField i) e memory src = get_field i e src.field src.there src.base_is
-        by (op.PutField i) e memory src = put_field i e src.field src.there src.base_is
+        by (op.GetField i cn) e memory src = get_field i cn e src.field src.there src.base_is
+        by (op.PutField i cn) e memory src = put_field i cn e src.field src.there src.base_is
         by (op.LoadElement t1) e memory src = get_element t1 e
         by (op.StoreElement t1) e memory src = put_element t1 e
         by o e memory src = absurd memory

@@ -72,18 +72,18 @@ module _ (P : Program) (C : AreTypes P) where
   above_is r ds c = ap (λ (o : Option Row). above_in o r.name) c.found
 
   -- what holds of a class at the top, and of one under another where it holds of that, holds of each
-  module _ (Q : Row → List Declared → Type 0) (top : (r : Row) (ds : List Declared) → IsClass P r ds → r.lineage ≡ r.name ∷ [] → Q r ds)
+  module _ (Q : Row → List Declared → Type 0) (top : (r : Row) (ds : List Declared) → IsClass P r ds → r.name ≡ object_class → r.lineage ≡ r.name ∷ [] → Q r ds)
       (under : (r : Row) (ds : List Declared) → IsClass P r ds → (u : IsUnder P r ds) → IsClass P u.upper u.upper_words → Q u.upper u.upper_words → Q r ds) where
     by_length : (n : ℕ) (r : Row) (ds : List Declared) → length r.lineage ≤ n → IsClass P r ds → Q r ds
     by_length zero r ds le c = absurd (⊎_elim
-        (λ (e : r.lineage ≡ r.name ∷ []). let s : length r.lineage ≡ 1 = ap length e in omega (arith, s, le))
+        (λ (e : (r.name ≡ object_class) × (r.lineage ≡ r.name ∷ [])). let s : length r.lineage ≡ 1 = ap length e.1 in omega (arith, s, le))
         (λ (u : IsUnder P r ds). let s : length r.lineage ≡ suc (length u.upper.lineage) = ap length u.lineage in omega (arith, s, le))
         c.placed)
-    by_length (suc n) r ds le c = ⊎_elim (top r ds c) (λ (u : IsUnder P r ds). at u (by_length n u.upper u.upper_words)) c.placed
+    by_length (suc n) r ds le c = ⊎_elim (λ (e : (r.name ≡ object_class) × (r.lineage ≡ r.name ∷ [])). top r ds c e.0 e.1) (λ (u : IsUnder P r ds). at u (by_length n u.upper u.upper_words)) c.placed
       where
         at : (u : IsUnder P r ds) → (length u.upper.lineage ≤ n → IsClass P u.upper u.upper_words → Q u.upper u.upper_words) → Q r ds
         at u rest = ⊎_elim
-            (λ (b : (u.upper.lineage ≡ []) × (u.upper.read ≡ [])). top r ds c (u.lineage ∙ ap (λ (ns : List (List ℕ)). r.name ∷ ns) b.0))
+            (λ (b : (u.upper.lineage ≡ []) × (u.upper.read ≡ [])). absurd (u.class b.0))
             (λ (d : IsClass P u.upper u.upper_words). under r ds c u d (rest (let s : length r.lineage ≡ suc (length u.upper.lineage) = ap length u.lineage in omega (arith, s, le)) d))
             (subst (IsRowOf P u.upper) u.holds (C.rows u.number u.upper u.is))
 
@@ -92,7 +92,7 @@ module _ (P : Program) (C : AreTypes P) where
 
   closed_class : (r : Row) (ds : List Declared) → IsClass P r ds → Closed r.lineage
   closed_class = by_class (λ r ds. Closed r.lineage)
-      (λ r ds c e. subst Closed (sym e) (closed_with r.name [] (above_is r ds c ∙ e) (λ l m h g. absurd (none l h))))
+      (λ r ds c o e. subst Closed (sym e) (closed_with r.name [] (above_is r ds c ∙ e) (λ l m h g. absurd (none l h))))
       (λ r ds c u d rest. subst Closed (sym u.lineage) (closed_with r.name u.upper.lineage (above_is r ds c ∙ u.lineage) rest))
 
   abbrev ArePlain : List (List ℕ) → Type 0
@@ -103,7 +103,7 @@ module _ (P : Program) (C : AreTypes P) where
 
   plain_class : (r : Row) (ds : List Declared) → IsClass P r ds → ArePlain r.lineage
   plain_class = by_class (λ r ds. ArePlain r.lineage)
-      (λ r ds c e. subst ArePlain (sym e) (plain_with r.name [] (plain_name r.name c.named) (λ m h. absurd (none m h))))
+      (λ r ds c o e. subst ArePlain (sym e) (plain_with r.name [] (plain_name r.name c.named) (λ m h. absurd (none m h))))
       (λ r ds c u d rest. subst ArePlain (sym u.lineage) (plain_with r.name u.upper.lineage (plain_name r.name c.named) rest))
 
   -- a type with a lineage is a class

@@ -71,8 +71,8 @@ duplicate_at P (suc i) (x ∷ ks) (U ∷ Ts) k T h t = duplicate_at P i ks Ts k 
 -- the helper's methods
 helper_at : (t : WordType) → (slice_get helper_methods (2 * helper_place t) ≡ Some (element_getter_method t)) × (slice_get helper_methods (2 * helper_place t + 1) ≡ Some (element_setter_method t))
 helper_at word.Byte = (refl, refl)
-helper_at word.Char = (refl, refl)
 helper_at word.Boolean = (refl, refl)
+helper_at word.Char = (refl, refl)
 helper_at word.Short = (refl, refl)
 helper_at word.Int = (refl, refl)
 helper_at word.Long = (refl, refl)

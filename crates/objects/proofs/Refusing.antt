@@ -9,7 +9,6 @@ use Rattle.objects.specs.declared.op.Slot.{Slot}
 use Rattle.objects.specs.declared.op.Slot.TheVariants.{Ref, Context}
 use Rattle.objects.specs.declared.op.Op.TheVariants as op
 use Rattle.objects.specs.declared.op.Catch.{Catch}
-use Rattle.objects.specs.declared.op.Phase.{Phase}
 use Rattle.objects.specs.declared.op.Phase.TheVariants.{Ready, Doomed}
 use Rattle.objects.specs.declared.op.Asking.TheVariants as asking
 use Rattle.objects.specs.Program.{Method, Program, method_at}
@@ -93,13 +92,13 @@ module _ (P : Program) (Ts : List Table) (Q : Program) (same : Q ≡ rewritten P
   abbrev Above : Frames → Type 0
   Above = AboveCall Q first mn q wl
 
-  module _ (F : Run → Type 0) (fine : IsOfEnds F) (n : ℕ) (w r : Log) (now : (p : Phase) (gs : Frames) (m : Meter) → F (On p gs m w r))
+  module _ (F : Run → Type 0) (fine : IsOfEnds Q B F) (n : ℕ) (w r : Log) (now : (gs : Frames) (m : Meter) → F (On Doomed gs m w r))
       (loop : (j : List Slot) (m : Meter) → Holds Q B F n (On Ready (frame mn 2 wl j ∷ []) (set_back B m) [] [])) where
     -- the wrapper rolls back
     rolls : (m : Meter) → Holds Q B F n (On Doomed (frame mn z wl (Ref 1 ∷ []) ∷ []) m w r)
     rolls m =
         on_leads Q B F fine 2 n _ (On Doomed (frame mn (z + 1 + 1) wl (Context ∷ []) ∷ []) m w r) (rolls_first Q B mn wm is c id dn retries takes q z gives W wl here m w r)
-        (on_reply Q B F fine n _ (now Doomed _ m) (λ v. subst (Holds Q B F n) (sym (rolls_back Q B mn wm is c id dn retries takes q z gives W wl here m w r v))
+        (on_reply Q B F fine n _ (now _ m) (λ v. subst (Holds Q B F n) (sym (rolls_back Q B mn wm is c id dn retries takes q z gives W wl here m w r v))
         (on_leads Q B F fine 1 n _ (On Ready (frame mn 2 wl [] ∷ []) (set_back B m) [] []) (rolls_on Q B mn wm is c id dn retries takes q z gives W wl here m w r (set_back B m)) (loop [] m))))
 
     -- from the stub the exception goes on to the callers
@@ -107,7 +106,7 @@ module _ (P : Program) (Ts : List Table) (Q : Program) (same : Q ≡ rewritten P
         → Holds Q B F n (unwound (unwinds Q 1 0 fs) m w r) → Holds Q B F n (On Doomed (at end (with_stack f (Ref 1 ∷ [])) ∷ fs) m w r)
     at_stub f fs m end k there code counted past up =
         let e : (v : Reply) → next_run Q B v (On Doomed (at end (with_stack f (Ref 1 ∷ [])) ∷ fs) m w r) ≡ unwound (unwinds Q 1 0 fs) m w r = let past2 : find_catch Q k.catches end 0 ≡ None = (let e : catch_at Q f.method end 0 ≡ find_catch Q k.catches end 0 = rw there refl in sym e ∙ past) in λ v. simp (there, code, counted, past2) in
-        on_reply Q B F fine n _ (now Doomed _ m) (λ v. subst (Holds Q B F n) (sym (e v)) up)
+        on_reply Q B F fine n _ (now _ m) (λ v. subst (Holds Q B F n) (sym (e v)) up)
 
     -- a conflict below an instruction that asked
     pub refuses : (fs : Frames) → Above fs → (m : Meter) → Holds Q B F n (unwound (unwinds Q 1 0 fs) m w r)

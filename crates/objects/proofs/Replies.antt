@@ -17,8 +17,8 @@ Leads Q B zero c d = c ≡ d
 Leads Q B (suc j) c d = SameLogs c d × ((v : Reply) → Leads Q B j (next_run Q B v c) d)
 
 -- a property of runs, which says of one that goes on no more than its logs tell
-pub record IsOfEnds (F : Run → Type 0) : Type 0 where
-  pub same : (c d : Run) → SameLogs c d → F d → F c
+pub record IsOfEnds (Q : Program) (B : Bounds) (F : Run → Type 0) : Type 0 where
+  pub same : (j : ℕ) (c d : Run) → SameLogs c d → ((v : Reply) → Leads Q B j (next_run Q B v c) d) → F d → F c
 
 module _ (Q : Program) (B : Bounds) (F : Run → Type 0) where
   -- it holds after up to n replies
@@ -28,15 +28,15 @@ module _ (Q : Program) (B : Bounds) (F : Run → Type 0) where
 pub none_le : (n : ℕ) → length {A = Reply} [] ≤ n
 none_le n = omega arith
 
-module _ (Q : Program) (B : Bounds) (F : Run → Type 0) (fine : IsOfEnds F) where
+module _ (Q : Program) (B : Bounds) (F : Run → Type 0) (fine : IsOfEnds Q B F) where
   pub on_leads : (j n : ℕ) (c d : Run) → Leads Q B j c d → Holds Q B F n d → Holds Q B F n c
   on_leads zero n c d l h vs le = subst (Holds Q B F n) (sym l) h vs le
-  on_leads (suc j) n c d l h [] le = fine.same c d l.0 (h [] le)
+  on_leads (suc j) n c d l h [] le = fine.same j c d l.0 l.1 (h [] le)
   on_leads (suc j) n c d l h (v ∷ vs) le = let le' : length vs ≤ n = omega arith in on_leads j n (next_run Q B v c) d (l.1 v) h vs le'
 
   -- a step at least
   pub on_more : (j n : ℕ) (c d : Run) → Leads Q B (suc j) c d → Holds Q B F n d → Holds Q B F (suc n) c
-  on_more j n c d l h [] le = fine.same c d l.0 (h [] (none_le n))
+  on_more j n c d l h [] le = fine.same j c d l.0 l.1 (h [] (none_le n))
   on_more j n c d l h (v ∷ vs) le = let le' : length vs ≤ n = omega arith in on_leads j n (next_run Q B v c) d (l.1 v) h vs le'
 
   -- a step by its reply

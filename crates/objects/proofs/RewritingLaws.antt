@@ -42,8 +42,8 @@ module _ (P : Program) (Ts : List Table) (S : IsTypedProgram P Ts) (B : Bounds) 
     never_stuck vs r e agrees = sound_at vs (Stuck r) e agrees
 
     pub matched : (vs : List Reply) (w r : Log) (c : Run) → run Q B vs (run_start Q B m args) ≡ c → IsOnWay w r c → Agrees ws r → Matched P B m args w ws σ
-    matched vs w r (On p fs M v s) e way agrees = subst (λ (l : Log). Matched P B m args l ws σ) (sym way.0) (sound_at vs (On p fs M v s) e (subst (Agrees ws) way.1 agrees))
-    matched vs w r (Asking a fs M v s) e way agrees = subst (λ (l : Log). Matched P B m args l ws σ) (sym way.0) (sound_at vs (Asking a fs M v s) e (subst (Agrees ws) way.1 agrees))
+    matched vs w r (On p fs M v s) e way agrees = subst (λ (l : Log). Matched P B m args l ws σ) (sym way.0) (sound_at vs (On p fs M v s) e (subst (Agrees ws) way.1 agrees)).0
+    matched vs w r (Asking a fs M v s) e way agrees = subst (λ (l : Log). Matched P B m args l ws σ) (sym way.0) (sound_at vs (Asking a fs M v s) e (subst (Agrees ws) way.1 agrees)).0
     matched vs w r c e way agrees = absurd way
 
 pub simulation : Simulation

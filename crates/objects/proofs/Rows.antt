@@ -29,7 +29,7 @@ use Rattle.objects.specs.TypeOrder.{object_class, place_types}
 use Rattle.objects.specs.Step.{Frame, Frames, Asks, step, unwinds, inner, sort_of}
 use Rattle.objects.specs.Attempt.{Log, Reply, Bounds, Meter, On, next_run, on_look, on_read, on_write, on_head}
 use Rattle.objects.specs.Rewriting.{context, places_of, distance, cast_of, plain_load, static_getter, static_setter, field_getter, field_setter, element_getter_method, element_setter_method}
-use Rattle.objects.specs.Source.{IsBase, IsBased, IsSourceField}
+use Rattle.objects.specs.Source.{IsBase, IsBased}
 use Rattle.objects.proofs.Frames.{frame}
 use Rattle.objects.proofs.Places.{HasAt, has_rest}
 use Rattle.objects.proofs.Wrapper.{value_sort}
@@ -40,14 +40,14 @@ pub record IsKnown (f : Field) (o : ℕ) : Type 0 where
   pub index : cast_unsigned w64 (cast_signed w64 (suc f.index)) ≡ suc f.index
   pub below : nat_lt (suc o + suc f.index) (2 ^ 64) ≡ true
 
-pub known_field : (f : Field) (o : ℕ) → IsSourceField f → nat_lt (suc o + suc f.index) (2 ^ 64) ≡ true → IsKnown f o
+pub known_field : (f : Field) (o : ℕ) → IsBased f f.base → nat_lt (suc o + suc f.index) (2 ^ 64) ≡ true → IsKnown f o
 known_field f o src near = record { index = of_z-to_z w64 (suc f.index) (by f.base src); below = near }
   where
     by : (b : Option ℕ) → IsBased f b → suc f.index < 2 ^ 64
     by None h = omega (arith, h)
     by (Some q) h = let a = h.address in omega (arith, a)
 
-pub known_static : (f : Field) (o : ℕ) → IsSourceField f → f.base ≡ Some (suc o) → IsKnown f o
+pub known_static : (f : Field) (o : ℕ) → IsBased f f.base → f.base ≡ Some (suc o) → IsKnown f o
 known_static f o src base =
     let h : IsBase f (suc o) = subst (IsBased f) base src in
     let a = h.address in
@@ -102,7 +102,7 @@ pub static_end : (n : ℕ) (f : Field) (o : ℕ) → HasAt (static_getter n f o)
 static_end n f o = has_rest (Load sort.Reference 0 ∷ Constant (value.Ref o) ∷ distance f.index ∷ op.Context BeforeRead ∷ Load sort.Reference 0 ∷ Constant (value.Ref o) ∷ GetStatic n ∷ distance f.index ∷ op.Context (OnRead f.declared.word) ∷ []) (cast_of f.declared (ReturnValue (sort_of f.declared.word) ∷ []))
 
 pub field_end : (n : ℕ) (f : Field) → HasAt (field_getter n f).ops 10 (cast_of f.declared (ReturnValue (sort_of f.declared.word) ∷ []))
-field_end n f = has_rest (Load sort.Reference 1 ∷ Load sort.Reference 0 ∷ distance f.index ∷ op.Context BeforeRead ∷ Load sort.Reference 1 ∷ Load sort.Reference 0 ∷ Load sort.Reference 0 ∷ GetField n ∷ distance f.index ∷ op.Context (OnRead f.declared.word) ∷ []) (cast_of f.declared (ReturnValue (sort_of f.declared.word) ∷ []))
+field_end n f = has_rest (Load sort.Reference 1 ∷ Load sort.Reference 0 ∷ distance f.index ∷ op.Context BeforeRead ∷ Load sort.Reference 1 ∷ Load sort.Reference 0 ∷ Load sort.Reference 0 ∷ GetField n f.class ∷ distance f.index ∷ op.Context (OnRead f.declared.word) ∷ []) (cast_of f.declared (ReturnValue (sort_of f.declared.word) ∷ []))
 
 pub element_end : (t : WordType) → HasAt (element_getter_method t).ops 11 (ReturnValue (sort_of t) ∷ [])
 element_end t = (refl, tt)
@@ -248,6 +248,9 @@ module _ (Q : Program) (B : Bounds) (dn a : ℕ) (dm : Method) (is : slice_get Q
     pub element_look : (o : ℕ) (v : Reply) → next_run Q B v (On Open (frame g 3 (taken (suc o)) (Int i ∷ Ref (suc o) ∷ Context ∷ []) ∷ element_caller ∷ fs) m w r) ≡ on_head v Q (Indexes i element.Look) (suc o) (frame g 3 (taken (suc o)) [] ∷ element_caller ∷ fs) m w r
     element_look o v = simp h
 
+    pub element_look_asks : (o : ℕ) → step Q (frame g 3 (taken (suc o)) (Int i ∷ Ref (suc o) ∷ Context ∷ []) ∷ element_caller ∷ fs) ≡ Asks (asking.Head (suc o) (Indexes i element.Look)) (frame g 3 (taken (suc o)) [] ∷ element_caller ∷ fs)
+    element_look_asks o = simp h
+
     pub element_second : (o : ℕ) → Leads Q B 6 (On Open (frame g 4 (taken (suc o)) [] ∷ element_caller ∷ fs) m w r) (On Open (frame g 10 (taken (suc o)) (Int i ∷ Loaded ∷ Ref (suc o) ∷ Context ∷ []) ∷ element_caller ∷ fs) m w r)
     element_second o =
         let x = (plain_of t).1 in
@@ -282,6 +285,12 @@ module _ (Q : Program) (B : Bounds) (dn a : ℕ) (dm : Method) (is : slice_get Q
     element_write o (value.Int x) e z u = let y = sym e in simp (h, y)
     element_write o (value.Long x) e z u = let y = sym e in simp (h, y)
     element_write o (value.Ref x) e z u = let y = sym e in simp (h, y)
+
+    pub element_write_asks : (o : ℕ) (v : Value) → value_sort v ≡ sort_of t → (z : List Slot)
+        → step Q (frame g 4 z (Int i ∷ pushed v (Ref (suc o) ∷ Context ∷ [])) ∷ element_caller ∷ fs) ≡ Asks (asking.Head (suc o) (Indexes i (element.Write (kept_by t v)))) (frame g 4 z [] ∷ element_caller ∷ fs)
+    element_write_asks o (value.Int x) e z = let y = sym e in simp (h, y)
+    element_write_asks o (value.Long x) e z = let y = sym e in simp (h, y)
+    element_write_asks o (value.Ref x) e z = let y = sym e in simp (h, y)
 
     pub element_last : (z : List Slot) → Leads Q B 1 (On Open (frame g 5 z [] ∷ element_caller ∷ fs) m w r) (On Open (frame dn (a + 1 + 1) l s ∷ fs) m w r)
     element_last z = ((refl, refl), λ v. simp h)

@@ -43,13 +43,13 @@ module _ (P : Program) (Ts : List Table) (S : IsTypedProgram P Ts) (Q : Program)
       by : (x : Op) → slice_get k.ops pc ≡ Some x → IsSourceOp P k x → Goal (suc n) (On Open (frame dn (block_at (typed_code P Ts S k T) pc) l' s ∷ gs) M w r)
       by (op.GetStatic f) e src = serves_memory P Ts S Q R B mn args ws σ gives_type c q z slots first_added ops_inner uncounted catch catch_other Goal Astray goal low n m pc dn k T l l' fs gs t here callers τ M w r s hr kk (op.GetStatic f) e tt
       by (op.PutStatic f) e src = serves_memory P Ts S Q R B mn args ws σ gives_type c q z slots first_added ops_inner uncounted catch catch_other Goal Astray goal low n m pc dn k T l l' fs gs t here callers τ M w r s hr kk (op.PutStatic f) e tt
-      by (op.GetField f) e src = serves_memory P Ts S Q R B mn args ws σ gives_type c q z slots first_added ops_inner uncounted catch catch_other Goal Astray goal low n m pc dn k T l l' fs gs t here callers τ M w r s hr kk (op.GetField f) e tt
-      by (op.PutField f) e src = serves_memory P Ts S Q R B mn args ws σ gives_type c q z slots first_added ops_inner uncounted catch catch_other Goal Astray goal low n m pc dn k T l l' fs gs t here callers τ M w r s hr kk (op.PutField f) e tt
+      by (op.GetField f x) e src = serves_memory P Ts S Q R B mn args ws σ gives_type c q z slots first_added ops_inner uncounted catch catch_other Goal Astray goal low n m pc dn k T l l' fs gs t here callers τ M w r s hr kk (op.GetField f x) e tt
+      by (op.PutField f x) e src = serves_memory P Ts S Q R B mn args ws σ gives_type c q z slots first_added ops_inner uncounted catch catch_other Goal Astray goal low n m pc dn k T l l' fs gs t here callers τ M w r s hr kk (op.PutField f x) e tt
       by (op.LoadElement y) e src = serves_memory P Ts S Q R B mn args ws σ gives_type c q z slots first_added ops_inner uncounted catch catch_other Goal Astray goal low n m pc dn k T l l' fs gs t here callers τ M w r s hr kk (op.LoadElement y) e tt
       by (op.StoreElement y) e src = serves_memory P Ts S Q R B mn args ws σ gives_type c q z slots first_added ops_inner uncounted catch catch_other Goal Astray goal low n m pc dn k T l l' fs gs t here callers τ M w r s hr kk (op.StoreElement y) e tt
       by (op.InvokeStatic y) e src = call_goes P Ts S Q R dup_is moved B mn args ws σ gives_type c q z slots first_added ops_inner uncounted catch catch_other Goal Astray goal high n m pc dn k T l l' s fs gs t here callers τ M w r hr kk (op.InvokeStatic y) e tt
       by (op.InvokeSpecial y) e src = call_goes P Ts S Q R dup_is moved B mn args ws σ gives_type c q z slots first_added ops_inner uncounted catch catch_other Goal Astray goal high n m pc dn k T l l' s fs gs t here callers τ M w r hr kk (op.InvokeSpecial y) e tt
-      by (op.InvokeVirtual y) e src = call_goes P Ts S Q R dup_is moved B mn args ws σ gives_type c q z slots first_added ops_inner uncounted catch catch_other Goal Astray goal high n m pc dn k T l l' s fs gs t here callers τ M w r hr kk (op.InvokeVirtual y) e tt
+      by (op.InvokeVirtual y x) e src = call_goes P Ts S Q R dup_is moved B mn args ws σ gives_type c q z slots first_added ops_inner uncounted catch catch_other Goal Astray goal high n m pc dn k T l l' s fs gs t here callers τ M w r hr kk (op.InvokeVirtual y x) e tt
       by (op.InvokeInterface y name) e src = call_goes P Ts S Q R dup_is moved B mn args ws σ gives_type c q z slots first_added ops_inner uncounted catch catch_other Goal Astray goal high n m pc dn k T l l' s fs gs t here callers τ M w r hr kk (op.InvokeInterface y name) e tt
       by op.GetContext e src = absurd src
       by (op.Context y) e src = absurd src

@@ -20,7 +20,7 @@ use Rattle.objects.specs.Program.{Row, Method, Program, is_counted, is_instance,
 use Rattle.objects.specs.Region.{Region, next_reference, has_words}
 use Rattle.objects.specs.State.{Object, State, header, words_of, with_object, object_of, type_at, length_of, type_in, length_in}
 use Rattle.objects.specs.Meaning.{IsHeap, IsTyped}
-use Rattle.objects.specs.Step.{Frames, Did, Asked, Asks, next, received, advanced, resumed, truth, or_trap, goes as goes_to, gives, on_did, catch_at, unwinds, told}
+use Rattle.objects.specs.Step.{step, Frames, Did, Asked, Asks, next, received, advanced, resumed, truth, or_trap, goes as goes_to, gives, on_did, catch_at, unwinds, told}
 use Rattle.objects.specs.Call.{Direct, direct, next_direct, on_asked, turned}
 use Rattle.objects.specs.Call as call
 use Rattle.objects.specs.Attempt.{Log, access, Reply, Bounds, Meter, Run, On, Asking, Ended, Stuck, next_run, with_turns, refused}
@@ -46,6 +46,7 @@ use Rattle.objects.proofs.Heap.{KeepsTypes, object_at, type_of, used_with, used_
 use Rattle.objects.proofs.Objects.{object_zero, represents_header}
 use Rattle.objects.proofs.TypedFrames.{AreTyped, ThrownFine, IsThrown, Throws, MadeFine, MakesFine, Fine, Heads, NoHeads, AsksFine, keeps_same}
 use Rattle.objects.specs.Law.{IsOnWay, state_of}
+use Rattle.objects.proofs.Makes.{open_asks, run_asks, used_in, IsSynced, heads_synced, raises_synced}
 use Rattle.objects.proofs.Goals.{Reaches, SoFar, Here, StandsFor, IsGoal, out, back, threw, Continues, reaches_next}
 
 module _ (P : Program) (Ts : List Table) (S : IsTypedProgram P Ts) (Q : Program) (R : Rewrites P Ts Q) (B : Bounds) (mn : ℕ) (args : List Value) (ws : Words) (σ : State) (gives_type : Option VType) (c q z : ℕ) (slots : List Slot) (first_added : ℕ)
@@ -217,24 +218,36 @@ module _ (P : Program) (Ts : List Table) (S : IsTypedProgram P Ts) (Q : Program)
         some_type (suc x) e = grind (arith, nat_tests)
 
     by_room : (v : Bool) → has_words G u (words_of b) ≡ v → MadeFine P Ts S B.region.size τ H made t row fs → MadeTie made fs hs → next_direct P G X ≡ call.makes v made P G b fs M.turns τ
-        → ((x : Reply) → next_run Q B x d ≡ attempt.makes v x made Q B b hs M w r) → (wl : List Slot) → IsSet gives_type c slots wl → AboveCall Q first_added mn q wl hs → Goal (suc n) d
-    by_room false lacks fine tie e step wl set above =
+        → ((x : Reply) → next_run Q B x d ≡ attempt.makes v x made Q B b hs M w r) → IsSynced P Q B mn args σ d → (wl : List Slot) → IsSet gives_type c slots wl → AboveCall Q first_added mn q wl hs → Goal (suc n) d
+    by_room false lacks fine tie e step synced wl set above =
         let f : next_direct P G X ≡ call.Ended (Heap M.used (words_of b) G.size) τ = e ∙ ap (λ (x : ℕ). call.Ended (Heap x (words_of b) G.size) τ) s.stands.own in
         goal.steps n w r d _ s.on_way (stage_so_far X d τ M w r s) s.agrees step (k.ends 0 (Heap M.used (words_of b) G.size) τ _ f (out _ M r refl s.agrees))
-    by_room true has fine tie e step wl set above =
+    by_room true has fine tie e step synced wl set above =
         let same : place ≡ next_reference B.region M.used = ap (next_reference G) s.stands.own in
-        goal.looks n wl hs M w r d (attempt.on_made made Q B b hs M w2 r) s.on_way set above (stage_so_far X d τ M w r s) s.agrees (step attempt.Refuses)
+        goal.looks n wl hs M w r d (attempt.on_made made Q B b hs M w2 r) s.on_way synced set above (stage_so_far X d τ M w r s) s.agrees (step attempt.Refuses)
         (λ x. step (attempt.Gives x) ∙ ap (λ (y : ℕ). attempt.on_made made Q B b hs M (access y (header b) ∷ w) r) (sym same))
         (by_made made fine tie (words_there G u (words_of b) has) e)
 
     -- words are taken for an object, which is pushed or thrown
-    pub at_make : MadeFine P Ts S B.region.size τ H made t row fs → MadeTie made fs hs → next_direct P G X ≡ call.on_asking P G (asking.Make t len made) fs M.turns τ
+    pub at_make : MadeFine P Ts S B.region.size τ H made t row fs → MadeTie made fs hs → run_asks P X ≡ Asks (asking.Make t len made) fs → open_asks Q d ≡ Asks (asking.Make t len made) hs → used_in d ≡ M.used → next_direct P G X ≡ call.on_asking P G (asking.Make t len made) fs M.turns τ
         → ((x : Reply) → next_run Q B x d ≡ attempt.on_asking Q B (asking.Make t len made) Open x hs M w r) → (wl : List Slot) → IsSet gives_type c slots wl → AboveCall Q first_added mn q wl hs → Goal (suc n) d
-    at_make fine tie e step wl set above =
+    at_make fine tie asks_up asks_down same e step wl set above =
         let e2 : next_direct P G X ≡ call.makes (has_words G u (words_of b)) made P G b fs M.turns τ = e ∙ ap (λ (x : Option Row). call.made x t len made P G fs M.turns τ) is in
         let moved : row_at Q t ≡ Some row = row_moved P Q Ts R t ∙ is in
         let step2 : (x : Reply) → next_run Q B x d ≡ attempt.makes (has_words G u (words_of b)) x made Q B b hs M w r = λ x. step x ∙ ap (λ (y : Option Row). attempt.made y t len made x Q B hs M w r) moved ∙ ap (λ (y : ℕ). attempt.makes (has_words G y (words_of b)) x made Q B b hs M w r) (sym s.stands.own) in
-        by_room (has_words G u (words_of b)) refl fine tie e2 step2 wl set above
+        by_room (has_words G u (words_of b)) refl fine tie e2 step2 synced wl set above
+      where
+        synced : IsSynced P Q B mn args σ d
+        synced t2 len2 made2 fs2 row2 asks is2 room =
+            let f : asking.Make t len made ≡ asking.Make t2 len2 made2 = (let g = sym asks_down ∙ asks in cc) in
+            record {
+              steps = s.reach.0;
+              frames = fs;
+              state = τ;
+              asks = ap (run_asks P) s.reach.1 ∙ asks_up ∙ ap (λ (x : _). Asks x fs) f;
+              has = ap state_of s.reach.1 ∙ s.has;
+              used_are = s.stands.own ∙ sym same;
+            }
 
   -- ---- headers that are read
 
@@ -254,9 +267,9 @@ module _ (P : Program) (Ts : List Table) (S : IsTypedProgram P Ts) (Q : Program)
 
     -- an exception is thrown by its header's type
     pub at_raise : Goes n X → (fs hs : Frames) (x t : ℕ) → o ≡ suc x → IsThrown P τ o t → Throws P Ts S τ fs → ((y : ℕ) → nat_eq y 0 ≡ false → ThrownTo z (suc x) (unwinds P (suc x) y fs) (unwinds Q (suc x) y hs))
-        → next_direct P G X ≡ call.on_asking P G (asking.Raise o) fs M.turns τ → ((v : Reply) → next_run Q B v d ≡ attempt.on_asking Q B (asking.Raise o) Open v hs M w r) → (wl : List Slot) → IsSet gives_type c slots wl → InsideCall Q first_added mn q wl hs → Goal (suc n) d
-    at_raise k fs hs x t some thrown fine tie e step wl set inside =
-        goal.reads n wl hs M w r d o (λ y l. attempt.throws (row_at Q (type_in y)) Q B o (type_in y) hs M w l) s.on_way set (above_inside Q first_added mn q wl hs inside) (stage_so_far X d τ M w r s) s.agrees (step attempt.Refuses) (λ y. step (attempt.Gives y))
+        → next_direct P G X ≡ call.on_asking P G (asking.Raise o) fs M.turns τ → ((v : Reply) → next_run Q B v d ≡ attempt.on_asking Q B (asking.Raise o) Open v hs M w r) → (wl : List Slot) → IsSet gives_type c slots wl → IsSynced P Q B mn args σ d → InsideCall Q first_added mn q wl hs → Goal (suc n) d
+    at_raise k fs hs x t some thrown fine tie e step wl set synced inside =
+        goal.reads n wl hs M w r d o (λ y l. attempt.throws (row_at Q (type_in y)) Q B o (type_in y) hs M w l) s.on_way synced set (above_inside Q first_added mn q wl hs inside) (stage_so_far X d τ M w r s) s.agrees (step attempt.Refuses) (λ y. step (attempt.Gives y))
         (λ y l gone. goal.stray_throws n wl (row_at Q (type_in y)) o (type_in y) hs M w l set inside gone) found
       where
         kind : b.type ≡ t
@@ -284,10 +297,10 @@ module _ (P : Program) (Ts : List Table) (S : IsTypedProgram P Ts) (Q : Program)
 
     -- an instruction goes on by an object's header, and that of the duplicate by the same
     pub at_head : (u v : Use) (fs hs : Frames) → IsInnerUse Q first_added v → next_direct P G X ≡ call.on_asking P G (asking.Head o u) fs M.turns τ → ((x : Reply) → next_run Q B x d ≡ attempt.on_head x Q v o hs M w r)
-        → (wl : List Slot) → IsSet gives_type c slots wl → InsideCall Q first_added mn q wl hs
+        → (wl : List Slot) → IsSet gives_type c slots wl → IsSynced P Q B mn args σ d → InsideCall Q first_added mn q wl hs
         → ((l : Log) → Agrees ws l → next_direct P G X ≡ call.followed (told P u o b.type (length_of b) fs) M.turns τ → Goal n (attempt.followed (told Q v o b.type (length_of b) hs) M w l)) → Goal (suc n) d
-    at_head u v fs hs inner_use e step wl set inside go =
-        goal.reads n wl hs M w r d o (λ y l. attempt.followed (told Q v o (type_in y) (length_in y) hs) M w l) s.on_way set (above_inside Q first_added mn q wl hs inside) (stage_so_far X d τ M w r s) s.agrees (step attempt.Refuses) (λ y. step (attempt.Gives y))
+    at_head u v fs hs inner_use e step wl set synced inside go =
+        goal.reads n wl hs M w r d o (λ y l. attempt.followed (told Q v o (type_in y) (length_in y) hs) M w l) s.on_way synced set (above_inside Q first_added mn q wl hs inside) (stage_so_far X d τ M w r s) s.agrees (step attempt.Refuses) (λ y. step (attempt.Gives y))
         (λ y l gone. goal.stray_follows n wl (told Q v o (type_in y) (length_in y) hs) M w l set (told_inner Q first_added ops_inner mn q z uncounted catch catch_other wl v inner_use o (type_in y) (length_in y) hs inside) gone) found
       where
         found : (l : Log) → Agrees ws l → Goal n (attempt.followed (told Q v o (type_in (overlaid w ws o)) (length_in (overlaid w ws o)) hs) M w l)
@@ -357,9 +370,9 @@ module _ (P : Program) (Ts : List Table) (S : IsTypedProgram P Ts) (Q : Program)
         throws_one s2 s3 = throws_on o e a (omega arith) (omega (arith, one)) s2 s3
 
         made_served : (Y : Direct) (c0 : Run) (st : Stage Y c0 τ M w r) (ky : Goes n Y) (ty len : ℕ) (made : Made) (s2 s3 : List Slot) → MakesFine P Ts S B.region.size τ st.stands.represents.heap ty len made (ups s2) → MadeTie made (ups s2) (downs s3)
-            → next_direct P G Y ≡ call.on_asking P G (asking.Make ty len made) (ups s2) M.turns τ → ((v : Reply) → next_run Q B v c0 ≡ attempt.on_asking Q B (asking.Make ty len made) Open v (downs s3) M w r) → Goal (suc n) c0
-        made_served Y c0 st ky ty len made s2 s3 fine tie eP eQ =
-            at_make n Y c0 τ M w r st ky ty len made (ups s2) (downs s3) fine.row fine.is fine.few fine.goes tie eP eQ above.0 above.1 (inner (frame dn a l' s3) gs added_dup above.2)
+            → run_asks P Y ≡ Asks (asking.Make ty len made) (ups s2) → open_asks Q c0 ≡ Asks (asking.Make ty len made) (downs s3) → used_in c0 ≡ M.used → next_direct P G Y ≡ call.on_asking P G (asking.Make ty len made) (ups s2) M.turns τ → ((v : Reply) → next_run Q B v c0 ≡ attempt.on_asking Q B (asking.Make ty len made) Open v (downs s3) M w r) → Goal (suc n) c0
+        made_served Y c0 st ky ty len made s2 s3 fine tie up down same eP eQ =
+            at_make n Y c0 τ M w r st ky ty len made (ups s2) (downs s3) fine.row fine.is fine.few fine.goes tie up down same eP eQ above.0 above.1 (inner (frame dn a l' s3) gs added_dup above.2)
 
         -- what a cast, a test or an array's length goes on with
         told_served : (u : Use) → IsSimpleUse u → (x : ℕ) (bo : Object) (s2 : List Slot) → τ.objects x ≡ Some bo → Stands k T (pc + 1) l l' → Fine P Ts S B.region.size τ heap (Heads P Ts S B.region.size τ heap (NoHeads P Ts S B.region.size τ heap)) (told P u x bo.type (length_of bo) (ups s2))
@@ -373,7 +386,7 @@ module _ (P : Program) (Ts : List Table) (S : IsTypedProgram P Ts) (Q : Program)
             by false fine f =
                 let Y = call.Asking (asking.Make (trap_type ClassCast) 0 Raised) (ups s2) M.turns τ in
                 let st2 : Stage Y (Asking (asking.Make (trap_type ClassCast) 0 Raised) (downs s2) M w rl) τ M w rl = record { reach = reaches_next P Ts S Q B mn args ws σ X _ hr.reach f; has = refl; on_way = (refl, refl); stands = hr.stands; agrees = agrees } in
-                goal.more n _ (at_make n Y _ τ M w rl st2 (onward n X Y f kk) (trap_type ClassCast) 0 Raised (ups s2) (downs s2) fine.row fine.is fine.few fine.goes (throws_one s2 s2) refl (λ v. refl) above.0 above.1 (inner (frame dn a l' s2) gs added_dup above.2))
+                goal.more n _ (at_make n Y _ τ M w rl st2 (onward n X Y f kk) (trap_type ClassCast) 0 Raised (ups s2) (downs s2) fine.row fine.is fine.few fine.goes (throws_one s2 s2) refl refl refl refl (λ v. refl) above.0 above.1 (inner (frame dn a l' s2) gs added_dup above.2))
         told_served (Tests c0) simple x bo s2 there st fine rl agrees f =
             subst (λ (v : Bool). Goal n (On Open (resumed (truth v ∷ []) (downs s2)) M w rl)) (sym (instance_moved P Q Ts R bo.type c0))
             (kk.on 0 _ _ τ M w rl f (record { reach = reaches_next P Ts S Q B mn args ws σ X _ hr.reach f; stands = hr.stands; agrees = agrees; typed = fine }) (next_one l l' _ st))
@@ -410,28 +423,28 @@ module _ (P : Program) (Ts : List Table) (S : IsTypedProgram P Ts) (Q : Program)
             by None eP eQ fine = at_frames n X d τ M w r stage kk _ _ eP eQ fine (tie s1)
             by (Some y) eP eQ fine = at_frames n X d τ M w r stage kk _ _ eP eQ fine (tie (pushed y s1))
 
-        pub serves : (dP dQ : Did) → Alike k T m pc dn a (block_at xs) l l' dP dQ → next_direct P G X ≡ on_asked P G (on_did P dP fs) M.turns τ → ((v : Reply) → next_run Q B v d ≡ attempt.on_asked Q B (on_did Q dQ gs) Open v M w r)
+        pub serves : (dP dQ : Did) → Alike k T m pc dn a (block_at xs) l l' dP dQ → step P (ups s) ≡ on_did P dP fs → step Q (downs s) ≡ on_did Q dQ gs → next_direct P G X ≡ on_asked P G (on_did P dP fs) M.turns τ → ((v : Reply) → next_run Q B v d ≡ attempt.on_asked Q B (on_did Q dQ gs) Open v M w r)
             → IsFineAsk (on_did P dP fs) → Goal (suc n) d
-        serves dP dQ neither eP eQ fine = absurd fine
-        serves dP dQ (goes l2 l2' s2 st) eP eQ fine = at_frames n X d τ M w r stage kk _ _ eP eQ fine (next_one l2 l2' s2 st)
-        serves dP dQ (jumps to s2 st) eP eQ fine = jumped_by (is_counted P m && nat_le to pc) eP (λ v. eQ v ∙ ap (λ (b : Bool). attempt.on_asked Q B (goes_to b (frame dn (block_at xs to) l' s2 ∷ gs)) Open v M w r) (jump_same to st)) fine
+        serves dP dQ neither up down eP eQ fine = absurd fine
+        serves dP dQ (goes l2 l2' s2 st) up down eP eQ fine = at_frames n X d τ M w r stage kk _ _ eP eQ fine (next_one l2 l2' s2 st)
+        serves dP dQ (jumps to s2 st) up down eP eQ fine = jumped_by (is_counted P m && nat_le to pc) eP (λ v. eQ v ∙ ap (λ (b : Bool). attempt.on_asked Q B (goes_to b (frame dn (block_at xs to) l' s2 ∷ gs)) Open v M w r) (jump_same to st)) fine
           where
             jumped_by : (b : Bool) → next_direct P G X ≡ on_asked P G (goes_to b (frame m to l s2 ∷ fs)) M.turns τ → ((v : Reply) → next_run Q B v d ≡ attempt.on_asked Q B (goes_to b (frame dn (block_at xs to) l' s2 ∷ gs)) Open v M w r) → IsFineAsk (goes_to b (frame m to l s2 ∷ fs)) → Goal (suc n) d
             jumped_by true eP eQ fine = at_turn n X d τ M w r stage kk _ _ eP eQ fine (top m to dn k T l l' s2 fs gs t st callers)
             jumped_by false eP eQ fine = at_frames n X d τ M w r stage kk _ _ eP eQ fine (top m to dn k T l l' s2 fs gs t st callers)
-        serves dP dQ (gives_as v s2 ok) eP eQ fine = given_by k.result v ok fs gs callers eP eQ fine
-        serves dP dQ (traps x s2) eP eQ fine = made_served X d stage kk (trap_type x) 0 Raised s2 s2 fine (throws_one s2 s2) eP eQ
-        serves dP dQ (makes ty len s2 st) eP eQ fine = made_served X d stage kk ty len Pushed s2 s2 fine (λ o2. next_one l l' (Ref o2 ∷ s2) st) eP eQ
-        serves dP dQ (raises x s2) eP eQ fine =
+        serves dP dQ (gives_as v s2 ok) up down eP eQ fine = given_by k.result v ok fs gs callers eP eQ fine
+        serves dP dQ (traps x s2) up down eP eQ fine = made_served X d stage kk (trap_type x) 0 Raised s2 s2 fine (throws_one s2 s2) up down refl eP eQ
+        serves dP dQ (makes ty len s2 st) up down eP eQ fine = made_served X d stage kk ty len Pushed s2 s2 fine (λ o2. next_one l l' (Ref o2 ∷ s2) st) up down refl eP eQ
+        serves dP dQ (raises x s2) up down eP eQ fine =
             let bo = object_at τ x fine.type fine.thrown.there in
             let some : (y : ℕ) × (x ≡ suc y) = let i = (heap.regions x bo.0 bo.1).there in suc_of x i in
-            at_raise n X d τ M w r stage x bo.0 bo.1 kk (ups s2) (downs s2) some.0 fine.type some.1 fine.thrown fine.throws (throws_one s2 s2 some.0) eP eQ above.0 above.1 (added_dup, above.2)
+            at_raise n X d τ M w r stage x bo.0 bo.1 kk (ups s2) (downs s2) some.0 fine.type some.1 fine.thrown fine.throws (throws_one s2 s2 some.0) eP eQ above.0 above.1 (raises_synced P Q B mn args σ d x (downs s2) down) (added_dup, above.2)
           where
             suc_of : (x : ℕ) → 1 < x → (y : ℕ) × (x ≡ suc y)
             suc_of zero h = absurd (omega (arith, h))
             suc_of (suc y) h = (y, refl)
-        serves dP dQ (heads x u s2 simple st) eP eQ fine =
-            at_head n X d τ M w r stage x fine.object fine.there u u (ups s2) (downs s2) (inner_use u simple) eP (λ v. eQ v ∙ plain u simple v) above.0 above.1 (added_dup, above.2)
+        serves dP dQ (heads x u s2 simple st) up down eP eQ fine =
+            at_head n X d τ M w r stage x fine.object fine.there u u (ups s2) (downs s2) (inner_use u simple) eP (λ v. eQ v ∙ plain u simple v) above.0 above.1 (heads_synced P Q B mn args σ d x u (downs s2) down) (added_dup, above.2)
             (λ rl agrees f. told_served u simple x fine.object s2 fine.there st fine.goes rl agrees f)
           where
             inner_use : (u : Use) → IsSimpleUse u → IsInnerUse Q first_added u

@@ -30,6 +30,8 @@ use Rattle.objects.proofs.Goals.{Here, IsGoal, so_far}
 use Rattle.objects.proofs.Sound.{IsSound, sound_of_ends}
 use Rattle.objects.proofs.SoundEnds.{sound_ends}
 use Rattle.objects.proofs.Walking.{walks}
+use Rattle.objects.proofs.Makes.{IsSynced}
+use Rattle.objects.proofs.Syncing.{SyncGoal, SyncAstray, sync_goal, synced_here}
 use Rattle.objects.proofs.Served.{all_served}
 use Rattle.objects.proofs.Looping.{SoundGoal, is_goal, many, sound_runs}
 
@@ -70,7 +72,7 @@ module _ (P : Program) (Ts : List Table) (S : IsTypedProgram P Ts) (B : Bounds) 
   is_wrapper = wrapper_is P id m n k static
 
   -- a marked method has code
-  code : has_code (Some k) ≡ true
+  pub code : has_code (Some k) ≡ true
   code = by k.ops (tied.source_of P Ts S m k there).code
     where
       by : (os : List Op) → HasCode os k → is_code os ≡ true
@@ -117,9 +119,16 @@ module _ (P : Program) (Ts : List Table) (S : IsTypedProgram P Ts) (B : Bounds) 
     abbrev Sound : Run → Type 0
     Sound = IsSound P Q B m args ws σ
 
-    none : (fs gs : Frames) (τ : State) (M : Meter) (w r : Log) → Here P Ts S Q B m args ws σ fs τ M w r → Goal 0 (On Open gs M w r)
-    none fs gs τ M w r here zero le loop = at_none Q B Sound (sound_of_ends P Q B m args ws σ) (On Open gs M w r) (λ a. so_far P Ts S Q B m args ws σ fs τ M w r here)
-    none fs gs τ M w r here (suc i) le loop = absurd (omega (arith, le))
+    synced : (fs gs : Frames) (τ : State) (M : Meter) (w r : Log) → Here P Ts S Q B m args ws σ fs τ M w r → tied.Run P Ts S m q k.result k.places slots fs gs → IsSynced P Q B m args σ (On Open gs M w r)
+    synced =
+        synced_here P Ts S Q B m args ws σ k.result k.places q z slots first ops_inner uncounted catch catch_other
+        (all_served P Ts S Q R (duplicate_is P Ts) (selected_moved P Ts S.source.names) B m args ws σ k.result k.places q z slots first ops_inner uncounted catch catch_other
+        (SyncGoal P Ts S Q B m args ws σ k.result k.places q z slots first ops_inner uncounted catch catch_other) (SyncAstray P Ts S Q B m args ws σ k.result k.places q z slots first ops_inner uncounted catch catch_other)
+        (sync_goal P Ts S Q B m args ws σ k.result k.places q z slots first ops_inner uncounted catch catch_other) (omega arith))
+
+    none : (fs gs : Frames) (τ : State) (M : Meter) (w r : Log) → Here P Ts S Q B m args ws σ fs τ M w r → tied.Run P Ts S m q k.result k.places slots fs gs → Goal 0 (On Open gs M w r)
+    none fs gs τ M w r here tie zero le loop = at_none Q B Sound (sound_of_ends P Q B m args ws σ) (On Open gs M w r) (λ a. (so_far P Ts S Q B m args ws σ fs τ M w r here, synced fs gs τ M w r here tie))
+    none fs gs τ M w r here tie (suc i) le loop = absurd (omega (arith, le))
 
     main : (i : ℕ) (fs gs : Frames) (τ : State) (M : Meter) (w r : Log) → Here P Ts S Q B m args ws σ fs τ M w r → tied.Run P Ts S m q k.result k.places slots fs gs → Goal i (On Open gs M w r)
     main =

@@ -17,6 +17,7 @@ use Rattle.objects.specs.Attempt.{Log, Reply, Bounds, Meter, Run, On, next_run}
 use Rattle.objects.specs.Attempt as attempt
 use Rattle.objects.specs.Typing.{Types, Table, types_at}
 use Rattle.objects.specs.TypingLaw.{IsTypedProgram}
+use Rattle.objects.proofs.LocalRoom.{has_room}
 use Rattle.objects.specs.Source.{IsSourceOp}
 use Rattle.objects.specs.Rewriting.{Typed, block_len_of, block_at, block_of, duplicate, duplicate_code}
 use Rattle.objects.proofs.Frames.{frame}
@@ -34,13 +35,13 @@ use Rattle.objects.proofs.Simple.{serves}
 pub one_place : (h : Option Types) (o : Op) → IsSimple o → block_len_of h o ≡ 1
 one_place h (op.GetStatic f) s = absurd s
 one_place h (op.PutStatic f) s = absurd s
-one_place h (op.GetField f) s = absurd s
-one_place h (op.PutField f) s = absurd s
+one_place h (op.GetField f c) s = absurd s
+one_place h (op.PutField f c) s = absurd s
 one_place h (op.LoadElement t) s = absurd s
 one_place h (op.StoreElement t) s = absurd s
 one_place h (op.InvokeStatic m) s = absurd s
 one_place h (op.InvokeSpecial m) s = absurd s
-one_place h (op.InvokeVirtual m) s = absurd s
+one_place h (op.InvokeVirtual m c) s = absurd s
 one_place h (op.InvokeInterface m c) s = absurd s
 one_place h o s = refl
 
@@ -58,7 +59,7 @@ module _ (P : Program) (Ts : List Table) (S : IsTypedProgram P Ts) (Q : Program)
   a = block_at xs pc
 
   abbrev stands_for : Op → Op
-  stands_for = image P Q R.texts k T t.typing (source_of P Ts S m k t.is).room m pc dn a (block_at xs) (counted_of P Ts S m k t.is) (counted_dup P Ts S mn q gives_type c slots Q R uncounted m dn k T t) l l' here.types here.there here.agree
+  stands_for = image P Q R.texts k T t.typing (has_room P k T t.typing (source_of P Ts S m k t.is).many) m pc dn a (block_at xs) (counted_of P Ts S m k t.is) (counted_dup P Ts S mn q gives_type c slots Q R uncounted m dn k T t) l l' here.types here.there here.agree
 
   pub block_stands : HasAt (duplicate_code P k xs).ops a (block_of P k.places k.locals (block_at xs) (types_at T pc) o)
   block_stands =
@@ -68,13 +69,13 @@ module _ (P : Program) (Ts : List Table) (S : IsTypedProgram P Ts) (Q : Program)
   one_stands : (x : Op) → IsSimple x → HasAt (duplicate_code P k xs).ops a (block_of P k.places k.locals (block_at xs) (types_at T pc) x) → slice_get (duplicate_code P k xs).ops a ≡ Some (stands_for x)
   one_stands (op.GetStatic f) i h = absurd i
   one_stands (op.PutStatic f) i h = absurd i
-  one_stands (op.GetField f) i h = absurd i
-  one_stands (op.PutField f) i h = absurd i
+  one_stands (op.GetField f c) i h = absurd i
+  one_stands (op.PutField f c) i h = absurd i
   one_stands (op.LoadElement t) i h = absurd i
   one_stands (op.StoreElement t) i h = absurd i
   one_stands (op.InvokeStatic m) i h = absurd i
   one_stands (op.InvokeSpecial m) i h = absurd i
-  one_stands (op.InvokeVirtual m) i h = absurd i
+  one_stands (op.InvokeVirtual m c) i h = absurd i
   one_stands (op.InvokeInterface m c) i h = absurd i
   one_stands op.GetContext i h = absurd i
   one_stands (op.Context c) i h = absurd i
@@ -83,11 +84,11 @@ module _ (P : Program) (Ts : List Table) (S : IsTypedProgram P Ts) (Q : Program)
   pub simple_goes : IsSimple o → Goal (suc n) (On Open (frame dn a l' s ∷ gs) M w r)
   simple_goes simple =
       let src = each_at (IsSourceOp P k) k.ops pc o (source_of P Ts S m k t.is).each e in
-      let alike = simple_alike P Q R.texts k T t.typing (source_of P Ts S m k t.is).room m pc dn a (block_at xs) (counted_of P Ts S m k t.is) (counted_dup P Ts S mn q gives_type c slots Q R uncounted m dn k T t) l l' here.types here.there here.agree o e simple src s in
+      let alike = simple_alike P Q R.texts k T t.typing (has_room P k T t.typing (source_of P Ts S m k t.is).many) m pc dn a (block_at xs) (counted_of P Ts S m k t.is) (counted_dup P Ts S mn q gives_type c slots Q R uncounted m dn k T t) l l' here.types here.there here.agree o e simple src s in
       let up : op_at P m pc ≡ Some o = (let i = t.is in rw i e) in
       let down : op_at Q dn a ≡ Some (stands_for o) = (let i = there_of P Ts S mn q gives_type c slots Q R uncounted m dn k T t in rw i (one_stands o simple block_stands)) in
       let step_up : step P (frame m pc l s ∷ fs) ≡ on_did P (does P o (frame m pc l s)) fs = (rw up refl) in
       let step_down : step Q (frame dn a l' s ∷ gs) ≡ on_did Q (does Q (stands_for o) (frame dn a l' s)) gs = (rw down refl) in
       serves P Ts S Q R B mn args ws σ gives_type c q z slots first_added ops_inner uncounted catch catch_other Goal Astray goal high n m pc dn k T l l' s fs gs t here callers τ M w r hr kk o e (one_place (types_at T pc) o simple)
-      (does P o (frame m pc l s)) (does Q (stands_for o) (frame dn a l' s)) alike (ap (λ (x : _). call.on_asked P B.region x M.turns τ) step_up) (λ v. ap (λ (x : _). attempt.on_asked Q B x Open v M w r) step_down)
+      (does P o (frame m pc l s)) (does Q (stands_for o) (frame dn a l' s)) alike step_up step_down (ap (λ (x : _). call.on_asked P B.region x M.turns τ) step_up) (λ v. ap (λ (x : _). attempt.on_asked Q B x Open v M w r) step_down)
       (subst (AsksFine P Ts S B.region.size τ hr.stands.represents.heap) step_up (step_fine P Ts S B.region.size τ hr.stands.represents.heap (frame m pc l s ∷ fs) hr.typed))

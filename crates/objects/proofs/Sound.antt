@@ -31,6 +31,7 @@ use Rattle.objects.proofs.Wrapper.{IsWrapper}
 use Rattle.objects.proofs.Lost.{IsSet, reads_of, lost, follows_lost, throws_lost}
 use Rattle.objects.proofs.Refusing.{refuses}
 use Rattle.objects.proofs.Replies.{Leads, SameLogs, IsOfEnds, Holds, on_more, on_reply_more, at_none}
+use Rattle.objects.proofs.Makes.{IsSynced, read_in, steps_synced, leads_synced}
 use Rattle.objects.proofs.Goals.{IsAstray, IsGoal}
 
 module _ (P : Program) (Q : Program) (B : Bounds) (mn : ℕ) (args : List Value) (ws : Words) (σ : State) where
@@ -49,23 +50,33 @@ module _ (P : Program) (Q : Program) (B : Bounds) (mn : ℕ) (args : List Value)
   abbrev pub SoFar : Log → Type 0
   SoFar w = Matched P B mn args w ws σ
 
+  abbrev pub Synced : Run → Type 0
+  Synced = IsSynced P Q B mn args σ
+
   abbrev pub Good : Run → Type 0
-  Good (On p fs M w r) = SoFar w
-  Good (Asking a fs M w r) = SoFar w
+  Good (On p fs M w r) = SoFar w × Synced (On p fs M w r)
+  Good (Asking a fs M w r) = SoFar w × Synced (Asking a fs M w r)
   Good (Ended x M w r) = SoFar w × (x ≢ Spent → HasEnded x M w)
   Good (Stuck r) = ⊥
 
   abbrev pub IsSound : Run → Type 0
   IsSound c = Agrees ws (reads_of c) → Good c
 
-  same_logs : (c d : Run) → SameLogs c d → IsSound d → IsSound c
-  same_logs (On p fs M w r) (On p2 gs N x s) e h a = subst SoFar (sym e.0) (h (subst (Agrees ws) e.1 a))
-  same_logs (On p fs M w r) (Ended v N x s) e h a = subst SoFar (sym e.0) (h (subst (Agrees ws) e.1 a)).0
-  same_logs (On p fs M w r) (Stuck s) e h a = absurd (h (subst (Agrees ws) e a))
-  same_logs (Asking v fs M w r) (On p2 gs N x s) e h a = subst SoFar (sym e.0) (h (subst (Agrees ws) e.1 a))
-  same_logs c d e h a = absurd e
+  -- a run that is sound isn't stuck
+  pub not_stuck : (d : Run) (r : Log) → Agrees ws r → IsSound d → d ≢ Stuck r
+  not_stuck d r a h e = subst IsSound e h a
 
-  pub sound_of_ends : IsOfEnds IsSound
+  same_logs : (j : ℕ) (c d : Run) → SameLogs c d → ((v : Reply) → Leads Q B j (next_run Q B v c) d) → IsSound d → IsSound c
+  same_logs j (On p fs M w r) (On p2 gs N x s) e l h a =
+      (subst SoFar (sym e.0) (h (subst (Agrees ws) e.1 a)).0, leads_synced P Q B mn args σ j (On p fs M w r) (On p2 gs N x s) l (not_stuck (On p2 gs N x s) r a h))
+  same_logs j (On p fs M w r) (Ended v N x s) e l h a =
+      (subst SoFar (sym e.0) (h (subst (Agrees ws) e.1 a)).0, leads_synced P Q B mn args σ j (On p fs M w r) (Ended v N x s) l (not_stuck (Ended v N x s) r a h))
+  same_logs j (On p fs M w r) (Stuck s) e l h a = absurd (h (subst (Agrees ws) e a))
+  same_logs j (Asking v fs M w r) (On p2 gs N x s) e l h a =
+      (subst SoFar (sym e.0) (h (subst (Agrees ws) e.1 a)).0, leads_synced P Q B mn args σ j (Asking v fs M w r) (On p2 gs N x s) l (not_stuck (On p2 gs N x s) r a h))
+  same_logs j c d e l h a = absurd e
+
+  pub sound_of_ends : IsOfEnds Q B IsSound
   sound_of_ends = record { same = same_logs }
 
   pub grows : (l : Access) (r : Log) → IsAstray ws r → IsAstray ws (l ∷ r)
@@ -74,10 +85,15 @@ module _ (P : Program) (Q : Program) (B : Bounds) (mn : ℕ) (args : List Value)
   pub vacuous : (c : Run) → IsAstray ws (reads_of c) → IsSound c
   vacuous c gone a = absurd (gone a)
 
-  on_way_sound : (w r : Log) (d : Run) → IsOnWay w r d → SoFar w → IsSound d
-  on_way_sound w r (On p fs M v q) e h a = subst SoFar e.0 h
-  on_way_sound w r (Asking x fs M v q) e h a = subst SoFar e.0 h
-  on_way_sound w r d e h a = absurd e
+  pub on_way_sound : (w r : Log) (d : Run) → IsOnWay w r d → SoFar w → Synced d → IsSound d
+  on_way_sound w r (On p fs M v q) e h s a = (subst SoFar e.0 h, s)
+  on_way_sound w r (Asking x fs M v q) e h s a = (subst SoFar e.0 h, s)
+  on_way_sound w r d e h s a = absurd e
+
+  pub read_on_way : (w r : Log) (d : Run) → IsOnWay w r d → read_in d ≡ r
+  read_on_way w r (On p fs M v q) e = sym e.1
+  read_on_way w r (Asking x fs M v q) e = sym e.1
+  read_on_way w r d e = absurd e
 
 module _ (P : Program) (Ts : List Table) (S : IsTypedProgram P Ts) (Q : Program) (same : Q ≡ rewritten P Ts) (first_added : ℕ) (code_added : (m : ℕ) (k : Method) → IsAdded Q first_added m → slice_get Q.methods m ≡ Some k → (k.catches ≡ []) ⊎ IsCopy P k)
     (ops_inner : (m : ℕ) (k : Method) → IsAdded Q first_added m → slice_get Q.methods m ≡ Some k → AllByRecursion (IsInnerOp Q first_added) k.ops) (B : Bounds) (mn : ℕ) (args : List Value) (ws : Words) (σ : State)
@@ -86,7 +102,7 @@ module _ (P : Program) (Ts : List Table) (S : IsTypedProgram P Ts) (Q : Program)
   abbrev Sound : Run → Type 0
   Sound = IsSound P Q B mn args ws σ
 
-  abbrev fine : IsOfEnds Sound
+  abbrev fine : IsOfEnds Q B Sound
   fine = sound_of_ends P Q B mn args ws σ
 
   abbrev pub Hold : ℕ → Run → Type 0
@@ -106,6 +122,10 @@ module _ (P : Program) (Ts : List Table) (S : IsTypedProgram P Ts) (Q : Program)
   pub loops_less : (n : ℕ) → Loops (suc n) → Loops n
   loops_less n loop wl j h m = fewer n _ (loop wl j h m)
 
+  loops_none : (n : ℕ) → Loops n → Loops 0
+  loops_none zero loop = loop
+  loops_none (suc n) loop = loops_none n (loops_less n loop)
+
   none : (n : ℕ) (d : Run) → Hold n d → Sound d
   none n d h = h [] (omega arith)
 
@@ -113,24 +133,34 @@ module _ (P : Program) (Ts : List Table) (S : IsTypedProgram P Ts) (Q : Program)
   goal_now n d g loop = none 0 d (g 0 (omega arith) loop)
 
   leads_on : (j n : ℕ) (d e : Run) → Leads Q B (suc j) d e → Goal n e → Goal (suc n) d
-  leads_on j n d e l g zero le loop = at_none Q B Sound fine d (fine.same d e l.0 (goal_now n e g loop))
+  leads_on j n d e l g zero le loop = at_none Q B Sound fine d (fine.same j d e l.0 l.1 (goal_now n e g loop))
   leads_on j n d e l g (suc k) le loop = on_more Q B Sound fine j k d e l (g k (omega (arith, le)) (loops_less k loop))
 
   abbrev gone_sound : (d : Run) → IsAstray ws (reads_of d) → Sound d
   gone_sound = vacuous P Q B mn args ws σ
 
-  module _ (w r : Log) (d : Run) (way : IsOnWay w r d) (far : SoFar P Q B mn args ws σ w) where
-    now : Sound d
-    now = on_way_sound P Q B mn args ws σ w r d way far
+  -- where every reply leads on to the same
+  steps_on : (n : ℕ) (w r : Log) (d e : Run) → IsOnWay w r d → SoFar P Q B mn args ws σ w → Agrees ws r → ((v : Reply) → next_run Q B v d ≡ e) → Goal n e → Goal (suc n) d
+  steps_on n w r d e way far agrees step g k le loop = by k le loop
+    where
+      now : (k : ℕ) → Loops k → Sound d
+      now k loop =
+          let same = read_on_way P Q B mn args ws σ w r d way in
+          let other = not_stuck P Q B mn args ws σ e (read_in d) (subst (Agrees ws) (sym same) agrees) (goal_now n e g (loops_none k loop)) in
+          on_way_sound P Q B mn args ws σ w r d way far (steps_synced P Q B mn args σ d e step other)
 
-    steps_on : (n : ℕ) (e : Run) → ((v : Reply) → next_run Q B v d ≡ e) → Goal n e → Goal (suc n) d
-    steps_on n e step g zero le loop = at_none Q B Sound fine d now
-    steps_on n e step g (suc k) le loop = on_reply_more Q B Sound fine k d now (λ v. subst (Hold k) (sym (step v)) (g k (omega (arith, le)) (loops_less k loop)))
+      by : (k : ℕ) → k ≤ suc n → Loops k → Hold k d
+      by zero le loop = at_none Q B Sound fine d (now 0 loop)
+      by (suc k) le loop = on_reply_more Q B Sound fine k d (now (suc k) loop) (λ v. subst (Hold k) (sym (step v)) (g k (omega (arith, le)) (loops_less k loop)))
+
+  module _ (w r : Log) (d : Run) (way : IsOnWay w r d) (synced : IsSynced P Q B mn args σ d) (far : SoFar P Q B mn args ws σ w) where
+    now : Sound d
+    now = on_way_sound P Q B mn args ws σ w r d way far synced
 
     module _ (wl : List Slot) (gs : Frames) (M : Meter) (set : IsSet gives c slots wl) (above : AboveCall Q first_added mn q wl gs) (refused : next_run Q B Refuses d ≡ unwound (unwinds Q 1 0 gs) M w r) where
       goes_back : (k : ℕ) → Loops k → Hold k (next_run Q B Refuses d)
       goes_back k loop =
-          subst (Hold k) (sym refused) (refuses P Ts Q same first_added code_added B mn wm is c id dn retries takes gives q z W wl set.here Sound fine k w r (λ p fs m a. far) (λ j m. loop wl j set m) gs above M)
+          subst (Hold k) (sym refused) (refuses P Ts Q same first_added code_added B mn wm is c id dn retries takes gives q z W wl set.here Sound fine k w r (λ fs m a. (far, λ t len made gs row asks is room. cc)) (λ j m. loop wl j set m) gs above M)
 
       looks_on : (n : ℕ) (e : Run) → ((x : ℕ) → next_run Q B (Gives x) d ≡ e) → Goal n e → Goal (suc n) d
       looks_on n e step g zero le loop = at_none Q B Sound fine d now
@@ -177,15 +207,15 @@ module _ (P : Program) (Ts : List Table) (S : IsTypedProgram P Ts) (Q : Program)
 
   abbrev refuses_lost : (n : ℕ) (w r : Log) → IsAstray ws r → Loops n → (wl : List Slot) → IsSet gives c slots wl → (fs : Frames) → AboveCall Q first_added mn q wl fs → (m : Meter) → Hold n (unwound (unwinds Q 1 0 fs) m w r)
   refuses_lost n w r gone loop wl set fs above m =
-      refuses P Ts Q same first_added code_added B mn wm is c id dn retries takes gives q z W wl set.here Sound fine n w r (λ p gs N a. absurd (gone a)) (λ j N. loop wl j set N) fs above m
+      refuses P Ts Q same first_added code_added B mn wm is c id dn retries takes gives q z W wl set.here Sound fine n w r (λ gs N a. absurd (gone a)) (λ j N. loop wl j set N) fs above m
 
   pub sound_goal : IsGoal P Ts S Q B mn args ws σ gives c q z slots first_added ops_inner uncounted catch catch_other Goal Goal
   sound_goal = record {
     more = λ n d g k le loop. g k (omega (arith, le)) loop;
     leads = leads_on;
-    steps = λ n w r d e way far agrees step g. steps_on w r d way far n e step g;
-    looks = λ n wl gs M w r d e way set above far agrees refused step g. looks_on w r d way far wl gs M set above refused n e step g;
-    reads = λ n wl gs M w r d a next way set above far agrees refused step astray g. reads_on w r d way far wl gs M set above refused n a next agrees step astray g;
+    steps = steps_on;
+    looks = λ n wl gs M w r d e way synced set above far agrees refused step g. looks_on w r d way synced far wl gs M set above refused n e step g;
+    reads = λ n wl gs M w r d a next way synced set above far agrees refused step astray g. reads_on w r d way synced far wl gs M set above refused n a next agrees step astray g;
     stray_on = λ n wl gs M w s set inside gone k le loop.
         lost Q B Sound fine (IsAstray ws) (grows P Q B mn args ws σ) gone_sound mn wm is c id dn retries takes q z slots len gives W first_added ops_inner uncounted catch catch_other refuses_lost wl set k loop gs M w s gone inside;
     stray_follows = λ n wl a M w s set inner gone k le loop.

@@ -11,7 +11,7 @@ use Rattle.jmodel.specs.declared.value.Answer.TheVariants.{Returned, Threw}
 use Rattle.jmodel.specs.declared.typing.VType.{VType}
 use Rattle.jmodel.specs.declared.typing.VType.TheVariants as type
 use Rattle.objects.specs.declared.op.Sort.TheVariants as sort
-use Rattle.jmodel.specs.History.{Words, overlaid, Agrees}
+use Rattle.jmodel.specs.History.{Words, overlaid}
 use Rattle.objects.specs.declared.op.Slot.{Slot}
 use Rattle.objects.specs.declared.op.Slot.TheVariants.{Int, Long, Second, Ref}
 use Rattle.objects.specs.declared.op.Phase.TheVariants.{Open, Ready, Closed}
@@ -35,6 +35,7 @@ use Rattle.objects.proofs.Added.{IsCopy}
 use Rattle.objects.proofs.Alike.{IsGivenAs}
 use Rattle.objects.proofs.Wrapper.{IsWrapper, HasValue, HasRoom, set_value, value_sort, throw_first, throw_commits, throw_again, throw_last, bare_first, bare_commits, bare_again, bare_last, end_first, end_commits, end_again, end_last}
 use Rattle.objects.proofs.Lost.{IsSet, set_behind}
+use Rattle.objects.proofs.Makes.{commit_synced}
 use Rattle.objects.proofs.Replies.{Leads, IsOfEnds, Holds, on_leads, on_reply, at_end}
 use Rattle.objects.proofs.Goals.{StandsFor, EndsAs, out, back, threw}
 use Rattle.objects.proofs.Sound.{IsSound, SoFar, sound_of_ends, Goal}
@@ -92,7 +93,7 @@ module _ (P : Program) (Ts : List Table) (S : IsTypedProgram P Ts) (Q : Program)
   abbrev Sound : Run → Type 0
   Sound = IsSound P Q B mn args ws σ
 
-  abbrev fine : IsOfEnds Sound
+  abbrev fine : IsOfEnds Q B Sound
   fine = sound_of_ends P Q B mn args ws σ
 
   abbrev Hold : ℕ → Run → Type 0
@@ -128,13 +129,10 @@ module _ (P : Program) (Ts : List Table) (S : IsTypedProgram P Ts) (Q : Program)
   )
 
   module _ (x : Answer) (τ : State) (keeps : kept x σ τ ≡ τ) (M : Meter) (w r : Log) (h : HasLeft x τ M w) (k : ℕ) where
-    abbrev now : Agrees ws r → SoFar P Q B mn args ws σ w
-    now a = far x τ M w h
-
     -- behind the commit it ends so; where the commit fails, the wrapper tries again
     commits : (gs : Frames) (p : Frames) → ((v : Reply) → next_run Q B v (On Open p M w r) ≡ on_commit B v gs M w r) → (j : ℕ) → Leads Q B j (On Closed (resumed (Int (pos 1) ∷ []) gs) M w r) (Ended x M w r)
         → Hold k (On Ready (resumed (Int (pos 0) ∷ []) gs) (set_back B M) [] []) → Hold k (On Open p M w r)
-    commits gs p asks j last again = on_reply Q B Sound fine k (On Open p M w r) now (λ v. subst (Hold k) (sym (asks v)) (by v))
+    commits gs p asks j last again = on_reply Q B Sound fine k (On Open p M w r) (λ a. (far x τ M w h, commit_synced P Q B mn args σ p gs M w r asks)) (λ v. subst (Hold k) (sym (asks v)) (by v))
       where
         by : (v : Reply) → Hold k (on_commit B v gs M w r)
         by (Gives y) = on_leads Q B Sound fine j k _ _ last (at_end Q B Sound fine k x M w r (over x τ M w r h keeps))

@@ -27,7 +27,7 @@ use Rattle.objects.proofs.Lost.{IsSet}
 pub call_len : (h : Option Types) (o : Op) → IsCallOp o → block_len_of h o ≡ 2
 call_len h (op.InvokeStatic m) c = refl
 call_len h (op.InvokeSpecial m) c = refl
-call_len h (op.InvokeVirtual m) c = refl
+call_len h (op.InvokeVirtual m n) c = refl
 call_len h (op.InvokeInterface m n) c = refl
 call_len h o c = absurd c
 

@@ -786,9 +786,9 @@ module _ (P : Program) (Ts : List Table) (S : IsTypedProgram P Ts) (size : ℕ) 
             let y = over_calls c x.method s n.0 x.there n.1 hs (below inner.0 inner.1) in
             over_fine c x.method s x.there y.0 _ (λ past. runs_fine c x.method s x.there n.0 n.1 y.0 (λ is. y.1) (λ new. absurd (never (is_constructor x.method) new other)))
           where
-            below : (us : List VType) → Keeps (typed.on_top us (λ t u. typed.if_so (is_within P t (Ref k.name.class)) (typed.on_each P (reverse x.method.parameters) h.stack (λ s. typed.leaves pc h (results x.method ++ s))))) → Keeps (typed.calls P pc x.method h)
+            below : (us : List VType) → Keeps (typed.on_top us (λ t u. typed.if_so (is_within P t (Ref (name_read P k.name.class))) (typed.on_each P (reverse x.method.parameters) h.stack (λ s. typed.leaves pc h (results x.method ++ s))))) → Keeps (typed.calls P pc x.method h)
             below [] e = absurd e
-            below (t ∷ us) e = if_so_fine (is_within P t (Ref k.name.class)) _ (Keeps (typed.calls P pc x.method h)) (λ is e. e) e
+            below (t ∷ us) e = if_so_fine (is_within P t (Ref (name_read P k.name.class))) _ (Keeps (typed.calls P pc x.method h)) (λ is e. e) e
 
     -- what an object's class selects for a method is over the object, and takes and gives the same
     record IsTarget (d : Method) (o to : ℕ) : Type 0 where
@@ -1297,11 +1297,11 @@ module _ (P : Program) (Ts : List Table) (S : IsTypedProgram P Ts) (size : ℕ) 
         on_int_fine h.stack s _ _ hs (λ x us r hx hr e. jumps_fine (switched other cases x) l r (goes_to (typed.with_stack h us) (switched other cases x) l r (exit_has (Covers P k T (typed.with_stack h us)) other cases x e) hl hr)) e
     op_fine (op.GetStatic n) at_op src s hs e = get_static_fine n src.0 src.1 s hs (λ f there s. at_here _ (op.GetStatic n) at_op (f, there, refl) s) e
     op_fine (op.PutStatic n) at_op src s hs e = put_static_fine n src.0 src.1 s hs e
-    op_fine (op.GetField n) at_op src s hs e = get_field_fine n src s hs (λ f there s. at_here _ (op.GetField n) at_op (f, there, refl) s) e
-    op_fine (op.PutField n) at_op src s hs e = put_field_fine n src s hs e
+    op_fine (op.GetField n c) at_op src s hs e = if_so_fine _ _ (DidFine (does P (op.GetField n c) (here l s))) (λ is e. get_field_fine n src s hs (λ f there s. at_here _ (op.GetField n c) at_op (f, there, refl) s) e) e
+    op_fine (op.PutField n c) at_op src s hs e = if_so_fine _ _ (DidFine (does P (op.PutField n c) (here l s))) (λ is e. put_field_fine n src s hs e) e
     op_fine (op.InvokeStatic c) at_op src s hs e = static_fine c s src hs e
     op_fine (op.InvokeSpecial c) at_op src s hs e = special_fine c s src hs e
-    op_fine (op.InvokeVirtual c) at_op src s hs e = virtual_fine c s src hs e
+    op_fine (op.InvokeVirtual m c) at_op src s hs e = if_so_fine _ _ (DidFine (does P (op.InvokeVirtual m c) (here l s))) (λ is e. virtual_fine m s src hs e) e
     op_fine (op.InvokeInterface c n) at_op src s hs e = interface_fine c n s src hs e
     op_fine (op.InitLibrary c n) at_op src s hs e = library_fine c n s hs e
     op_fine (op.New t) at_op src s hs e = new_fine t src at_op s hs e

@@ -83,7 +83,7 @@ IsIndexedAt P o h d = ⊥
 -- the type of the word that an instruction reads
 abbrev pub IsReadAt : Program → Op → Types → Declared → Type 0
 IsReadAt P (op.GetStatic n) h d = (f : Field) × (field_at P n ≡ Some f) × (f.declared ≡ d)
-IsReadAt P (op.GetField n) h d = (f : Field) × (field_at P n ≡ Some f) × (f.declared ≡ d)
+IsReadAt P (op.GetField n c) h d = (f : Field) × (field_at P n ≡ Some f) × (f.declared ≡ d)
 IsReadAt P (op.LoadElement t) h d = IsIndexedAt P (op.LoadElement t) h d
 IsReadAt P o h d = ⊥
 

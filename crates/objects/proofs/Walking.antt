@@ -40,10 +40,10 @@ module _ (P : Program) (Ts : List Table) (S : IsTypedProgram P Ts) (Q : Program)
       → Continues P Ts S Q B mn args ws σ gives c q z slots first_added ops_inner uncounted catch catch_other Goal n (call.On (frame m pc l s ∷ fs) M.turns τ) → (o : Op) → slice_get k.ops pc ≡ Some o
       → Goal (suc n) (On Open (frame dn (block_at (typed_code P Ts S k T) pc) l' s ∷ gs) M w r)
 
-  module _ (serves : Serves) (none : (fs gs : Frames) (τ : State) (M : Meter) (w r : Log) → Here P Ts S Q B mn args ws σ fs τ M w r → Goal 0 (On Open gs M w r))
+  module _ (serves : Serves) (none : (fs gs : Frames) (τ : State) (M : Meter) (w r : Log) → Here P Ts S Q B mn args ws σ fs τ M w r → tied.Run P Ts S mn q gives c slots fs gs → Goal 0 (On Open gs M w r))
       (ends : (n N : ℕ) (x : Answer) (τ : State) (e : Run) → direct P G N (call_start P mn args B.budget σ) ≡ call.Ended x τ → EndsAs P Ts S Q B mn args ws σ gives c q z slots first_added ops_inner uncounted catch catch_other τ x e → Goal n e) where
     pub walks : (n : ℕ) (fs gs : Frames) (τ : State) (M : Meter) (w r : Log) → Here P Ts S Q B mn args ws σ fs τ M w r → tied.Run P Ts S mn q gives c slots fs gs → Goal n (On Open gs M w r)
-    walks zero fs gs τ M w r here tie = none fs gs τ M w r here
+    walks zero fs gs τ M w r here tie = none fs gs τ M w r here tie
     walks (suc n) fs gs τ M w r here (top m pc dn k T l l' s fs0 gs0 t stands callers) =
         let o = some_at k.ops pc stands.inside in
         serves n m pc dn k T l l' s fs0 gs0 t stands callers τ M w r here

@@ -43,7 +43,7 @@ use Rattle.objects.specs.TypeOrder.{object_class, context_class, conflict_class,
 use Rattle.objects.specs.Program.{Row, Field}
 use Rattle.objects.specs.LibraryMethods.{is_library_constructor, is_library_function}
 use Rattle.objects.specs.Resolution.{resolved_field, resolved_method, special_method}
-use Rattle.objects.specs.Layout.{type_number, array_over}
+use Rattle.objects.specs.Layout.{class_read, type_number, array_over}
 
 -- ---- what names stand for
 
@@ -289,8 +289,8 @@ abbrev pub field_op : Symbols → ℕ → MemberName → Option Op
 field_op s c n =
     if c == 178 then get_static_op s n
     else if c == 179 then option_map op.PutStatic (field_number s n)
-    else if c == 180 then option_map op.GetField (field_number s n)
-    else if c == 181 then option_map op.PutField (field_number s n)
+    else if c == 180 then option_map (λ f. op.GetField f (class_read s.classes n.class)) (field_number s n)
+    else if c == 181 then option_map (λ f. op.PutField f (class_read s.classes n.class)) (field_number s n)
     else None
 
 -- ---- calls
@@ -369,7 +369,7 @@ context_call n =
 abbrev pub virtual_call_op : Symbols → MemberName → Option Op
 virtual_call_op s n =
     if bytes_eq n.class context_class then option_map op.Context (context_call n)
-    else option_map op.InvokeVirtual (method_number s n)
+    else option_map (λ m. op.InvokeVirtual m (class_read s.classes n.class)) (method_number s n)
 
 -- an opcode from invokevirtual, 182, to invokeinterface
 abbrev pub call_op : Symbols → ℕ → MemberName → Option Op

@@ -1,5 +1,5 @@
 -- The laws of the rewriting.
-use Rattle.std.specs.Prelude.{◌≡◌, ◌<◌, ℕ, ℤ, List, Option, Some, None, slice_get}
+use Rattle.std.specs.Prelude.{◌≡◌, ◌<◌, ◌++◌, ℕ, ℤ, List, Option, Some, None, slice_get}
 use Rattle.std.specs.List.{AllByRecursion}
 use Rattle.jmodel.specs.declared.value.Value.{Value}
 use Rattle.jmodel.specs.declared.value.Answer.{Answer}
@@ -8,6 +8,7 @@ use Rattle.objects.specs.Program.{Method, Program}
 use Rattle.objects.specs.Typing.{Table}
 use Rattle.objects.specs.Source.{AreArguments}
 use Rattle.objects.specs.Attempt.{Log, Reply, Bounds, Run, On, Asking, Stuck, run, run_start, Runs, count_of}
+use Rattle.objects.specs.Traps.{traps, Begins}
 use Rattle.jmodel.specs.History.{Entry, Words, overlaid, Agrees, AreEntries, memory_after, used_after}
 use Rattle.objects.specs.State.{State}
 use Rattle.objects.specs.Call.{Direct, direct, call_start, Calls}
@@ -72,6 +73,18 @@ abbrev pub Prefix : Type 0
 Prefix = (P : Program) (Ts : List Table) → IsTypedProgram P Ts → (B : Bounds) (m : ℕ) (k : Method) (n : ℤ) → slice_get P.methods m ≡ Some k → k.dispatch ≡ dispatch.Static → k.retries ≡ Some n
     → (args : List Value) → AreArguments k.parameters args → (vs : List Reply) (w r : Log) → IsOnWay w r (run (rewritten P Ts) B vs (run_start (rewritten P Ts) B m args))
     → (words : Words) (σ : State) → Represents P B.region.size words σ → Agrees words r → σ.used B.region.number ≡ B.used → Matched P B m args w words σ
+
+-- The original method, run alone, meets these traps first, and so does each call of it that ends.
+pub record MeetsFirst (P : Program) (B : Bounds) (m : ℕ) (args : List Value) (σ : State) (ts : List ℕ) : Type 0 where
+  pub steps : ℕ
+  pub meets : traps P B.region steps (call_start P m args B.budget σ) ≡ ts
+  pub ends : (x : Answer) (τ : State) (c : Calls P B.budget B.region m args σ x τ) → (others : List ℕ) × (traps P B.region c.steps (call_start P m args B.budget σ) ≡ ts ++ others)
+
+-- The traps that an attempt has met so far are those that the original meets first, from each state that has what the attempt read.
+abbrev pub PrefixTraps : Type 0
+PrefixTraps = (P : Program) (Ts : List Table) → IsTypedProgram P Ts → (B : Bounds) (m : ℕ) (k : Method) (n : ℤ) → slice_get P.methods m ≡ Some k → k.dispatch ≡ dispatch.Static → k.retries ≡ Some n
+    → (args : List Value) → AreArguments k.parameters args → (r : Log) (ts : List ℕ) → Begins (rewritten P Ts) B m args r ts
+    → (words : Words) (σ : State) → Represents P B.region.size words σ → Agrees words r → σ.used B.region.number ≡ B.used → MeetsFirst P B m args σ ts
 
 -- A run of the rewritten code that ends so: its last attempt read what memory has, its writes leave words that stand for a state, and the used
 -- words of its region are that state's.

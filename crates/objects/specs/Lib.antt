@@ -3,6 +3,7 @@ pub mod State
 pub mod Step
 pub mod Call
 pub mod Attempt
+pub mod Traps
 pub mod Meaning
 pub mod Source
 pub mod TypeOrder

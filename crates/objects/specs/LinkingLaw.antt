@@ -1,18 +1,21 @@
 -- What stands above a class is what stands above those right above it; and the types of a folder's program keep the rules of source.
-use Rattle.std.specs.Prelude.{◌≡◌, ℕ, List, Some, None, true, slice_get}
+use Rattle.std.specs.Prelude.{◌≡◌, ◌≢◌, ◌<◌, ◌≤◌, ◌^◌, ℕ, List, length, Some, None, Ok, true, slice_get}
 use Rattle.std.specs.List.{AllByRecursion, flat_map}
 use Rattle.jmodel.specs.ClassFile.{Pool, ClassFile}
 use Rattle.jmodel.specs.Pool.{class_name}
+use Rattle.jmodel.specs.ClassRules.{IsClassFile}
 use Rattle.jmodel.specs.Descriptor.{is_array_name, IsArrayName}
+use Rattle.jmodel.specs.Layout.{at_address}
 use Rattle.jmodel.specs.Superclasses.{own_name, class_named, super_name, with_above, lineage}
-use Rattle.jmodel.specs.Classes.{Declared, doubled_class}
-use Rattle.objects.specs.Program.{Method}
+use Rattle.jmodel.specs.Classes.{Declared, in_order, doubled_class}
+use Rattle.objects.specs.Program.{Method, Program}
 use Rattle.objects.specs.TypeOrder.{context_class, conflict_class, is_class_name}
-use Rattle.objects.specs.Source.{AreTypes}
-use Rattle.objects.specs.Layout.{rows, fields_of}
-use Rattle.objects.specs.Linking.{taken_methods, constructs_fault}
+use Rattle.objects.specs.Source.{AreTypes, IsSource}
+use Rattle.objects.specs.Layout.{rows, fields_of, fixed_words, opening_state, opening_words}
+use Rattle.objects.specs.Meaning.{Represents}
+use Rattle.objects.specs.Linking.{taken_methods, constructs_fault, linking, linking_files}
 use Rattle.objects.specs.Resolution.{names_above, ancestry}
-use Rattle.objects.specs.ClassesFaults.{supers_fault}
+use Rattle.objects.specs.ClassesFaults.{supers_fault, reserved_class}
 
 -- The ways upward are as JVM Specification, Java SE 7, sections 5.4.3.2 and 5.4.3.3, walk them: from a class to its superclass, and on from there; or to
 -- each of its interfaces and then its superclass, and on from each. How many classes there are cuts none of them short.
@@ -40,3 +43,34 @@ pub record AreFaultless (cs : List ClassFile) : Type 0 where
 -- The types of their program keep the rules of source.
 abbrev pub TypesLaw : Type 0
 TypesLaw = (cs : List ClassFile) → AreFaultless cs → (texts : List ℕ) (methods : List Method) → AreTypes (record { types = rows cs; texts = texts; fields = fields_of cs; methods = methods })
+
+-- Class files that keep the rules of their form, no more than a folder may have, of which no two have classes of one name and none has a name that
+-- rewriting keeps for itself.
+pub record AreRead (cs : List ClassFile) : Type 0 where
+  pub few : length cs ≤ 256
+  pub files : AllByRecursion IsClassFile cs
+  pub doubled : doubled_class cs ≡ None
+  pub reserved : reserved_class cs ≡ None
+
+-- The program of such classes is source.
+abbrev pub SourceLaw : Type 0
+SourceLaw = (cs : List ClassFile) (P : Program) → AreRead cs → linking cs ≡ Ok (Some P) → IsSource P
+
+-- Class files in whatever order, each in its form and no more than a folder may have, that are linked to a program: in the order of their classes'
+-- names they are as they are read, and the program is source.
+pub record IsLinkedFolder (files : List ClassFile) (P : Program) : Type 0 where
+  pub read : AreRead (in_order files)
+  pub linked : linking (in_order files) ≡ Ok (Some P)
+  pub source : IsSource P
+
+abbrev pub FilesLaw : Type 0
+FilesLaw = (files : List ClassFile) (P : Program) → length files ≤ 256 → AllByRecursion IsClassFile files → linking_files files ≡ Ok (Some P) → IsLinkedFolder files P
+
+-- The opening words stand for the opening state, where a region has room for the fixed words.
+abbrev pub OpeningLaw : Type 0
+OpeningLaw = (cs : List ClassFile) (P : Program) (size : ℕ) → AreRead cs → linking cs ≡ Ok (Some P) → fixed_words cs ≤ size → size < 2 ^ 64
+    → Represents P size (at_address (opening_words cs)) (opening_state cs)
+
+-- Each instruction of such classes that has no construct that is left out means something: they are linked to a program, or refused.
+abbrev pub MeaningLaw : Type 0
+MeaningLaw = (cs : List ClassFile) → AreRead cs → linking cs ≢ Ok None

@@ -107,9 +107,9 @@ is_properly_above cs c name = not (bytes_eq (own_name c) name) && list_any (λ d
 abbrev pub from_above : List ClassFile → ClassFile → MemberName → Declared → Declared
 from_above cs c n k = if is_private k.member then k else unwrap_or (selected_from cs (super_name c) n) k
 
--- The method that invokespecial in a class runs: of a class above that one, what is selected from its own superclass upward, unless it is a
--- constructor; else the method itself that the name stands for (section 6.5). That the flag ACC_SUPER isn't looked at is this project's own rule.
--- Where nothing is selected, it is the method that the name stands for.
+-- The method that invokespecial in a class runs: where a class above that one declares what the name stands for, what is selected from the superclass
+-- upward, unless it is a constructor; else the method itself that the name stands for (section 6.5). That the flag ACC_SUPER isn't looked at is this
+-- project's own rule. Where nothing is selected, it is the method that the name stands for.
 abbrev pub special_method : List ClassFile → ClassFile → MemberName → Option Declared
 special_method cs c n =
-    option_map (λ k. if not (bytes_eq n.name (codes "<init>")) && is_properly_above cs c n.class then from_above cs c n k else k) (resolved_method cs n)
+    option_map (λ k. if not (bytes_eq n.name (codes "<init>")) && is_properly_above cs c (own_name k.class) then from_above cs c n k else k) (resolved_method cs n)

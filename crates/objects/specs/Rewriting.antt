@@ -57,8 +57,8 @@ duplicate P m = length P.methods + 2 * length P.fields + m
 -- the place of an element's type among those of the helper
 abbrev pub helper_place : WordType → ℕ
 helper_place word.Byte = 0
-helper_place word.Char = 1
-helper_place word.Boolean = 2
+helper_place word.Boolean = 1
+helper_place word.Char = 2
 helper_place word.Short = 3
 helper_place word.Int = 4
 helper_place word.Long = 5
@@ -135,7 +135,7 @@ static_setter f o = added f.class (f.name ++ codes "__Setter$") (codes "(" ++ f.
 abbrev pub field_getter : ℕ → Field → Method
 field_getter n f = added f.class (f.name ++ codes "__Getter$") (codes "(L" ++ f.class ++ codes ";" ++ context_type ++ codes ")" ++ f.descriptor) (type.Ref f.class ∷ context ∷ []) (4 + places_of f.declared.word) (Some (as_result f.declared)) (
     Load sort.Reference 1 ∷ Load sort.Reference 0 ∷ distance f.index ∷ Context BeforeRead
-    ∷ Load sort.Reference 1 ∷ Load sort.Reference 0 ∷ Load sort.Reference 0 ∷ GetField n ∷ distance f.index ∷ Context (OnRead f.declared.word)
+    ∷ Load sort.Reference 1 ∷ Load sort.Reference 0 ∷ Load sort.Reference 0 ∷ GetField n f.class ∷ distance f.index ∷ Context (OnRead f.declared.word)
     ∷ cast_of f.declared (ReturnValue (sort_of f.declared.word) ∷ []))
 
 -- f__Setter$(LC;TX)V
@@ -170,8 +170,8 @@ helper_class = codes "org/deuce/transaction/ArrayHelper"
 -- the letter of an element's type in the names of the helper's methods
 abbrev pub helper_letter : WordType → List ℕ
 helper_letter word.Byte = codes "b"
-helper_letter word.Char = codes "c"
 helper_letter word.Boolean = codes "z"
+helper_letter word.Char = codes "c"
 helper_letter word.Short = codes "s"
 helper_letter word.Int = codes "i"
 helper_letter word.Long = codes "l"
@@ -203,7 +203,7 @@ element_setter_method t = added helper_class (helper_letter t ++ codes "astore")
 
 abbrev pub helper_methods : List Method
 helper_methods = flat_map (λ t. element_getter_method t ∷ element_setter_method t ∷ [])
-    (word.Byte ∷ word.Char ∷ word.Boolean ∷ word.Short ∷ word.Int ∷ word.Long ∷ word.Reference ∷ [])
+    (word.Byte ∷ word.Boolean ∷ word.Char ∷ word.Short ∷ word.Int ∷ word.Long ∷ word.Reference ∷ [])
 
 -- ---- duplicates
 
@@ -272,13 +272,13 @@ element_store P p t u = Load sort.Reference p ∷ InvokeStatic (element_setter P
 abbrev pub block_of : Program → ℕ → ℕ → (ℕ → ℕ) → Option Types → Op → List Op
 block_of P p most at h (GetStatic f) = Load sort.Reference p ∷ InvokeStatic (getter P f) ∷ []
 block_of P p most at h (PutStatic f) = Load sort.Reference p ∷ InvokeStatic (setter P f) ∷ []
-block_of P p most at h (GetField f) = Load sort.Reference p ∷ InvokeStatic (getter P f) ∷ []
-block_of P p most at h (PutField f) = Load sort.Reference p ∷ InvokeStatic (setter P f) ∷ []
+block_of P p most at h (GetField f c) = Load sort.Reference p ∷ InvokeStatic (getter P f) ∷ []
+block_of P p most at h (PutField f c) = Load sort.Reference p ∷ InvokeStatic (setter P f) ∷ []
 block_of P p most at h (LoadElement t) = element_load P p t (array_under 1 h)
 block_of P p most at h (StoreElement t) = element_store P p t (array_under (1 + places_of t) h)
 block_of P p most at h (InvokeStatic m) = Load sort.Reference p ∷ InvokeStatic (duplicate P m) ∷ []
 block_of P p most at h (InvokeSpecial m) = Load sort.Reference p ∷ InvokeSpecial (duplicate P m) ∷ []
-block_of P p most at h (InvokeVirtual m) = Load sort.Reference p ∷ InvokeVirtual (duplicate P m) ∷ []
+block_of P p most at h (InvokeVirtual m c) = Load sort.Reference p ∷ InvokeVirtual (duplicate P m) c ∷ []
 block_of P p most at h (InvokeInterface m c) = Load sort.Reference p ∷ InvokeInterface (duplicate P m) c ∷ []
 block_of P p most at h (Load s i) = Load s (moved_to s p most i) ∷ []
 block_of P p most at h (Store s i) = Store s (moved_to s p most i) ∷ []
@@ -297,13 +297,13 @@ block P p most at x = block_of P p most at x.types x.op
 abbrev pub block_len_of : Option Types → Op → ℕ
 block_len_of h (GetStatic f) = 2
 block_len_of h (PutStatic f) = 2
-block_len_of h (GetField f) = 2
-block_len_of h (PutField f) = 2
+block_len_of h (GetField f c) = 2
+block_len_of h (PutField f c) = 2
 block_len_of h (LoadElement t) = 2 + length (after_load t (array_under 1 h))
 block_len_of h (StoreElement t) = 2
 block_len_of h (InvokeStatic m) = 2
 block_len_of h (InvokeSpecial m) = 2
-block_len_of h (InvokeVirtual m) = 2
+block_len_of h (InvokeVirtual m c) = 2
 block_len_of h (InvokeInterface m c) = 2
 block_len_of h o = 1
 

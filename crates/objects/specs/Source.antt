@@ -8,8 +8,6 @@ use Rattle.jmodel.specs.declared.value.Value.TheVariants as value
 use Rattle.jmodel.specs.declared.typing.VType.{VType}
 use Rattle.jmodel.specs.declared.typing.VType.TheVariants as type
 use Rattle.objects.specs.declared.op.Trap.{Trap}
-use Rattle.objects.specs.declared.op.Sort.{Sort}
-use Rattle.objects.specs.declared.op.Sort.TheVariants as sort
 use Rattle.objects.specs.declared.op.WordType.{WordType}
 use Rattle.objects.specs.declared.op.WordType.TheVariants as word
 use Rattle.objects.specs.declared.op.Dispatch.{Dispatch}
@@ -22,29 +20,30 @@ use Rattle.objects.specs.declared.op.Catches.TheVariants.{Conflict}
 use Rattle.objects.specs.WordTypes.{type_descriptor}
 use Rattle.objects.specs.Library.{trap_type}
 use Rattle.objects.specs.Program.{Declared, Holds, Words, Elements, Row, Field, Method, Program, method_at, field_at, row_at, is_instance}
-use Rattle.objects.specs.TypeOrder.{object_class, throwable_class, conflict_classes, is_class_name, from_class, classes_from, IsWithin, name_read, descriptor_of}
-use Rattle.objects.specs.Typing.{is_constructor, arguments}
+use Rattle.objects.specs.TypeOrder.{object_class, throwable_class, context_class, conflict_classes, is_class_name, from_class, classes_from, IsWithin, name_read, descriptor_of}
+use Rattle.objects.specs.Typing.{is_constructor, arguments, results}
 use Rattle.objects.specs.Rewriting.{with_context}
 
 -- ---- types of objects
 
--- A class stands at the top, or right under another of the program, whose words come first in its objects.
+-- A class stands right under another class of the program, whose words come first in its objects.
 pub record IsUnder (P : Program) (r : Row) (words : List Declared) : Type 0 where
   pub number : ℕ
   pub upper : Row
   pub upper_words : List Declared
   pub own : List Declared
   pub is : row_at P number ≡ Some upper
+  pub class : upper.lineage ≢ []
   pub lineage : r.lineage ≡ r.name ∷ upper.lineage
   pub holds : upper.holds ≡ Words upper_words
   pub words_are : words ≡ upper_words ++ own
 
--- a class, by what its objects hold: typing reads it by its name, by which it is found
+-- A class, by what its objects hold: typing reads it by its name, by which it is found. Only Object stands under no other (JVM Specification, section 4.1).
 pub record IsClass (P : Program) (r : Row) (words : List Declared) : Type 0 where
   pub named : is_class_name r.name ≡ true
   pub read : r.read ≡ r.name
   pub found : find (λ (d : Row). bytes_eq d.name r.name) P.types ≡ Some r
-  pub placed : (r.lineage ≡ r.name ∷ []) ⊎ IsUnder P r words
+  pub placed : ((r.name ≡ object_class) × (r.lineage ≡ r.name ∷ [])) ⊎ IsUnder P r words
 
 -- the descriptor of an element
 abbrev pub element_descriptor : Declared → List ℕ
@@ -84,7 +83,7 @@ pub record IsTrapClass (P : Program) (x : Trap) : Type 0 where
   pub below : IsWithin P (type.Ref row.read) (type.Ref throwable_class)
 
 -- The run-time test of types and typing agree: an instance is at most what typing reads of the name, and what is at most a type is an instance of it.
--- The classes above the transaction's conflict stand under one another as they do in the library.
+-- The classes above the transaction's conflict stand under one another as they do in the library, and its context right under Object.
 pub record AreTypes (P : Program) : Type 0 where
   pub rows : (t : ℕ) (r : Row) → row_at P t ≡ Some r → IsRowOf P r r.holds
   pub instances : (t : ℕ) (r : Row) (n : List ℕ) → row_at P t ≡ Some r → is_instance P t n ≡ true → IsWithin P (type.Ref r.read) (type.Ref (name_read P n))
@@ -92,6 +91,25 @@ pub record AreTypes (P : Program) : Type 0 where
   pub fields : (i : ℕ) (f : Field) → field_at P i ≡ Some f → f.base ≡ None → IsDeclared P f
   pub traps : (x : Trap) → IsTrapClass P x
   pub conflict : AllByRecursion (λ n. classes_from P n ≡ from_class n conflict_classes) conflict_classes
+  pub context : classes_from P context_class ≡ from_class context_class conflict_classes
+
+-- ---- types as typing reads them
+
+-- the name of a class or an array as typing reads it, which is at most itself and Object
+pub record IsReadName (P : Program) (n : List ℕ) : Type 0 where
+  pub itself : IsWithin P (type.Ref n) (type.Ref n)
+  pub top : IsWithin P (type.Ref n) (type.Ref object_class)
+  pub read : name_read P n ≡ n
+
+-- the name in a type, where there is one, is such
+abbrev pub IsReadType : Program → VType → Type 0
+IsReadType P (type.Ref n) = IsReadName P n
+IsReadType P t = Unit {0}
+
+-- so is the class of a word, where it is a reference
+abbrev pub IsReadWord : Program → WordType → List ℕ → Type 0
+IsReadWord P word.Reference c = IsReadName P c
+IsReadWord P w c = Unit {0}
 
 -- ---- fields
 
@@ -104,14 +122,11 @@ abbrev pub IsBased : Field → Option ℕ → Type 0
 IsBased f None = f.index + 1 < 2 ^ 64
 IsBased f (Some o) = IsBase f o
 
-abbrev pub IsSourceField : Field → Type 0
-IsSourceField f = IsBased f f.base
+pub record IsSourceField (P : Program) (f : Field) : Type 0 where
+  pub based : IsBased f f.base
+  pub read : IsReadWord P f.declared.word f.declared.class
 
 -- ---- instructions
-
-abbrev pub IsLocal : Sort → ℕ → Method → Type 0
-IsLocal sort.Long i k = i + 1 < k.locals
-IsLocal s i k = i < k.locals
 
 abbrev pub IsConstant : Value → Type 0
 IsConstant (Int n) = FitsSigned w32 n
@@ -153,13 +168,10 @@ pub record CanMake (P : Program) (t : ℕ) (array : Bool) : Type 0 where
   pub below : IsWithin P (type.Ref row.read) (type.Ref row.read)
   pub holds : IsMadeOf array row row.holds
 
--- an instruction of an original method: its fields, methods and locals are there, and it isn't one of transactional code
+-- An instruction of an original method: its fields, methods and targets are there, and it isn't one of transactional code. That its locals are there is typing's.
 abbrev pub IsSourceOp : Program → Method → Op → Type 0
 IsSourceOp P k (op.Constant v) = IsConstant v
 IsSourceOp P k (op.Text n) = n < length P.texts
-IsSourceOp P k (op.Load s i) = IsLocal s i k
-IsSourceOp P k (op.Store s i) = IsLocal s i k
-IsSourceOp P k (op.Increment i n) = i < k.locals
 IsSourceOp P k (op.Branch t to) = to < length k.ops
 IsSourceOp P k (op.BranchInts t to) = to < length k.ops
 IsSourceOp P k (op.BranchNull b to) = to < length k.ops
@@ -168,11 +180,11 @@ IsSourceOp P k (op.Goto to) = to < length k.ops
 IsSourceOp P k (op.Switch other cases) = (other < length k.ops) × AllByRecursion (λ (c : ℤ × ℕ). c.1 < length k.ops) cases
 IsSourceOp P k (op.GetStatic f) = (o : ℕ) × HasField P f (Some o)
 IsSourceOp P k (op.PutStatic f) = (o : ℕ) × HasField P f (Some o)
-IsSourceOp P k (op.GetField f) = HasField P f None
-IsSourceOp P k (op.PutField f) = HasField P f None
+IsSourceOp P k (op.GetField f c) = HasField P f None
+IsSourceOp P k (op.PutField f c) = HasField P f None
 IsSourceOp P k (op.InvokeStatic m) = HasStatic P m
 IsSourceOp P k (op.InvokeSpecial m) = HasMethod P m
-IsSourceOp P k (op.InvokeVirtual m) = HasVirtual P m
+IsSourceOp P k (op.InvokeVirtual m c) = HasVirtual P m
 IsSourceOp P k (op.InvokeInterface m c) = HasVirtual P m
 IsSourceOp P k (op.New t) = CanMake P t false
 IsSourceOp P k (op.NewArray t) = CanMake P t true
@@ -223,6 +235,7 @@ abbrev pub HasCode : List Op → Method → Type 0
 HasCode [] k = (k.catches ≡ []) × (k.retries ≡ None)
 HasCode (o ∷ os) k = k.dispatch ≢ dispatch.Abstract
 
+-- A constructor isn't marked: an attempt of it could not be made again over the same object.
 pub record IsSourceMethod (P : Program) (k : Method) : Type 0 where
   pub counted : k.counted ≡ true
   pub parameters : AreParameters k.parameters
@@ -230,7 +243,9 @@ pub record IsSourceMethod (P : Program) (k : Method) : Type 0 where
   pub object : HasObject P k.dispatch k
   pub code : HasCode k.ops k
   pub result : IsResult k.result
-  pub room : k.places ≤ k.locals
+  pub takes : AllByRecursion (IsReadType P) k.parameters
+  pub gives : AllByRecursion (IsReadType P) (results k)
+  pub unmarked : is_constructor k ≡ true → k.retries ≡ None
   pub entries : AllByRecursion (IsSourceCatch P k) k.catches
   pub each : AllByRecursion (IsSourceOp P k) k.ops
 
@@ -252,6 +267,6 @@ AreArguments ts vs = ⊥
 
 pub record IsSource (P : Program) : Type 0 where
   pub types : AreTypes P
-  pub fields : AllByRecursion IsSourceField P.fields
+  pub fields : AllByRecursion (IsSourceField P) P.fields
   pub methods : AllByRecursion (IsSourceMethod P) P.methods
   pub names : AreNamed P

@@ -371,12 +371,12 @@ does P (op.Goto to) f = Does (Jump to) f
 does P (op.Switch other cases) f = on_int f.stack (λ x s. Does (Jump (switched other cases x)) (with_stack f s))
 does P (op.GetStatic n) f = static_in (field_at P n) (λ x p. Does (Ask (request.Get p)) f)
 does P (op.PutStatic n) f = static_in (field_at P n) (λ x p. on_word x.declared.word f.stack (λ v s. Does (Ask (request.Put p v)) (with_stack f s)))
-does P (op.GetField n) f = field_in (field_at P n) (λ x. on_ref f.stack (λ o s. not_null o (with_stack f s) (Does (Ask (request.Get (inner o x))) (with_stack f s))))
-does P (op.PutField n) f = field_in (field_at P n) (λ x. on_word x.declared.word f.stack (λ v s. on_ref s (λ o s.
+does P (op.GetField n c) f = field_in (field_at P n) (λ x. on_ref f.stack (λ o s. not_null o (with_stack f s) (Does (Ask (request.Get (inner o x))) (with_stack f s))))
+does P (op.PutField n c) f = field_in (field_at P n) (λ x. on_word x.declared.word f.stack (λ v s. on_ref s (λ o s.
     not_null o (with_stack f s) (Does (Ask (request.Put (inner o x) v)) (with_stack f s)))))
 does P (op.InvokeStatic m) f = method_in (method_at P m) (λ k. runs (has_code (Some k)) m f)
 does P (op.InvokeSpecial m) f = over_object P m f (λ k o. runs (has_code (Some k)) m f)
-does P (op.InvokeVirtual m) f = over_object P m f (λ k o. Does (Head o (Selects m)) f)
+does P (op.InvokeVirtual m c) f = over_object P m f (λ k o. Does (Head o (Selects m)) f)
 does P (op.InvokeInterface m c) f = over_object P m f (λ k o. Does (Head o (Implements m c)) f)
 does P (op.InitLibrary c n) f = without n f.stack (λ s. on_ref s (λ o s. leaves f s))
 does P (op.New t) f = Does (Make t 0) f

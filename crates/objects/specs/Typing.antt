@@ -312,10 +312,26 @@ results k = result_types k.result
 abbrev pub calls : Program → ℕ → Method → Types → Flow
 calls P pc c h = on_each P (reverse c.parameters) h.stack (λ s. leaves pc h (results c ++ s))
 
--- a call by name over an object: of a constructor, which gives nothing, or of a method over an object of the current class
+-- A call by name over an object: of a constructor, which gives nothing, or of a method over an object of the current class as typing reads it, so over any
+-- object where that is an interface.
 abbrev pub special : Bool → Program → Method → ℕ → Method → Types → Flow
 special true P k pc c h = if_so (not (is_some c.result)) (on_each P (reverse (arguments c)) h.stack (λ s. on_top s (λ t s. constructs P k pc c.name.class h t s)))
-special false P k pc c h = on_each P (reverse (arguments c)) h.stack (λ s. on_top s (λ t u. if_so (is_within P t (Ref k.name.class)) (on_each P (reverse c.parameters) h.stack (λ s. leaves pc h (results c ++ s)))))
+special false P k pc c h = on_each P (reverse (arguments c)) h.stack (λ s. on_top s (λ t u. if_so (is_within P t (Ref (name_read P k.name.class))) (on_each P (reverse c.parameters) h.stack (λ s. leaves pc h (results c ++ s)))))
+
+-- The object of an instruction is at most of the class that the instruction names. One that isn't built is asked for by its constructor's class.
+abbrev pub is_received : Program → List ℕ → Option VType → Bool
+is_received P n None = false
+is_received P n (Some UninitThis) = true
+is_received P n (Some t) = is_within P t (Ref n)
+
+-- how many places lie above the object of a call, and of a store
+abbrev pub argument_places : Option Method → ℕ
+argument_places None = 0
+argument_places (Some c) = length (arguments c)
+
+abbrev pub value_places : Option Field → ℕ
+value_places None = 0
+value_places (Some f) = length (stack_types f.declared)
 
 -- a store to a field of the constructor's own class, before another has run
 abbrev pub puts : Program → Method → ℕ → Field → Types → List VType → Flow
@@ -366,11 +382,11 @@ flow P k pc (op.Goto to) h = Leads (to ∷ []) h
 flow P k pc (op.Switch other cases) h = on_int h.stack (λ s. Leads (exits other cases) (with_stack h s))
 flow P k pc (op.GetStatic n) h = field_in (field_at P n) (λ f. if_so (is_some f.base) (leaves pc h (stack_types f.declared ++ h.stack)))
 flow P k pc (op.PutStatic n) h = field_in (field_at P n) (λ f. if_so (is_some f.base) (on_each P (stack_types f.declared) h.stack (λ s. leaves pc h s)))
-flow P k pc (op.GetField n) h = field_in (field_at P n) (λ f. on P (Ref f.class) h.stack (λ s. leaves pc h (stack_types f.declared ++ s)))
-flow P k pc (op.PutField n) h = field_in (field_at P n) (λ f. on_each P (stack_types f.declared) h.stack (λ s. puts P k pc f h s))
+flow P k pc (op.GetField n c) h = if_so (is_received P c (slice_get h.stack 0)) (field_in (field_at P n) (λ f. on P (Ref f.class) h.stack (λ s. leaves pc h (stack_types f.declared ++ s))))
+flow P k pc (op.PutField n c) h = if_so (is_received P c (slice_get h.stack (value_places (field_at P n)))) (field_in (field_at P n) (λ f. on_each P (stack_types f.declared) h.stack (λ s. puts P k pc f h s)))
 flow P k pc (op.InvokeStatic m) h = method_in (method_at P m) (λ c. calls P pc c h)
 flow P k pc (op.InvokeSpecial m) h = method_in (method_at P m) (λ c. special (is_constructor c) P k pc c h)
-flow P k pc (op.InvokeVirtual m) h = method_in (method_at P m) (λ c. calls P pc c h)
+flow P k pc (op.InvokeVirtual m n) h = if_so (is_received P n (slice_get h.stack (argument_places (method_at P m)))) (method_in (method_at P m) (λ c. calls P pc c h))
 flow P k pc (op.InvokeInterface m n) h = method_in (method_at P m) (λ c. calls P pc c h)
 flow P k pc (op.InitLibrary c n) h = on_each P (replicate n (Ref string_class)) h.stack (λ s. on_top s (λ t s. constructs P k pc c h t s))
 flow P k pc (op.New t) h = row_in (row_at P t) (λ r. makes_new (list_any (is_uninit (Uninit pc)) h.stack) pc h)

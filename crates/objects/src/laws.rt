@@ -1,10 +1,16 @@
 //! Laws of the definitions: each function's contract is one, and its body does nothing.
-ghost use Rattle.objects.specs.TypingLaw.{TypedSafety};
-ghost use Rattle.objects.specs.Law.{Simulation, Prefix, Soundness, SnapshotSoundness, Completion};
+ghost use Rattle.objects.specs.TypingLaw.{TypedSafety, TypedRewriting};
+ghost use Rattle.objects.specs.Law.{Simulation, Prefix, PrefixTraps, Soundness, SnapshotSoundness, Completion};
 
 /// A program each of whose methods has a typing never gets stuck over a heap whose objects have values of their types, and keeps it so.
 pub fn typed_safety()
     ensures { TypedSafety }
+{}
+
+/// Each method of a rewritten program that has code has a typing, where the tables' types are as typing reads them and no field of an object is stored to
+/// before the object is built.
+pub fn typed_rewriting()
+    ensures { TypedRewriting }
 {}
 
 /// A call of rewritten typed code, whatever the engine answers, is what the original method would have done in one piece from each state that has what the
@@ -16,6 +22,11 @@ pub fn simulation()
 /// An attempt so far is matched by a run of the original method from each state that has what it read.
 pub fn prefix()
     ensures { Prefix }
+{}
+
+/// The exceptions that instructions of an attempt so far made are those that the original method's make first, from each state that has what it read.
+pub fn prefix_traps()
+    ensures { PrefixTraps }
 {}
 
 /// A call of rewritten typed code is never stuck where what it read is what a state has.

@@ -226,13 +226,14 @@ pub enum Op {
     Switch { other: usize, cases: Cases },
     GetStatic(usize),
     PutStatic(usize),
-    GetField(usize),
-    PutField(usize),
+    /// A field of an object of the named class, as typing reads its name.
+    GetField { field: usize, class: Bytes },
+    PutField { field: usize, class: Bytes },
     InvokeStatic(usize),
     /// The method itself, over an object.
     InvokeSpecial(usize),
-    /// The method that the object's class selects for this one.
-    InvokeVirtual(usize),
+    /// The method that the object's class selects for this one, over an object of the named class.
+    InvokeVirtual { method: usize, class: Bytes },
     /// The same, where the object is an instance of an interface.
     InvokeInterface { method: usize, interface: Bytes },
     /// A constructor of a library class, which does nothing: by the class, and how many places its parameters have.

@@ -1,0 +1,5 @@
+use Rattle.jmodel.proofs.ClassesTaken.{taken_law}
+use Rattle.objects.proofs.linking_law.taken_law.Goals as goal
+
+pub returns : goal.returns
+returns c = taken_law
