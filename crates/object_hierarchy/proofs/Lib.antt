@@ -1,0 +1,17 @@
+pub mod Bools
+pub mod Parts
+pub mod Each
+pub mod Numbering
+pub mod Numbers
+pub mod ClassPlaces
+pub mod Single
+pub mod Visits
+pub mod Keys
+pub mod SearchLaws
+pub mod InOrder
+pub mod FirstFault
+pub mod Tests
+pub mod Standing
+pub mod Upward
+pub mod Switching
+pub mod Distinct

@@ -1,0 +1,10 @@
+pub mod Rows
+pub mod Ends
+pub mod Built
+pub mod Numbers
+pub mod Names
+pub mod Search
+pub mod Ordered
+pub mod Places
+pub mod Starting
+pub mod Switches
