@@ -1,0 +1,10 @@
+pub mod Turning
+pub mod Comes
+pub mod Ends
+pub mod Going
+pub mod Knowing
+pub mod Making
+pub mod Throwing
+pub mod Slots
+pub mod Soundly
+pub mod Indexing

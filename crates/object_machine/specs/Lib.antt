@@ -1,0 +1,4 @@
+pub mod Meets
+pub mod Machine
+pub mod Running
+pub mod Sound
