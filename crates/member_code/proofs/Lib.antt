@@ -1,0 +1,9 @@
+pub mod CodeBytes
+pub mod Texts
+pub mod Grown
+pub mod Added
+pub mod Single
+pub mod Straight
+pub mod Coded
+pub mod Puts
+pub mod Grow

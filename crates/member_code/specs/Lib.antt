@@ -1,0 +1,5 @@
+pub mod Growing
+pub mod Names
+pub mod Instrs
+pub mod Coding
+pub mod Meaning
