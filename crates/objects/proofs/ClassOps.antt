@@ -7,7 +7,6 @@ use Rattle.std.proofs.lemmas.Slice.Eq.{bytes_eq-Decides}
 use Rattle.jmodel.specs.declared.class_file.FieldType.{FieldType}
 use Rattle.jmodel.specs.declared.class_file.FieldType.TheVariants as field
 use Rattle.jmodel.specs.declared.instruction.Instr.{Instr}
-use Rattle.jmodel.specs.declared.typing.VType.TheVariants as type
 use Rattle.jmodel.specs.ClassFile.{ClassFile}
 use Rattle.jmodel.specs.Pool.{class_name}
 use Rattle.jmodel.specs.ClassRules.{IsConstant}
@@ -22,13 +21,13 @@ use Rattle.objects.specs.declared.op.Op.TheVariants as op
 use Rattle.objects.specs.LibraryClasses.{library_rows}
 use Rattle.objects.specs.Program.{Declared as DeclaredWord, Words, Row, Method, Program, row_at}
 use Rattle.objects.specs.LibraryMethods.{is_library}
-use Rattle.objects.specs.TypeOrder.{context_class, is_class_name, IsWithin}
+use Rattle.objects.specs.TypeOrder.{context_class, is_class_name}
 use Rattle.objects.specs.Resolution.{is_interface, is_known, holds_of}
 use Rattle.objects.specs.Constructs.{named_class, reference_name, unknown_core, unknown_in, is_bad_new, has_no_object}
 use Rattle.objects.specs.Layout.{rows, words_upward, class_row, primitive_arrays, array_over, made_arrays, type_number, descriptor_read}
 use Rattle.objects.specs.Decoding.{Symbols, primitive_array, new_array, class_op}
 use Rattle.objects.specs.Linking.{taken_methods, original_symbols}
-use Rattle.objects.specs.Source.{CanMake, IsMadeOf, AreTypes}
+use Rattle.objects.specs.Source.{CanMake, IsKnownName, IsMadeOf, AreTypes}
 use Rattle.objects.specs.LinkingLaw.{AreRead}
 use Rattle.objects.proofs.Items.{IsAt, item, placed}
 use Rattle.objects.proofs.AsRead.{formed, is_file, named_as, class_names, no_context}
@@ -40,7 +39,8 @@ use Rattle.objects.proofs.ArrayElements.{class_type}
 use Rattle.objects.proofs.FolderArrays.{all_brackets, behind_brackets, known_is}
 use Rattle.objects.proofs.ReadTypes.{class_is_read}
 use Rattle.objects.proofs.ReadNames.{IsPlainRow, library_plain, RowOf, of_library_row, of_class_row, of_base, of_array_row, row_kind, row_there, class_of_row, plain_row, IsDescriptor, a_letter, a_class, an_array, array_reads}
-use Rattle.objects.proofs.LinkedOps.{Fine, nothing, when, plain, mapped}
+use Rattle.objects.proofs.CastNames.{cast_known}
+use Rattle.objects.proofs.LinkedOps.{Fine, nothing, leaf, when, plain, mapped}
 
 -- ---- descriptors of elements
 
@@ -107,11 +107,11 @@ module _ (cs : List ClassFile) (P : Program) (read : AreRead cs) (rows_are : P.t
   can_make : (n : List ℕ) (t : ℕ) (at : IsTypeAt n t) (ds : List DeclaredWord) → at.row.holds ≡ Words ds → at.row.read ≡ at.row.name → is_class_name at.row.name ≡ true → CanMake P t false
   can_make n t at ds holds reads named =
       let c = class_of_row cs P read rows_are types at.row (at.place, at.there) ds holds reads named in
-      let itself = (class_is_read P types at.row ds c).itself in
+      let r = class_is_read P types at.row ds c in
       record {
         row = at.row;
         there = subst (λ t. row_at P t ≡ Some at.row) (sym at.number) (row_there cs P read rows_are types at.place at.row at.there);
-        below = subst (λ m. IsWithin P (type.Ref m) (type.Ref m)) (sym reads) itself;
+        known = subst (IsKnownName P) (sym reads) (record { itself = r.itself; array = λ e. r.read });
         holds = subst (IsMadeOf false at.row) (sym holds) reads;
       }
 
@@ -176,11 +176,11 @@ module _ (cs : List ClassFile) (P : Program) (read : AreRead cs) (rows_are : P.t
         by (of_array_row m h is) =
             let same : m ≡ 91 ∷ a.element = ap (λ (r : Row). r.name) is ∙ at.name ∙ a.is in
             let reads : at.row.read ≡ 91 ∷ descriptor_read cs a.element = ap (λ (r : Row). r.read) (sym is) ∙ ap (descriptor_read cs) same in
-            let itself = (array_reads cs P read rows_are types a.element a.described).itself in
+            let r = array_reads cs P read rows_are types a.element a.described in
             record {
               row = at.row;
               there = subst (λ t. row_at P t ≡ Some at.row) (sym at.number) (row_there cs P read rows_are types at.place at.row at.there);
-              below = subst (λ m. IsWithin P (type.Ref m) (type.Ref m)) (sym reads) itself;
+              known = subst (IsKnownName P) (sym reads) (record { itself = r.itself; array = λ e. r.read });
               holds = subst (λ (r : Row). IsMadeOf true r r.holds) is tt;
             }
 
@@ -260,7 +260,8 @@ module _ (cs : List ClassFile) (P : Program) (read : AreRead cs) (rows_are : P.t
       class_fine j n at e =
           when P k (i.op == 187) _ _ (λ t. mapped P k op.New (type_number s.types n) (λ x f. objects t x f))
           (λ u. when P k (i.op == 189) _ _ (λ t. array_fine (array_over n) (over n (λ is. formed d.class.pool pool_fits j n e is) (named 189 t refl)))
-          (λ u. plain P k (i.op == 192) (op.CheckCast n) _ tt (plain P k (i.op == 193) (op.InstanceOf n) None tt (nothing P k))))
+          (λ u. when P k (i.op == 192) _ _ (λ t. leaf P k (op.CheckCast n) (cast_known cs P read rows_are types made n (λ is. formed d.class.pool pool_fits j n e is) (λ is. known_filled n (known_name n is (named 192 t refl)))))
+          (λ u. plain P k (i.op == 193) (op.InstanceOf n) None tt (nothing P k))))
         where
           pool_fits : AllByRecursion (IsConstant d.class.pool) d.class.pool
           pool_fits = (is_file cs read d.class (of_methods cs d (in_methods cs d taken)).0).pool.entries

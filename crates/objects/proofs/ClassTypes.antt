@@ -10,7 +10,7 @@ use Rattle.jmodel.specs.declared.refusal.Refusal.TheVariants.{UnknownClass, BadS
 use Rattle.jmodel.specs.Layout.{library as library_names}
 use Rattle.jmodel.specs.Superclasses.{own_name, class_named, super_name, with_above, lineage}
 use Rattle.jmodel.specs.ClassesLinking.{first_fault}
-use Rattle.jmodel.specs.Classes.{doubled_class}
+use Rattle.jmodel.specs.Classes.{doubled_class, is_before}
 use Rattle.jmodel.specs.declared.typing.VType.TheVariants as type
 use Rattle.objects.specs.Program.{Declared, Words, Row, Field, Method, Program, row_at, is_instance, is_instance_in}
 use Rattle.objects.specs.LibraryClasses.{library_rows}
@@ -23,7 +23,7 @@ use Rattle.objects.specs.LinkingLaw.{IsUpward}
 use Rattle.objects.specs.Source.{IsClass, IsUnder}
 use Rattle.std.proofs.lemmas.Grind.{reverse_onto, flat_map-append}
 use Rattle.std.proofs.lemmas.List.{append-nil}
-use Rattle.objects.specs.Layout.{nameless, class_row, class_instances, names_upward, words_upward, own_words, library_lineage, lineage_of, above_last}
+use Rattle.objects.specs.Layout.{nameless, class_row, class_instances, with_text, in_text_order, names_upward, words_upward, own_words, library_lineage, lineage_of, above_last}
 use Rattle.objects.proofs.LibraryRows.{IsRow, IsReadIn}
 use Rattle.objects.proofs.LibraryRows.{class_row as class_row_of}
 use Rattle.objects.proofs.ClassRows.{find_front, find_back, found_at, found_passes, swapped, absent, new_names, found_by_name, is_row, find_row, find_none}
@@ -98,6 +98,20 @@ all_filter p Given Rule each (x ∷ xs) all = go (p x) refl (all_filter p Given 
     go : (b : Bool) → p x ≡ b → AllByRecursion Rule (filter p xs) → AllByRecursion Rule (cond b (x ∷ filter p xs) (filter p xs))
     go true is rest = (each x is all.0, rest)
     go false is rest = rest
+
+-- what holds of each of some texts holds of each of them in their order
+all_with : (Rule : List ℕ → Type 0) (t : List ℕ) (us : List (List ℕ)) → Rule t → AllByRecursion Rule us → AllByRecursion Rule (with_text t us)
+all_with Rule t [] one all = (one, tt)
+all_with Rule t (u ∷ us) one all = go (bytes_eq t u) (is_before u t) (all_with Rule t us one all.1)
+  where
+    go : (b c : Bool) → AllByRecursion Rule (with_text t us) → AllByRecursion Rule (if b then u ∷ us else (if c then u ∷ with_text t us else t ∷ u ∷ us))
+    go true c rest = all
+    go false true rest = (all.0, rest)
+    go false false rest = (one, all)
+
+all_in_order : (Rule : List ℕ → Type 0) (ts : List (List ℕ)) → AllByRecursion Rule ts → AllByRecursion Rule (in_text_order ts)
+all_in_order Rule [] all = tt
+all_in_order Rule (t ∷ ts) all = all_with Rule t (in_text_order ts) all.0 (all_in_order Rule ts all.1)
 
 pub all_map : {A : Type 0} (Given Rule : A → Type 0) → ((x : A) → Given x → Rule x) → (xs : List A) → AllByRecursion Given xs → AllByRecursion Rule xs
 all_map Given Rule each [] all = tt
@@ -486,16 +500,16 @@ module _ (cs : List ClassFile) (fine : supers_fault cs ≡ None) (new : doubled_
       interface_read : (m : List ℕ) → is_class_name m ≡ true → IsListed m → IsReadIn P own_row m
       interface_read m name e = rw (listed_reads m name e) (within_is object_class ∙ object_above (lineage cs (own_name c)) (own_name c) refl own_above)
 
-      interfaces_read : AllByRecursion (IsReadIn P own_row) (filter is_class_name (flat_map interface_names (ancestry cs (own_name c))))
+      interfaces_read : AllByRecursion (IsReadIn P own_row) (in_text_order (filter is_class_name (flat_map interface_names (ancestry cs (own_name c)))))
       interfaces_read =
-          all_filter is_class_name IsListed (IsReadIn P own_row) interface_read (flat_map interface_names (ancestry cs (own_name c)))
-          (all_flat interface_names IsFine IsListed listed_of (ancestry cs (own_name c)) (upward_fine (length cs) (own_name c)))
+          all_in_order (IsReadIn P own_row) _ (all_filter is_class_name IsListed (IsReadIn P own_row) interface_read (flat_map interface_names (ancestry cs (own_name c)))
+          (all_flat interface_names IsFine IsListed listed_of (ancestry cs (own_name c)) (upward_fine (length cs) (own_name c))))
 
       -- A class's row, at its number, keeps the rules of types.
       pub class_row_is : (t : ℕ) → row_at P t ≡ Some (class_row cs c) → IsRow P t (class_row cs c)
       class_row_is t e =
           let same = row_is i c there plain in
-          subst (IsRow P t) (sym same) (class_row_of P t own_row (filter is_class_name (flat_map interface_names (ancestry cs (own_name c)))) (e ∙ ap (λ (r : Row). Some r) same)
+          subst (IsRow P t) (sym same) (class_row_of P t own_row (in_text_order (filter is_class_name (flat_map interface_names (ancestry cs (own_name c))))) (e ∙ ap (λ (r : Row). Some r) same)
           (inr (is_class i c there plain)) (all_append (IsReadIn P own_row) own_row.lineage _ class_names interfaces_read) within_is refl)
 
     -- ---- rows without a name
@@ -608,7 +622,7 @@ module _ (cs : List ClassFile) (fine : supers_fault cs ≡ None) (new : doubled_
         all_read = all_append (IsReadIn P (own_row at.0 d at.1 plain)) (names_upward cs (own_name d)) _ (class_names at.0 d at.1 plain) (interfaces_read at.0 d at.1 plain)
 
         all_named : AllByRecursion IsNamed (class_instances cs (own_name d))
-        all_named = all_append IsNamed (names_upward cs (own_name d)) _ (names_named (lineage cs (own_name d)) (own_name d) refl (own_above at.0 d at.1 plain)) (filter_named (flat_map interface_names (ancestry cs (own_name d))))
+        all_named = all_append IsNamed (names_upward cs (own_name d)) _ (names_named (lineage cs (own_name d)) (own_name d) refl (own_above at.0 d at.1 plain)) (all_in_order IsNamed _ (filter_named (flat_map interface_names (ancestry cs (own_name d)))))
 
         each : (x : List ℕ) → IsNamed x → IsReadIn P (own_row at.0 d at.1 plain) x → IsAboveAs (own_name d) x
         each x name read = record { class = name; above_it = (rw (no_array x name, array_no at.0 d at.1 plain) at read) }
@@ -678,8 +692,8 @@ module _ (cs : List ClassFile) (fine : supers_fault cs ≡ None) (new : doubled_
         each : (x : List ℕ) → is_class_name x ≡ true → IsListed x → IsAboveAs object_class x
         each x n l = let r = listed_reads x n l in over_object x n (rw (no_array x n) at r)
 
-        listed : AllByRecursion (IsAboveAs object_class) (filter is_class_name (flat_map interface_names (ancestry cs m)))
-        listed = all_filter is_class_name IsListed (IsAboveAs object_class) each (flat_map interface_names (ancestry cs m)) (listed_all m)
+        listed : AllByRecursion (IsAboveAs object_class) (in_text_order (filter is_class_name (flat_map interface_names (ancestry cs m))))
+        listed = all_in_order (IsAboveAs object_class) _ (all_filter is_class_name IsListed (IsAboveAs object_class) each (flat_map interface_names (ancestry cs m)) (listed_all m))
 
     abbrev ReadsIn : List (List ℕ) → List ℕ → Type 0
     ReadsIn l x = Reads x × IsIn l x
@@ -696,8 +710,8 @@ module _ (cs : List ClassFile) (fine : supers_fault cs ≡ None) (new : doubled_
 
         instances_are : class_instances cs m ≡ library_lineage m
         instances_are =
-            ap (λ (u : List ClassFile). (map own_name u ++ library_lineage (above_last m u)) ++ filter is_class_name (flat_map interface_names (ancestry cs m))) (top_of m none)
-            ∙ ap (λ (u : List ClassFile). library_lineage m ++ filter is_class_name (flat_map interface_names u)) (up.all m ∙ ap (with_above (λ c. flat_map (ancestry cs) (names_above c))) none)
+            ap (λ (u : List ClassFile). (map own_name u ++ library_lineage (above_last m u)) ++ in_text_order (filter is_class_name (flat_map interface_names (ancestry cs m)))) (top_of m none)
+            ∙ ap (λ (u : List ClassFile). library_lineage m ++ in_text_order (filter is_class_name (flat_map interface_names u))) (up.all m ∙ ap (with_above (λ c. flat_map (ancestry cs) (names_above c))) none)
             ∙ append-nil (library_lineage m)
 
         above_is : classes_from P m ≡ library_lineage m

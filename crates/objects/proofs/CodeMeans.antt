@@ -1,5 +1,5 @@
 -- Code of taken methods means something: each instruction, and each exception entry. So classes that are read are linked to a program, or refused.
-use Rattle.std.proofs.Common.{◌≡◌, inl, inr, ℕ, ℤ, suc, ◌-◌, ◌<◌, ◌≤◌, List, [], ◌∷◌, map, Option, Some, None, Ok, Bool, true, false, nat_eq, drop, refl, sym, ap, subst, ◌∙◌}
+use Rattle.std.proofs.Common.{◌≡◌, inl, inr, ℕ, ℤ, suc, ◌<◌, ◌≤◌, List, [], ◌∷◌, map, Option, Some, None, Ok, Bool, true, false, nat_eq, drop, refl, sym, ap, subst, ◌∙◌}
 use Rattle.std.specs.Prelude.{slice_get, codes, pos, negsuc, int_le, nat_lt, ◌==◌, ◌&&◌, ◌||◌, if◌then◌else◌, is_some, option_map, option_and_then}
 use Rattle.std.specs.List.{AllByRecursion, list_all}
 use Rattle.std.specs.Int.{w32, int_wrapping_add}
@@ -12,7 +12,7 @@ use Rattle.jmodel.specs.declared.instruction.Form.TheVariants as form
 use Rattle.jmodel.specs.declared.instruction.Operands.{Operands}
 use Rattle.jmodel.specs.declared.instruction.Operands.TheVariants as operands
 use Rattle.jmodel.specs.declared.instruction.Instr.{Instr}
-use Rattle.jmodel.specs.ClassFile.{Pool, ClassFile}
+use Rattle.jmodel.specs.ClassFile.{ClassFile}
 use Rattle.jmodel.specs.Pool.{class_name, field_name, member_name}
 use Rattle.jmodel.specs.Descriptor.{is_array_name}
 use Rattle.jmodel.specs.DescriptorReading.{brackets, type_of}
@@ -25,13 +25,12 @@ use Rattle.jmodel.specs.Coded.{Coded, decoded}
 use Rattle.jmodel.specs.Decoding.{number_at, in_front, each, table_cases, numbered_case}
 use Rattle.objects.specs.declared.op.Op.{Op}
 use Rattle.objects.specs.declared.op.Op.TheVariants as op
-use Rattle.objects.specs.Program.{Method}
 use Rattle.objects.specs.Resolution.{is_known, holds_of}
 use Rattle.objects.specs.Constructs.{named_class, reference_name, unknown_core, unknown_in, has_no_object, is_bad_new, is_float_op, is_float_array, is_float_constant, is_float_field, is_float_method, accessed, pushed}
 use Rattle.jmodel.specs.ClassesTaken.{invoked}
 use Rattle.objects.specs.Layout.{rows, array_over, primitive_arrays, type_number}
 use Rattle.objects.specs.Decoding.{Symbols, is_among, simple_op, local_op, wide_op, jump_to, jump_op, switch_to, switch_op, primitive_array, new_array, number_op, class_op, pool_op, ldc_op, field_op, call_op, meaning, op_of}
-use Rattle.objects.specs.Linking.{shaped, taken_methods, original_symbols, constructs_fault}
+use Rattle.objects.specs.Linking.{taken_methods, original_symbols, constructs_fault}
 use Rattle.objects.specs.LinkingLaw.{AreRead}
 use Rattle.objects.proofs.Items.{IsAt, item, any_item, places}
 use Rattle.objects.proofs.CleanCode.{IsClean, clean_code, taken_clean, neither}

@@ -16,13 +16,13 @@ use Rattle.objects.specs.declared.op.Op.TheVariants as op
 use Rattle.objects.specs.Program.{Row, Field, Method, Program, row_at}
 use Rattle.objects.specs.TypeOrder.{object_class, throwable_class, string_class, is_array, name_read, stack_types, is_within, IsWithin, IsLocals}
 use Rattle.objects.specs.Typing.{is_received, argument_places, value_places, field_in, Types, Table, Flow, Leads, Wrong, with_stack, leaves, ends, if_so, on, on_each, on_int, on_long, on_number, on_reference, on_array, row_in, method_in, fits_elements, stored_types, puts, exits, constant_types, number_types, is_constructor, is_uninit, built_as, become, new_class, is_named, direct_superclass, constructs, makes_new, arguments, results, calls, special, returns, flow}
-use Rattle.objects.specs.Source.{AreTypes, IsReadType, AreParameters, IsResult, IsSourceOp}
+use Rattle.objects.specs.Source.{AreTypes, IsReadType, IsKnownName, IsKnownType, AreParameters, IsResult, IsSourceOp}
 use Rattle.objects.specs.Rewriting.{moved, moved_to, moved_cases, is_stray, more_locals, places_of, array_type, any_of, helped, getter, setter, duplicate, element_getter, element_setter, duplicate_method, rewritten}
 use Rattle.objects.proofs.Switched.{exits_moved}
 use Rattle.objects.proofs.Fields.{each_at}
 use Rattle.objects.proofs.Places.{Rewrites}
 use Rattle.objects.proofs.SameFlow.{within_same, name_same}
-use Rattle.objects.proofs.ReadTypes.{elements_read}
+use Rattle.objects.proofs.ReadTypes.{known_array, elements_read}
 use Rattle.objects.proofs.BlockFlows.{context, get_static, put_static, get_field, put_field, get_element, put_element, duplicate_parameters, duplicate_result, duplicate_names, constructor_name, duplicate_calls, duplicate_special}
 use Rattle.objects.proofs.MovedTypes.{named, all_named, map_long, IsAlone, IsFixed, AreFixed, fixed_reverse, fixed_parameters, fixed_result, fixed_word, fixed_copies, all_become, any_uninit, uninit_tests, this_tests}
 use Rattle.objects.proofs.Copying.{Copying}
@@ -343,7 +343,7 @@ module _ (P : Program) (Ts : List Table) (k d : Method) (at : ℕ → ℕ) (copy
           let e = array_taken t u array read fits in
           get_element P Ts Q R con d b (E r) (Int ∷ u ∷ v) (helped (Some u) t) ∙ (rw e refl) ∙ ap (λ (l : List VType). leaves b (E r) (l ++ v)) (stored_helped (Some u) t)
 
-      stores : (t : WordType) (o : Option VType) (u : List VType) → slice_get u 1 ≡ o → ((m : List ℕ) → o ≡ Some (Ref m) → IsReadType P (Ref m))
+      stores : (t : WordType) (o : Option VType) (u : List VType) → slice_get u 1 ≡ o → ((m : List ℕ) → o ≡ Some (Ref m) → IsKnownName P m)
           → Moved (on_int u (λ u. on_array u (λ x u. if_so (fits_elements t x) (leaves pc h u)))) (on_each Q (Int ∷ Ref (array_type (helped o t)) ∷ []) (all u) (λ u. leaves a (E r) u))
       stores t o [] e read = tt
       stores t o (Int ∷ []) e read = tt
@@ -354,19 +354,19 @@ module _ (P : Program) (Ts : List Table) (k d : Method) (at : ℕ → ℕ) (copy
           by false i c f = tt
           by true i false f = tt
           by true i true f =
-              let taken : is_within Q (Ref m) (Ref (array_type (helped o t))) ≡ true = subst (λ (o : Option VType). is_within Q (Ref m) (Ref (array_type (helped o t))) ≡ true) e (array_taken t (Ref m) i (read m (sym e)) f) in
+              let taken : is_within Q (Ref m) (Ref (array_type (helped o t))) ≡ true = subst (λ (o : Option VType). is_within Q (Ref m) (Ref (array_type (helped o t))) ≡ true) e (array_taken t (Ref m) i (known_array P m i (read m (sym e))) f) in
               rw taken (leave u)
       stores t o (Int ∷ x ∷ u) e read = tt
       stores t o (x ∷ u) e read = tt
 
-      pub store_moved : (t : WordType) → AllByRecursion (IsReadType P) h.stack → Moved (flow P k pc (op.StoreElement t) h) (flow Q d a (op.InvokeStatic (element_setter P (helped (slice_get h.stack (1 + places_of t)) t))) Over)
+      pub store_moved : (t : WordType) → AllByRecursion (IsKnownType P) h.stack → Moved (flow P k pc (op.StoreElement t) h) (flow Q d a (op.InvokeStatic (element_setter P (helped (slice_get h.stack (1 + places_of t)) t))) Over)
       store_moved t read =
           let o = slice_get h.stack (1 + places_of t) in
           let e = put_element P Ts Q R con d a (E r) r (helped o t) ∙ ap (λ (l : List VType). on_each Q l r (λ u. on_each Q (Int ∷ Ref (array_type (helped o t)) ∷ []) u (λ u. leaves a (E r) u))) (stored_helped o t) in
           both _ _ (on_each P (stored_types t) h.stack (λ u. on_int u (λ u. on_array u (λ x u. if_so (fits_elements t x) (leaves pc h u))))) _ refl e
           (each_moved_at P ms at copy p n s (stored_types t) h.stack _ _ (stored_fixed t) (λ u below. stores t o u
           (let z : length (stored_types t) + 1 ≡ 1 + places_of t = let y = places t in omega (arith, y) in sym (below 1) ∙ ap (slice_get h.stack) z)
-          (λ m e. each_at (IsReadType P) h.stack (1 + places_of t) (Ref m) read e)))
+          (λ m e. each_at (IsKnownType P) h.stack (1 + places_of t) (Ref m) read e)))
         where
           places : (t : WordType) → length (stored_types t) ≡ places_of t
           places word.Boolean = refl

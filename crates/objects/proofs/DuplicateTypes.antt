@@ -21,14 +21,14 @@ use Rattle.objects.specs.declared.op.Catch.{Catch}
 use Rattle.objects.specs.Program.{Method, Program, has_code}
 use Rattle.objects.specs.TypeOrder.{object_class, throwable_class, conflict_class, element_class, name_read, is_array, IsWithin, AreWithin, IsLocals, IsStack}
 use Rattle.objects.specs.Typing.{first_locals, Types, Table, types_at, Flow, Leads, Wrong, flow, leaves, on_int, on_array, if_so, fits_elements, element_types, stored_types, first_types, is_constructor, arguments, Covers, AreCaught, KeepsFlow, KeepsAt, IsTypedAt, IsTyping, IsTypable}
-use Rattle.objects.specs.Source.{AreTypes, IsReadType, IsSourceOp, IsSourceCatch, IsSourceMethod, HasObject}
+use Rattle.objects.specs.Source.{AreTypes, IsReadType, IsKnownName, IsKnownType, IsSourceOp, IsSourceCatch, IsSourceMethod, HasObject}
 use Rattle.objects.specs.TypingLaw.{IsTypedProgram, IsRewritable}
 use Rattle.objects.specs.Rewriting.{more_locals, is_stray, Typed, typed_from, block_of, block_len, block_len_of, block_at, moved_catch, helped, array_under, after_load, places_of, getter, setter, duplicate, element_getter, element_setter, duplicate_method, duplicate_code, rewritten}
 use Rattle.objects.proofs.Fields.{each_at, some_at}
 use Rattle.objects.proofs.Places.{HasAt, has_block, has_duplicate, typed_at, typed_length, next_block, blocks_most, has_stub, rewrites}
 use Rattle.objects.proofs.Selection.{duplicate_is}
 use Rattle.objects.proofs.SameFlow.{within_same, are_same, name_same}
-use Rattle.objects.proofs.ReadTypes.{read_itself, context_itself, conflict_itself, conflict_thrown, object_is_read, elements_read}
+use Rattle.objects.proofs.ReadTypes.{known_itself, known_array, context_itself, conflict_itself, conflict_thrown, object_is_read, elements_read}
 use Rattle.objects.proofs.TypingTables.{Shape, FineFrom, fine_append, fine_typing, typed_here}
 use Rattle.objects.proofs.BlockFlows.{constructor_name}
 use Rattle.objects.proofs.CopiedLocals.{context}
@@ -232,8 +232,8 @@ module _ (P : Program) (Ts : List Table) (S : IsTypedProgram P Ts) (k : Method) 
       fine_mid : (b : ℕ) → IsInBlock b → (d : Op) → slice_get D.ops b ≡ Some d → (u v : List VType) → IsOnStack u → IsOnStack v → AreWithin Q v v → b + 1 < length D.ops → types_at V (b + 1) ≡ Some (E h v)
           → flow Q D b d (E h u) ≡ Leads ((b + 1) ∷ []) (E h v) → IsTypedAt Q D V b (E h u)
       fine_mid b i d code u v x z self lt typed_next e =
-          let read = (W.read pc h there).0 in
-          let same = are_same P ms (copy h.locals) (copy h.locals) (K.within h.locals h.locals (read_itself P h.locals read)) in
+          let known = (W.known pc h there).0 in
+          let same = are_same P ms (copy h.locals) (copy h.locals) (K.within h.locals h.locals (known_itself P h.locals known)) in
           typed_here Q D V b (E h u) d ((b + 1) ∷ []) (E h v) code e (shape u x) z.room
           (record { inside = lt; types = E h v; there = typed_next; fits = record { locals = same; stack = self; built = λ c. c } }, tt) (here_caught b i) (here_caught b i)
 
@@ -271,7 +271,7 @@ module _ (P : Program) (Ts : List Table) (S : IsTypedProgram P Ts) (k : Method) 
       L = block_len_of (types_at T pc) o
 
       stack_self : AreWithin Q r r
-      stack_self = are_same P ms r r (all_within at P h.stack h.stack (read_itself P h.stack (W.read pc h there).1))
+      stack_self = are_same P ms r r (all_within at P h.stack h.stack (known_itself P h.stack (W.known pc h there).1))
 
       on_stack : IsOnStack r
       on_stack = record { stack = all_stack at false h.stack typed.stack; room = let m = map_long (named at) h.stack in let l = typed.room in omega (arith, m, l) }
@@ -357,7 +357,7 @@ module _ (P : Program) (Ts : List Table) (S : IsTypedProgram P Ts) (k : Method) 
       abbrev OnStack : List VType → Type 0
       OnStack = IsOnStack pc (op.LoadElement t) is h there
 
-      module _ (u : VType) (v : List VType) (stacked : IsStack (Int ∷ u ∷ v)) (fewer : length v + 2 ≤ k.max_stack) (array : IsArrayType P ms at copy p n s u) (read : IsReadType P u) (reads : AllByRecursion (IsReadType P) v) (fits : fits_elements t u ≡ true)
+      module _ (u : VType) (v : List VType) (stacked : IsStack (Int ∷ u ∷ v)) (fewer : length v + 2 ≤ k.max_stack) (array : IsArrayType P ms at copy p n s u) (read : IsKnownType P u) (reads : AllByRecursion (IsKnownType P) v) (fits : fits_elements t u ≡ true)
           (whole : at pc + (2 + length (after_load t (Some u))) ≡ at (pc + 1)) where
         abbrev vs : List VType
         vs = all_named at v
@@ -380,7 +380,7 @@ module _ (P : Program) (Ts : List Table) (S : IsTypedProgram P Ts) (k : Method) 
             by u i h = absurd i
 
         below_self : AreWithin Q vs vs
-        below_self = are_same P ms vs vs (all_within at P v v (read_itself P v reads))
+        below_self = are_same P ms vs vs (all_within at P v v (known_itself P v reads))
 
         below_stack : OnStack vs
         below_stack = record { stack = all_stack at false v below_array; room = let m = map_long (named at) v in omega (arith, m, fewer) }
@@ -397,7 +397,7 @@ module _ (P : Program) (Ts : List Table) (S : IsTypedProgram P Ts) (k : Method) 
             by u i = absurd i
 
         array_self : IsWithin Q u u
-        array_self = (are_same P ms (u ∷ []) (u ∷ []) (read_itself P (u ∷ []) (read, tt))).0
+        array_self = (are_same P ms (u ∷ []) (u ∷ []) (known_itself P (u ∷ []) (read, tt))).0
 
         -- the last place of the block
         abbrev z : ℕ
@@ -406,8 +406,13 @@ module _ (P : Program) (Ts : List Table) (S : IsTypedProgram P Ts) (k : Method) 
         next : z + 1 ≡ at (pc + 1)
         next = omega (arith, whole)
 
+        as_read : (u : VType) → IsArrayType P ms at copy p n s u → IsKnownType P u → IsReadType P u
+        as_read Null i r = tt
+        as_read (Ref m) i r = known_array P m i r
+        as_read u i r = absurd i
+
         helper_loads : (b : ℕ) → flow Q D b (op.InvokeStatic (element_getter P (helped (Some u) t))) (E h (context ∷ Int ∷ u ∷ vs)) ≡ Leads ((b + 1) ∷ []) (E h (stored_types t ++ vs))
-        helper_loads b = element_loaded P Ts k D at copy p n s K X src.result h typed_load.locals typed_load.each_local pc z next (rewrites P Ts) con C b t u vs array read fits
+        helper_loads b = element_loaded P Ts k D at copy p n s K X src.result h typed_load.locals typed_load.each_local pc z next (rewrites P Ts) con C b t u vs array (as_read u array read) fits
 
         leave : (b : ℕ) → b + 1 ≡ at (pc + 1) → (w : List VType) → Moved (leaves pc h w) (Leads ((b + 1) ∷ []) (E h (all_named at w)))
         leave b e w = leaves_moved P ms at copy p n s K h typed_load.locals pc b e (all_named at w) w
@@ -429,16 +434,16 @@ module _ (P : Program) (Ts : List Table) (S : IsTypedProgram P Ts) (k : Method) 
             (subst (λ (w : List VType). Moved (leaves pc h (stored_types t ++ v)) (Leads ((at pc + 1 + 1) ∷ []) (E h w))) fixed (leave (at pc + 1) last (stored_types t ++ v)))))))
 
     -- a reference is cast to the class of the array's elements
-    module _ (pc : ℕ) (is : slice_get k.ops pc ≡ Some (op.LoadElement word.Reference)) (h : Types) (there : types_at T pc ≡ Some h) (v : List VType) (fewer : length v + 2 ≤ k.max_stack) (reads : AllByRecursion (IsReadType P) v) where
+    module _ (pc : ℕ) (is : slice_get k.ops pc ≡ Some (op.LoadElement word.Reference)) (h : Types) (there : types_at T pc ≡ Some h) (v : List VType) (fewer : length v + 2 ≤ k.max_stack) (reads : AllByRecursion (IsKnownType P) v) where
       abbrev object : VType
       object = Ref object_class
 
-      cast_line : (m : List ℕ) (stacked : IsStack (Int ∷ Ref m ∷ v)) (array : is_array m ≡ true) (read : IsReadType P (Ref m)) (fits : fits_elements word.Reference (Ref m) ≡ true) (whole : at pc + (2 + length (after_load word.Reference (Some (Ref m)))) ≡ at (pc + 1))
+      cast_line : (m : List ℕ) (stacked : IsStack (Int ∷ Ref m ∷ v)) (array : is_array m ≡ true) (read : IsKnownName P m) (fits : fits_elements word.Reference (Ref m) ≡ true) (whole : at pc + (2 + length (after_load word.Reference (Some (Ref m)))) ≡ at (pc + 1))
           → Lined pc word.Reference is h there (Ref m) v stacked fewer array read reads fits whole (after_load word.Reference (Some (Ref m))) (after_stacks word.Reference (Some (Ref m)) (all_named at v)) (leaves pc h (element_types word.Reference (Ref m) ++ v))
       cast_line m stacked array read fits whole = by (bytes_eq (element_class m) object_class) refl whole
         where
           as_read : name_read Q (element_class m) ≡ (element_class m)
-          as_read = name_same P ms (element_class m) ∙ (elements_read P C m array fits read).read
+          as_read = name_same P ms (element_class m) ∙ (elements_read P C m array fits (known_array P m array read)).read
 
           helper : (b : ℕ) → flow Q D b (op.InvokeStatic (element_getter P word.Reference)) (E h (context ∷ Int ∷ Ref m ∷ all_named at v)) ≡ Leads ((b + 1) ∷ []) (E h (object ∷ all_named at v))
           helper b = helper_loads pc word.Reference is h there (Ref m) v stacked fewer array read reads fits whole b
@@ -483,7 +488,7 @@ module _ (P : Program) (Ts : List Table) (S : IsTypedProgram P Ts) (k : Method) 
 
     -- by the element's type
     element_line : (pc : ℕ) (t : WordType) (is : slice_get k.ops pc ≡ Some (op.LoadElement t)) (h : Types) (there : types_at T pc ≡ Some h) (u : VType) (v : List VType) (stacked : IsStack (Int ∷ u ∷ v)) (fewer : length v + 2 ≤ k.max_stack)
-        (array : IsArrayType P ms at copy p n s u) (read : IsReadType P u) (reads : AllByRecursion (IsReadType P) v) (fits : fits_elements t u ≡ true) (whole : at pc + (2 + length (after_load t (Some u))) ≡ at (pc + 1))
+        (array : IsArrayType P ms at copy p n s u) (read : IsKnownType P u) (reads : AllByRecursion (IsKnownType P) v) (fits : fits_elements t u ≡ true) (whole : at pc + (2 + length (after_load t (Some u))) ≡ at (pc + 1))
         → Lined pc t is h there u v stacked fewer array read reads fits whole (after_load t (Some u)) (after_stacks t (Some u) (all_named at v)) (leaves pc h (element_types t u ++ v))
     element_line pc word.Boolean is h there u v stacked fewer array read reads fits whole = plain pc word.Boolean is h there u v stacked fewer array read reads fits whole refl refl refl refl
     element_line pc word.Byte is h there u v stacked fewer array read reads fits whole = plain pc word.Byte is h there u v stacked fewer array read reads fits whole refl refl refl refl
@@ -506,7 +511,7 @@ module _ (P : Program) (Ts : List Table) (S : IsTypedProgram P Ts) (k : Method) 
         let size : length h.stack ≡ length (Int ∷ u ∷ v) = ap length shape in
         let less = ok.room in
         let fewer : length v + 2 ≤ k.max_stack = omega (arith, size, less) in
-        let reads = subst (AllByRecursion (IsReadType P)) shape (W.read pc h there).1 in
+        let reads = subst (AllByRecursion (IsKnownType P)) shape (W.known pc h there).1 in
         let second : slice_get h.stack 1 ≡ Some u = ap (λ (w : List VType). slice_get w 1) shape in
         let len : block_len_of (types_at T pc) (op.LoadElement t) ≡ 2 + length (after_load t (Some u)) = ap (λ (x : Option Types). block_len_of x (op.LoadElement t)) there ∙ ap (λ (x : Option VType). 2 + length (after_load t x)) second in
         let step = next_is pc (op.LoadElement t) is in
@@ -564,7 +569,7 @@ module _ (P : Program) (Ts : List Table) (S : IsTypedProgram P Ts) (k : Method) 
     stands pc (op.StoreElement t) is h there source =
         let ok = typed pc (op.StoreElement t) is h there in
         stands_pair pc (op.StoreElement t) is h there (op.InvokeStatic (element_setter P (helped (slice_get h.stack (1 + places_of t)) t))) refl refl refl
-        (λ a next. store_moved P Ts k D at copy p n s K X src.result h ok.locals ok.each_local pc a next (rewrites P Ts) con C t (W.read pc h there).1)
+        (λ a next. store_moved P Ts k D at copy p n s K X src.result h ok.locals ok.each_local pc a next (rewrites P Ts) con C t (W.known pc h there).1)
     stands pc (op.InvokeStatic m) is h there source =
         let ok = typed pc (op.InvokeStatic m) is h there in
         let c = source_of m source.method source.there in

@@ -27,7 +27,7 @@ use Rattle.objects.specs.Layout.{opening_words, opening_state}
 use Rattle.objects.specs.Linking.{linking}
 
 -- class A { static A s; int x; static { s = new A(); Object o = new A[1]; o = "hi"; } A() { super(); x = 7; } }
-abbrev pool : Pool
+abbrev pub pool : Pool
 pool =
     Class 2 ∷ Utf8 (codes "A") ∷ Class 4 ∷ Utf8 (codes "java/lang/Object") ∷ Utf8 (codes "s") ∷ Utf8 (codes "LA;") ∷ Utf8 (codes "x") ∷ Utf8 (codes "I")
     ∷ Utf8 (codes "<clinit>") ∷ Utf8 (codes "()V") ∷ Utf8 (codes "<init>") ∷ Utf8 (codes "Code")
@@ -43,11 +43,11 @@ coded flags name most locals code = record {
 }
 
 -- new A; dup; invokespecial A.<init>; putstatic s; iconst_1; anewarray A; pop; ldc "hi"; pop; return
-abbrev initialiser : Member
+abbrev pub initialiser : Member
 initialiser = coded 8 9 2 0 (187 ∷ 0 ∷ 1 ∷ 89 ∷ 183 ∷ 0 ∷ 17 ∷ 179 ∷ 0 ∷ 13 ∷ 4 ∷ 189 ∷ 0 ∷ 1 ∷ 87 ∷ 18 ∷ 20 ∷ 87 ∷ 177 ∷ [])
 
 -- aload_0; invokespecial Object.<init>; aload_0; bipush 7; putfield x; return
-abbrev constructor : Member
+abbrev pub constructor : Member
 constructor = coded 0 11 2 1 (42 ∷ 183 ∷ 0 ∷ 19 ∷ 42 ∷ 16 ∷ 7 ∷ 181 ∷ 0 ∷ 15 ∷ 177 ∷ [])
 
 abbrev pub class_a : ClassFile

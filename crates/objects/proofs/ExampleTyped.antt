@@ -17,7 +17,7 @@ use Rattle.objects.specs.Typing.{Table, IsTyping, arguments}
 use Rattle.objects.specs.TypingLaw.{IsTypedProgram}
 use Rattle.objects.specs.Rewriting.{with_context}
 use Rattle.objects.specs.Source.{IsReadName, IsClass, IsDeclared, AreTypes, IsSourceMethod, AreNamed, IsSource}
-use Rattle.objects.proofs.LibraryRows.{IsRow, AreRows, row_of, class_row, for_any, IsReadIn, library, traps, conflict, context}
+use Rattle.objects.proofs.LibraryRows.{IsRow, AreRows, row_of, class_row, for_any, IsReadIn, library, traps, conflict, context, string}
 use Rattle.objects.proofs.ArrayRows.{references_within, primitives_within}
 use Rattle.objects.proofs.Checking.{checked}
 use Rattle.objects.proofs.ExampleProgram.{ints, longs, bytes, of_class, class_a, class_b, class_e, static_base, array_a, array_b, array_bytes, fields, program}
@@ -119,6 +119,7 @@ types = record {
   traps = traps own_rows program.texts program.fields program.methods;
   conflict = conflict own_rows program.texts program.fields program.methods refl;
   context = context own_rows program.texts program.fields program.methods refl;
+  string = string own_rows program.texts program.fields program.methods;
 }
 
 -- ---- names
@@ -221,63 +222,63 @@ read_object = record { itself = refl; top = refl; read = refl }
 -- ---- methods
 
 source_init_a : IsSourceMethod program methods.init_a
-source_init_a = record { counted = refl; parameters = tt; many = refl; object = refl; code = λ e. cc; result = tt; takes = (read_a, tt); gives = tt; unmarked = λ e. refl; entries = tt; each = (tt, (tt, (tt, tt))) }
+source_init_a = record { counted = refl; class = record { itself = refl; array = λ e. cc }; parameters = tt; many = refl; object = refl; code = λ e. cc; result = tt; takes = (read_a, tt); gives = tt; unmarked = λ e. refl; entries = tt; each = (tt, (tt, (tt, tt))) }
 
 source_get_a : IsSourceMethod program methods.get_a
-source_get_a = record { counted = refl; parameters = tt; many = refl; object = refl; code = λ e. cc; result = tt; takes = (read_a, tt); gives = (tt, tt); unmarked = λ e. refl; entries = tt; each = (tt, (record { field = _; there = refl; base_is = refl }, (tt, tt))) }
+source_get_a = record { counted = refl; class = record { itself = refl; array = λ e. cc }; parameters = tt; many = refl; object = refl; code = λ e. cc; result = tt; takes = (read_a, tt); gives = (tt, tt); unmarked = λ e. refl; entries = tt; each = (tt, (record { field = _; there = refl; base_is = refl }, (tt, tt))) }
 
 source_get_b : IsSourceMethod program methods.get_b
-source_get_b = record { counted = refl; parameters = tt; many = refl; object = refl; code = λ e. cc; result = tt; takes = (read_b, tt); gives = (tt, tt); unmarked = λ e. refl; entries = tt; each = (tt, (omega arith, (record { field = _; there = refl; base_is = refl }, (tt, (record { field = _; there = refl; base_is = refl }, (omega arith, (tt, (tt, tt)))))))) }
+source_get_b = record { counted = refl; class = record { itself = refl; array = λ e. cc }; parameters = tt; many = refl; object = refl; code = λ e. cc; result = tt; takes = (read_b, tt); gives = (tt, tt); unmarked = λ e. refl; entries = tt; each = (tt, (omega arith, (record { field = _; there = refl; base_is = refl }, (tt, (record { field = _; there = refl; base_is = refl }, (omega arith, (tt, (tt, tt)))))))) }
 
 source_init_b : IsSourceMethod program methods.init_b
-source_init_b = record { counted = refl; parameters = tt; many = refl; object = refl; code = λ e. cc; result = tt; takes = (read_b, (tt, (tt, tt))); gives = tt; unmarked = λ e. refl; entries = tt; each = (tt, (record { method = _; there = refl; over_object = λ e. cc }, (tt, (tt, (record { field = _; there = refl; base_is = refl }, (tt, tt)))))) }
+source_init_b = record { counted = refl; class = record { itself = refl; array = λ e. cc }; parameters = tt; many = refl; object = refl; code = λ e. cc; result = tt; takes = (read_b, (tt, (tt, tt))); gives = tt; unmarked = λ e. refl; entries = tt; each = (tt, (record { method = _; there = refl; over_object = λ e. cc }, (tt, (tt, (record { field = _; there = refl; base_is = refl }, (tt, tt)))))) }
 
 source_f_i : IsSourceMethod program methods.f_i
-source_f_i = record { counted = refl; parameters = tt; many = refl; object = (codes "java/lang/Object", refl); code = (refl, refl); result = tt; takes = (read_object, tt); gives = (tt, tt); unmarked = λ e. refl; entries = tt; each = tt }
+source_f_i = record { counted = refl; class = record { itself = refl; array = λ e. cc }; parameters = tt; many = refl; object = (codes "java/lang/Object", refl); code = (refl, refl); result = tt; takes = (read_object, tt); gives = (tt, tt); unmarked = λ e. refl; entries = tt; each = tt }
 
 source_f_b : IsSourceMethod program methods.f_b
-source_f_b = record { counted = refl; parameters = tt; many = refl; object = refl; code = λ e. cc; result = tt; takes = (read_b, tt); gives = (tt, tt); unmarked = λ e. refl; entries = tt; each = (tt, (record { field = _; there = refl; base_is = refl }, (tt, (tt, tt)))) }
+source_f_b = record { counted = refl; class = record { itself = refl; array = λ e. cc }; parameters = tt; many = refl; object = refl; code = λ e. cc; result = tt; takes = (read_b, tt); gives = (tt, tt); unmarked = λ e. refl; entries = tt; each = (tt, (record { field = _; there = refl; base_is = refl }, (tt, (tt, tt)))) }
 
 source_init_e : IsSourceMethod program methods.init_e
-source_init_e = record { counted = refl; parameters = tt; many = refl; object = refl; code = λ e. cc; result = tt; takes = (read_e, tt); gives = tt; unmarked = λ e. refl; entries = tt; each = (tt, (tt, (tt, tt))) }
+source_init_e = record { counted = refl; class = record { itself = refl; array = λ e. cc }; parameters = tt; many = refl; object = refl; code = λ e. cc; result = tt; takes = (read_e, tt); gives = tt; unmarked = λ e. refl; entries = tt; each = (tt, (tt, (tt, tt))) }
 
 source_make : IsSourceMethod program methods.make
-source_make = record { counted = refl; parameters = tt; many = refl; object = refl; code = λ e. cc; result = tt; takes = tt; gives = (tt, tt); unmarked = λ e. cc; entries = tt; each = (record { row = _; there = refl; below = refl; holds = refl }, (tt, (omega arith, (record { method = _; there = refl; over_object = λ e. cc }, ((2, record { field = _; there = refl; base_is = refl }), ((2, record { field = _; there = refl; base_is = refl }), (record { method = _; there = refl; over_object = λ e. cc; constructor = λ e. cc }, (tt, tt)))))))) }
+source_make = record { counted = refl; class = record { itself = refl; array = λ e. cc }; parameters = tt; many = refl; object = refl; code = λ e. cc; result = tt; takes = tt; gives = (tt, tt); unmarked = λ e. cc; entries = tt; each = (record { row = _; there = refl; known = record { itself = refl; array = λ e. cc }; holds = refl }, (tt, (omega arith, (record { method = _; there = refl; over_object = λ e. cc }, ((2, record { field = _; there = refl; base_is = refl }), ((2, record { field = _; there = refl; base_is = refl }), (record { method = _; there = refl; over_object = λ e. cc; constructor = λ e. cc }, (tt, tt)))))))) }
 
 source_call : IsSourceMethod program methods.call
-source_call = record { counted = refl; parameters = tt; many = refl; object = refl; code = λ e. cc; result = tt; takes = tt; gives = (tt, tt); unmarked = λ e. cc; entries = tt; each = ((2, record { field = _; there = refl; base_is = refl }), (tt, (record { method = _; there = refl; over_object = λ e. cc; constructor = λ e. cc }, (tt, tt)))) }
+source_call = record { counted = refl; class = record { itself = refl; array = λ e. cc }; parameters = tt; many = refl; object = refl; code = λ e. cc; result = tt; takes = tt; gives = (tt, tt); unmarked = λ e. cc; entries = tt; each = ((2, record { field = _; there = refl; base_is = refl }), (record { itself = refl; array = λ e. cc }, (record { method = _; there = refl; over_object = λ e. cc; constructor = λ e. cc }, (tt, tt)))) }
 
 source_elements : IsSourceMethod program methods.elements
-source_elements = record { counted = refl; parameters = tt; many = refl; object = refl; code = λ e. cc; result = tt; takes = tt; gives = (tt, tt); unmarked = λ e. cc; entries = tt; each = (omega arith, (record { row = _; there = refl; below = refl; holds = tt }, ((2, record { field = _; there = refl; base_is = refl }), ((2, record { field = _; there = refl; base_is = refl }), (omega arith, ((2, record { field = _; there = refl; base_is = refl }), (tt, ((2, record { field = _; there = refl; base_is = refl }), (omega arith, (tt, (record { method = _; there = refl; over_object = λ e. cc; constructor = λ e. cc }, ((2, record { field = _; there = refl; base_is = refl }), (tt, (tt, (tt, tt))))))))))))))) }
+source_elements = record { counted = refl; class = record { itself = refl; array = λ e. cc }; parameters = tt; many = refl; object = refl; code = λ e. cc; result = tt; takes = tt; gives = (tt, tt); unmarked = λ e. cc; entries = tt; each = (omega arith, (record { row = _; there = refl; known = record { itself = refl; array = λ e. refl }; holds = tt }, ((2, record { field = _; there = refl; base_is = refl }), ((2, record { field = _; there = refl; base_is = refl }), (omega arith, ((2, record { field = _; there = refl; base_is = refl }), (tt, ((2, record { field = _; there = refl; base_is = refl }), (omega arith, (tt, (record { method = _; there = refl; over_object = λ e. cc; constructor = λ e. cc }, ((2, record { field = _; there = refl; base_is = refl }), (tt, (tt, (tt, tt))))))))))))))) }
 
 source_store : IsSourceMethod program methods.store
-source_store = record { counted = refl; parameters = tt; many = refl; object = refl; code = λ e. cc; result = tt; takes = tt; gives = (tt, tt); unmarked = λ e. cc; entries = tt; each = (omega arith, (record { row = _; there = refl; below = refl; holds = tt }, ((2, record { field = _; there = refl; base_is = refl }), ((2, record { field = _; there = refl; base_is = refl }), (omega arith, ((2, record { field = _; there = refl; base_is = refl }), (tt, (omega arith, (tt, tt))))))))) }
+source_store = record { counted = refl; class = record { itself = refl; array = λ e. cc }; parameters = tt; many = refl; object = refl; code = λ e. cc; result = tt; takes = tt; gives = (tt, tt); unmarked = λ e. cc; entries = tt; each = (omega arith, (record { row = _; there = refl; known = record { itself = refl; array = λ e. refl }; holds = tt }, ((2, record { field = _; there = refl; base_is = refl }), ((2, record { field = _; there = refl; base_is = refl }), (omega arith, ((2, record { field = _; there = refl; base_is = refl }), (tt, (omega arith, (tt, tt))))))))) }
 
 source_text : IsSourceMethod program methods.text
-source_text = record { counted = refl; parameters = tt; many = refl; object = refl; code = λ e. cc; result = tt; takes = tt; gives = (tt, tt); unmarked = λ e. cc; entries = tt; each = (omega arith, (tt, (tt, tt))) }
+source_text = record { counted = refl; class = record { itself = refl; array = λ e. cc }; parameters = tt; many = refl; object = refl; code = λ e. cc; result = tt; takes = tt; gives = (tt, tt); unmarked = λ e. cc; entries = tt; each = (omega arith, (tt, (tt, tt))) }
 
 source_caught : IsSourceMethod program methods.caught
-source_caught = record { counted = refl; parameters = tt; many = refl; object = refl; code = λ e. cc; result = tt; takes = tt; gives = (tt, tt); unmarked = λ e. cc; entries = (record { from = omega arith; to = omega arith; catches = tt }, tt); each = (record { row = _; there = refl; below = refl; holds = refl }, (tt, (record { method = _; there = refl; over_object = λ e. cc }, (tt, (tt, (omega arith, (tt, tt))))))) }
+source_caught = record { counted = refl; class = record { itself = refl; array = λ e. cc }; parameters = tt; many = refl; object = refl; code = λ e. cc; result = tt; takes = tt; gives = (tt, tt); unmarked = λ e. cc; entries = (record { from = omega arith; to = omega arith; catches = tt }, tt); each = (record { row = _; there = refl; known = record { itself = refl; array = λ e. cc }; holds = refl }, (tt, (record { method = _; there = refl; over_object = λ e. cc }, (tt, (tt, (omega arith, (tt, tt))))))) }
 
 source_narrow : IsSourceMethod program methods.narrow
-source_narrow = record { counted = refl; parameters = tt; many = refl; object = refl; code = λ e. cc; result = tt; takes = tt; gives = (tt, tt); unmarked = λ e. cc; entries = tt; each = (omega arith, (record { row = _; there = refl; below = refl; holds = tt }, (tt, (tt, (omega arith, (omega arith, (tt, ((2, record { field = _; there = refl; base_is = refl }), (tt, (omega arith, (tt, (record { field = _; there = refl; base_is = refl }, ((2, record { field = _; there = refl; base_is = refl }), (record { field = _; there = refl; base_is = refl }, (tt, tt))))))))))))))) }
+source_narrow = record { counted = refl; class = record { itself = refl; array = λ e. cc }; parameters = tt; many = refl; object = refl; code = λ e. cc; result = tt; takes = tt; gives = (tt, tt); unmarked = λ e. cc; entries = tt; each = (omega arith, (record { row = _; there = refl; known = record { itself = refl; array = λ e. refl }; holds = tt }, (tt, (tt, (omega arith, (omega arith, (tt, ((2, record { field = _; there = refl; base_is = refl }), (tt, (omega arith, (tt, (record { field = _; there = refl; base_is = refl }, ((2, record { field = _; there = refl; base_is = refl }), (record { field = _; there = refl; base_is = refl }, (tt, tt))))))))))))))) }
 
 -- a method of an interface may have code: its object is any
 abbrev coded_f_i : Method
 coded_f_i = record methods.f_i { dispatch = dispatch.Virtual; max_stack = 1; ops = Constant (Int (pos 1)) ∷ ReturnValue sort.Int ∷ [] }
 
 source_coded_f_i : IsSourceMethod program coded_f_i
-source_coded_f_i = record { counted = refl; parameters = tt; many = refl; object = refl; code = λ e. cc; result = tt; takes = (read_object, tt); gives = (tt, tt); unmarked = λ e. refl; entries = tt; each = (omega arith, (tt, tt)) }
+source_coded_f_i = record { counted = refl; class = record { itself = refl; array = λ e. cc }; parameters = tt; many = refl; object = refl; code = λ e. cc; result = tt; takes = (read_object, tt); gives = (tt, tt); unmarked = λ e. refl; entries = tt; each = (omega arith, (tt, tt)) }
 
 -- a static method may have none, and one over objects of a class
 abbrev codeless : Dispatch → Method → Method
 codeless d k = record k { dispatch = d; retries = None; ops = [] }
 
 source_codeless_make : IsSourceMethod program (codeless dispatch.Static methods.make)
-source_codeless_make = record { counted = refl; parameters = tt; many = refl; object = refl; code = (refl, refl); result = tt; takes = tt; gives = (tt, tt); unmarked = λ e. refl; entries = tt; each = tt }
+source_codeless_make = record { counted = refl; class = record { itself = refl; array = λ e. cc }; parameters = tt; many = refl; object = refl; code = (refl, refl); result = tt; takes = tt; gives = (tt, tt); unmarked = λ e. refl; entries = tt; each = tt }
 
 source_codeless_get : IsSourceMethod program (codeless dispatch.Exact methods.get_a)
-source_codeless_get = record { counted = refl; parameters = tt; many = refl; object = refl; code = (refl, refl); result = tt; takes = (read_a, tt); gives = (tt, tt); unmarked = λ e. refl; entries = tt; each = tt }
+source_codeless_get = record { counted = refl; class = record { itself = refl; array = λ e. cc }; parameters = tt; many = refl; object = refl; code = (refl, refl); result = tt; takes = (read_a, tt); gives = (tt, tt); unmarked = λ e. refl; entries = tt; each = tt }
 
 pub source : IsSource program
 source = record {

@@ -19,7 +19,7 @@ use Rattle.objects.specs.Layout.{class_row, declared_as, field_type, own_words, 
 use Rattle.objects.proofs.Places.{get_back}
 use Rattle.jmodel.specs.Layout.{library as library_names}
 use Rattle.objects.proofs.ClassRows.{find_back, found_at, found_by_name, is_row}
-use Rattle.objects.proofs.LibraryRows.{IsRow, traps, conflict, context}
+use Rattle.objects.proofs.LibraryRows.{IsRow, traps, conflict, context, string}
 use Rattle.objects.proofs.ClassTypes.{new_to_library, none_found, words_step, is_class}
 use Rattle.objects.proofs.FolderRows.{parted, IsArrayOf, behind, Q, no_classes, each_row}
 
@@ -125,4 +125,5 @@ module _ (cs : List ClassFile) (fine : supers_fault cs ≡ None) (new : doubled_
     traps = traps (map (class_row cs) cs ++ tail) texts (fields_of cs) methods;
     conflict = conflict (map (class_row cs) cs ++ tail) texts (fields_of cs) methods (no_row conflict_class refl refl no_conflict refl);
     context = context (map (class_row cs) cs ++ tail) texts (fields_of cs) methods (no_row context_class refl refl no_context refl);
+    string = string (map (class_row cs) cs ++ tail) texts (fields_of cs) methods;
   }

@@ -34,6 +34,7 @@ pub mod ExampleConstructs
 pub mod ExampleFaults
 pub mod ExampleFiles
 pub mod ExampleLinking
+pub mod ExampleSource
 pub mod ExampleDecoding
 pub mod ExampleLayout
 pub mod ExampleRewritten
@@ -140,3 +141,9 @@ pub mod BlockFlows
 pub mod RewritingTypes
 pub mod ReadTests
 pub mod ExampleRewritable
+pub mod KnownTypes
+pub mod CleanTypes
+pub mod CleanFlows
+pub mod CleanOps
+pub mod NarrowestTypes
+pub mod CastNames

@@ -8,8 +8,8 @@ use Rattle.objects.specs.declared.op.Trap.{Trap}
 use Rattle.objects.specs.declared.op.Trap.TheVariants.{Arithmetic, NullPointer, ArrayIndex, ArrayStore, NegativeArraySize, ClassCast, AbstractMethod, IncompatibleClassChange}
 use Rattle.objects.specs.Program.{Row, Field, Method, Program, row_at, is_instance}
 use Rattle.objects.specs.LibraryClasses.{under, object, throwable, exception, error, runtime_exception, index_out_of_bounds, linkage_error, class_change_error, library_rows}
-use Rattle.objects.specs.TypeOrder.{context_class, conflict_class, conflict_classes, from_class, classes_from, is_within, IsWithin, name_read}
-use Rattle.objects.specs.Source.{IsRowOf, IsTrapClass}
+use Rattle.objects.specs.TypeOrder.{string_class, context_class, conflict_class, conflict_classes, from_class, classes_from, is_within, IsWithin, name_read}
+use Rattle.objects.specs.Source.{IsRowOf, IsTrapClass, IsKnownName}
 
 -- ---- lists of names
 
@@ -153,3 +153,6 @@ module _ (more : List Row) (texts : List ℕ) (fields : List Field) (methods : L
   -- where no class has that of the context's
   pub context : find (λ (r : Row). bytes_eq r.name context_class) more ≡ None → classes_from whole context_class ≡ from_class context_class conflict_classes
   context none = rw none refl
+
+  pub string : IsKnownName whole string_class
+  string = record { itself = refl; array = λ e. cc }

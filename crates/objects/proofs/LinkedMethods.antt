@@ -41,6 +41,7 @@ use Rattle.objects.proofs.AsRead.{is_file, unreserved}
 use Rattle.objects.proofs.Flags.{abstract_by}
 use Rattle.objects.proofs.ClassTypes.{each_none}
 use Rattle.objects.proofs.MadeArrays.{IsMade}
+use Rattle.objects.proofs.CastNames.{own_known}
 use Rattle.objects.proofs.CleanCode.{clean_whole, taken_clean}
 use Rattle.objects.proofs.Links.{IsLinkedTo, IsFrom, method_from}
 use Rattle.objects.proofs.DeclaredMembers.{of_methods}
@@ -277,6 +278,7 @@ module _ (cs : List ClassFile) (P : Program) (read : AreRead cs) (l : IsLinkedTo
           let p = parts in
           record {
             counted = refl;
+            class = own_known cs P read rows_are types made l.supers d.class class_at;
             parameters = parameters;
             many = refl;
             object = object;

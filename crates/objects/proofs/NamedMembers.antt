@@ -27,9 +27,8 @@ use Rattle.objects.proofs.Items.{IsAt}
 use Rattle.objects.proofs.AsRead.{not_named, no_context}
 use Rattle.objects.proofs.DeclaredMembers.{HasName}
 use Rattle.objects.proofs.CleanCode.{IsClean, IsGoodCall, good_call, neither}
-use Rattle.objects.proofs.ResolvedMembers.{IsFieldIn, method_resolves, field_resolves, numbered}
+use Rattle.objects.proofs.ResolvedMembers.{IsFieldIn, method_resolves, field_resolves}
 use Rattle.objects.proofs.LinkedFields.{has_number}
-use Rattle.objects.proofs.LinkedOps.{plain}
 
 pub both : (a b : Bool) → (a && b) ≡ true → (a ≡ true) × (b ≡ true)
 both true b e = (refl, e)

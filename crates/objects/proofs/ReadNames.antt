@@ -180,7 +180,7 @@ module _ (cs : List ClassFile) (P : Program) (read : AreRead cs) (rows_are : P.t
     pub itself : is_element_within P e e ≡ true
     pub again : element_read P e ≡ e
 
-  not_array : (n : List ℕ) → IsReadClass P n → (is_class_above P n n ≡ true) × (typing.class_read P n ≡ n)
+  pub not_array : (n : List ℕ) → IsReadClass P n → (is_class_above P n n ≡ true) × (typing.class_read P n ≡ n)
   not_array n r = (
     ap (λ b. if b then typing.is_array_within P n n else is_class_above P n n) (sym r.plain) ∙ r.name.itself,
     ap (λ b. if b then element_read P n else typing.class_read P n) (sym r.plain) ∙ r.name.read,

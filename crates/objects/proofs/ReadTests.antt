@@ -8,9 +8,9 @@ use Rattle.jmodel.specs.declared.typing.VType.TheVariants.{Ref, UninitThis}
 use Rattle.objects.specs.declared.op.Op.{Op}
 use Rattle.objects.specs.declared.op.Op.TheVariants.{PutField}
 use Rattle.objects.specs.Program.{Field, Method, Program, field_at}
-use Rattle.objects.specs.TypeOrder.{object_class, is_within, name_read}
+use Rattle.objects.specs.TypeOrder.{is_within, name_read}
 use Rattle.objects.specs.Typing.{Types, Table, types_at}
-use Rattle.objects.specs.Source.{IsReadName, IsReadType}
+use Rattle.objects.specs.Source.{IsKnownName, IsKnownType}
 use Rattle.objects.specs.TypingLaw.{IsRewritable}
 use Rattle.objects.specs.Rewriting.{places_of}
 
@@ -20,19 +20,18 @@ both false b e = cc
 
 module _ (P : Program) where
   abbrev pub is_read : List ℕ → Bool
-  is_read n = is_within P (Ref n) (Ref n) && (is_within P (Ref n) (Ref object_class) && bytes_eq (name_read P n) n)
+  is_read n = is_within P (Ref n) (Ref n) && bytes_eq (name_read P n) n
 
-  pub read_name : (n : List ℕ) → is_read n ≡ true → IsReadName P n
+  pub read_name : (n : List ℕ) → is_read n ≡ true → IsKnownName P n
   read_name n e =
       let a = both (is_within P (Ref n) (Ref n)) _ e in
-      let b = both (is_within P (Ref n) (Ref object_class)) _ a.1 in
-      record { itself = a.0; top = b.0; read = (bytes_eq-Decides (name_read P n) n).0 b.1 }
+      record { itself = a.0; array = λ i. (bytes_eq-Decides (name_read P n) n).0 a.1 }
 
   abbrev is_read_type : VType → Bool
   is_read_type (Ref n) = is_read n
   is_read_type t = true
 
-  read_type : (t : VType) → is_read_type t ≡ true → IsReadType P t
+  read_type : (t : VType) → is_read_type t ≡ true → IsKnownType P t
   read_type (Ref n) e = read_name n e
   read_type t e = tt
 
@@ -40,7 +39,7 @@ module _ (P : Program) where
   are_read [] = true
   are_read (t ∷ ts) = is_read_type t && are_read ts
 
-  all_read : (ts : List VType) → are_read ts ≡ true → AllByRecursion (IsReadType P) ts
+  all_read : (ts : List VType) → are_read ts ≡ true → AllByRecursion (IsKnownType P) ts
   all_read [] e = tt
   all_read (t ∷ ts) e = let x = both (is_read_type t) (are_read ts) e in (read_type t x.0, all_read ts x.1)
 
@@ -88,7 +87,7 @@ module _ (P : Program) where
   -- a table that passes is one by which the method can be rewritten
   pub passed : (k : Method) (T : Table) → passes_from 0 k T ≡ true → IsRewritable P k T
   passed k T e = record {
-    read = λ pc h t. let x = at pc h t in (all_read h.locals x.locals, all_read h.stack x.stack);
+    known = λ pc h t. let x = at pc h t in (all_read h.locals x.locals, all_read h.stack x.stack);
     late = λ pc n c h f t is there this. let x = at pc h t in stored n c h f (slice_get k.ops pc) is there this x.late;
   }
     where

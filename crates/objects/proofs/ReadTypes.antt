@@ -6,9 +6,9 @@ use Rattle.std.proofs.lemmas.Bool.Decides.{nat_tests}
 use Rattle.jmodel.specs.declared.typing.VType.{VType}
 use Rattle.jmodel.specs.declared.typing.VType.TheVariants.{Int, Long, Second, Null, Ref, Uninit, UninitThis, Top}
 use Rattle.objects.specs.Program.{Declared, Row, Field, Program, field_at}
-use Rattle.objects.specs.TypeOrder.{object_class, throwable_class, context_class, conflict_class, IsWithin, AreWithin, is_array, element_class, without_last, classes_from, above_in, class_read, name_read, read_in}
+use Rattle.objects.specs.TypeOrder.{object_class, throwable_class, context_class, conflict_class, IsWithin, AreWithin, is_array, is_element_within, element_class, without_last, classes_from, above_in, class_read, name_read, read_in}
 use Rattle.objects.specs.Typing.{has_references}
-use Rattle.objects.specs.Source.{IsUnder, IsClass, AreTypes, IsReadName, IsReadType}
+use Rattle.objects.specs.Source.{IsUnder, IsClass, AreTypes, IsReadName, IsReadType, IsKnownName, IsKnownType}
 use Rattle.objects.proofs.Order.{Among, first, later, plain_name, Above, by_class, class_row, by_found}
 use Rattle.objects.proofs.Elements.{inner_name, never, Shape, shape, shaped, deeper, under_object, class, same, Within, within, is_within_by, arrays, object, classes}
 
@@ -28,10 +28,29 @@ module _ (P : Program) where
   read_itself [] r = tt
   read_itself (t ∷ ts) r = (read_one t r.0, read_itself ts r.1)
 
+  -- so are types whose names are known
+  known_one : (t : VType) → IsKnownType P t → IsWithin P t t
+  known_one (Ref n) r = r.itself
+  known_one Int r = refl
+  known_one Long r = refl
+  known_one Second r = refl
+  known_one Null r = refl
+  known_one (Uninit p) r = grind (arith, nat_tests)
+  known_one UninitThis r = refl
+  known_one Top r = refl
+
+  pub known_itself : (ts : List VType) → AllByRecursion (IsKnownType P) ts → AreWithin P ts ts
+  known_itself [] r = tt
+  known_itself (t ∷ ts) r = (known_one t r.0, known_itself ts r.1)
+
+  -- a known array is read
+  pub known_array : (n : List ℕ) → is_array n ≡ true → IsKnownName P n → IsReadName P n
+  known_array n i k = record { itself = k.itself; top = is_within_by P n object_class (object i refl); read = k.array i }
+
 module _ (P : Program) (C : AreTypes P) where
   -- ---- classes
 
-  among_own : (r : Row) (ds : List Declared) → IsClass P r ds → Among r.name r.lineage
+  pub among_own : (r : Row) (ds : List Declared) → IsClass P r ds → Among r.name r.lineage
   among_own r ds c = ⊎_elim
       (λ (e : (r.name ≡ object_class) × (r.lineage ≡ r.name ∷ [])). subst (Among r.name) (sym e.1) (first r.name []))
       (λ (u : IsUnder P r ds). subst (Among r.name) (sym u.lineage) (first r.name u.upper.lineage))
@@ -42,7 +61,7 @@ module _ (P : Program) (C : AreTypes P) where
       (λ r ds c o e. subst (Among object_class) (sym e) (subst (λ n. Among n (r.name ∷ [])) o (first r.name [])))
       (λ r ds c u k rest. subst (Among object_class) (sym u.lineage) (later object_class r.name u.upper.lineage rest))
 
-  lines : (r : Row) (ds : List Declared) → IsClass P r ds → classes_from P r.name ≡ r.lineage
+  pub lines : (r : Row) (ds : List Declared) → IsClass P r ds → classes_from P r.name ≡ r.lineage
   lines r ds c = ap (λ (o : Option Row). above_in o r.name) c.found
 
   pub class_is_read : (r : Row) (ds : List Declared) → IsClass P r ds → IsReadName P r.name
@@ -90,11 +109,12 @@ module _ (P : Program) (C : AreTypes P) where
 
   -- their class is read, and the array is one of objects
   pub record AreReadElements (n : List ℕ) : Type 0 where
+    pub itself : IsWithin P (Ref (element_class n)) (Ref (element_class n))
     pub read : name_read P (element_class n) ≡ element_class n
     pub below : IsWithin P (Ref n) (Ref (codes "[Ljava/lang/Object;"))
 
-  of_arrays : (y : List ℕ) → name_read P (91 ∷ 91 ∷ y) ≡ 91 ∷ 91 ∷ y → AreReadElements (91 ∷ 91 ∷ y)
-  of_arrays y read = record { read = ap (drop 1) read; below = refl }
+  of_arrays : (y : List ℕ) → is_element_within P y y ≡ true → name_read P (91 ∷ 91 ∷ y) ≡ 91 ∷ 91 ∷ y → AreReadElements (91 ∷ 91 ∷ y)
+  of_arrays y itself read = record { itself = itself; read = ap (drop 1) read; below = refl }
 
   module _ (x : List ℕ) (read : name_read P (91 ∷ 76 ∷ x) ≡ 91 ∷ 76 ∷ x) (above : Above P C (without_last x) (without_last x)) where
     abbrev c : List ℕ
@@ -119,6 +139,7 @@ module _ (P : Program) (C : AreTypes P) where
 
     of_class : AreReadElements (91 ∷ 76 ∷ x)
     of_class = record {
+      itself = is_within_by P c c (classes plain above);
       read = (let p = plain in let e = as_read in rw p e);
       below = shaped P 76 x 76 (codes "java/lang/Object;") (class refl refl refl below_object);
     }
@@ -143,7 +164,7 @@ module _ (P : Program) (C : AreTypes P) where
       back z s a = subst (λ (d : ℕ). AreReadElements (d ∷ e ∷ x)) (sym first_is) (subst (λ (d : ℕ). AreReadElements (91 ∷ d ∷ x)) (sym s) a)
 
       shapes : Shape P e x e x → AreReadElements (b ∷ e ∷ x)
-      shapes (deeper y z h) = back 91 y (of_arrays x (read_as 91 y))
+      shapes (deeper y z h) = back 91 y (of_arrays x h (read_as 91 y))
       shapes (under_object y z h) = absurd (omega (arith, y, z))
       shapes (class y z g h) = back 76 y (of_class x (read_as 76 y) h)
       shapes (same y z h) = absurd (one y z (e == 76) (e == 91) refl refl has)

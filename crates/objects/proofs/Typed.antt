@@ -636,7 +636,7 @@ module _ (P : Program) (Ts : List Table) (S : IsTypedProgram P Ts) (size : ℕ) 
         made_of (Elements d name) e = absurd e
 
         within : IsWithin P (Ref can.row.read) (Ref c)
-        within = subst (λ (n : List ℕ). IsWithin P (Ref can.row.read) (Ref n)) (made_of can.row.holds can.holds ∙ name) can.below
+        within = subst (λ (n : List ℕ). IsWithin P (Ref can.row.read) (Ref n)) (made_of can.row.holds can.holds ∙ name) can.known.itself
 
     new_turns : (τ : State) (p : ℕ) (c : List ℕ) → is_named c (new_class P (slice_get k.ops p)) ≡ true → (v : Slot) → HasType P k τ (Uninit p) v → HasType P k τ (Ref c) v
     new_turns τ p c named (slot.Ref o) x = reference_of P τ c o (new_this τ p c named o x).object
@@ -1198,7 +1198,7 @@ module _ (P : Program) (Ts : List Table) (S : IsTypedProgram P Ts) (size : ℕ) 
     new_array_fine t can s hs e = on_int_fine h.stack s _ _ hs by (subst (λ (r : Option Row). Keeps (typed.row_in r (λ r. typed.on_int h.stack (λ s. typed.leaves pc h (Ref r.read ∷ s))))) can.there e)
       where
         made : (τ : State) (o : ℕ) → type_at τ o ≡ Some t → IsObjectOf P τ can.row.read o
-        made τ o there = let x = object_at τ o t there in record { object = x.0; row = can.row; there = x.1; is = ap (row_at P) x.2 ∙ can.there; below = can.below }
+        made τ o there = let x = object_at τ o t there in record { object = x.0; row = can.row; there = x.1; is = ap (row_at P) x.2 ∙ can.there; below = can.known.itself }
 
         by : (x : ℤ) (us : List VType) (r : List Slot) → FitsSigned w32 x → Has us r → Keeps (typed.leaves pc h (Ref can.row.read ∷ us)) → DidFine (sized x t (here l r))
         by (negsuc n) us r fits hr e = traps FirstHeads NegativeArraySize r

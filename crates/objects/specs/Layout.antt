@@ -101,9 +101,18 @@ above_last n (c ∷ cs) = above_last (super_name c) cs
 abbrev pub names_upward : List ClassFile → List ℕ → List (List ℕ)
 names_upward cs n = map own_name (lineage cs n) ++ library_lineage (above_last n (lineage cs n))
 
+-- texts in byte order, each once
+abbrev pub with_text : List ℕ → List (List ℕ) → List (List ℕ)
+with_text t [] = t ∷ []
+with_text t (u ∷ us) = if bytes_eq t u then u ∷ us else (if is_before u t then u ∷ with_text t us else t ∷ u ∷ us)
+
+abbrev pub in_text_order : List (List ℕ) → List (List ℕ)
+in_text_order [] = []
+in_text_order (t ∷ ts) = with_text t (in_text_order ts)
+
 -- A class, those above it, and the interfaces that these list, directly or through interfaces. An empty name is none.
 abbrev pub class_instances : List ClassFile → List ℕ → List (List ℕ)
-class_instances cs n = names_upward cs n ++ filter is_class_name (flat_map interface_names (ancestry cs n))
+class_instances cs n = names_upward cs n ++ in_text_order (filter is_class_name (flat_map interface_names (ancestry cs n)))
 
 -- Descriptors: of the types of which an element of a descriptor is an instance. An array is one of Object, 91; a class, 76, has its own; other elements are
 -- the same.
@@ -145,15 +154,6 @@ array_row cs n = record {
 
 abbrev pub primitive_arrays : List (List ℕ)
 primitive_arrays = codes "[B" ∷ codes "[C" ∷ codes "[I" ∷ codes "[J" ∷ codes "[S" ∷ codes "[Z" ∷ []
-
--- texts in byte order, each once
-abbrev pub with_text : List ℕ → List (List ℕ) → List (List ℕ)
-with_text t [] = t ∷ []
-with_text t (u ∷ us) = if bytes_eq t u then u ∷ us else (if is_before u t then u ∷ with_text t us else t ∷ u ∷ us)
-
-abbrev pub in_text_order : List (List ℕ) → List (List ℕ)
-in_text_order [] = []
-in_text_order (t ∷ ts) = with_text t (in_text_order ts)
 
 -- the array type that anewarray, 189, makes of a class's name
 abbrev pub array_over : List ℕ → List ℕ

@@ -20,9 +20,37 @@ use Rattle.objects.specs.declared.op.Catches.TheVariants.{Conflict}
 use Rattle.objects.specs.WordTypes.{type_descriptor}
 use Rattle.objects.specs.Library.{trap_type}
 use Rattle.objects.specs.Program.{Declared, Holds, Words, Elements, Row, Field, Method, Program, method_at, field_at, row_at, is_instance}
-use Rattle.objects.specs.TypeOrder.{object_class, throwable_class, context_class, conflict_classes, is_class_name, from_class, classes_from, IsWithin, name_read, descriptor_of}
+use Rattle.objects.specs.TypeOrder.{object_class, throwable_class, string_class, context_class, conflict_classes, is_array, is_class_name, from_class, classes_from, IsWithin, name_read, descriptor_of}
 use Rattle.objects.specs.Typing.{is_constructor, arguments, results}
 use Rattle.objects.specs.Rewriting.{with_context}
+
+-- ---- types as typing reads them
+
+-- the name of a class or an array as typing reads it, which is at most itself and Object
+pub record IsReadName (P : Program) (n : List ℕ) : Type 0 where
+  pub itself : IsWithin P (type.Ref n) (type.Ref n)
+  pub top : IsWithin P (type.Ref n) (type.Ref object_class)
+  pub read : name_read P n ≡ n
+
+-- the name in a type, where there is one, is such
+abbrev pub IsReadType : Program → VType → Type 0
+IsReadType P (type.Ref n) = IsReadName P n
+IsReadType P t = Unit {0}
+
+-- so is the class of a word, where it is a reference
+abbrev pub IsReadWord : Program → WordType → List ℕ → Type 0
+IsReadWord P word.Reference c = IsReadName P c
+IsReadWord P w c = Unit {0}
+
+-- a name of a class or an array that is at most itself; an array's is as typing reads it
+pub record IsKnownName (P : Program) (n : List ℕ) : Type 0 where
+  pub itself : IsWithin P (type.Ref n) (type.Ref n)
+  pub array : is_array n ≡ true → name_read P n ≡ n
+
+-- the name in a type, where there is one, is known
+abbrev pub IsKnownType : Program → VType → Type 0
+IsKnownType P (type.Ref n) = IsKnownName P n
+IsKnownType P t = Unit {0}
 
 -- ---- types of objects
 
@@ -83,7 +111,7 @@ pub record IsTrapClass (P : Program) (x : Trap) : Type 0 where
   pub below : IsWithin P (type.Ref row.read) (type.Ref throwable_class)
 
 -- The run-time test of types and typing agree: an instance is at most what typing reads of the name, and what is at most a type is an instance of it.
--- The classes above the transaction's conflict stand under one another as they do in the library, and its context right under Object.
+-- The classes above the transaction's conflict stand under one another as they do in the library, and its context right under Object. Texts have a class.
 pub record AreTypes (P : Program) : Type 0 where
   pub rows : (t : ℕ) (r : Row) → row_at P t ≡ Some r → IsRowOf P r r.holds
   pub instances : (t : ℕ) (r : Row) (n : List ℕ) → row_at P t ≡ Some r → is_instance P t n ≡ true → IsWithin P (type.Ref r.read) (type.Ref (name_read P n))
@@ -92,24 +120,7 @@ pub record AreTypes (P : Program) : Type 0 where
   pub traps : (x : Trap) → IsTrapClass P x
   pub conflict : AllByRecursion (λ n. classes_from P n ≡ from_class n conflict_classes) conflict_classes
   pub context : classes_from P context_class ≡ from_class context_class conflict_classes
-
--- ---- types as typing reads them
-
--- the name of a class or an array as typing reads it, which is at most itself and Object
-pub record IsReadName (P : Program) (n : List ℕ) : Type 0 where
-  pub itself : IsWithin P (type.Ref n) (type.Ref n)
-  pub top : IsWithin P (type.Ref n) (type.Ref object_class)
-  pub read : name_read P n ≡ n
-
--- the name in a type, where there is one, is such
-abbrev pub IsReadType : Program → VType → Type 0
-IsReadType P (type.Ref n) = IsReadName P n
-IsReadType P t = Unit {0}
-
--- so is the class of a word, where it is a reference
-abbrev pub IsReadWord : Program → WordType → List ℕ → Type 0
-IsReadWord P word.Reference c = IsReadName P c
-IsReadWord P w c = Unit {0}
+  pub string : IsKnownName P string_class
 
 -- ---- fields
 
@@ -165,7 +176,7 @@ IsMadeOf array r h = ⊥
 pub record CanMake (P : Program) (t : ℕ) (array : Bool) : Type 0 where
   pub row : Row
   pub there : row_at P t ≡ Some row
-  pub below : IsWithin P (type.Ref row.read) (type.Ref row.read)
+  pub known : IsKnownName P row.read
   pub holds : IsMadeOf array row row.holds
 
 -- An instruction of an original method: its fields, methods and targets are there, and it isn't one of transactional code. That its locals are there is typing's.
@@ -188,6 +199,7 @@ IsSourceOp P k (op.InvokeVirtual m c) = HasVirtual P m
 IsSourceOp P k (op.InvokeInterface m c) = HasVirtual P m
 IsSourceOp P k (op.New t) = CanMake P t false
 IsSourceOp P k (op.NewArray t) = CanMake P t true
+IsSourceOp P k (op.CheckCast c) = IsKnownName P (name_read P c)
 IsSourceOp P k op.GetContext = ⊥
 IsSourceOp P k (op.Context c) = ⊥
 IsSourceOp P k o = Unit {0}
@@ -238,6 +250,7 @@ HasCode (o ∷ os) k = k.dispatch ≢ dispatch.Abstract
 -- A constructor isn't marked: an attempt of it could not be made again over the same object.
 pub record IsSourceMethod (P : Program) (k : Method) : Type 0 where
   pub counted : k.counted ≡ true
+  pub class : IsKnownName P k.name.class
   pub parameters : AreParameters k.parameters
   pub many : length k.parameters ≡ k.places
   pub object : HasObject P k.dispatch k

@@ -6,12 +6,12 @@ use Rattle.jmodel.specs.declared.typing.VType.TheVariants.{UninitThis}
 use Rattle.objects.specs.declared.op.Dispatch.TheVariants as dispatch
 use Rattle.objects.specs.declared.op.Op.TheVariants.{PutField}
 use Rattle.objects.specs.Program.{Field, Method, Program, method_at, field_at, has_code}
-use Rattle.objects.specs.Source.{IsReadType, IsSource, AreArguments}
+use Rattle.objects.specs.Source.{IsKnownType, IsSourceMethod, IsSource, AreArguments}
 use Rattle.objects.specs.Region.{Region}
 use Rattle.objects.specs.State.{State}
 use Rattle.objects.specs.Call.{Direct, On, Asking, Ended, Stuck, direct, call_start}
 use Rattle.objects.specs.Meaning.{IsHeap}
-use Rattle.objects.specs.Typing.{Types, Table, types_at, IsTyping, IsTypable}
+use Rattle.objects.specs.Typing.{Types, Table, types_at, IsTyping, IsTypable, IsNarrowest}
 use Rattle.objects.specs.Rewriting.{places_of, rewritten}
 
 -- the table of a method is a typing of it
@@ -37,10 +37,10 @@ abbrev pub TypedSafety : Type 0
 TypedSafety = (P : Program) (Ts : List Table) → IsTypedProgram P Ts → (budget m : ℕ) (G : Region) (k : Method) → slice_get P.methods m ≡ Some k → k.dispatch ≡ dispatch.Static → has_code (Some k) ≡ true
     → (args : List Value) → AreArguments k.parameters args → (σ : State) → IsHeap P G.size σ → (n : ℕ) → IsSafe P G.size (direct P G n (call_start P m args budget σ))
 
--- What the rewriting asks of a method's table beside: its types are as typing reads them, and no field of an object is stored to before another constructor
--- has run over it, since an accessor takes an object that is built.
+-- What the rewriting asks of a method's table beside: its types have known names, and no field of an object is stored to before another constructor has run
+-- over it, since an accessor takes an object that is built.
 pub record IsRewritable (P : Program) (k : Method) (T : Table) : Type 0 where
-  pub read : (pc : ℕ) (h : Types) → types_at T pc ≡ Some h → AllByRecursion (IsReadType P) h.locals × AllByRecursion (IsReadType P) h.stack
+  pub known : (pc : ℕ) (h : Types) → types_at T pc ≡ Some h → AllByRecursion (IsKnownType P) h.locals × AllByRecursion (IsKnownType P) h.stack
   pub late : (pc n : ℕ) (c : List ℕ) (h : Types) (f : Field) → types_at T pc ≡ Some h → slice_get k.ops pc ≡ Some (PutField n c) → field_at P n ≡ Some f → slice_get h.stack (places_of f.declared.word) ≢ Some UninitThis
 
 -- Each method of a rewritten program that has code has a typing: those that stay, wrappers, accessors, duplicates, and those of the helper of arrays.
@@ -48,3 +48,8 @@ abbrev pub TypedRewriting : Type 0
 TypedRewriting = (P : Program) (Ts : List Table) → IsTypedProgram P Ts
     → ((m : ℕ) (k : Method) (T : Table) → method_at P m ≡ Some k → slice_get Ts m ≡ Some T → has_code (Some k) ≡ true → IsRewritable P k T)
     → (m : ℕ) (k : Method) → method_at (rewritten P Ts) m ≡ Some k → has_code (Some k) ≡ true → IsTypable (rewritten P Ts) k
+
+-- The types of a source method's narrowest typing have known names.
+abbrev pub NarrowestIsKnown : Type 0
+NarrowestIsKnown = (P : Program) → IsSource P → (k : Method) → IsSourceMethod P k → (T : Table) → IsTyping P k T → IsNarrowest P k T
+    → (pc : ℕ) (h : Types) → types_at T pc ≡ Some h → AllByRecursion (IsKnownType P) h.locals × AllByRecursion (IsKnownType P) h.stack

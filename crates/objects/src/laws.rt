@@ -1,5 +1,5 @@
 //! Laws of the definitions: each function's contract is one, and its body does nothing.
-ghost use Rattle.objects.specs.TypingLaw.{TypedSafety, TypedRewriting};
+ghost use Rattle.objects.specs.TypingLaw.{TypedSafety, TypedRewriting, NarrowestIsKnown};
 ghost use Rattle.objects.specs.Law.{Simulation, Prefix, PrefixTraps, Soundness, SnapshotSoundness, Completion};
 
 /// A program each of whose methods has a typing never gets stuck over a heap whose objects have values of their types, and keeps it so.
@@ -7,10 +7,15 @@ pub fn typed_safety()
     ensures { TypedSafety }
 {}
 
-/// Each method of a rewritten program that has code has a typing, where the tables' types are as typing reads them and no field of an object is stored to
-/// before the object is built.
+/// Each method of a rewritten program that has code has a typing, where the tables' types have known names and no field of an object is stored to before the
+/// object is built.
 pub fn typed_rewriting()
     ensures { TypedRewriting }
+{}
+
+/// The types of a source method's narrowest typing have known names.
+pub fn narrowest_known()
+    ensures { NarrowestIsKnown }
 {}
 
 /// A call of rewritten typed code, whatever the engine answers, is what the original method would have done in one piece from each state that has what the
