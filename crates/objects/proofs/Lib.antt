@@ -147,3 +147,4 @@ pub mod CleanFlows
 pub mod CleanOps
 pub mod NarrowestTypes
 pub mod CastNames
+pub mod Returns

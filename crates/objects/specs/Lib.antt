@@ -19,6 +19,8 @@ pub mod Region
 pub mod RegionLaw
 pub mod Serial
 pub mod SerialLaw
+pub mod Opening
+pub mod Journal
 pub mod LibraryMethods
 pub mod Resolution
 pub mod Constructs

@@ -1,4 +1,5 @@
 //! The law that ties a history to calls made one after another, and what a call takes of its region.
+ghost use Rattle.objects.specs.Opening.{ReturnLaw};
 ghost use Rattle.objects.specs.RegionLaw.{RegionLaw};
 ghost use Rattle.objects.specs.SerialLaw.{SerialLaw};
 
@@ -12,4 +13,9 @@ pub fn serial_law()
 /// nothing or was refused.
 pub fn region_law()
     ensures { RegionLaw }
+{}
+
+/// A call ends in one way: static initialisers that all return, run one after another, have none that doesn't.
+pub fn return_law()
+    ensures { ReturnLaw }
 {}
