@@ -1,0 +1,16 @@
+pub mod Lists
+pub mod Ways
+pub mod Found
+pub mod Groups
+pub mod Blocks
+pub mod Ordinary
+pub mod Free
+pub mod Named
+pub mod Numbers
+pub mod Apart
+pub mod Accessors
+pub mod Numbered
+pub mod Resolved
+pub mod Leading
+pub mod Covered
+pub mod Special

@@ -1,0 +1,3 @@
+pub mod Heads
+pub mod NamesLaw
+pub mod LeadsLaw
