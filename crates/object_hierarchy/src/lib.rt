@@ -2,26 +2,26 @@
 #![tactic(auto)]
 
 pub mod code;
-mod constants;
-mod declared;
-mod library;
-mod lineage;
-mod marks;
-mod member_faults;
-mod names;
-mod numbered;
-mod ordering;
-mod outcome;
-mod places;
+pub mod constants;
+pub mod declared;
+pub mod library;
+pub mod lineage;
+pub mod marks;
+pub mod member_faults;
+pub mod names;
+pub mod numbered;
+pub mod ordering;
+pub mod outcome;
+pub mod places;
 pub mod program;
 pub mod reference;
-mod reserved;
+pub mod reserved;
 pub mod row;
-mod simple;
-mod starting;
-mod superclasses;
+pub mod simple;
+pub mod starting;
+pub mod superclasses;
 pub mod symbols;
-mod taken;
+pub mod taken;
 mod text;
 pub mod typing;
 

@@ -1,0 +1,9 @@
+pub mod ArrayElements
+pub mod Caught
+pub mod Climbing
+pub mod Finding
+pub mod Listing
+pub mod Made
+pub mod Reaching
+pub mod Resolved
+pub mod Tables

@@ -1,0 +1,4 @@
+pub mod Catching
+pub mod Kinds
+pub mod Resolving
+pub mod Ways
