@@ -1,0 +1,35 @@
+-- Descriptors of the reads and writes of a transaction's context, whole.
+use Rattle.std.specs.Prelude.{ℕ, List, Option, Some, None, codes, bytes_eq, if◌then◌else◌}
+use Rattle.jmodel.specs.Pool.{MemberName}
+use Rattle.objects.specs.declared.op.WordType.{WordType}
+use Rattle.objects.specs.declared.op.ContextCall.{ContextCall}
+use Rattle.objects.specs.declared.op.ContextCall.TheVariants as context
+use Rattle.objects.specs.Decoding.{read_descriptor, write_descriptor, read_call, write_call, is_called}
+
+unfoldable pub read_text : WordType → List ℕ
+read_text t = read_descriptor (codes "J") t
+
+unfoldable pub read_element_text : WordType → List ℕ
+read_element_text t = read_descriptor (codes "I") t
+
+unfoldable pub write_text : WordType → List ℕ
+write_text t = write_descriptor (codes "J") t
+
+unfoldable pub write_element_text : WordType → List ℕ
+write_element_text t = write_descriptor (codes "I") t
+
+-- ---- calls by their order
+
+-- what ends an attempt
+abbrev pub ending_call : MemberName → Option ContextCall
+ending_call n =
+    if is_called (codes "commit") (codes "()Z") n then Some context.Commit
+    else if is_called (codes "rollback") (codes "()V") n then Some context.Rollback
+    else None
+
+-- what reads or writes, or ends an attempt
+abbrev pub accessing_call : MemberName → Option ContextCall
+accessing_call n =
+    if bytes_eq n.name (codes "onReadAccess") then read_call n.descriptor
+    else if bytes_eq n.name (codes "onWriteAccess") then write_call n.descriptor
+    else ending_call n

@@ -1,0 +1,4 @@
+pub mod ContextCalls
+pub mod Numbering
+pub mod Entries
+pub mod Rewritten

@@ -1,0 +1,9 @@
+//! Names, compared by their bytes.
+ghost use Rattle.std.specs.Prelude.{◌≡◌, bytes_eq};
+
+/// Whether two names are the same.
+pub fn equal(a: &[u8], b: &[u8]) -> bool
+    ensures { result ≡ bytes_eq a.now b.now }
+{
+    a == b
+}
