@@ -104,7 +104,7 @@ module _ (P : Program) (C : AreTypes P) (k : Method) where
           }
 
   -- what is left of a frame is one
-  left_framed : (pc : ℕ) (h : Types) (o : Op) (to : List ℕ) (x : Types) → Entered P k h → is_ready k h ≡ true → flow P k pc o h ≡ Leads to x → IsFramed P k.locals x
+  pub left_framed : (pc : ℕ) (h : Types) (o : Op) (to : List ℕ) (x : Types) → Entered P k h → is_ready k h ≡ true → flow P k pc o h ≡ Leads to x → IsFramed P k.locals x
   left_framed pc h o to x e r i =
       let s = to_ready k h r in
       let n = flow_narrow P C pc h h e.itself e.framed.each e.framed.each s.1 k o in

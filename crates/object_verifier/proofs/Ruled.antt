@@ -1,5 +1,5 @@
 -- What an instruction does by its rule.
-use Rattle.std.proofs.Common.{◌≡◌, ℕ, ◌+◌, List, [], ◌∷◌, ◌++◌, length, reverse, drop, Option, Some, None, Bool, true, false, refl, ap, ◌∙◌}
+use Rattle.std.proofs.Common.{◌≡◌, ℕ, ◌+◌, List, [], ◌∷◌, ◌++◌, length, reverse, drop, Option, Some, None, Bool, true, false, refl, sym, ap, ◌∙◌}
 use Rattle.std.specs.Prelude.{◌&&◌, slice_get, is_some, if◌then◌else◌}
 use Rattle.jmodel.specs.declared.typing.VType.{VType}
 use Rattle.jmodel.specs.declared.typing.VType.TheVariants.{Int, Long, Second, Ref}
@@ -22,7 +22,7 @@ Rest = List VType → Flow
 
 module _ (P : Program) where
   -- values that are taken one by one
-  each_is : (ts s : List VType) (k : Rest) → on_each P ts s k ≡ (if are_taken P ts s then k (drop (length ts) s) else Wrong)
+  pub each_is : (ts s : List VType) (k : Rest) → on_each P ts s k ≡ (if are_taken P ts s then k (drop (length ts) s) else Wrong)
   each_is [] s k = refl
   each_is (t ∷ ts) [] k = refl
   each_is (t ∷ ts) (u ∷ s) k = go (is_within P u t) (each_is ts s k)
@@ -184,3 +184,7 @@ module _ (P : Program) where
 
     pub virtual_is : (m : ℕ) (c : List ℕ) → typed.flow P k pc (op.InvokeVirtual m c) h ≡ if_so (is_received P c (slice_get h.stack (typed.argument_places (method_at P m)))) (ruled P h (rule_of P k pc (op.InvokeVirtual m c)))
     virtual_is m c = ap (if_so (is_received P c (slice_get h.stack (typed.argument_places (method_at P m))))) (call_is k pc h (method_at P m))
+
+    -- a read of a field where its object is received, by its rule
+    pub get_some : (i : ℕ) (c : List ℕ) (r : Option Rule) → r ≡ rule_of P k pc (op.GetField i c) → is_received P c (slice_get h.stack 0) ≡ true → ruled P h r ≡ typed.flow P k pc (op.GetField i c) h
+    get_some i c r e x = sym (get_is i c ∙ ap (λ (b : Bool). if_so b (ruled P h (rule_of P k pc (op.GetField i c)))) x ∙ ap (ruled P h) (sym e))

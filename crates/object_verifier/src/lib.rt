@@ -2,9 +2,23 @@
 //! table is tested.
 #![tactic(auto)]
 
+mod arrays;
+mod building;
+mod checking;
 mod flow;
+mod inference;
+mod led;
+mod loads;
+mod members;
 mod merging;
 mod names;
 mod order;
+mod receivers;
 mod rule;
 mod search;
+mod stack;
+mod storing;
+mod visit;
+
+pub use checking::check;
+pub use inference::{TypeEnd, infer};

@@ -104,6 +104,15 @@ pub fn copies(alloc: Global, from: &[VType]) -> Result<Vec<VType>, AllocError>
     Ok(types)
 }
 
+/// The types before an instruction once more.
+pub fn duplicate(alloc: Global, from: &TypeEntry) -> Result<TypeEntry, AllocError>
+    ensures { IfOk result (λ h. h ≡ from.now) }
+{
+    let locals = copies(alloc, from.locals())?;
+    let stack = copies(alloc, from.stack())?;
+    Ok(TypeEntry::new(locals, stack, from.built()))
+}
+
 /// The types from a place on.
 pub fn rest(types: &[VType], from: usize) -> &[VType]
     ensures { result.now ≡ drop from types.now }

@@ -252,7 +252,7 @@ fn plain_rule(alloc: Global, pc: usize, op: &Op) -> Result<Option<StackRule>, Al
 }
 
 /// The places of a value of a word's type, where a reference is any.
-fn stored(of: WordType) -> &'static [Want]
+pub fn stored(of: WordType) -> &'static [Want]
     ensures { map want_type result.now ≡ stored_types of }
 {
     match of {

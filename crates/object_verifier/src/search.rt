@@ -43,7 +43,7 @@ fn next_local(after: bool, item: &VType) -> Option<bool>
 }
 
 /// Whether locals may have these types.
-fn are_locals(types: &[VType]) -> bool
+pub fn are_locals(types: &[VType]) -> bool
     ensures { result ≡ are_locals_after false types.now }
 {
     let mut after = false;
@@ -164,14 +164,14 @@ fn caught_type(alloc: Global, program: &Program, catches: &Catches) -> Result<VT
 }
 
 /// Whether an entry guards a place.
-fn is_guarded(entry: &Catch, pc: usize) -> bool
+pub fn is_guarded(entry: &Catch, pc: usize) -> bool
     ensures { result ≡ is_guarded entry.now pc }
 {
     entry.from <= pc && pc < entry.to
 }
 
 /// An exception of an entry over the locals of others.
-fn thrown(
+pub fn thrown(
     alloc: Global,
     program: &Program,
     entry: &TypeEntry,
@@ -254,7 +254,7 @@ impl Search {
     }
 
     /// Lets types flow to each place where an instruction goes on. False where one can't take them.
-    fn flow_each(
+    pub fn flow_each(
         &mut self,
         alloc: Global,
         program: &Program,
@@ -273,7 +273,7 @@ impl Search {
 
     /// Lets the exceptions of a place flow, over these locals, to the place of each entry that guards it. False where one
     /// can't take them.
-    fn flow_caught(
+    pub fn flow_caught(
         &mut self,
         alloc: Global,
         program: &Program,
