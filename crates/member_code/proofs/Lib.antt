@@ -7,3 +7,4 @@ pub mod Straight
 pub mod Coded
 pub mod Puts
 pub mod Grow
+pub mod ValuePlaces

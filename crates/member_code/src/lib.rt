@@ -8,3 +8,4 @@ pub mod laying;
 pub mod members;
 pub mod names;
 pub mod places;
+pub mod words;

@@ -1,0 +1,10 @@
+use Rattle.std.proofs.Common.{ℕ, List, codes, subst}
+use Rattle.jmodel.specs.PoolAdding.{add_method}
+use Rattle.objects.specs.TypeOrder.{context_class}
+use Rattle.member_code.specs.Growing.{Grows}
+use Rattle.array_helper.specs.Helper.{read_call}
+use Rattle.array_helper.proofs.helper.add_read_call.Goals as goal
+
+pub returns : goal.returns
+unfolding read_call
+returns c = subst (λ (d : List ℕ). Grows (λ (n : ℕ). n) c.add_context_method.result c.add_context_method.new.pool (add_method c.args.pool.now context_class (codes "onReadAccess") d)) c.read_descriptor.ensures c.add_context_method.ensures

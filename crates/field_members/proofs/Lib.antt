@@ -1,0 +1,6 @@
+mod Gets
+mod Laid
+mod Flat
+mod Types
+mod AccessorsAre
+mod FieldsAre
