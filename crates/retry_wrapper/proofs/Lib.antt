@@ -1,0 +1,7 @@
+mod Gets
+mod Loop
+mod Meant
+mod Swapped
+mod WrapperIs
+mod Loads
+mod Fits

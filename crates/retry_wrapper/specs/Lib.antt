@@ -1,0 +1,2 @@
+pub mod Wrappers
+pub mod WrapperLaw
