@@ -1,0 +1,4 @@
+mod Each
+mod Told
+mod Values
+mod Named

@@ -1,0 +1,5 @@
+pub mod Json
+pub mod Script
+pub mod Scope
+pub mod Seen
+pub mod Phases
