@@ -1,5 +1,5 @@
 //! The cases of a switch (JVM Specification, Java SE 7, section 6.5: tableswitch, lookupswitch).
-ghost use Rattle.std.specs.Prelude.{◌≡◌, ◌<◌, ◌∷◌, length, map, slice_index, Some, None, if◌then◌else◌};
+ghost use Rattle.std.specs.Prelude.{◌≡◌, ◌<◌, ◌∷◌, length, map, slice_index, Some, None, true, if◌then◌else◌};
 ghost use Rattle.jmodel.specs.Instruction.{ascend};
 ghost use Rattle.jmodel.specs.Step.{switched};
 ghost use Rattle.jmodel.specs.Typing.{exits};
@@ -47,6 +47,14 @@ impl Cases {
         } else {
             None
         }
+    }
+
+    /// The keys, each with the number of the instruction that it leads to. The keys ascend.
+    pub fn as_slice(&self) -> &[(i32, usize)]
+        ensures cases { result.now ≡ self.now }
+        ensures ascending { ascend result.now ≡ true }
+    {
+        self.items.as_slice()
     }
 
     /// The target of the case of a key, or the other one.
