@@ -6,3 +6,8 @@ pub mod Places
 pub mod Puts
 pub mod LibraryRows
 pub mod Beginning
+pub mod Ascending
+pub mod Above
+pub mod Elements
+pub mod Images
+pub mod ClassRows

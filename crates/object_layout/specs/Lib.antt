@@ -5,3 +5,5 @@ pub mod Folder
 pub mod Library
 pub mod Made
 pub mod Starting
+pub mod Instances
+pub mod Opening
