@@ -1,0 +1,11 @@
+pub mod Sides
+pub mod Runs
+pub mod Memory
+pub mod SetUp
+pub mod Order
+pub mod Gathering
+pub mod Stories
+pub mod Over
+pub mod Passing
+pub mod Bags
+pub mod Workers

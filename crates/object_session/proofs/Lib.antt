@@ -1,0 +1,10 @@
+pub mod Outer
+pub mod Framed
+pub mod Tries
+pub mod Marked
+pub mod Calling
+pub mod Elements
+pub mod Lanes
+pub mod Stood
+pub mod Claiming
+pub mod Longer

@@ -1,0 +1,5 @@
+pub mod Rule
+pub mod Lane
+pub mod Adds
+pub mod Passes
+pub mod Claimed
