@@ -1,8 +1,6 @@
 //! The blocks of a duplicate: what stands there for each instruction.
 ghost use Rattle.std.specs.Prelude.{◌≡◌, ◌++◌, ◌∷◌, [], option_copied, IfOk, OnOk};
-ghost use Rattle.objects.specs.declared.op.Op.{Op as Form};
-ghost use Rattle.objects.specs.Typing.{types_at};
-ghost use Rattle.objects.specs.Rewriting.{after_load as after_loading, element_load as loading, element_store as storing, moved_cases as cases_moved, block_of, blocks};
+ghost use Rattle.objects.specs.Rewriting.{after_load as after_loading, element_load as loading, element_store as storing, moved_cases as cases_moved, block_of};
 ghost use Rattle.program_rewriter.specs.Places.{start_of};
 ghost use Rattle.program_rewriter.specs.Blocks.{moved_op, access_block, call_block};
 

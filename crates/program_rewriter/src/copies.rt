@@ -1,5 +1,5 @@
 //! Copies of the parts of a program.
-ghost use Rattle.std.specs.Prelude.{◌≡◌, ◌++◌, option_copied, IfOk, OnOk};
+ghost use Rattle.std.specs.Prelude.{◌≡◌, option_copied, IfOk};
 ghost use Rattle.object_hierarchy.specs.Rows.{holds_of};
 ghost use Rattle.program_rewriter.specs.Bodies.{IsShaped};
 

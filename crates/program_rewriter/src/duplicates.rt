@@ -1,10 +1,8 @@
 //! Duplicates: methods that take the context, read and write over it, and call duplicates.
-ghost use Rattle.std.specs.Prelude.{◌≡◌, ◌+◌, ◌++◌, [], ◌∷◌, length, map, IfOk, OnOk};
-ghost use Rattle.objects.specs.Program.{Method as JMethod};
-ghost use Rattle.objects.specs.Rewriting.{context as context_place, typed_from, block_at, blocks as blocks_of_all, moved_catch as moved_entry, catch as entry_of, duplicate_method};
+ghost use Rattle.std.specs.Prelude.{◌≡◌, ◌+◌, ◌++◌, [], ◌∷◌, length, map, IfOk};
+ghost use Rattle.objects.specs.Rewriting.{context as context_place, typed_from, moved_catch as moved_entry, catch as entry_of, duplicate_method};
 ghost use Rattle.objects.specs.declared.op.Catches.TheVariants.{Conflict as OnConflict};
-ghost use Rattle.member_code.specs.Names.{duplicate_named as named_duplicate};
-ghost use Rattle.program_rewriter.specs.Places.{start_of, starts_from};
+ghost use Rattle.program_rewriter.specs.Places.{start_of};
 ghost use Rattle.program_rewriter.specs.Blocks.{blocks_from};
 
 use crate::blocks::{Blocks, push_block};

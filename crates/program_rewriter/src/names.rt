@@ -4,19 +4,12 @@ ghost use Rattle.objects.specs.Rewriting.{context_type, helper_class, helper_let
 ghost use Rattle.objects.specs.WordTypes.{type_descriptor as type_of};
 
 use jmodel::{Bytes, MethodName};
+use member_code::bytes::joined;
 use object_hierarchy::Field;
 use objects::op::WordType;
 use std::alloc::{AllocError, Global};
 
 const CONTEXT: &[u8] = b"Lorg/deuce/transaction/Context;";
-
-fn joined(alloc: Global, first: &[u8], second: &[u8]) -> Result<Bytes, AllocError>
-    ensures { IfOk result (λ t. t ≡ first.now ++ second.now) }
-{
-    let mut text = Bytes::from_slice(alloc, first)?;
-    text.extend_from_slice(second)?;
-    Ok(text)
-}
 
 fn static_getter_type(alloc: Global, field: &Field) -> Result<Bytes, AllocError>
     ensures { IfOk result (λ t. t ≡ codes "(" ++ context_type ++ codes ")" ++ field.now.descriptor) }

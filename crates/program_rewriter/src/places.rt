@@ -1,7 +1,6 @@
 //! Where the blocks of a duplicate begin.
 ghost use Rattle.std.specs.Prelude.{◌≡◌, length, option_copied, IfOk};
-ghost use Rattle.objects.specs.Typing.{types_at};
-ghost use Rattle.objects.specs.Rewriting.{after_load as after_loading, block_len_of, array_under as type_under};
+ghost use Rattle.objects.specs.Rewriting.{after_load as after_loading, block_len_of};
 ghost use Rattle.program_rewriter.specs.Places.{starts_from, start_of};
 
 use crate::arrays::{array_under, is_cast};

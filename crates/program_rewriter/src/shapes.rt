@@ -1,13 +1,13 @@
 //! Parts of the methods that are added: types of parameters and results, casts, and the method around its instructions.
-ghost use Rattle.std.specs.Prelude.{◌≡◌, ◌∷◌, [], ◌++◌, IfOk, OnOk};
-ghost use Rattle.objects.specs.Program.{Method as JMethod};
+ghost use Rattle.std.specs.Prelude.{◌≡◌, ◌≤◌, ◌∷◌, [], ◌++◌, IfOk, OnOk};
 ghost use Rattle.objects.specs.Step.{sort_of as sort_of_word};
 ghost use Rattle.objects.specs.TypeOrder.{place_types as types_of_places};
 ghost use Rattle.objects.specs.Rewriting.{added as added_method, as_result as type_of_result, context as context_place, cast_to as casts_to, cast_of as casts_by, places_of as places_of_word};
 
 use jmodel::{Bytes, MethodName, VType};
+use member_code::words::sort_of;
 use object_hierarchy::{Body, Declared, Method, Shape};
-use objects::op::{Dispatch, Op, Sort, WordType};
+use objects::op::{Dispatch, Op, WordType};
 use std::alloc::{AllocError, Global};
 
 /// How many places a value takes: two for a long, else one (JVM Specification, Java SE 7, section 2.6.1).
@@ -16,19 +16,6 @@ pub(crate) fn places_of(word: WordType) -> usize
     ensures few { result ≤ 2 }
 {
     if matches!(word, WordType::Long) { 2 } else { 1 }
-}
-
-ghost use Rattle.std.specs.Prelude.{◌≤◌};
-
-/// As what a value is loaded, stored and returned (JVM Specification, Java SE 7, section 2.11.1).
-pub(crate) fn sort_of(word: WordType) -> Sort
-    ensures { result ≡ sort_of_word word }
-{
-    match word {
-        WordType::Long => Sort::Long,
-        WordType::Reference => Sort::Reference,
-        _ => Sort::Int,
-    }
 }
 
 /// The type of a class.

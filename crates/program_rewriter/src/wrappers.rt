@@ -1,6 +1,6 @@
 //! Wrappers: the loop of attempts that takes the place of the code of a marked method or a static initialiser.
 ghost use Rattle.std.specs.Prelude.{◌≡◌, ◌+◌, ◌++◌, [], ◌∷◌, pos, max, option_copied, IfOk, OnOk};
-ghost use Rattle.objects.specs.Rewriting.{duplicate as number_of_duplicate, load_all, result_sort as sort_of_result, spare_locals as spare, invoke as call_of, entry_code, body_code, end_code, conflict_code, exception_code, body_end, conflict_at, catch as entry_of, wrapper_method, old_method as old_of, old_methods as old_from, next_id as id_after};
+ghost use Rattle.objects.specs.Rewriting.{load_all, result_sort as sort_of_result, spare_locals as spare, invoke as call_of, entry_code, body_code, end_code, conflict_code, exception_code, body_end, conflict_at, catch as entry_of, wrapper_method, old_method as old_of, old_methods as old_from, next_id as id_after};
 ghost use Rattle.objects.specs.declared.op.Catches.TheVariants.{Conflict as OnConflict, Any as OnAny};
 ghost use Rattle.std.specs.List.{AllByRecursion};
 ghost use Rattle.program_rewriter.specs.Loads.{one_load};
