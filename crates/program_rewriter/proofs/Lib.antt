@@ -1,0 +1,10 @@
+pub mod OpCopies
+pub mod SameBlocks
+pub mod LoadAll
+pub mod Fronts
+pub mod Starts
+pub mod Parts
+pub mod Rests
+pub mod Lasts
+pub mod Pairs
+pub mod Tabled
