@@ -1,0 +1,3 @@
+pub mod SameEarly
+pub mod Typings
+pub mod Untypable
