@@ -1,13 +1,15 @@
 -- Duplicates of a class's methods, one after another.
-use Rattle.std.proofs.Common.{◌≡◌, ℕ, zero, suc, ◌+◌, ◌-◌, List, [], ◌∷◌, ◌++◌, drop, Some, Ok, refl, sym, ap, subst, ◌∙◌, arith}
-use Rattle.std.specs.Prelude.{slice_get}
+use Rattle.std.proofs.Common.{◌≡◌, ℕ, zero, suc, ◌+◌, ◌-◌, ◌<◌, ◌≤◌, List, [], ◌∷◌, length, get_or, Bor, ◌++◌, drop, Some, Ok, refl, sym, ap, subst, ◌∙◌, arith}
+use Rattle.std.specs.Prelude.{map, min, slice_get, zip}
+use Rattle.std.proofs.Math.ListN.{get_or-map}
+use Rattle.std.proofs.lemmas.Slice.Zip.{length-zip}
 use Rattle.jmodel.specs.declared.refusal.Halt.{Halt}
 use Rattle.jmodel.specs.Reading.{Fails}
 use Rattle.jmodel.specs.ClassFile.{Member, Pool, ClassFile}
 use Rattle.objects.specs.Program.{Method, Program}
 use Rattle.objects.specs.Typing.{Table}
 use Rattle.objects.specs.Source.{AreTypes}
-use Rattle.std.proofs.lemmas.List.{append-nil}
+use Rattle.std.proofs.lemmas.List.{append-nil, drop_all}
 use Rattle.member_code.specs.Growing.{Growth, grow_from}
 use Rattle.member_code.proofs.Grow as grow
 use Rattle.member_code.proofs.Grow.{with_front}
@@ -15,7 +17,27 @@ use Rattle.dup_methods.specs.Originals.{Original}
 use Rattle.dup_methods.specs.Duplicates.{duplicate_of}
 use Rattle.program_typing.specs.Tables.{IsTableOf}
 use Rattle.object_rewriter.specs.Rewritten.{original_of, originals}
+use Rattle.object_rewriter.proofs.Lists.{item_at, zip_item}
 use Rattle.object_rewriter.proofs.SameDuplicates.{same_duplicate}
+
+-- a method and its member, by their index
+pub pair_at : (ks methods : List Method) (ms : List Member) (members : List (Bor Member)) (i : ℕ) (k : Method) (m : Bor Member) → methods ≡ ks → map (λ (m : Bor Member). m.now) members ≡ ms → length ms ≡ length ks → i < length methods
+    → k ≡ get_or methods i k → m ≡ get_or members i m → drop i (zip ks ms) ≡ (k, m.now) ∷ drop (i + 1) (zip ks ms)
+pair_at ks methods ms members i k m told seen long inside is too =
+    let left : i < length ks = (let e = ap (λ (xs : List Method). length xs) told in omega (arith, e, inside)) in
+    let first : k ≡ get_or ks i k = is ∙ ap (λ (xs : List Method). get_or xs i k) told in
+    let at : get_or (map (λ (m : Bor Member). m.now) members) i m.now ≡ m.now = get_or-map (λ (m : Bor Member). m.now) members i m ∙ ap (λ (m : Bor Member). m.now) (sym too) in
+    let second : m.now ≡ get_or ms i m.now = sym at ∙ ap (λ (xs : List Member). get_or xs i m.now) seen in
+    zip_item ks ms i k m.now left (omega (arith, left, long)) first second
+
+pub method_there : (ks methods : List Method) (i : ℕ) (k : Method) → methods ≡ ks → i < length methods → k ≡ get_or methods i k → slice_get ks i ≡ Some k
+method_there ks methods i k told inside is = ap (λ (xs : List Method). slice_get xs i) (sym told) ∙ item_at methods i k inside is
+
+-- behind the last there is none
+pub no_more : (ks methods : List Method) (ms : List Member) (i : ℕ) → methods ≡ ks → length methods ≤ i → drop i (zip ks ms) ≡ []
+no_more ks methods ms i told past =
+    let e = ap (λ (xs : List Method). length xs) told in
+    drop_all i (zip ks ms) (omega (arith, length-zip ks ms, e, past))
 
 module _ (P : Program) (c : ClassFile) where
   -- the original with a number has the table with that number

@@ -7,5 +7,6 @@ pub mod Wrapping
 pub mod Grouped
 pub mod Owned
 pub mod Codes
+pub mod Known
 pub mod Splits
 pub mod Shares

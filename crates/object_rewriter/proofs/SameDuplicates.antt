@@ -26,14 +26,17 @@ use Rattle.object_rewriter.specs.Rewritten.{original_of}
 use Rattle.object_rewriter.proofs.SameTables.{same_entries}
 
 -- what is put for each item, the same
+abbrev behind : {B : Type 0} → B × Pool → Growth (List B) → Growth (List B)
+behind first read = read >>= λ others. Ok (first.0 ∷ others.0, others.1)
+
 grow_same : {A B : Type 0} (f g : ℕ → A → Pool → Growth B) → ((n : ℕ) (x : A) (pool : Pool) → f n x pool ≡ g n x pool) → (n : ℕ) (xs : List A) (pool : Pool) → grow_from f n xs pool ≡ grow_from g n xs pool
 grow_same f g h n [] pool = refl
 grow_same {A} {B} f g h n (x ∷ xs) pool =
-    ap (λ (r : Growth B). r >>= λ first. grow_from f (n + 1) xs first.1 >>= λ others. Ok (first.0 ∷ others.0, others.1)) (h n x pool) ∙ rest (g n x pool)
+    ap (λ (r : Growth B). r >>= λ first. behind first (grow_from f (n + 1) xs first.1)) (h n x pool) ∙ rest (λ pool. grow_same f g h (n + 1) xs pool) (g n x pool)
   where
-    rest : (r : Growth B) → (r >>= λ first. grow_from f (n + 1) xs first.1 >>= λ others. Ok (first.0 ∷ others.0, others.1)) ≡ (r >>= λ first. grow_from g (n + 1) xs first.1 >>= λ others. Ok (first.0 ∷ others.0, others.1))
-    rest (Ok first) = ap (λ (r : Growth (List B)). r >>= λ others. Ok (first.0 ∷ others.0, others.1)) (grow_same f g h (n + 1) xs first.1)
-    rest (Err e) = refl
+    rest : ((pool : Pool) → grow_from f (n + 1) xs pool ≡ grow_from g (n + 1) xs pool) → (r : Growth B) → (r >>= λ first. behind first (grow_from f (n + 1) xs first.1)) ≡ (r >>= λ first. behind first (grow_from g (n + 1) xs first.1))
+    rest more (Ok first) = ap (behind first) (more first.1)
+    rest more (Err e) = refl
 
 module _ (P : Program) (c : ClassFile) (p : Method × Member) (T U : Table) (same : (pc : ℕ) → types_at T pc ≡ types_at U pc) where
   abbrev O : Original

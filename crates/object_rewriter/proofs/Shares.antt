@@ -1,5 +1,5 @@
 -- The shares of several classes of their program, one after another.
-use Rattle.std.proofs.Common.{◌≡◌, ℕ, ◌+◌, ◌-◌, ◌≤◌, ◌<◌, Bool, List, [], ◌∷◌, ◌++◌, length, map, take, drop, Some, None, Result, Ok, Err, refl, sym, ap, ◌∙◌, subst, arith, append_assoc, length-append}
+use Rattle.std.proofs.Common.{◌≡◌, ℕ, zero, suc, ◌+◌, ◌≤◌, ◌<◌, Bool, List, [], ◌∷◌, ◌++◌, length, map, take, drop, Some, None, Result, Ok, Err, refl, sym, ap, ◌∙◌, subst, arith, append_assoc, length-append}
 use Rattle.std.specs.Prelude.{◌^◌, filter, slice_get}
 use Rattle.std.specs.List.{flat_map, AllByRecursion, AllZip, prefix_len}
 use Rattle.std.proofs.lemmas.List.{append-nil, drop-drop, length-map, map-append}
@@ -80,8 +80,8 @@ pub record IsUnderWay (cs : List ClassFile) (P : Program) (i : ℕ) (rest : Rest
   pub wrapper : rest.wrapper ≤ rest.first
 
 other_at : (i : ℕ) (cs rest : List ClassFile) (c : ClassFile) → AreOther cs → drop i cs ≡ c ∷ rest → AreOthers (own_name c) rest
-other_at 0 [] rest c o e = absurd cc
-other_at 0 (d ∷ ds) rest c o e =
+other_at zero [] rest c o e = absurd cc
+other_at zero (d ∷ ds) rest c o e =
     let s : d ≡ c = cc in
     let t : ds ≡ rest = cc in
     subst (λ (x : ClassFile). AreOthers (own_name x) rest) s (subst (AreOthers (own_name d)) t o.0)
@@ -179,7 +179,7 @@ module _ (cs : List ClassFile) (P : Program) (read : AreRead cs) (linked : linki
           ∙ sym (ap (λ (r : Result ClassFile Refusal). with_classes done (r >>= λ first. rewritten_from cs P behind.first behind.wrapper others (drop (i + 1) cs) >>= λ others. Ok (first ∷ others))) is)
           ∙ next
 
-    pub goes_on : (d : ClassFile) → ((Ts : List Table) → AreTables P Ts → gives (here Ts) ≡ Ok d) → IsUnderWay cs P (i + 1) behind (done ++ d ∷ [])
+    pub goes_on : (d : ClassFile) → ((Ts : List Table) (are : AreTables P Ts) → gives (here Ts are) ≡ Ok d) → IsUnderWay cs P (i + 1) behind (done ++ d ∷ [])
     goes_on d is =
         let s = stands in
         let list = ap (λ (ks : List Method). length ks) s.methods in

@@ -1,14 +1,30 @@
 -- A class's share, split off what is left of a program.
-use Rattle.std.proofs.Common.{◌≡◌, ℕ, ◌≤◌, Bool, List, length, ap, ◌∙◌}
-use Rattle.std.specs.Prelude.{is_some}
+use Rattle.std.proofs.Common.{◌≡◌, ℕ, ◌+◌, ◌<◌, ◌≤◌, Bool, true, false, List, [], ◌∷◌, length, take, cond, get_or, sym, ap, ◌∙◌, arith, length-append}
+use Rattle.std.specs.Prelude.{filter}
+use Rattle.std.specs.Int.{from_bool}
+use Rattle.std.proofs.lemmas.List.Elements.{filter_more}
 use Rattle.jmodel.specs.ClassFile.{Member}
 use Rattle.objects.specs.Program.{Field, Method}
-use Rattle.object_rewriter.specs.Part.{Share, Rest, wrapper_count}
+use Rattle.object_rewriter.specs.Part.{Share, Rest, is_wrapped, wrapper_count}
 use Rattle.object_rewriter.proofs.Lists.{fewer}
 
 -- no more wrappers than methods
 pub wrappers_few : (ks : List Method) → wrapper_count ks ≤ length ks
-wrappers_few ks = fewer (λ (k : Method). is_some k.retries) ks
+wrappers_few ks = fewer is_wrapped ks
+
+-- so many get wrappers as one more method is looked at
+pub wrappers_more : (ks : List Method) (i n m : ℕ) (k : Method) → i < length ks → k ≡ get_or ks i k → n ≡ wrapper_count (take i ks) → m ≡ from_bool (is_wrapped k) → n + m ≡ wrapper_count (take (i + 1) ks)
+wrappers_more ks i n m k inside is so_far one =
+    let more = ap (λ (l : List Method). length l) (filter_more is_wrapped ks i k inside) in
+    let same : is_wrapped (get_or ks i k) ≡ is_wrapped k = ap is_wrapped (sym is) in
+    let parts = length-append (filter is_wrapped (take i ks)) (cond (is_wrapped (get_or ks i k)) (get_or ks i k ∷ []) []) in
+    let last = by (is_wrapped (get_or ks i k)) (get_or ks i k) in
+    let m_is : m ≡ from_bool (is_wrapped (get_or ks i k)) = one ∙ ap from_bool (sym same) in
+    omega (arith, more, parts, last, m_is, so_far)
+  where
+    by : (b : Bool) (x : Method) → length (cond b (x ∷ []) []) ≡ from_bool b
+    by true x = omega arith
+    by false x = omega arith
 
 abbrev share : List Member → List Bool → List Field → List Method → ℕ → ℕ → Share
 share ms bs fs ks n id = record { members = ms; flags = bs; fields = fs; methods = ks; first = n; wrapper = id }

@@ -37,9 +37,13 @@ share_of c part = record {
   wrapper = part.wrapper;
 }
 
+-- whether a method gets a wrapper
+abbrev pub is_wrapped : Method → Bool
+is_wrapped k = is_some k.retries
+
 -- how many methods get wrappers
 abbrev pub wrapper_count : List Method → ℕ
-wrapper_count ks = length (filter (λ (k : Method). is_some k.retries) ks)
+wrapper_count ks = length (filter is_wrapped ks)
 
 -- whether a class of a name declares a field
 abbrev pub is_of_class : List ℕ → Field → Bool

@@ -51,8 +51,9 @@ fn duplicate_each(
     ensures { (Ts : List Table) → AllZip (IsTableOf program.now) share.now.methods Ts → Grows (λ v. v.items) result pool.new (grow_from (λ n O. duplicate (room - n) O) 0 (originals program.now class.now (zip share.now.methods share.now.members) Ts) pool.old) }
 {
     let mut copies = Vec::new(alloc);
+    let methods = share.methods();
     let members = share.members();
-    for (i, method) in share.methods().iter().enumerate() {
+    for (i, method) in methods.iter().enumerate() {
         let table = known_table(alloc, program, share.first() + i, method)?;
         let original = Original {
             program,

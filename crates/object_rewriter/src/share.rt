@@ -4,7 +4,7 @@ ghost use Rattle.jmodel.specs.ClassFile.{Member as MemberForm};
 ghost use Rattle.objects.specs.Program.{Method as MethodForm};
 ghost use Rattle.std.specs.List.{prefix_len};
 ghost use Rattle.jmodel.specs.Superclasses.{own_name as name_of_class};
-ghost use Rattle.object_rewriter.specs.Part.{Part, Rest as RestForm, HasNext, StandsFirst, is_of_class, share_of, wrapper_count};
+ghost use Rattle.object_rewriter.specs.Part.{Part, Rest as RestForm, HasNext, StandsFirst, is_of_class, is_wrapped as is_wrapped_method, share_of, wrapper_count};
 
 use const_pool::{ClassFile, Member};
 use object_hierarchy::symbols::own_name;
@@ -106,11 +106,22 @@ fn count_own(fields: &[Field], class: &[u8]) -> usize
         .count()
 }
 
+// Whether a method gets a wrapper.
+fn is_wrapped(method: &Method) -> bool
+    ensures { result ≡ is_wrapped_method method.now }
+{
+    method.retries().is_some()
+}
+
 // How many of the methods get wrappers.
 fn count_wrappers(methods: &[Method]) -> usize
     ensures { result ≡ wrapper_count methods.now }
 {
-    methods.iter().filter(|k| k.retries().is_some()).count()
+    let mut count = 0;
+    for method in methods {
+        count += usize::from(is_wrapped(method));
+    }
+    count
 }
 
 /// What of a program is left for further classes: flags of their methods, their fields and methods, and how many methods, and how many

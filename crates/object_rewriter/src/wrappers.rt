@@ -19,7 +19,7 @@ fn wrap_if(
     rewritten: &mut ClassFile,
     index: usize,
 ) -> Result<(), Halt>
-    ensures { Becomes result rewritten.new (wrapped_if number attempts (option_copied method) rewritten.old index) }
+    ensures { Becomes result rewritten.new (wrapped_if number attempts (option_copied method.entry) rewritten.old index) }
 {
     match (attempts, method) {
         (Some(n), Some(k)) => wrap(alloc, k, number, n, rewritten, index),
@@ -43,11 +43,13 @@ pub fn wrap_each(
     let mut number = share.first();
     let mut wrapper = share.wrapper();
     let flags = share.flags();
-    for (i, member) in class.methods.iter().enumerate() {
+    let methods = class.methods.as_slice();
+    for (i, member) in methods.iter().enumerate() {
+        let is_taken = flags[i];
         let attempts = retries_of(&class.pool, member);
-        let method = program.methods().get(number);
+        let method = program.method(number);
         wrap_if(alloc, wrapper, attempts, method, rewritten, i)?;
-        number += usize::from(flags[i]);
+        number += usize::from(is_taken);
         wrapper += usize::from(is_root(&class.pool, member));
     }
     Ok(())
