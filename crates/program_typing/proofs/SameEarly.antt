@@ -1,6 +1,6 @@
 -- The narrowest typings of a method agree on where the object of a constructor isn't built.
 use Rattle.std.proofs.Common.{◌≡◌, ℕ, zero, suc, List, [], ◌∷◌, Option, Some, None, Bool, true, false, refl, sym, ap, ◌∙◌, subst}
-use Rattle.std.specs.Prelude.{slice_get, option_map, if◌then◌else◌}
+use Rattle.std.specs.Prelude.{slice_get, if◌then◌else◌}
 use Rattle.jmodel.specs.declared.typing.VType.{VType}
 use Rattle.jmodel.specs.declared.typing.VType.TheVariants.{Int, Long, Second, Null, Ref, Uninit, UninitThis, Top}
 use Rattle.objects.specs.declared.op.Op.{Op}
@@ -8,7 +8,7 @@ use Rattle.objects.specs.declared.op.Op.TheVariants as op
 use Rattle.objects.specs.Program.{Field, Method, Program, field_at, has_code}
 use Rattle.objects.specs.Rewriting.{places_of}
 use Rattle.objects.specs.TypeOrder.{IsWithin, AreWithin}
-use Rattle.objects.specs.Typing.{Types, Table, types_at, Covers}
+use Rattle.objects.specs.Typing.{Types, Table, types_at}
 use Rattle.program_typing.specs.Early.{is_this, is_early_over, is_early, early_from, early_store}
 use Rattle.program_typing.specs.Tables.{IsNarrowTyping, IsTableFor, IsTableOf}
 
@@ -55,8 +55,8 @@ module _ (P : Program) (k : Method) (T U : Table) (a : IsNarrowTyping P k T) (b 
       let down : d.types ≡ h = let there = d.there in cc in
       let n = places_of f.declared.word in
       same_tests (is_this (slice_get h.stack n)) (is_this (slice_get g.stack n))
-          (λ e. this_under P g.stack h.stack n (subst (λ (x : Types). AreWithin P g.stack x.stack) down d.fits.stack) e)
-          (λ e. this_under P h.stack g.stack n (subst (λ (x : Types). AreWithin P h.stack x.stack) up c.fits.stack) e)
+      (λ e. this_under P g.stack h.stack n (subst (λ (x : Types). AreWithin P g.stack x.stack) down d.fits.stack) e)
+      (λ e. this_under P h.stack g.stack n (subst (λ (x : Types). AreWithin P h.stack x.stack) up c.fits.stack) e)
 
   early_same : (pc : ℕ) (o : Op) → is_early P (types_at T pc) o ≡ is_early P (types_at U pc) o
   early_same pc (op.PutField n c) = over_same pc (field_at P n) (types_at T pc) (types_at U pc) refl refl

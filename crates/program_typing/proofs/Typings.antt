@@ -1,5 +1,5 @@
 -- Tables of types, and methods that have typings.
-use Rattle.std.proofs.Common.{◌≡◌, List, [], ◌∷◌, Some, Bool, true, false}
+use Rattle.std.proofs.Common.{List, [], ◌∷◌, Some, Bool, true, false}
 use Rattle.std.specs.List.{AllByRecursion, AllZip}
 use Rattle.objects.specs.Program.{Method, Program, has_code}
 use Rattle.objects.specs.Typing.{Table, IsTypable}

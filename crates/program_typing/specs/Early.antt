@@ -1,7 +1,5 @@
 -- Stores to a field of an object that another constructor has not run over: an accessor, which takes an object that is built, can't make them.
-use Rattle.std.specs.Prelude.{ℕ, suc, pos, List, [], ◌∷◌, Option, Some, None, option_map, Bool, true, false, slice_get, codes, if◌then◌else◌}
-use Rattle.jmodel.specs.declared.refusal.Refusal.{Refusal}
-use Rattle.jmodel.specs.declared.refusal.Refusal.TheVariants.{Construct}
+use Rattle.std.specs.Prelude.{ℕ, suc, List, [], ◌∷◌, Option, Some, None, Bool, true, false, slice_get, if◌then◌else◌}
 use Rattle.jmodel.specs.declared.typing.VType.{VType}
 use Rattle.jmodel.specs.declared.typing.VType.TheVariants.{UninitThis}
 use Rattle.objects.specs.declared.op.Op.{Op}

@@ -1,6 +1,6 @@
 -- What the typing of a whole program answers.
-use Rattle.std.specs.Prelude.{◌≡◌, ℕ, List, Some, None, true, take, slice_get}
-use Rattle.std.specs.List.{AllByRecursion}
+use Rattle.std.specs.Prelude.{◌≡◌, ℕ, List, Option, Some, None, true, take, slice_get}
+use Rattle.std.specs.List.{AllByRecursion, AllZip}
 use Rattle.objects.specs.Program.{Method, Program, method_at, has_code}
 use Rattle.objects.specs.Typing.{Table, IsUntypableAt}
 use Rattle.object_verifier.specs.declared.inference.TypeEnd.{TypeEnd}
@@ -37,15 +37,30 @@ pub record IsFirstUntyped (P : Program) (number place : ℕ) : Type 0 where
   pub code : has_code (Some method) ≡ true
   pub untypable : IsUntypableAt P method place
 
--- Each method has a typing, or no code. Those before this one make no store to an object that isn't built, and this is its first instruction that does.
-pub record IsFirstEarly (P : Program) (number place : ℕ) : Type 0 where
-  pub typed : AllByRecursion (IsTypedOrBare P) P.methods
+-- Of a program's methods those before this one make no such store, and by its table this is its first instruction that does.
+pub record IsEarlyAt (P : Program) (number place : ℕ) : Type 0 where
   pub method : Method
   pub there : slice_get P.methods number ≡ Some method
   pub before : AllByRecursion (IsLate P) (take number P.methods)
   pub table : Table
   pub is_table : IsTableOf P method table
   pub early : early_store P method table ≡ Some place
+
+-- Each method has a typing, or no code, and this is the first instruction that makes such a store.
+pub record IsFirstEarly (P : Program) (number place : ℕ) : Type 0 where
+  pub typed : AllByRecursion (IsTypedOrBare P) P.methods
+  pub at : IsEarlyAt P number place
+
+-- the first such store among the first so many methods
+abbrev pub IsEarlyAmong : Program → ℕ → Option (ℕ × ℕ) → Type 0
+IsEarlyAmong P n None = AllByRecursion (IsLate P) (take n P.methods)
+IsEarlyAmong P n (Some e) = IsEarlyAt P e.0 e.1
+
+-- the first so many methods of a program have tables, and the first such store of them is this
+pub record AreTyped (P : Program) (n : ℕ) (early : Option (ℕ × ℕ)) : Type 0 where
+  pub tables : List Table
+  pub narrowest : AllZip (IsTableOf P) (take n P.methods) tables
+  pub first : IsEarlyAmong P n early
 
 -- why a program isn't typed
 abbrev pub EndsTyped : Program → TypeFault → Type 0

@@ -17,14 +17,14 @@ fn places_of(word: WordType) -> usize
 
 /// Whether a place holds the object of a constructor that isn't built.
 fn is_this(place: Option<&VType>) -> bool
-    ensures { result ≡ is_this_type (option_copied place) }
+    ensures { result ≡ is_this_type (option_copied place.entry) }
 {
     matches!(place, Some(VType::UninitThis))
 }
 
 /// Whether a store to a field of an object is one to an object that isn't built. The object lies under the value.
 fn is_early_over(field: Option<&Field>, types: Option<&TypeEntry>) -> bool
-    ensures { result ≡ is_early_over_field (option_copied field) (option_copied types) }
+    ensures { result ≡ is_early_over_field (option_copied field.entry) (option_copied types.entry) }
 {
     match (field, types) {
         (Some(field), Some(types)) => is_this(types.stack().get(places_of(field.declared.word))),
@@ -34,7 +34,7 @@ fn is_early_over(field: Option<&Field>, types: Option<&TypeEntry>) -> bool
 
 /// Whether an instruction makes such a store, before which a frame has these types.
 fn is_early(program: &Program, types: Option<&TypeEntry>, op: &Op) -> bool
-    ensures { result ≡ is_early_op program.now (option_copied types) op.now }
+    ensures { result ≡ is_early_op program.now (option_copied types.entry) op.now }
 {
     match op {
         Op::PutField { field, .. } => is_early_over(program.field(*field), types),

@@ -1,11 +1,13 @@
 //! The typing of each method of a program.
-ghost use Rattle.std.specs.Prelude.{IfOk, IfErr};
+ghost use Rattle.std.specs.Prelude.{◌≡◌, ◌<◌, Some, IfOk, IfErr, length, option_map};
+ghost use Rattle.objects.specs.Program.{Method as Form, method_at};
 ghost use Rattle.objects.specs.Source.{IsSource};
+ghost use Rattle.program_typing.specs.Early.{early_store as early_store_of};
 ghost use Rattle.program_typing.specs.Typed.{IsTyped, EndsTyped};
 
 use crate::early::early_store;
 use crate::tables::table_of;
-use object_hierarchy::Program;
+use object_hierarchy::{Program, Typing};
 use object_verifier::TypeEnd;
 use std::alloc::Global;
 
@@ -21,6 +23,15 @@ pub enum TypeFault {
     NoMemory,
 }
 
+/// The first store of a method to a field of an object that isn't built, by the method's number and the place.
+fn early_at(program: &Program, method: usize, typing: &Typing) -> Option<(usize, usize)>
+    requires { method < length program.now.methods }
+    ensures { (k : Form) → method_at program.now method ≡ Some k → result ≡ option_map (λ pc. (method, pc)) (early_store_of program.now k typing.now) }
+{
+    let place = early_store(program, &program.methods()[method], typing)?;
+    Some((method, place))
+}
+
 /// Types each method of a program, one after another.
 pub fn type_all(alloc: Global, program: &Program) -> Result<(), TypeFault>
     requires source { IsSource program.now }
@@ -34,10 +45,7 @@ pub fn type_all(alloc: Global, program: &Program) -> Result<(), TypeFault>
             Err(TypeEnd::Untypable(place)) => return Err(TypeFault::Untypable { method, place }),
             Err(TypeEnd::NoMemory) => return Err(TypeFault::NoMemory),
         };
-        if first_early.is_none() {
-            first_early = early_store(program, &program.methods()[method], &typing)
-                .map(|place| (method, place));
-        }
+        first_early = first_early.or(early_at(program, method, &typing));
     }
     match first_early {
         None => Ok(()),
