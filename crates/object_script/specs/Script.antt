@@ -158,6 +158,10 @@ truth_value false = Int (pos 0)
 abbrev pub as_int : ℤ → ℤ → Data → Option Value
 as_int low high d = option_and_then (λ n. if int_le low n && int_le n high then Some (Int n) else None) (as_whole d)
 
+-- a whole number of 64 bits
+abbrev pub as_long : Data → Option Value
+as_long d = option_and_then (λ n. if int_le (negsuc 9223372036854775807) n && int_le n (pos 9223372036854775807) then Some (Long n) else None) (as_whole d)
+
 -- A value of a type: a boolean is true or false, a reference is null, and each other a whole number of its type. No value is a float or a double.
 abbrev pub as_value : FieldType → Data → Option Value
 as_value types.Boolean d = option_map truth_value (as_bool d)
@@ -165,7 +169,7 @@ as_value types.Byte d = as_int (negsuc 127) (pos 127) d
 as_value types.Char d = as_int (pos 0) (pos 65535) d
 as_value types.Short d = as_int (negsuc 32767) (pos 32767) d
 as_value types.Int d = as_int (negsuc 2147483647) (pos 2147483647) d
-as_value types.Long d = option_map Long (as_whole d)
+as_value types.Long d = as_long d
 as_value types.Float d = None
 as_value types.Double d = None
 as_value (types.Reference n) d = option_map (λ u. Ref 0) (as_null d)

@@ -6,7 +6,7 @@ ghost use Rattle.jmodel.specs.declared.class_file.FieldType.TheVariants as types
 ghost use Rattle.jmodel.specs.declared.value.Value.TheVariants as values;
 ghost use Rattle.jmodel.specs.DescriptorReading.{signature_of};
 ghost use Rattle.jmodel.specs.Reading.{Gives};
-ghost use Rattle.object_script.specs.Script.{as_int, as_value, types_in, value_in, values_of as values_in};
+ghost use Rattle.object_script.specs.Script.{as_int, as_long, as_value, types_in, value_in, values_of as values_in};
 
 use crate::refusals::at;
 use const_pool::Descriptor;
@@ -47,7 +47,7 @@ fn boolean(value: &serde_json::Value) -> Option<Value>
 }
 
 fn long(value: &serde_json::Value) -> Option<Value>
-    ensures { result ≡ as_value types.Long (view value.now) }
+    ensures { result ≡ as_long (view value.now) }
 {
     let number = value.as_i64()?;
     Some(Value::Long(number))

@@ -1,0 +1,12 @@
+pub mod Lists
+pub mod SameNames
+pub mod SameTables
+pub mod SameDuplicates
+pub mod Duplicating
+pub mod Wrapping
+pub mod Grouped
+pub mod Owned
+pub mod Codes
+pub mod Known
+pub mod Splits
+pub mod Shares

@@ -1,0 +1,4 @@
+pub mod Part
+pub mod Rewritten
+pub mod RewrittenClasses
+pub mod Asked

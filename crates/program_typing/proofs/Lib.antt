@@ -1,0 +1,6 @@
+mod Firsts
+mod Numbered
+pub mod SameEarly
+mod Tabled
+pub mod Typings
+pub mod Untypable
