@@ -2,11 +2,11 @@
 ghost use Rattle.std.specs.Prelude.{◌≡◌, map, IfOk};
 ghost use Rattle.objects.specs.Layout.{rows as all_rows, texts_of as all_texts, fields_of as all_fields};
 
-use crate::rows::rows;
 use const_pool::ClassFile;
 use jmodel::{Bytes, NoMemory};
 use object_hierarchy::{Field, Row};
 use object_layout::fields::fields_of;
+use object_layout::rows::rows;
 use object_layout::texts::texts_of;
 use std::alloc::{AllocError, Global};
 

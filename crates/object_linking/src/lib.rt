@@ -19,7 +19,6 @@ pub mod names;
 pub mod numbering;
 pub mod pcs;
 pub mod rewritten;
-mod rows;
 pub mod shape;
 pub mod symbols;
 mod text;
