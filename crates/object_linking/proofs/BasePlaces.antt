@@ -1,17 +1,14 @@
 -- Where the objects of static fields lie, as a loop goes from class to class, and by the names of classes.
-use Rattle.std.proofs.Common.{◌≡◌, ℕ, suc, ◌+◌, ◌<◌, ◌≤◌, Bool, true, false, not, cond, nat_lt, List, [], ◌∷◌, ◌++◌, length, take, get_or, Option, Some, None, Bor, refl, sym, ap, ◌∙◌, arith, below_more}
-use Rattle.std.specs.Prelude.{sum_by, position, bytes_eq, unwrap_or}
+use Rattle.std.proofs.Common.{◌≡◌, ℕ, ◌+◌, ◌<◌, ◌≤◌, Bool, true, false, not, cond, nat_lt, List, [], ◌∷◌, ◌++◌, length, get_or, Some, None, refl, sym, ap, ◌∙◌, arith, below_more}
+use Rattle.std.specs.Prelude.{bytes_eq, unwrap_or}
 use Rattle.std.specs.List.{position_or_len}
-use Rattle.std.proofs.Math.ListN.{get_or-map}
 use Rattle.std.proofs.lemmas.Bool.Decides.{nat_tests}
-use Rattle.std.proofs.lemmas.List.{take_more, length-map, length-append, get_or_append_left, get_or_push}
-use Rattle.std.proofs.lemmas.List.Sums.{sum_by-append, prefix_len-le-length}
+use Rattle.std.proofs.lemmas.List.{get_or_append_left, get_or_push}
+use Rattle.std.proofs.lemmas.List.Sums.{prefix_len-le-length}
 use Rattle.jmodel.specs.ClassFile.{ClassFile}
 use Rattle.jmodel.specs.Superclasses.{own_name}
-use Rattle.jmodel.specs.Layout.{base_words, base_of}
 use Rattle.objects.specs.Linking.{place_from, base_in}
 use Rattle.object_hierarchy.specs.Places.{place_of}
-use Rattle.object_hierarchy.proofs.InOrder.{seen}
 use Rattle.object_linking.specs.Bases.{AreBases}
 
 -- one more address

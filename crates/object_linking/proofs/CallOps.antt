@@ -1,5 +1,5 @@
 -- What calls mean, by their kinds.
-use Rattle.std.proofs.Common.{◌≡◌, ◌≢◌, ℕ, Bool, true, false, Option, Some, None, sym, ap, arith}
+use Rattle.std.proofs.Common.{◌≡◌, ◌≢◌, ℕ, Bool, true, false, Option, None, sym, ap, arith}
 use Rattle.std.specs.Prelude.{◌==◌, if◌then◌else◌, bytes_eq, option_map}
 use Rattle.std.proofs.lemmas.Bool.Decides.{nat_tests}
 use Rattle.jmodel.specs.Pool.{MemberName}

@@ -5,7 +5,6 @@ pub mod Lookups
 pub mod RewrittenMembers
 pub mod Switched
 pub mod BasePlaces
-pub mod Ending
 pub mod Zipped
 pub mod ContextOrder
 pub mod Told

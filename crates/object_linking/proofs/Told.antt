@@ -1,5 +1,5 @@
 -- Each instruction of a method of a program stands somewhere in its code.
-use Rattle.std.proofs.Common.{◌≡◌, ℕ, zero, suc, ◌<◌, ◌++◌, List, [], ◌∷◌, length, slice_get, Option, Some, None, Result, Ok, Err, sym, refl, ap, ◌∙◌, subst, arith}
+use Rattle.std.proofs.Common.{◌≡◌, ℕ, zero, suc, ◌<◌, ◌++◌, List, [], ◌∷◌, length, slice_get, Option, Some, None, Result, Ok, sym, refl, ap, ◌∙◌, subst, arith}
 use Rattle.std.specs.Prelude.{zip, option_map}
 use Rattle.jmodel.specs.declared.instruction.Instr.{Instr}
 use Rattle.jmodel.specs.declared.refusal.Refusal.{Refusal}
@@ -11,9 +11,9 @@ use Rattle.objects.specs.declared.op.Op.{Op}
 use Rattle.objects.specs.declared.op.Catch.{Catch}
 use Rattle.objects.specs.Program.{Method, Program, method_at}
 use Rattle.objects.specs.Decoding.{Symbols, op_of, ops_of, catch_of}
-use Rattle.objects.specs.Linking.{Body, no_body, with_catches, coded_body, body_of, receiver_types, parameter_types, taken_methods, original_symbols, linking}
+use Rattle.objects.specs.Linking.{Body, no_body, with_catches, coded_body, receiver_types, parameter_types, taken_methods, original_symbols, linking}
 use Rattle.objects.proofs.Items.{from_each, each_many, of_zip}
-use Rattle.objects.proofs.Links.{IsLinkedTo, links, IsMeant, meant, methods_are}
+use Rattle.objects.proofs.Links.{links, IsMeant, meant, methods_are}
 use Rattle.object_linking.specs.Pcs.{pc_at, pc_in, pc_of}
 
 item_there : {A : Type 0} (xs : List A) (i : ℕ) → i < length xs → (x : A) × (slice_get xs i ≡ Some x)

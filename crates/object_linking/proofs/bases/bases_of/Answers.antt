@@ -1,4 +1,4 @@
-use Rattle.std.proofs.Common.{◌≡◌, ◌+◌, [], ◌∷◌, length, length-append, arith}
+use Rattle.std.proofs.Common.{◌≡◌, ◌+◌, [], ◌∷◌, length-append, arith}
 use Rattle.jmodel.specs.Layout.{base_of}
 use Rattle.object_hierarchy.proofs.InOrder.{seen}
 use Rattle.object_layout.proofs.Bases.{next_base}

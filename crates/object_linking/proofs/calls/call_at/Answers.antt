@@ -1,4 +1,4 @@
-use Rattle.std.proofs.Common.{◌≡◌, Option, subst, ◌∙◌, ap}
+use Rattle.std.proofs.Common.{◌≡◌, Option, subst}
 use Rattle.std.specs.Prelude.{IfOk, option_and_then}
 use Rattle.jmodel.specs.Pool.{MemberName}
 use Rattle.objects.specs.Decoding.{call_op}

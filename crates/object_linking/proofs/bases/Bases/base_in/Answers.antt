@@ -1,4 +1,4 @@
-use Rattle.std.proofs.Common.{◌≡◌, ℕ, List, get_or, Option, ap, ◌∙◌}
+use Rattle.std.proofs.Common.{ℕ, List, get_or, Option, ap, ◌∙◌}
 use Rattle.std.specs.Prelude.{unwrap_or}
 use Rattle.jmodel.specs.ClassFile.{ClassFile}
 use Rattle.object_hierarchy.specs.Places.{place_of}
