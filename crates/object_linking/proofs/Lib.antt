@@ -9,3 +9,4 @@ pub mod Zipped
 pub mod ContextOrder
 pub mod Told
 pub mod CallOps
+pub mod Relinked

@@ -5,3 +5,4 @@ pub mod Rewritten
 pub mod Bases
 pub mod Bodies
 pub mod Pcs
+pub mod Relinking

@@ -18,6 +18,7 @@ pub mod method;
 pub mod names;
 pub mod numbering;
 pub mod pcs;
+pub mod rebuild;
 pub mod rewritten;
 pub mod shape;
 pub mod symbols;
