@@ -4,3 +4,9 @@ pub mod LastBytes
 pub mod Lookups
 pub mod RewrittenMembers
 pub mod Switched
+pub mod BasePlaces
+pub mod Zipped
+pub mod ContextOrder
+pub mod Told
+pub mod CallOps
+pub mod Relinked

@@ -18,6 +18,14 @@ write_text t = write_descriptor (codes "J") t
 unfoldable pub write_element_text : WordType → List ℕ
 write_element_text t = write_descriptor (codes "I") t
 
+-- what a descriptor of onReadAccess says
+unfoldable pub read_of : List ℕ → Option ContextCall
+read_of d = read_call d
+
+-- what a descriptor of onWriteAccess says
+unfoldable pub write_of : List ℕ → Option ContextCall
+write_of d = write_call d
+
 -- ---- calls by their order
 
 -- what ends an attempt
@@ -30,6 +38,14 @@ ending_call n =
 -- what reads or writes, or ends an attempt
 abbrev pub accessing_call : MemberName → Option ContextCall
 accessing_call n =
-    if bytes_eq n.name (codes "onReadAccess") then read_call n.descriptor
-    else if bytes_eq n.name (codes "onWriteAccess") then write_call n.descriptor
+    if bytes_eq n.name (codes "onReadAccess") then read_of n.descriptor
+    else if bytes_eq n.name (codes "onWriteAccess") then write_of n.descriptor
     else ending_call n
+
+-- what begins an attempt or stands before a read, or one of the others
+abbrev pub first_call : MemberName → Option ContextCall
+first_call n =
+    if is_called (codes "init") (codes "(II)V") n then Some context.Init
+    else if is_called (codes "beforeReadAccess") (codes "(Ljava/lang/Object;J)V") n then Some context.BeforeRead
+    else if is_called (codes "beforeReadAccess") (codes "(Ljava/lang/Object;I)V") n then Some context.BeforeReadElement
+    else accessing_call n

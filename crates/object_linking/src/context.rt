@@ -1,7 +1,7 @@
 //! Calls of a transaction's context, as rewritten code makes them.
 ghost use Rattle.std.specs.Prelude.{◌≡◌};
-ghost use Rattle.objects.specs.Decoding.{type_with, read_call as call_of_read, write_call as call_of_write, is_called as is_call_of, is_get_context as is_context_getter};
-ghost use Rattle.object_linking.specs.ContextCalls.{read_text, read_element_text, write_text, write_element_text, ending_call as ending_call_of};
+ghost use Rattle.objects.specs.Decoding.{type_with, is_called as is_call_of, is_get_context as is_context_getter, context_call as call_of_context};
+ghost use Rattle.object_linking.specs.ContextCalls.{read_text, read_element_text, write_text, write_element_text, ending_call as ending_call_of, accessing_call as accessing_call_of, first_call, read_of, write_of};
 
 use crate::text::equal;
 use object_hierarchy::reference::Reference;
@@ -117,10 +117,10 @@ fn write_element_type(descriptor: &[u8]) -> Option<WordType>
         .find(|t| equal(write_element_descriptor(*t), descriptor))
 }
 
-/// Which read a descriptor of `onReadAccess` says: of a field, else of an element.
-#[tactic(auto, unfolding(crate::specs::ContextCalls::read_text, crate::specs::ContextCalls::read_element_text))]
-pub fn read_call(descriptor: &[u8]) -> Option<ContextCall>
-    ensures { result ≡ call_of_read descriptor.now }
+// Which read a descriptor of `onReadAccess` says: of a field, else of an element.
+#[tactic(auto, unfolding(crate::specs::ContextCalls::read_of, crate::specs::ContextCalls::read_text, crate::specs::ContextCalls::read_element_text))]
+fn read_call(descriptor: &[u8]) -> Option<ContextCall>
+    ensures { result ≡ read_of descriptor.now }
 {
     match read_type(descriptor) {
         Some(word_type) => Some(ContextCall::OnRead(word_type)),
@@ -128,10 +128,10 @@ pub fn read_call(descriptor: &[u8]) -> Option<ContextCall>
     }
 }
 
-/// Which write a descriptor of `onWriteAccess` says: of a field, else of an element.
-#[tactic(auto, unfolding(crate::specs::ContextCalls::write_text, crate::specs::ContextCalls::write_element_text))]
-pub fn write_call(descriptor: &[u8]) -> Option<ContextCall>
-    ensures { result ≡ call_of_write descriptor.now }
+// Which write a descriptor of `onWriteAccess` says: of a field, else of an element.
+#[tactic(auto, unfolding(crate::specs::ContextCalls::write_of, crate::specs::ContextCalls::write_text, crate::specs::ContextCalls::write_element_text))]
+fn write_call(descriptor: &[u8]) -> Option<ContextCall>
+    ensures { result ≡ write_of descriptor.now }
 {
     match write_type(descriptor) {
         Some(word_type) => Some(ContextCall::OnWrite(word_type)),
@@ -154,8 +154,8 @@ pub fn is_get_context(r: &Reference) -> bool
         && equal(r.descriptor, b"()Lorg/deuce/transaction/Context;")
 }
 
-/// What ends an attempt, None where it is another call.
-pub fn ending_call(r: &Reference) -> Option<ContextCall>
+// What ends an attempt.
+fn ending_call(r: &Reference) -> Option<ContextCall>
     ensures { result ≡ ending_call_of r.now }
 {
     if is_called(b"commit", b"()Z", r) {
@@ -165,4 +165,39 @@ pub fn ending_call(r: &Reference) -> Option<ContextCall>
     } else {
         None
     }
+}
+
+// What reads or writes, or ends an attempt.
+fn accessing_call(r: &Reference) -> Option<ContextCall>
+    ensures { result ≡ accessing_call_of r.now }
+{
+    if equal(r.name, b"onReadAccess") {
+        read_call(r.descriptor)
+    } else if equal(r.name, b"onWriteAccess") {
+        write_call(r.descriptor)
+    } else {
+        ending_call(r)
+    }
+}
+
+// What begins an attempt or stands before a read, or one of the others.
+fn first_call(r: &Reference) -> Option<ContextCall>
+    ensures { result ≡ first_call r.now }
+{
+    if is_called(b"init", b"(II)V", r) {
+        Some(ContextCall::Init)
+    } else if is_called(b"beforeReadAccess", b"(Ljava/lang/Object;J)V", r) {
+        Some(ContextCall::BeforeRead)
+    } else if is_called(b"beforeReadAccess", b"(Ljava/lang/Object;I)V", r) {
+        Some(ContextCall::BeforeReadElement)
+    } else {
+        accessing_call(r)
+    }
+}
+
+/// Which call of the context a name and a descriptor say, None where they say none.
+pub fn context_call(r: &Reference) -> Option<ContextCall>
+    ensures { result ≡ call_of_context r.now }
+{
+    first_call(r)
 }
