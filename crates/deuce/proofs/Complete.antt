@@ -6,27 +6,25 @@ use Rattle.std.specs.List.{AllByRecursion, AllZip}
 use Rattle.std.proofs.lemmas.List.{take_all}
 use Rattle.deuce_io.specs.Files.{Files}
 use Rattle.jmodel.specs.declared.refusal.Refusal.{Refusal}
-use Rattle.serde_json.specs.Data.{Data}
 use Rattle.jmodel.specs.declared.value.Answer.{Answer}
 use Rattle.jmodel.specs.ClassFile.{ClassFile}
-use Rattle.jmodel.specs.Layout.{opening_state}
-use Rattle.jmodel.specs.Opening.{Opening}
-use Rattle.jmodel.proofs.Returns.{returns}
 use Rattle.jmodel.specs.ClassRules.{Spells}
 use Rattle.jmodel.specs.Program.{Program}
 use Rattle.jmodel.specs.Classes.{in_order}
-use Rattle.jmodel.specs.ClassesLinking.{linking_files, program_in, initialisers_in}
+use Rattle.jmodel.specs.ClassesLinking.{linking_files, program_in}
 use Rattle.jmodel.specs.Typing.{IsTypable}
 use Rattle.class_reader.proofs.ClassLaws.{class_again}
 use Rattle.rewriter.specs.RewrittenClasses.{rewritten_classes}
-use Rattle.deuce.specs.Command.{NamesFolder}
-use Rattle.script.specs.Script.{Script, script_in, script_limit, IsScript}
-use Rattle.deuce.specs.Headline.{linked_files, IsRunnable, CanRun}
-use Rattle.deuce.specs.Rewritten.{HasFewFields, CanRewrite}
+use Rattle.deuce.specs.Command.{seen_words, run_words, rewrite_words, NamesFolder}
+use Rattle.object_script.specs.Script.{script_limit}
+use Rattle.object_run.specs.Headline.{CanRun}
+use Rattle.object_run.specs.Faults.{IsBadProgram, IsUntypable, IsBadScript, IsUnopened}
+use Rattle.object_run.proofs.Complete.{no_bad_program, all_typed, good_script, opens}
+use Rattle.deuce.specs.Rewritten.{formed_files, IsRewritable, HasFewFields, CanRewrite}
 use Rattle.deuce.specs.declared.outcome.Outcome.{Outcome}
 use Rattle.deuce.specs.declared.outcome.Outcome.TheVariants.{Journal, Rewritten, Usage, BadClass, BadProgram, Untyped, BadScript, Unopened, Outside, NotPut, NotBuilt}
 use Rattle.deuce.specs.Folder.{class_limit, HoldsClasses, IsTooDeep, HasManyClasses, IsOverfull, IsGoodFile, HasClasses, IsBadClass}
-use Rattle.deuce.specs.Ending.{IsBadProgram, HasBadProgram, IsUntypable, IsBadScript, HasBadScript, IsUnopened, HasUnopened, IsOutsideForm, IsNotRewritten, CanRunIn, CanRewriteIn}
+use Rattle.deuce.specs.Ending.{IsBadForm, HasBadProgram, IsUntypableForm, HasBadScript, HasUnopened, IsNotRewritten, CanRunIn, CanRewriteIn}
 use Rattle.deuce_io.specs.Seen.{Seen}
 use Rattle.deuce.specs.Outcomes.{Says, IsBadProgramOfWords, IsUntypableOfWords, IsNotBuilt, IsBadClassOfWords, IsBadScriptOfWords, IsUnopenedOfWords, CanRunWords, CanRewriteWords, status_of}
 use Rattle.deuce.proofs.Folders.{same_paths}
@@ -115,10 +113,10 @@ module _ (told : Files) (dir : List ℕ) where
           | inr none ↦ none.1.0 one.0 (subst (λ (b : List ℕ). Spells b one.0) (sym bytes) good.is_file.1)
         ]
 
--- ---- classes that can be run
+-- ---- classes that can be run or rewritten
 
--- class files mean one program
-one_program : (files : List ClassFile) (P Q : Program) → linked_files files ≡ Some P → linked_files files ≡ Some Q → P ≡ Q
+-- class files of the form mean one program
+one_program : (files : List ClassFile) (P Q : Program) → formed_files files ≡ Some P → formed_files files ≡ Some Q → P ≡ Q
 one_program files P Q p q = let both : Some P ≡ Some Q = sym p ∙ q in cc (both)
 
 faultless : (r : Result (Option Program) Refusal) (P : Program) (f : Refusal) → program_in r ≡ Some P → r ≡ Err f → ⊥
@@ -129,122 +127,71 @@ not_formed : (r : Result (Option Program) Refusal) (P : Program) → program_in 
 not_formed (Ok o) P h is = let none : o ≡ None = cc in let some : o ≡ Some P = h in cc
 not_formed (Err f) P h is = cc
 
--- what can be run has no fault, passes no limit, and has typings
-no_bad_program : (files : List ClassFile) (P : Program) (r : Refusal) → IsRunnable files P → IsBadProgram r files → ⊥
-no_bad_program files P r can (inl fault) = faultless (linking_files files) P r can.links fault
-no_bad_program files P r can (inr (Q, is, typed, limit)) =
+-- what can be rewritten has no fault, passes no limit, and has typings
+no_bad_form : (files : List ClassFile) (P : Program) (r : Refusal) → IsRewritable files P → IsBadForm r files → ⊥
+no_bad_form files P r can (inl fault) = faultless (linking_files files) P r can.links fault
+no_bad_form files P r can (inr (Q, is, typed, limit)) =
     let same = one_program files P Q can.links is in
     let made : rewritten_classes (in_order files) Q ≡ Ok can.instrumented = subst (λ (p : Program). rewritten_classes (in_order files) p ≡ Ok can.instrumented) same can.rewrites in
     cc
 
-all_typed : (files : List ClassFile) (P : Program) (r : Refusal) → IsRunnable files P → IsUntypable r files → ⊥
-all_typed files P r can (Q, is, un) =
+all_typed_form : (files : List ClassFile) (P : Program) (r : Refusal) → IsRewritable files P → IsUntypableForm r files → ⊥
+all_typed_form files P r can (Q, is, un) =
     let same = one_program files P Q can.links is in
     let typed : AllByRecursion (IsTypable Q) Q.methods = subst (λ (p : Program). AllByRecursion (IsTypable p) p.methods) same can.typed in
     let one = all_at (IsTypable Q) Q.methods un.number un.method typed un.there in
     un.untypable.none one.table (record { first = one.typing.first; each = λ pc h le is. one.typing.each pc h is })
 
--- class files of a folder that can be run
-abbrev CanBeRun : List ClassFile → Type 0
-CanBeRun files = (P : Program) × IsRunnable files P
-
-good_run : (told : Files) (dir script : List ℕ) → CanRunIn told dir script → HasClasses (Some told) dir CanBeRun
-good_run told dir script can = let has = can.of_classes in record {
-  paths = has.paths;
-  class_files = has.class_files;
-  few = has.few;
-  classes = has.classes;
-  good = has.good;
-  holding = (has.holding.program, has.holding.runnable);
-}
-
-good_rewriting : (told : Files) (dir : List ℕ) → CanRewriteIn told dir → HasClasses (Some told) dir CanBeRun
-good_rewriting told dir can = record {
-  paths = can.paths;
-  class_files = can.class_files;
-  few = can.few;
-  classes = can.classes;
-  good = can.good;
-  holding = (can.holding.program, can.holding.runnable);
-}
-
 -- what is said of refused class files isn't said of them
-module _ (words : List (String Global)) (told : Files) (dir : List ℕ) (can : HasClasses (Some told) dir CanBeRun) (named : (d : List ℕ) → NamesFolder words d → d ≡ dir) where
-  no_bad_class : (files : Option Files) (path : List ℕ) (r : Refusal) → files ≡ Some told → IsBadClassOfWords words files path r → ⊥
-  no_bad_class files path r is h = no_fault told dir CanBeRun can path r (rw (is, named h.0 h.1) at h.2)
-
-  no_program_fault : (files : Option Files) (r : Refusal) → files ≡ Some told → IsBadProgramOfWords words files r → ⊥
-  no_program_fault files r is h = refused (rw (is, named h.0 h.1) at h.2)
-    where
-      refused : HasBadProgram (Some told) dir r → ⊥
-      refused (inl over) = fits told dir CanBeRun can r over
-      refused (inr has) = no_bad_program can.classes can.holding.0 r can.holding.1 (held told dir CanBeRun can (IsBadProgram r) has)
-
-  none_untyped : (files : Option Files) (r : Refusal) → files ≡ Some told → IsUntypableOfWords words files r → ⊥
-  none_untyped files r is h = all_typed can.classes can.holding.0 r can.holding.1 (held told dir CanBeRun can (IsUntypable r) (rw (is, named h.0 h.1) at h.2))
+no_bad_class : (words : List (String Global)) (told : Files) (dir : List ℕ) (Holding : List ClassFile → Type 0) → HasClasses (Some told) dir Holding → ((d : List ℕ) → NamesFolder words d → d ≡ dir)
+    → (files : Option Files) (path : List ℕ) (r : Refusal) → files ≡ Some told → IsBadClassOfWords words files path r → ⊥
+no_bad_class words told dir Holding can named files path r is h = no_fault told dir Holding can path r (rw (is, named h.0 h.1) at h.2)
 
 -- ---- runs
 
 abbrev CanRunOn : List ℕ → List ClassFile → Type 0
 CanRunOn bytes files = CanRun files bytes
 
--- a script that can be run is none that is refused
-good_script : (told : Files) (dir script : List ℕ) (r : Refusal) → CanRunIn told dir script → HasBadScript (Some told) dir script r → ⊥
-good_script told dir script r can bad =
-    let has = can.of_classes in
-    let run = has.holding in
-    let is = run.is_script in
-    let front : bad.script_bytes ≡ can.script_bytes = front_is (told script) (script_limit + 1) can.script_bytes bad.script_bytes can.script_holds (bad.script_front told refl) (let few = is.fits in omega (arith, few)) in
-    let of_classes : IsBadScript can.script_bytes r has.classes = subst (λ (b : List ℕ). IsBadScript b r has.classes) front (held told dir (CanRunOn can.script_bytes) has (IsBadScript bad.script_bytes r) bad.of_classes) in
-    let same = one_program has.classes run.program of_classes.0 run.runnable.links of_classes.1.links in
-    of_classes.2.none run.script (subst (λ (p : Program). IsScript (in_order has.classes) p can.script_bytes run.script) same is)
+module _ (words : List (String Global)) (told : Files) (dir script : List ℕ) (asked : seen_words words ≡ run_words dir script) (can : CanRunIn told dir script) where
+  abbrev has : HasClasses (Some told) dir (CanRunOn can.script_bytes)
+  has = can.of_classes
 
-good_script_of_words : (words : List (String Global)) (files : Option Files) (r : Refusal) → IsBadScriptOfWords words files r → CanRunWords words files → ⊥
-good_script_of_words words files r h can =
-    let same = one_run words h.0 h.1 can.0 can.1 h.2 can.3 in
-    good_script can.2 can.0 can.1 r can.5 (rw (can.4, same.0, same.1) at h.3)
+  abbrev held_by : (Other : List ClassFile → Type 0) → HasClasses (Some told) dir Other → Other has.classes
+  held_by Other h = held told dir (CanRunOn can.script_bytes) has Other h
 
--- bytes are one script
-one_script : (cs : List ClassFile) (P : Program) (bytes : List ℕ) (s t : Script) → IsScript cs P bytes s → IsScript cs P bytes t → s ≡ t
-one_script cs P bytes s t p q =
-    let both : Some p.value ≡ Some q.value = sym p.value_is ∙ q.value_is in
-    let value : p.value ≡ q.value = cc (both) in
-    let done : script_in cs P p.value ≡ Ok t = subst (λ (d : Data). script_in cs P d ≡ Ok t) (sym value) q.script in
-    let first = p.script in
-    cc (first, done)
+  no_program_fault : (files : Option Files) (r : Refusal) → files ≡ Some told → IsBadProgramOfWords words files r → ⊥
+  no_program_fault files r is (d, other, inr h) = apart words dir script d other asked h.0
+  no_program_fault files r is (d, other, inl h) = let same = one_run words d other dir script h.0 asked in refused (rw (is, same.0) at h.1)
+    where
+      refused : HasBadProgram IsBadProgram (Some told) dir r → ⊥
+      refused (inl over) = fits told dir (CanRunOn can.script_bytes) has r over
+      refused (inr bad) = no_bad_program has.classes has.holding.program r has.holding.runnable (held_by (IsBadProgram r) bad)
 
--- and static initialisers that return don't fail
-opens : (told : Files) (dir script class : List ℕ) (x : Answer) → CanRunIn told dir script → HasUnopened (Some told) dir script class x → ⊥
-opens told dir script class x can bad =
-    let has = can.of_classes in
-    let run = has.holding in
-    let cs = in_order has.classes in
-    let a = can.script_holds in
-    let b = bad.script_holds told refl in
-    let bytes : bad.script_bytes ≡ can.script_bytes = cc in
-    let shut : IsUnopened can.script_bytes class x has.classes = subst (λ (l : List ℕ). IsUnopened l class x has.classes) bytes (held told dir (CanRunOn can.script_bytes) has (IsUnopened bad.script_bytes class x) bad.of_classes) in
-    let same = one_program has.classes run.program shut.program run.runnable.links shut.runnable.links in
-    let is : IsScript cs shut.program can.script_bytes run.script = subst (λ (p : Program). IsScript cs p can.script_bytes run.script) same run.is_script in
-    let script : run.script ≡ shut.script = one_script cs shut.program can.script_bytes run.script shut.script is shut.is_script in
-    let Opens : Program → Script → Type 0 = λ p s. Opening p s.region s.budget (opening_state cs) (initialisers_in cs p) run.opening in
-    let opened : Opens shut.program shut.script = subst (Opens shut.program) script (subst (λ (p : Program). Opens p run.script) same run.opens) in
-    returns shut.program shut.script.region shut.script.budget (opening_state cs) run.opening (initialisers_in cs shut.program) shut.shut.number x opened shut.shut.fails
+  none_untyped : (files : Option Files) (r : Refusal) → files ≡ Some told → IsUntypableOfWords words files r → ⊥
+  none_untyped files r is (d, other, inr h) = apart words dir script d other asked h.0
+  none_untyped files r is (d, other, inl h) =
+      let same = one_run words d other dir script h.0 asked in
+      all_typed has.classes has.holding.program r has.holding.runnable (held_by (IsUntypable r) (rw (is, same.0) at h.1))
 
-opens_of_words : (words : List (String Global)) (files : Option Files) (class : List ℕ) (x : Answer) → IsUnopenedOfWords words files class x → CanRunWords words files → ⊥
-opens_of_words words files class x h can =
-    let same = one_run words h.0 h.1 can.0 can.1 h.2 can.3 in
-    opens can.2 can.0 can.1 class x can.5 (rw (can.4, same.0, same.1) at h.3)
+  script_taken : (r : Refusal) → HasBadScript (Some told) dir script r → ⊥
+  script_taken r bad =
+      let fits = has.holding.is_script.fits in
+      let front : bad.script_bytes ≡ can.script_bytes = front_is (told script) (script_limit + 1) can.script_bytes bad.script_bytes can.script_holds (bad.script_front told refl) (omega (arith, fits)) in
+      let of_classes : IsBadScript can.script_bytes r has.classes = subst (λ (b : List ℕ). IsBadScript b r has.classes) front (held_by (IsBadScript bad.script_bytes r) bad.of_classes) in
+      good_script has.classes can.script_bytes r has.holding of_classes
 
-unbuilt_run : (told : Files) (dir script : List ℕ) → CanRunIn told dir script → HasClasses (Some told) dir IsOutsideForm → ⊥
-unbuilt_run told dir script can h =
-    let has = can.of_classes in
-    not_formed (linking_files has.classes) has.holding.program has.holding.runnable.links (held told dir (CanRunOn can.script_bytes) has IsOutsideForm h)
+  good_script_of_words : (files : Option Files) (r : Refusal) → files ≡ Some told → IsBadScriptOfWords words files r → ⊥
+  good_script_of_words files r is h = let same = one_run words h.0 h.1 dir script h.2 asked in script_taken r (rw (is, same.0, same.1) at h.3)
 
-built_run : (words : List (String Global)) (files : Option Files) → IsNotBuilt words files → CanRunWords words files → ⊥
-built_run words files (inl h) can =
-    let same = one_run words h.0 h.1 can.0 can.1 h.2 can.3 in
-    unbuilt_run can.2 can.0 can.1 can.5 (rw (can.4, same.0) at h.3)
-built_run words files (inr h) can = absurd (apart words can.0 can.1 h.0 h.1 can.3 h.2)
+  opened : (class : List ℕ) (x : Answer) → HasUnopened (Some told) dir script class x → ⊥
+  opened class x bad =
+      let a = can.script_holds in
+      let b = bad.script_holds told refl in
+      let bytes : bad.script_bytes ≡ can.script_bytes = cc in
+      opens has.classes can.script_bytes class x has.holding (subst (λ (l : List ℕ). IsUnopened l class x has.classes) bytes (held_by (IsUnopened bad.script_bytes class x) bad.of_classes))
+
+  opens_of_words : (files : Option Files) (class : List ℕ) (x : Answer) → files ≡ Some told → IsUnopenedOfWords words files class x → ⊥
+  opens_of_words files class x is h = let same = one_run words h.0 h.1 dir script h.2 asked in opened class x (rw (is, same.0, same.1) at h.3)
 
 -- no other status than these
 pub complete : (words : List (String Global)) (old new : Seen) (o : Outcome) (status : ℕ) → Says words old new o → status ≡ status_of o → CanRunWords words old.files
@@ -253,16 +200,14 @@ complete words old new (Journal text) status h s can = inl s
 complete words old new (Rewritten n taken marked) status h s can = inl s
 complete words old new Usage status h s can = absurd (h.0 can.0 can.1 can.3)
 complete words old new (BadClass path r) status h s can =
-    absurd (no_bad_class words can.2 can.0 (good_run can.2 can.0 can.1 can.5) (λ d n. run_folder words d can.0 can.1 n can.3) old.files (string_bytes path) r can.4 h)
-complete words old new (BadProgram r) status h s can =
-    absurd (no_program_fault words can.2 can.0 (good_run can.2 can.0 can.1 can.5) (λ d n. run_folder words d can.0 can.1 n can.3) old.files r can.4 h)
-complete words old new (Untyped r) status h s can =
-    absurd (none_untyped words can.2 can.0 (good_run can.2 can.0 can.1 can.5) (λ d n. run_folder words d can.0 can.1 n can.3) old.files r can.4 h)
-complete words old new (BadScript r) status h s can = absurd (good_script_of_words words old.files r h can)
-complete words old new (Unopened class x) status h s can = absurd (opens_of_words words old.files class x h can)
+    absurd (no_bad_class words can.2 can.0 (CanRunOn can.5.script_bytes) can.5.of_classes (λ d n. run_folder words d can.0 can.1 n can.3) old.files (string_bytes path) r can.4 h)
+complete words old new (BadProgram r) status h s can = absurd (no_program_fault words can.2 can.0 can.1 can.3 can.5 old.files r can.4 h)
+complete words old new (Untyped r) status h s can = absurd (none_untyped words can.2 can.0 can.1 can.3 can.5 old.files r can.4 h)
+complete words old new (BadScript r) status h s can = absurd (good_script_of_words words can.2 can.0 can.1 can.3 can.5 old.files r can.4 h)
+complete words old new (Unopened class x) status h s can = absurd (opens_of_words words can.2 can.0 can.1 can.3 can.5 old.files class x can.4 h)
 complete words old new (Outside path) status h s can = inr (inl s)
 complete words old new (NotPut path) status h s can = absurd (apart words can.0 can.1 h.0 h.1 can.3 h.2)
-complete words old new NotBuilt status h s can = absurd (built_run words old.files h can)
+complete words old new NotBuilt status h s can = absurd (apart words can.0 can.1 h.0 h.1 can.3 h.2)
 
 -- ---- rewritings
 
@@ -273,11 +218,11 @@ few_at (d ∷ cs) c few (suc i, lt, is) = few_at cs c few.1 (i, omega (arith, lt
 
 -- what can be rewritten is
 is_rewritten : (files : List ClassFile) → CanRewrite files → IsNotRewritten files → ⊥
-is_rewritten files can (inl none) = not_formed (linking_files files) can.program can.runnable.links none
+is_rewritten files can (inl none) = not_formed (linking_files files) can.program can.rewritable.links none
 is_rewritten files can (inr h) =
-    let same = one_program files can.program h.program can.runnable.links h.links in
-    let made : rewritten_classes (in_order files) h.program ≡ Ok can.runnable.instrumented = subst (λ (p : Program). rewritten_classes (in_order files) p ≡ Ok can.runnable.instrumented) same can.runnable.rewrites in
-    let one : can.runnable.instrumented ≡ h.instrumented = let other = h.rewrites in cc in
+    let same = one_program files can.program h.program can.rewritable.links h.links in
+    let made : rewritten_classes (in_order files) h.program ≡ Ok can.rewritable.instrumented = subst (λ (p : Program). rewritten_classes (in_order files) p ≡ Ok can.rewritable.instrumented) same can.rewritable.rewrites in
+    let one : can.rewritable.instrumented ≡ h.instrumented = let other = h.rewrites in cc in
     let few = few_at h.instrumented h.class (subst (AllByRecursion HasFewFields) one can.few) h.there in
     let many = h.many in
     omega (arith, few, many)
@@ -286,10 +231,24 @@ unbuilt_rewriting : (told : Files) (dir : List ℕ) → CanRewriteIn told dir �
 unbuilt_rewriting told dir can h = is_rewritten can.classes can.holding (held told dir CanRewrite can IsNotRewritten h)
 
 built_rewriting : (words : List (String Global)) (files : Option Files) → IsNotBuilt words files → CanRewriteWords words files → ⊥
-built_rewriting words files (inl h) can = absurd (apart words h.0 h.1 can.0 can.1 h.2 can.3)
-built_rewriting words files (inr h) can =
+built_rewriting words files h can =
     let same = one_rewriting words h.0 h.1 can.0 can.1 h.2 can.3 in
     unbuilt_rewriting can.2 can.0 can.5 (rw (can.4, same.0) at h.3)
+
+module _ (words : List (String Global)) (told : Files) (dir out : List ℕ) (asked : seen_words words ≡ rewrite_words dir out) (can : CanRewriteIn told dir) where
+  no_form_fault : (files : Option Files) (r : Refusal) → files ≡ Some told → IsBadProgramOfWords words files r → ⊥
+  no_form_fault files r is (d, other, inl h) = apart words d other dir out h.0 asked
+  no_form_fault files r is (d, other, inr h) = let same = one_rewriting words d other dir out h.0 asked in refused (rw (is, same.0) at h.1)
+    where
+      refused : HasBadProgram IsBadForm (Some told) dir r → ⊥
+      refused (inl over) = fits told dir CanRewrite can r over
+      refused (inr bad) = no_bad_form can.classes can.holding.program r can.holding.rewritable (held told dir CanRewrite can (IsBadForm r) bad)
+
+  none_untyped_form : (files : Option Files) (r : Refusal) → files ≡ Some told → IsUntypableOfWords words files r → ⊥
+  none_untyped_form files r is (d, other, inl h) = apart words d other dir out h.0 asked
+  none_untyped_form files r is (d, other, inr h) =
+      let same = one_rewriting words d other dir out h.0 asked in
+      all_typed_form can.classes can.holding.program r can.holding.rewritable (held told dir CanRewrite can (IsUntypableForm r) (rw (is, same.0) at h.1))
 
 pub complete_rewriting : (words : List (String Global)) (old new : Seen) (o : Outcome) (status : ℕ) → Says words old new o → status ≡ status_of o → CanRewriteWords words old.files
     → (status ≡ 0) ⊎ ((status ≡ 8) ⊎ ((status ≡ 9) ⊎ ((status ≡ 10) ⊎ (status ≡ 11))))
@@ -297,11 +256,9 @@ complete_rewriting words old new (Journal text) status h s can = inl s
 complete_rewriting words old new (Rewritten n taken marked) status h s can = inl s
 complete_rewriting words old new Usage status h s can = absurd (h.1 can.0 can.1 can.3)
 complete_rewriting words old new (BadClass path r) status h s can =
-    absurd (no_bad_class words can.2 can.0 (good_rewriting can.2 can.0 can.5) (λ d n. rewriting_folder words d can.0 can.1 n can.3) old.files (string_bytes path) r can.4 h)
-complete_rewriting words old new (BadProgram r) status h s can =
-    absurd (no_program_fault words can.2 can.0 (good_rewriting can.2 can.0 can.5) (λ d n. rewriting_folder words d can.0 can.1 n can.3) old.files r can.4 h)
-complete_rewriting words old new (Untyped r) status h s can =
-    absurd (none_untyped words can.2 can.0 (good_rewriting can.2 can.0 can.5) (λ d n. rewriting_folder words d can.0 can.1 n can.3) old.files r can.4 h)
+    absurd (no_bad_class words can.2 can.0 CanRewrite can.5 (λ d n. rewriting_folder words d can.0 can.1 n can.3) old.files (string_bytes path) r can.4 h)
+complete_rewriting words old new (BadProgram r) status h s can = absurd (no_form_fault words can.2 can.0 can.1 can.3 can.5 old.files r can.4 h)
+complete_rewriting words old new (Untyped r) status h s can = absurd (none_untyped_form words can.2 can.0 can.1 can.3 can.5 old.files r can.4 h)
 complete_rewriting words old new (BadScript r) status h s can = absurd (apart words h.0 h.1 can.0 can.1 h.2 can.3)
 complete_rewriting words old new (Unopened class x) status h s can = absurd (apart words h.0 h.1 can.0 can.1 h.2 can.3)
 complete_rewriting words old new (Outside path) status h s can = inr (inl s)

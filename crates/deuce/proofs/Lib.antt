@@ -1,11 +1,8 @@
 pub mod Lists
 pub mod Ordered
 pub mod Named
-pub mod Opens
-pub mod Scripted
 pub mod Reading
-pub mod Initialisers
-pub mod Running
+pub mod Formed
 pub mod Folders
 pub mod Depths
 pub mod Sets

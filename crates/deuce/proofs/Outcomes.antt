@@ -8,50 +8,58 @@ use Rattle.deuce_io.specs.Seen.{Seen}
 use Rattle.jmodel.specs.declared.refusal.Refusal.{Refusal}
 use Rattle.jmodel.specs.declared.value.Answer.{Answer}
 use Rattle.jmodel.specs.ClassFile.{ClassFile}
-use Rattle.deuce.specs.Command.{seen_words, rewrite_words, NamesFolder}
+use Rattle.deuce.specs.Command.{seen_words, run_words, rewrite_words, NamesFolder}
 use Rattle.deuce.specs.declared.inputs.ClassInput.{ClassInput}
 use Rattle.deuce.specs.declared.inputs.InputEnd.{InputEnd}
 use Rattle.deuce.specs.declared.inputs.InputEnd.TheVariants as ends
 use Rattle.deuce.specs.declared.putting.PutEnd.{PutEnd}
 use Rattle.deuce.specs.declared.putting.PutEnd.TheVariants as put_ends
-use Rattle.deuce.specs.declared.run.RunEnd.{RunEnd}
-use Rattle.deuce.specs.declared.run.RunEnd.TheVariants as run_ends
+use Rattle.object_run.specs.Faults.{IsBadProgram, IsUntypable, IsBadScript, IsUnopened, EndsRun}
+use Rattle.object_run.specs.declared.outcome.RunEnd.{RunEnd}
+use Rattle.object_run.specs.declared.outcome.RunEnd.TheVariants as run_ends
+use Rattle.deuce.specs.declared.forming.RewriteEnd.{RewriteEnd}
+use Rattle.deuce.specs.declared.forming.RewriteEnd.TheVariants as rewrite_ends
 use Rattle.deuce.specs.declared.outcome.Outcome.{Outcome}
 use Rattle.deuce.specs.declared.outcome.Outcome.TheVariants as outcomes
-use Rattle.deuce.specs.Folder.{HasClasses, placed_in, ArePutUpTo}
-use Rattle.deuce.specs.Ending.{Failed, paths_of, AreRewritten, EndsPuts, AreClassInputs, AreClassesOf, EndsInputs, EndsClasses, EndsOnClasses, IsBadProgram, IsUntypable}
-use Rattle.deuce.specs.Outcomes.{Says, ArePut, IsUnreadAs, IsRefusedAs, IsNotPutAs, IsOutcome, IsNotBuilt, FailedOutside}
+use Rattle.deuce.specs.Folder.{IsOverfull, HasClasses, placed_in, ArePutUpTo}
+use Rattle.deuce.specs.Ending.{Failed, paths_of, AreRewritten, EndsPuts, AreClassInputs, AreClassesOf, EndsInputs, EndsClasses, EndsOnClasses, IsBadForm, IsUntypableForm, IsNotRewritten}
+use Rattle.deuce.specs.Outcomes.{Says, ArePut, IsUnreadAs, IsRefusedAs, IsNotRewrittenAs, IsNotPutAs, IsOutcome, IsBadProgramOfWords, FailedOutside}
 use Rattle.deuce.proofs.Reading.{bad_class, has_classes, stopped_at}
 
-module _ (words : List (String Global)) (old new : Seen) (dir : List ℕ) (kept : new.files ≡ old.files) (names : NamesFolder words dir) (Unbuilt : List ClassFile → Type 0)
-    (unbuilt : HasClasses old.files dir Unbuilt → IsNotBuilt words old.files) where
+module _ (words : List (String Global)) (old new : Seen) (dir : List ℕ) (kept : new.files ≡ old.files) (names : NamesFolder words dir) where
   -- of a command whose inputs weren't there
   pub unread : (Asks : Call → Type 0) (end : InputEnd) (o : Outcome) → ((path : List ℕ) → Failed Asks path old new → FailedOutside words path old new)
-      → EndsInputs Asks dir old new end → IsUnreadAs end o → IsOutcome words old new o
-  unread Asks (ends.Outside path) o fails h is = rw is (kept, fails (string_bytes path) h)
-  unread Asks (ends.BadClass path r) o fails h is = absurd h
-  unread Asks (ends.Refused r) o fails h is = rw is (kept, (dir, names, inl h))
-  unread Asks ends.NoMemory o fails h is = absurd is
+      → ((r : Refusal) → IsOverfull old.files dir r → IsBadProgramOfWords words old.files r) → EndsInputs Asks dir old new end → IsUnreadAs end o → IsOutcome words old new o
+  unread Asks (ends.Outside path) o fails over h is = rw is (kept, fails (string_bytes path) h)
+  unread Asks (ends.BadClass path r) o fails over h is = absurd h
+  unread Asks (ends.Refused r) o fails over h is = rw is (kept, over r h)
+  unread Asks ends.NoMemory o fails over h is = absurd is
 
-  module _ (inputs : List ClassInput) (a : AreClassInputs old.files dir inputs) where
-    -- of a command over class files that aren't all good
-    pub not_good : (end : InputEnd) (o : Outcome) → EndsClasses inputs end → IsUnreadAs end o → IsOutcome words old new o
-    not_good (ends.Outside path) o h is = absurd h
-    not_good (ends.BadClass path r) o h is = rw is (kept, (dir, names, bad_class old.files dir inputs (string_bytes path) r a h))
-    not_good (ends.Refused r) o h is = absurd h
-    not_good ends.NoMemory o h is = absurd is
+  -- of a command over class files that aren't all good
+  pub not_good : (inputs : List ClassInput) → AreClassInputs old.files dir inputs → (end : InputEnd) (o : Outcome) → EndsClasses inputs end → IsUnreadAs end o → IsOutcome words old new o
+  not_good inputs a (ends.Outside path) o h is = absurd h
+  not_good inputs a (ends.BadClass path r) o h is = rw is (kept, (dir, names, bad_class old.files dir inputs (string_bytes path) r a h))
+  not_good inputs a (ends.Refused r) o h is = absurd h
+  not_good inputs a ends.NoMemory o h is = absurd is
 
-    -- of a command over the class files that were read
-    pub refused : (cs : List ClassFile) (Bad : Refusal → List ClassFile → Type 0) (Shut : List ℕ → Answer → List ClassFile → Type 0) (end : RunEnd) (o : Outcome) → AreClassesOf inputs cs
-        → ((r : Refusal) → Bad r cs → HasClasses old.files dir (Bad r) → Says words old new (outcomes.BadScript r))
-        → ((name : List ℕ) (x : Answer) → Shut name x cs → HasClasses old.files dir (Shut name x) → Says words old new (outcomes.Unopened name x))
-        → EndsOnClasses cs Bad Shut Unbuilt end → IsRefusedAs end o → IsOutcome words old new o
-    refused cs Bad Shut (run_ends.Refused r) o good bad shut h is = rw is (kept, (dir, names, inr (has_classes old.files dir inputs cs (IsBadProgram r) a good h)))
-    refused cs Bad Shut (run_ends.Untyped r) o good bad shut h is = rw is (kept, (dir, names, has_classes old.files dir inputs cs (IsUntypable r) a good h))
-    refused cs Bad Shut (run_ends.BadScript r) o good bad shut h is = rw is (kept, bad r h (has_classes old.files dir inputs cs (Bad r) a good h))
-    refused cs Bad Shut (run_ends.Unopened name x) o good bad shut h is = rw is (kept, shut name x h (has_classes old.files dir inputs cs (Shut name x) a good h))
-    refused cs Bad Shut run_ends.NotBuilt o good bad shut h is = rw is (kept, unbuilt (has_classes old.files dir inputs cs Unbuilt a good h))
-    refused cs Bad Shut run_ends.NoMemory o good bad shut h is = absurd is
+module _ (words : List (String Global)) (old new : Seen) (dir other : List ℕ) (kept : new.files ≡ old.files) (inputs : List ClassInput) (a : AreClassInputs old.files dir inputs) (cs : List ClassFile) (good : AreClassesOf inputs cs) where
+  -- of a run on the class files that were read
+  pub refused : (w : seen_words words ≡ run_words dir other) (bytes : List ℕ) (end : RunEnd) (o : Outcome)
+      → ((r : Refusal) → HasClasses old.files dir (IsBadScript bytes r) → Says words old new (outcomes.BadScript r))
+      → ((name : List ℕ) (x : Answer) → IsUnopened bytes name x cs → HasClasses old.files dir (IsUnopened bytes name x) → Says words old new (outcomes.Unopened name x))
+      → EndsRun cs bytes end → IsRefusedAs end o → IsOutcome words old new o
+  refused w bytes (run_ends.Refused r) o bad shut h is = rw is (kept, (dir, other, inl (w, inr (has_classes old.files dir inputs cs (IsBadProgram r) a good h))))
+  refused w bytes (run_ends.Untyped r) o bad shut h is = rw is (kept, (dir, other, inl (w, has_classes old.files dir inputs cs (IsUntypable r) a good h)))
+  refused w bytes (run_ends.BadScript r) o bad shut h is = rw is (kept, bad r (has_classes old.files dir inputs cs (IsBadScript bytes r) a good h))
+  refused w bytes (run_ends.Unopened name x) o bad shut h is = rw is (kept, shut name x h (has_classes old.files dir inputs cs (IsUnopened bytes name x) a good h))
+  refused w bytes run_ends.NoMemory o bad shut h is = absurd is
+
+  -- of a rewriting of them
+  pub not_rewritten : (w : seen_words words ≡ rewrite_words dir other) (end : RewriteEnd) (o : Outcome) → EndsOnClasses cs IsNotRewritten end → IsNotRewrittenAs end o → IsOutcome words old new o
+  not_rewritten w (rewrite_ends.Refused r) o h is = rw is (kept, (dir, other, inr (w, inr (has_classes old.files dir inputs cs (IsBadForm r) a good h))))
+  not_rewritten w (rewrite_ends.Untyped r) o h is = rw is (kept, (dir, other, inr (w, has_classes old.files dir inputs cs (IsUntypableForm r) a good h)))
+  not_rewritten w rewrite_ends.NotBuilt o h is = rw is (kept, (dir, other, w, has_classes old.files dir inputs cs IsNotRewritten a good h))
+  not_rewritten w rewrite_ends.NoMemory o h is = absurd is
 
 -- ---- puts that stopped
 

@@ -10,11 +10,12 @@ use Rattle.jmodel.specs.ClassFile.{ClassFile}
 use Rattle.jmodel.specs.ClassRules.{IsClassFile}
 use Rattle.deuce.specs.declared.inputs.ClassInput.{ClassInput}
 use Rattle.deuce.specs.declared.inputs.Inputs.{Inputs}
-use Rattle.deuce.specs.Headline.{IsRun}
+use Rattle.object_run.specs.Headline.{IsRunOf}
+use Rattle.object_run.specs.Faults.{IsUnopened}
 use Rattle.deuce.specs.Rewritten.{IsRewriting}
-use Rattle.script.specs.Script.{script_limit}
+use Rattle.object_script.specs.Script.{script_limit}
 use Rattle.deuce.specs.Folder.{class_limit, HoldsClasses, HoldsContents, IsFrontOf, Holds, IsFileOf, IsGoodFile, HasClasses, IsBadClass, with_files, placed_in, ArePutUpTo}
-use Rattle.deuce.specs.Ending.{IsClassInput, AreClassInputs, AreInputs, paths_of, AreClassesOf, IsFirstFault, IsJournalOf, AreRewritten, IsRewritingOf, StopsAt, IsUnopened, HasUnopened}
+use Rattle.deuce.specs.Ending.{IsClassInput, AreClassInputs, AreInputs, paths_of, AreClassesOf, IsFirstFault, IsJournalOf, AreRewritten, IsRewritingOf, StopsAt, HasUnopened}
 
 whole : (most limit : ℕ) (o : Option (List ℕ)) (bytes : List ℕ) → most ≡ suc limit → option_map (take most) o ≡ Some bytes → length bytes ≤ limit → o ≡ Some bytes
 whole most limit None bytes m e le = absurd (cc)
@@ -110,18 +111,29 @@ module _ (files : Option Files) (dir : List ℕ) where
   pub read_whole : (inputs : List ClassInput) (cs : List ClassFile) → AreClassInputs files dir inputs → AreClassesOf inputs cs → HoldsContents files dir (paths_of inputs) (contents_of inputs)
   read_whole inputs cs a good = record { class_files = a.class_files; few = a.few; each = all_hold inputs cs a.each good }
 
+-- there are as many classes as class files, and so no more than a folder may have
+same_count : (inputs : List ClassInput) (cs : List ClassFile) → AreClassesOf inputs cs → length cs ≡ length inputs
+same_count [] [] good = refl
+same_count [] (c ∷ cs) good = absurd good
+same_count (i ∷ inputs) [] good = absurd good
+same_count (i ∷ inputs) (c ∷ cs) good = ap suc (same_count inputs cs good.1)
+
+pub few_files : (files : Option Files) (dir : List ℕ) (inputs : List ClassInput) (cs : List ClassFile) → AreClassInputs files dir inputs → AreClassesOf inputs cs → length cs ≤ 256
+few_files files dir inputs cs a good =
+    let few = a.few in
+    omega (arith, same_count inputs cs good, length-map inputs (λ (i : ClassInput). string_bytes i.relative), few)
+
 -- a run of what was read whole
 pub journal_of : (files : Option Files) (dir script : List ℕ) (inputs : Inputs) (cs : List ClassFile) (text : List ℕ) → AreInputs files dir script inputs → AreClassesOf inputs.classes.items cs
-    → ((contents : List (List ℕ)) → AllZip IsFileOf contents cs → IsRun contents inputs.script text) → IsJournalOf files dir script text
-journal_of files dir script inputs cs text a good ran =
-    let run = ran (contents_of inputs.classes.items) (are_files inputs.classes.items cs good) in
+    → IsRunOf cs inputs.script text → IsJournalOf files dir script text
+journal_of files dir script inputs cs text a good run =
     record {
       paths = paths_of inputs.classes.items;
       contents = contents_of inputs.classes.items;
       class_files = read_whole files dir inputs.classes.items cs a.of_classes good;
       script_bytes = inputs.script;
       script_holds = holds files script (script_limit + 1) script_limit inputs.script refl a.script_bytes run.is_script.fits;
-      run = run;
+      run = record { files = cs; are_files = are_files inputs.classes.items cs good; run = run };
     }
 
 -- a run that doesn't begin, of what was read whole

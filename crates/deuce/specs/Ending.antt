@@ -10,27 +10,24 @@ use Rattle.deuce_io.specs.Seen.{Seen}
 use Rattle.deuce_io.specs.declared.end.IoEnd.{IoEnd}
 use Rattle.deuce_io.specs.declared.end.IoEnd.TheVariants as io
 use Rattle.jmodel.specs.declared.refusal.Refusal.{Refusal}
+use Rattle.jmodel.specs.declared.refusal.Halt.{Halt}
+use Rattle.jmodel.specs.declared.refusal.Halt.TheVariants as halts
 use Rattle.jmodel.specs.declared.refusal.Refusal.TheVariants.{OverLimit, Untypable}
 use Rattle.jmodel.specs.ClassFile.{ClassFile}
 use Rattle.jmodel.specs.Name.{printed}
 use Rattle.jmodel.specs.declared.value.Answer.{Answer}
-use Rattle.jmodel.specs.Program.{Method, Program, method_at}
-use Rattle.jmodel.specs.State.{State}
-use Rattle.jmodel.specs.Layout.{opening_state}
-use Rattle.jmodel.specs.Opening.{Opening, Fails}
-use Rattle.driver.specs.declared.memory.Memory.{Memory}
-use Rattle.driver.specs.Memory.{Holds as StandsFor}
-use Rattle.driver.specs.declared.setting_up.SetUpEnd.{SetUpEnd}
-use Rattle.driver.specs.declared.setting_up.SetUpEnd.TheVariants as set_ends
+use Rattle.jmodel.specs.Program.{Method, Program}
 use Rattle.jmodel.specs.Superclasses.{class_named}
 use Rattle.jmodel.specs.Classes.{in_order, doubled_class}
-use Rattle.jmodel.specs.ClassesLinking.{linking, linking_files, pc_of, initialisers_in}
+use Rattle.jmodel.specs.ClassesLinking.{linking, linking_files, pc_of}
 use Rattle.jmodel.specs.Typing.{IsTypable, IsUntypableAt}
 use Rattle.rewriter.specs.RewrittenClasses.{rewritten_classes}
-use Rattle.script.specs.Script.{Script, IsScript, IsFault, script_limit}
+use Rattle.object_script.specs.Script.{script_limit}
+use Rattle.object_run.specs.Headline.{CanRun}
+use Rattle.object_run.specs.Faults.{IsBadScript, IsUnopened}
 use Rattle.deuce.specs.Folder.{IsClassFileName, depth, class_limit, IsFolder, HoldsClasses, IsTooDeep, IsOverfull, IsFrontOf, Holds, HoldsContents, IsFileFault, IsFileOf, HasClasses, with_files, placed_in, ArePutUpTo}
-use Rattle.deuce.specs.Headline.{name_in, linked_files, IsRun, CanRun, IsRunnable}
-use Rattle.deuce.specs.Rewritten.{IsRewriting, CanRewrite, HasManyFields}
+use Rattle.deuce.specs.Headline.{IsRun}
+use Rattle.deuce.specs.Rewritten.{formed_files, IsRewriting, CanRewrite, HasManyFields}
 use Rattle.deuce.specs.declared.inputs.ClassInput.{ClassInput}
 use Rattle.deuce.specs.declared.inputs.Inputs.{Inputs}
 use Rattle.deuce.specs.declared.inputs.InputEnd.{InputEnd}
@@ -38,8 +35,8 @@ use Rattle.deuce.specs.declared.inputs.InputEnd.TheVariants as ends
 use Rattle.deuce.specs.declared.putting.NewFile.{NewFile}
 use Rattle.deuce.specs.declared.putting.PutEnd.{PutEnd}
 use Rattle.deuce.specs.declared.putting.PutEnd.TheVariants as put_ends
-use Rattle.deuce.specs.declared.run.RunEnd.{RunEnd}
-use Rattle.deuce.specs.declared.run.RunEnd.TheVariants as run_ends
+use Rattle.deuce.specs.declared.forming.RewriteEnd.{RewriteEnd}
+use Rattle.deuce.specs.declared.forming.RewriteEnd.TheVariants as rewrite_ends
 
 -- the path from a folder to one under it, which is there, no more than 16 levels down, where the folder tells its files
 abbrev pub IsListed : Option Files → List ℕ → List ℕ → Type 0
@@ -130,15 +127,15 @@ PassesLimit P cs r = rewritten_classes cs P ≡ Err r
 
 -- The classes of class files mean a program of which each method has a typing, and this is the first limit that their rewriting passes.
 abbrev pub IsOverLimit : Refusal → List ClassFile → Type 0
-IsOverLimit r files = (P : Program) × (linked_files files ≡ Some P) × AllByRecursion (IsTypable P) P.methods × PassesLimit P (in_order files) r
+IsOverLimit r files = (P : Program) × (formed_files files ≡ Some P) × AllByRecursion (IsTypable P) P.methods × PassesLimit P (in_order files) r
 
--- Why class files that are good are refused: the linking of their classes ends with this fault, or their rewriting passes this limit.
-abbrev pub IsBadProgram : Refusal → List ClassFile → Type 0
-IsBadProgram r files = (linking_files files ≡ Err r) ⊎ IsOverLimit r files
+-- Why class files that are good aren't rewritten: the linking of their classes ends with this fault, or their rewriting passes this limit.
+abbrev pub IsBadForm : Refusal → List ClassFile → Type 0
+IsBadForm r files = (linking_files files ≡ Err r) ⊎ IsOverLimit r files
 
 -- Why a folder of class files is refused: it passes a limit of folders, or its class files are good, and their classes are refused.
-abbrev pub HasBadProgram : Option Files → List ℕ → Refusal → Type 0
-HasBadProgram files dir r = IsOverfull files dir r ⊎ HasClasses files dir (IsBadProgram r)
+abbrev pub HasBadProgram : (Refusal → List ClassFile → Type 0) → Option Files → List ℕ → Refusal → Type 0
+HasBadProgram Bad files dir r = IsOverfull files dir r ⊎ HasClasses files dir (Bad r)
 
 -- Of a program's methods, those before this one have typings, and it has none, for the instruction at a place, as the refusal says.
 pub record IsFirstUntypable (P : Program) (cs : List ClassFile) (r : Refusal) : Type 0 where
@@ -153,41 +150,14 @@ pub record IsFirstUntypable (P : Program) (cs : List ClassFile) (r : Refusal) : 
   pub refusal : r ≡ Untypable (printed method.name) (pos pc)
 
 -- The classes of class files mean a program, a method of which has no typing, as the refusal says; it is the first.
-abbrev pub IsUntypable : Refusal → List ClassFile → Type 0
-IsUntypable r files = (P : Program) × (linked_files files ≡ Some P) × IsFirstUntypable P (in_order files) r
+abbrev pub IsUntypableForm : Refusal → List ClassFile → Type 0
+IsUntypableForm r files = (P : Program) × (formed_files files ≡ Some P) × IsFirstUntypable P (in_order files) r
 
--- Bytes are no script for classes and their program: there is none that they are, and this is the first rule that they break.
-pub record IsNoScript (P : Program) (cs : List ClassFile) (bytes : List ℕ) (r : Refusal) : Type 0 where
-  pub fault : IsFault cs P bytes r
-  pub none : (s : Script) → IsScript cs P bytes s → ⊥
-
--- Why a script is refused: the class files can be run, and the bytes are no script for them.
-abbrev pub IsBadScript : List ℕ → Refusal → List ClassFile → Type 0
-IsBadScript bytes r files = (P : Program) × IsRunnable files P × IsNoScript P (in_order files) bytes r
-
--- Of the static initialisers of classes, superclasses first, each run alone from what those before it left, the first from the state of the
--- opening words, this is the first that doesn't return, and it ends so; the name is that of its class. A region has size words.
-pub record IsShut (P : Program) (cs : List ClassFile) (size budget : ℕ) (name : List ℕ) (x : Answer) : Type 0 where
-  pub number : ℕ
-  pub method : Method
-  pub there : slice_get P.methods number ≡ Some method
-  pub class : name ≡ method.name.class
-  pub fails : Fails P size budget (opening_state cs) (initialisers_in cs P) number x
-
--- Why a run doesn't begin: the class files can be run and the bytes are a script for them, but a static initialiser doesn't return, within the
--- script's turns and the words of a region.
-pub record IsUnopened (bytes name : List ℕ) (x : Answer) (files : List ClassFile) : Type 0 where
-  pub program : Program
-  pub runnable : IsRunnable files program
-  pub script : Script
-  pub is_script : IsScript (in_order files) program bytes script
-  pub shut : IsShut program (in_order files) script.region script.budget name x
-
--- the classes of class files have no fault, but aren't of the form that is taken
+-- the classes of class files have no fault, but aren't of the form that is rewritten
 abbrev pub IsOutsideForm : List ClassFile → Type 0
 IsOutsideForm files = linking_files files ≡ Ok None
 
--- They aren't of the form that is taken, or of their rewriting a class would have too many fields.
+-- They aren't of that form, or of their rewriting a class would have too many fields.
 abbrev pub IsNotRewritten : List ClassFile → Type 0
 IsNotRewritten files = IsOutsideForm files ⊎ HasManyFields files
 
@@ -280,82 +250,42 @@ EndsPuts fs old new (put_ends.Failed path) =
     ArePutUpTo fs old.files new.files (string_bytes path) × HasFailed old.put_faults new.put_faults new.failed (put_of (string_bytes path))
 EndsPuts fs old new put_ends.NoMemory = (path : List ℕ) × ArePutUpTo fs old.files new.files path
 
--- a command without a script has none that is refused
-abbrev pub NoScript : Refusal → List ClassFile → Type 0
-NoScript r files = ⊥
-
--- and begins no run
-abbrev pub NoOpening : List ℕ → Answer → List ClassFile → Type 0
-NoOpening name x files = ⊥
-
 -- why there is no class of these bytes
-abbrev pub EndsReading : List ℕ → RunEnd → Type 0
-EndsReading class (run_ends.Refused r) = IsFileFault class r
-EndsReading class run_ends.NoMemory = Unit {0}
-EndsReading class end = ⊥
+abbrev pub EndsReading : List ℕ → Halt → Type 0
+EndsReading class (halts.Refused r) = IsFileFault class r
+EndsReading class halts.NoMemory = Unit {0}
 
--- Why a command over class files isn't done; what a script is refused for, why a run doesn't begin, and what isn't built, is said of them.
-abbrev pub EndsOnClasses : List ClassFile → (Refusal → List ClassFile → Type 0) → (List ℕ → Answer → List ClassFile → Type 0) → (List ClassFile → Type 0) → RunEnd → Type 0
-EndsOnClasses files Bad Shut Unbuilt (run_ends.Refused r) = IsBadProgram r files
-EndsOnClasses files Bad Shut Unbuilt (run_ends.Untyped r) = IsUntypable r files
-EndsOnClasses files Bad Shut Unbuilt (run_ends.BadScript r) = Bad r files
-EndsOnClasses files Bad Shut Unbuilt (run_ends.Unopened name x) = Shut name x files
-EndsOnClasses files Bad Shut Unbuilt run_ends.NotBuilt = Unbuilt files
-EndsOnClasses files Bad Shut Unbuilt run_ends.NoMemory = Unit {0}
+-- Why class files aren't rewritten; what isn't built is said of them.
+abbrev pub EndsOnClasses : List ClassFile → (List ClassFile → Type 0) → RewriteEnd → Type 0
+EndsOnClasses files Unbuilt (rewrite_ends.Refused r) = IsBadForm r files
+EndsOnClasses files Unbuilt (rewrite_ends.Untyped r) = IsUntypableForm r files
+EndsOnClasses files Unbuilt rewrite_ends.NotBuilt = Unbuilt files
+EndsOnClasses files Unbuilt rewrite_ends.NoMemory = Unit {0}
 
 -- why class files have no order
-abbrev pub EndsOrder : List ClassFile → RunEnd → Type 0
-EndsOrder files (run_ends.Refused r) = doubled_class files ≡ Some r
-EndsOrder files run_ends.NoMemory = Unit {0}
+abbrev pub EndsOrder : List ClassFile → RewriteEnd → Type 0
+EndsOrder files (rewrite_ends.Refused r) = doubled_class files ≡ Some r
+EndsOrder files rewrite_ends.NoMemory = Unit {0}
 EndsOrder files end = ⊥
 
 -- why classes have no program
-abbrev pub EndsBuild : List ClassFile → RunEnd → Type 0
-EndsBuild cs (run_ends.Refused r) = linking cs ≡ Err r
-EndsBuild cs run_ends.NotBuilt = linking cs ≡ Ok None
-EndsBuild cs run_ends.NoMemory = Unit {0}
+abbrev pub EndsBuild : List ClassFile → RewriteEnd → Type 0
+EndsBuild cs (rewrite_ends.Refused r) = linking cs ≡ Err r
+EndsBuild cs rewrite_ends.NotBuilt = linking cs ≡ Ok None
+EndsBuild cs rewrite_ends.NoMemory = Unit {0}
 EndsBuild cs end = ⊥
 
 -- why not each method of a program has a typing
-abbrev pub EndsTyping : Program → List ClassFile → RunEnd → Type 0
-EndsTyping P cs (run_ends.Untyped r) = IsFirstUntypable P cs r
-EndsTyping P cs run_ends.NoMemory = Unit {0}
+abbrev pub EndsTyping : Program → List ClassFile → RewriteEnd → Type 0
+EndsTyping P cs (rewrite_ends.Untyped r) = IsFirstUntypable P cs r
+EndsTyping P cs rewrite_ends.NoMemory = Unit {0}
 EndsTyping P cs end = ⊥
 
 -- why the classes of a program have no rewriting
-abbrev pub EndsRewriting : Program → List ClassFile → RunEnd → Type 0
-EndsRewriting P cs (run_ends.Refused r) = PassesLimit P cs r
-EndsRewriting P cs run_ends.NoMemory = Unit {0}
+abbrev pub EndsRewriting : Program → List ClassFile → RewriteEnd → Type 0
+EndsRewriting P cs (rewrite_ends.Refused r) = PassesLimit P cs r
+EndsRewriting P cs rewrite_ends.NoMemory = Unit {0}
 EndsRewriting P cs end = ⊥
-
--- memory stands for the state that the static initialisers leave, from the state of the opening words
-abbrev pub IsOpened : Program → List ClassFile → ℕ → ℕ → Memory → Type 0
-IsOpened P cs size budget memory = (τ : State) × Opening P size budget (opening_state cs) (initialisers_in cs P) τ × StandsFor P size memory τ
-
--- why the static initialisers of classes leave none
-abbrev pub EndsOpening : Program → List ClassFile → ℕ → ℕ → RunEnd → Type 0
-EndsOpening P cs size budget (run_ends.Unopened name x) = IsShut P cs size budget name x
-EndsOpening P cs size budget run_ends.NoMemory = Unit {0}
-EndsOpening P cs size budget end = ⊥
-
--- a static initialiser that failed is a method of the program
-abbrev pub IsNumbered : Program → SetUpEnd → Type 0
-IsNumbered P (set_ends.Failed n x) = n < length P.methods
-IsNumbered P set_ends.NoMemory = Unit {0}
-
--- the end of a run whose static initialisers ended so
-abbrev pub IsUnopenedAs : Program → SetUpEnd → RunEnd → Type 0
-IsUnopenedAs P (set_ends.Failed n x) (run_ends.Unopened name y) = (name ≡ (name_in (method_at P n)).class) × (y ≡ x)
-IsUnopenedAs P set_ends.NoMemory (run_ends.Unopened name y) = ⊥
-IsUnopenedAs P e run_ends.NoMemory = Unit {0}
-IsUnopenedAs P e end = ⊥
-
--- why a script isn't run on classes that can be
-abbrev pub EndsScript : Program → List ClassFile → List ℕ → RunEnd → Type 0
-EndsScript P cs bytes (run_ends.BadScript r) = IsNoScript P cs bytes r
-EndsScript P cs bytes (run_ends.Unopened name x) = (s : Script) × IsScript cs P bytes s × IsShut P cs s.region s.budget name x
-EndsScript P cs bytes run_ends.NoMemory = Unit {0}
-EndsScript P cs bytes end = ⊥
 
 -- the end of a run whose call of the folder ended so at a path
 abbrev pub IsOutsideAt : IoEnd → List ℕ → InputEnd → Type 0

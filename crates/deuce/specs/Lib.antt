@@ -5,4 +5,3 @@ pub mod Headline
 pub mod Listing
 pub mod Outcomes
 pub mod Rewritten
-pub mod Lines

@@ -7,16 +7,19 @@ use Rattle.deuce_io.specs.Seen.{Seen}
 use Rattle.jmodel.specs.declared.refusal.Refusal.{Refusal}
 use Rattle.jmodel.specs.declared.value.Answer.{Answer}
 use Rattle.jmodel.specs.Output.{◌and◌, answer_text, refusal_text, error_text}
+use Rattle.object_run.specs.Faults.{IsBadProgram, IsUntypable}
 use Rattle.deuce.specs.Command.{seen_words, run_words, rewrite_words, IsNoCommand, NamesFolder}
 use Rattle.deuce.specs.Rewritten.{counts_text}
 use Rattle.deuce.specs.Folder.{IsBadClass, HasClasses}
-use Rattle.deuce.specs.Ending.{IsCallOfFolder, IsCallOfRun, Failed, FailedPut, IsJournalOf, IsRewritingOf, StopsAt, HasBadProgram, IsUntypable, HasBadScript, HasUnopened, IsOutsideForm, IsNotRewritten, CanRunIn, CanRewriteIn}
+use Rattle.deuce.specs.Ending.{IsCallOfFolder, IsCallOfRun, Failed, FailedPut, IsJournalOf, IsRewritingOf, StopsAt, IsBadForm, HasBadProgram, IsUntypableForm, HasBadScript, HasUnopened, IsNotRewritten, CanRunIn, CanRewriteIn}
 use Rattle.deuce.specs.declared.inputs.InputEnd.{InputEnd}
 use Rattle.deuce.specs.declared.inputs.InputEnd.TheVariants as ends
 use Rattle.deuce.specs.declared.putting.PutEnd.{PutEnd}
 use Rattle.deuce.specs.declared.putting.PutEnd.TheVariants as put_ends
-use Rattle.deuce.specs.declared.run.RunEnd.{RunEnd}
-use Rattle.deuce.specs.declared.run.RunEnd.TheVariants as run_ends
+use Rattle.object_run.specs.declared.outcome.RunEnd.{RunEnd}
+use Rattle.object_run.specs.declared.outcome.RunEnd.TheVariants as run_ends
+use Rattle.deuce.specs.declared.forming.RewriteEnd.{RewriteEnd}
+use Rattle.deuce.specs.declared.forming.RewriteEnd.TheVariants as rewrite_ends
 use Rattle.deuce.specs.declared.outcome.Outcome.{Outcome}
 use Rattle.deuce.specs.declared.outcome.Outcome.TheVariants.{Journal, Rewritten, Usage, BadClass, BadProgram, Untyped, BadScript, Unopened, Outside, NotPut, NotBuilt}
 
@@ -48,14 +51,20 @@ status_of (Outside path) = 8
 status_of (NotPut path) = 11
 status_of NotBuilt = 12
 
--- the outcome of a command over class files that ended so
+-- the outcome of a run that ended so
 abbrev pub IsRefusedAs : RunEnd → Outcome → Type 0
 IsRefusedAs (run_ends.Refused r) o = o ≡ BadProgram r
 IsRefusedAs (run_ends.Untyped r) o = o ≡ Untyped r
 IsRefusedAs (run_ends.BadScript r) o = o ≡ BadScript r
 IsRefusedAs (run_ends.Unopened class x) o = o ≡ Unopened class x
-IsRefusedAs run_ends.NotBuilt o = o ≡ NotBuilt
 IsRefusedAs run_ends.NoMemory o = ⊥
+
+-- the outcome of a rewriting that ended so
+abbrev pub IsNotRewrittenAs : RewriteEnd → Outcome → Type 0
+IsNotRewrittenAs (rewrite_ends.Refused r) o = o ≡ BadProgram r
+IsNotRewrittenAs (rewrite_ends.Untyped r) o = o ≡ Untyped r
+IsNotRewrittenAs rewrite_ends.NotBuilt o = o ≡ NotBuilt
+IsNotRewrittenAs rewrite_ends.NoMemory o = ⊥
 
 -- the outcome of a command without inputs, or without their classes
 abbrev pub IsUnreadAs : InputEnd → Outcome → Type 0
@@ -73,13 +82,17 @@ IsNotPutAs put_ends.NoMemory o = ⊥
 abbrev pub IsBadClassOfWords : List (String Global) → Option Files → List ℕ → Refusal → Type 0
 IsBadClassOfWords words files path r = (dir : List ℕ) × NamesFolder words dir × IsBadClass files dir path r
 
--- the folder that the words name passes a limit of folders, or its class files are good, and their classes are refused so
+-- A folder passes a limit of folders, or its class files are good, and their classes are refused so: by the command that the words ask for.
 abbrev pub IsBadProgramOfWords : List (String Global) → Option Files → Refusal → Type 0
-IsBadProgramOfWords words files r = (dir : List ℕ) × NamesFolder words dir × HasBadProgram files dir r
+IsBadProgramOfWords words files r = (dir : List ℕ) × (other : List ℕ)
+    × (((seen_words words ≡ run_words dir other) × HasBadProgram IsBadProgram files dir r)
+    ⊎ ((seen_words words ≡ rewrite_words dir other) × HasBadProgram IsBadForm files dir r))
 
--- the class files of the folder that the words name are good, and a method of their classes has no typing, as the refusal says
+-- The class files of a folder are good, and a method of their classes has no typing, as the refusal says: by the command that the words ask for.
 abbrev pub IsUntypableOfWords : List (String Global) → Option Files → Refusal → Type 0
-IsUntypableOfWords words files r = (dir : List ℕ) × NamesFolder words dir × HasClasses files dir (IsUntypable r)
+IsUntypableOfWords words files r = (dir : List ℕ) × (other : List ℕ)
+    × (((seen_words words ≡ run_words dir other) × HasClasses files dir (IsUntypable r))
+    ⊎ ((seen_words words ≡ rewrite_words dir other) × HasClasses files dir (IsUntypableForm r)))
 
 -- The words ask for a run, and its script has this fault.
 abbrev pub IsBadScriptOfWords : List (String Global) → Option Files → Refusal → Type 0
@@ -89,16 +102,9 @@ IsBadScriptOfWords words files r = (dir : List ℕ) × (script : List ℕ) × (s
 abbrev pub IsUnopenedOfWords : List (String Global) → Option Files → List ℕ → Answer → Type 0
 IsUnopenedOfWords words files class x = (dir : List ℕ) × (script : List ℕ) × (seen_words words ≡ run_words dir script) × HasUnopened files dir script class x
 
--- The words ask for a run, and its class files are good, and not of the form that is taken.
-abbrev pub IsUnbuiltRun : List (String Global) → Option Files → Type 0
-IsUnbuiltRun words files = (dir : List ℕ) × (script : List ℕ) × (seen_words words ≡ run_words dir script) × HasClasses files dir IsOutsideForm
-
 -- The words ask for a rewriting, and its class files are good, but not of the form, or a rewritten class would have too many fields.
-abbrev pub IsUnbuiltRewriting : List (String Global) → Option Files → Type 0
-IsUnbuiltRewriting words files = (dir : List ℕ) × (out : List ℕ) × (seen_words words ≡ rewrite_words dir out) × HasClasses files dir IsNotRewritten
-
 abbrev pub IsNotBuilt : List (String Global) → Option Files → Type 0
-IsNotBuilt words files = IsUnbuiltRun words files ⊎ IsUnbuiltRewriting words files
+IsNotBuilt words files = (dir : List ℕ) × (out : List ℕ) × (seen_words words ≡ rewrite_words dir out) × HasClasses files dir IsNotRewritten
 
 -- The text is that of the run that the words ask for.
 abbrev pub IsJournalOfWords : List (String Global) → Option Files → List ℕ → Type 0

@@ -2,16 +2,17 @@
 ghost use Rattle.std.specs.Prelude.{◌≡◌, List, String, IfOk};
 ghost use Rattle.std.specs.declared.alloc.Global.{Global};
 ghost use Rattle.deuce.specs.Command.{seen_words, run_words, rewrite_words};
-ghost use Rattle.deuce.specs.Outcomes.{IsUnreadAs, IsRefusedAs, IsNotPutAs, IsOutcome, ArePut};
+ghost use Rattle.deuce.specs.Outcomes.{IsUnreadAs, IsRefusedAs, IsNotRewrittenAs, IsNotPutAs, IsOutcome, ArePut};
 
 use crate::classes::classes_of;
+use crate::forming::RewriteEnd;
 use crate::inputs::{InputEnd, read_classes, read_inputs};
 use crate::outcome::Outcome;
 use crate::putting::{PutEnd, new_files, put_each};
 use crate::rewriting::write_rewriting;
-use crate::run::{RunEnd, run_files};
 use deuce_io::Folder;
 use jmodel::NoMemory;
+use object_run::{RunEnd, run_files};
 use std::alloc::Global;
 use std::thread::Threads;
 
@@ -62,7 +63,7 @@ pub fn rewrite_command<F: Folder>(
     };
     let written = match write_rewriting(alloc, files.as_slice()) {
         Ok(written) => written,
-        Err(end) => return refused(end),
+        Err(end) => return not_rewritten(end),
     };
     let news = new_files(alloc, out, inputs.as_slice(), written.files)?;
     match put_each(folder, news) {
@@ -87,7 +88,7 @@ fn unread(end: InputEnd) -> Result<Outcome, NoMemory>
     }
 }
 
-/// The outcome of a command over class files that ended so.
+/// The outcome of a run that ended so.
 fn refused(end: RunEnd) -> Result<Outcome, NoMemory>
     ensures { IfOk result (IsRefusedAs end) }
 {
@@ -96,8 +97,19 @@ fn refused(end: RunEnd) -> Result<Outcome, NoMemory>
         RunEnd::Untyped(refusal) => Ok(Outcome::Untyped(refusal)),
         RunEnd::BadScript(refusal) => Ok(Outcome::BadScript(refusal)),
         RunEnd::Unopened { class, answer } => Ok(Outcome::Unopened { class, answer }),
-        RunEnd::NotBuilt => Ok(Outcome::NotBuilt),
         RunEnd::NoMemory => Err(NoMemory),
+    }
+}
+
+/// The outcome of a rewriting that ended so.
+fn not_rewritten(end: RewriteEnd) -> Result<Outcome, NoMemory>
+    ensures { IfOk result (IsNotRewrittenAs end) }
+{
+    match end {
+        RewriteEnd::Refused(refusal) => Ok(Outcome::BadProgram(refusal)),
+        RewriteEnd::Untyped(refusal) => Ok(Outcome::Untyped(refusal)),
+        RewriteEnd::NotBuilt => Ok(Outcome::NotBuilt),
+        RewriteEnd::NoMemory => Err(NoMemory),
     }
 }
 

@@ -2,8 +2,9 @@
 //! [`top::deuce`] is the top call, over any folder and sink.
 #![tactic(auto)]
 
-mod classes;
+pub mod classes;
 mod commands;
+pub mod forming;
 mod inputs;
 pub mod listing;
 mod outcome;
@@ -11,8 +12,6 @@ mod print;
 mod putting;
 mod refusal;
 mod rewriting;
-pub mod run;
-mod text;
 pub mod top;
 mod typed;
 mod words;

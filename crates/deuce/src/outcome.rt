@@ -5,8 +5,8 @@ ghost use Rattle.deuce.specs.Outcomes.{IsTextOf};
 ghost use Rattle.deuce.specs.Rewritten.{counts_text};
 
 use crate::refusal::push_refusal;
-use crate::text::push_answer;
 use jmodel::{Answer, Bytes, Refusal};
+use object_run::push_answer;
 use std::alloc::{AllocError, Global};
 
 /// How a command ends.

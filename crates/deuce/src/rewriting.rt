@@ -6,11 +6,11 @@ ghost use Rattle.jmodel.specs.ClassRules.{IsClassFile};
 ghost use Rattle.jmodel.specs.Superclasses.{own_name as own_name_of, class_named};
 ghost use Rattle.rewriter.specs.Meaning.{AreFiled};
 ghost use Rattle.jmodel.specs.Schedule.{is_marked};
-ghost use Rattle.deuce.specs.Ending.{EndsOnClasses, NoScript, NoOpening, IsNotRewritten, AreUnderNames};
+ghost use Rattle.deuce.specs.Ending.{EndsOnClasses, IsNotRewritten, AreUnderNames};
 ghost use Rattle.deuce.specs.Folder.{IsFileOf};
 ghost use Rattle.deuce.specs.Rewritten.{HasFewFields, IsNewOf, IsRewriting};
 
-use crate::run::{RunEnd, prepare};
+use crate::forming::{RewriteEnd, prepare};
 use class_writer::write_class;
 use const_pool::ClassFile;
 use hierarchy::Method;
@@ -30,28 +30,17 @@ pub struct WrittenClasses {
     pub marked: usize,
 }
 
-impl From<NoMemory> for RunEnd {
-    ghost use Rattle.deuce.specs.declared.run.RunEnd.TheVariants as ends;
-    ghost use Rattle.std.specs.Prelude.{◌≡◌};
-
-    ghost from_gives = { λ _ e. e ≡ ends.NoMemory };
-
-    fn from(_: NoMemory) -> Self {
-        RunEnd::NoMemory
-    }
-}
-
 /// Rewrites the classes of class files, and writes the new ones.
-pub fn write_rewriting(alloc: Global, files: &[ClassFile]) -> Result<WrittenClasses, RunEnd>
+pub fn write_rewriting(alloc: Global, files: &[ClassFile]) -> Result<WrittenClasses, RewriteEnd>
     requires form { AllByRecursion IsClassFile files.now }
     requires filed { AllByRecursion AreFiled files.now }
     ensures rewriting { IfOk result (λ r. (contents : List (List ℕ)) → AllZip IsFileOf contents files.now → IsRewriting contents r.files.items r.taken r.marked) }
-    ensures cause { IfErr result (EndsOnClasses files.now NoScript NoOpening IsNotRewritten) }
+    ensures cause { IfErr result (EndsOnClasses files.now IsNotRewritten) }
 {
     let prepared = prepare(alloc, files)?;
     let classes = prepared.rewriting.classes.as_slice();
     if !have_few_fields(classes) {
-        return Err(RunEnd::NotBuilt);
+        return Err(RewriteEnd::NotBuilt);
     }
     let written = write_each(alloc, files, classes)?;
     let methods = prepared.original.methods();

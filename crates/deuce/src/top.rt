@@ -25,7 +25,7 @@ use std::thread::Threads;
 /// | 0 | the journal of the run was written whole; or each rewritten class file was put, and the counts were written whole |
 /// | 2 | the words are none of the forms |
 /// | 3 | a file is no class file; the path of the first and its first fault are printed |
-/// | 4 | a folder lies 17 levels down, there are more than 256 class files, their classes have a fault, or their rewriting passes a limit; that is printed |
+/// | 4 | a folder lies 17 levels down, there are more than 256 class files, their classes have a fault, a constructor stores to a field before another has run over its object, or their rewriting passes a limit; that is printed |
 /// | 5 | a method of the classes has no typing; the first is printed |
 /// | 6 | the script is none for the classes; the first rule that it breaks is printed |
 /// | 7 | a static initialiser doesn't return; its class and the answer are printed |
@@ -33,7 +33,7 @@ use std::thread::Threads;
 /// | 9 | the sink failed; a front of the output was written |
 /// | 10 | memory ran out; nothing was written, or a front of the output |
 /// | 11 | the put of a rewritten class file failed; those before it, in the order of their paths, were put |
-/// | 12 | the classes aren't of the form that is taken, or a rewritten class would have too many fields |
+/// | 12 | for `rewrite` alone: the classes aren't of the form that is rewritten, or a rewritten class would have too many fields |
 pub fn deuce<R: Threads + Sync, F: Folder, O: Sink>(
     rt: &R,
     alloc: Global,
@@ -74,8 +74,8 @@ pub fn deuce<R: Threads + Sync, F: Folder, O: Sink>(
         × Appends (O.written out.old) (O.written out.new)
         (error_text (codes "4") (refusal_text refusal)) }
 
-    // The class files are good and of the form, and this method of their classes is the first that
-    // has no typing.
+    // The class files are good and their classes without a fault, and this method of theirs is the
+    // first that has code and no typing.
     ensures untypable { result ≡ 5 → (refusal : Refusal)
         × IsUntypableOfWords words.now (F.seen folder.old).files refusal
         × Appends (O.written out.old) (O.written out.new)
@@ -95,8 +95,8 @@ pub fn deuce<R: Threads + Sync, F: Folder, O: Sink>(
         × Appends (O.written out.old) (O.written out.new)
         (error_text (codes "7") (class and answer_text answer)) }
 
-    // The class files are good and their classes without a fault, but not of the form, or a
-    // rewritten class would have too many fields.
+    // They were to be rewritten, and are good and their classes without a fault, but not of the form,
+    // or a rewritten class would have too many fields.
     ensures not_built { result ≡ 12 → IsNotBuilt words.now (F.seen folder.old).files }
     ensures not_built_line { result ≡ 12
         → Appends (O.written out.old) (O.written out.new)

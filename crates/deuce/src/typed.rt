@@ -6,7 +6,7 @@ ghost use Rattle.jmodel.specs.ClassesLinking.{linked};
 ghost use Rattle.jmodel.specs.Typing.{IsTypable, IsUntypableAt};
 ghost use Rattle.deuce.specs.Ending.{EndsTyping};
 
-use crate::run::RunEnd;
+use crate::forming::RewriteEnd;
 use const_pool::ClassFile;
 use hierarchy::{Program, pc_of};
 use jmodel::Refusal;
@@ -15,7 +15,7 @@ use verifier::{TypeEnd, infer};
 
 /// Finds a typing of each method of the program of classes. Refused as Untypable at the first that has none, with its printed name
 /// and the least pc such that no table meets the rules of the instructions up to it.
-pub fn type_all(alloc: Global, classes: &[&ClassFile], program: &Program) -> Result<(), RunEnd>
+pub fn type_all(alloc: Global, classes: &[&ClassFile], program: &Program) -> Result<(), RewriteEnd>
     requires { linked (map (λ c. c.now) classes.now) ≡ Some program.now }
     ensures typed { IfOk result (λ _. AllByRecursion (IsTypable program.now) program.now.methods) }
     ensures cause { IfErr result (EndsTyping program.now (map (λ c. c.now) classes.now)) }
@@ -26,7 +26,7 @@ pub fn type_all(alloc: Global, classes: &[&ClassFile], program: &Program) -> Res
             Err(TypeEnd::Untypable(place)) => return Err(untyped(
                 alloc, classes, program, method, place,
             )),
-            Err(TypeEnd::NoMemory) => return Err(RunEnd::NoMemory),
+            Err(TypeEnd::NoMemory) => return Err(RewriteEnd::NoMemory),
         }
     }
     Ok(())
@@ -39,7 +39,7 @@ fn untyped(
     program: &Program,
     number: usize,
     place: usize,
-) -> RunEnd
+) -> RewriteEnd
     requires links { linked (map (λ c. c.now) classes.now) ≡ Some program.now }
     requires number { number < length program.now.methods }
     requires before { AllByRecursion (IsTypable program.now) (take number program.now.methods) }
@@ -47,11 +47,11 @@ fn untyped(
     ensures { EndsTyping program.now (map (λ c. c.now) classes.now) result }
 {
     let Ok(name) = program.methods()[number].name().printed(alloc) else {
-        return RunEnd::NoMemory;
+        return RewriteEnd::NoMemory;
     };
     match pc_of(alloc, classes, number, place) {
-        Ok(Some(pc)) => RunEnd::Untyped(Refusal::Untypable(name, pc as i64)),
+        Ok(Some(pc)) => RewriteEnd::Untyped(Refusal::Untypable(name, pc as i64)),
         Ok(None) => unreachable!(),
-        Err(_) => RunEnd::NoMemory,
+        Err(_) => RewriteEnd::NoMemory,
     }
 }

@@ -1,12 +1,10 @@
 -- The code of linked methods: what it adds to locals has two bytes.
-use Rattle.std.proofs.Common.{◌≡◌, ◌⊎◌, inl, inr, ℕ, zero, suc, ◌+◌, ◌<◌, List, [], ◌∷◌, ◌++◌, length, Option, Some, None, Ok, Bool, true, false, refl, sym, ap, ◌∙◌, subst, arith}
-use Rattle.std.specs.Prelude.{if◌then◌else◌, find, option_and_then, codes, slice_get, ◌^◌}
+use Rattle.std.proofs.Common.{◌≡◌, inl, inr, ℕ, zero, suc, List, [], ◌∷◌, ◌++◌, length, Option, Some, None, Ok, Bool, true, false, refl, sym, ap, ◌∙◌, subst, arith}
+use Rattle.std.specs.Prelude.{if◌then◌else◌, find, option_and_then, codes}
 use Rattle.std.specs.List.{AllByRecursion, flat_map}
-use Rattle.jmodel.specs.declared.instruction.Instr.{Instr}
 use Rattle.jmodel.specs.ClassFile.{u2, u4, handler, attributes, Attribute, Member, Pool, ClassFile, Code, code_spelling}
 use Rattle.jmodel.specs.ClassRules.{is_named, IsCode, SpellsCode}
 use Rattle.jmodel.specs.ClassReading.{code_of}
-use Rattle.jmodel.specs.Classes.{Declared}
 use Rattle.jmodel.specs.Coded.{Coded, code_in, decoded}
 use Rattle.jmodel.specs.Instruction.{IsInstr}
 use Rattle.jmodel.specs.Decoding.{each}
@@ -14,14 +12,14 @@ use Rattle.objects.specs.declared.op.Op.{Op}
 use Rattle.objects.specs.declared.op.Catch.{Catch}
 use Rattle.objects.specs.Program.{Method, Program, method_at}
 use Rattle.objects.specs.Decoding.{Symbols, ops_of, catch_of}
-use Rattle.objects.specs.Linking.{Body, no_body, with_catches, body_of, taken_methods, original_symbols, receiver_types, parameter_types, linking}
+use Rattle.objects.specs.Linking.{Body, no_body, with_catches, body_of, original_symbols, receiver_types, parameter_types, linking}
 use Rattle.objects.specs.LinkingLaw.{AreRead}
-use Rattle.objects.specs.Source.{IsReadType, IsSourceMethod, IsSource}
-use Rattle.objects.proofs.Items.{IsAt, item}
+use Rattle.objects.specs.Source.{IsSourceMethod}
+use Rattle.objects.proofs.Items.{item}
 use Rattle.objects.proofs.DeclaredMembers.{of_methods}
 use Rattle.objects.proofs.TakenMembers.{in_methods}
-use Rattle.objects.proofs.Links.{IsLinkedTo, IsFrom, links, method_from}
-use Rattle.objects.proofs.CodeRead.{IsCoded, coded_parts}
+use Rattle.objects.proofs.Links.{IsLinkedTo, links, method_from}
+use Rattle.objects.proofs.CodeRead.{coded_parts}
 use Rattle.objects.proofs.LinkedMethods.{coded_or_not}
 use Rattle.objects.proofs.SourceProof.{source_law}
 use Rattle.const_pool.proofs.Takes.{IsBytes}

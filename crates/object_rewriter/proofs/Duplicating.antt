@@ -1,6 +1,6 @@
 -- Duplicates of a class's methods, one after another.
 use Rattle.std.proofs.Common.{◌≡◌, ℕ, zero, suc, ◌+◌, ◌-◌, ◌<◌, ◌≤◌, List, [], ◌∷◌, length, get_or, Bor, ◌++◌, drop, Some, Ok, refl, sym, ap, subst, ◌∙◌, arith}
-use Rattle.std.specs.Prelude.{map, min, slice_get, zip}
+use Rattle.std.specs.Prelude.{map, slice_get, zip}
 use Rattle.std.proofs.Math.ListN.{get_or-map}
 use Rattle.std.proofs.lemmas.Slice.Zip.{length-zip}
 use Rattle.jmodel.specs.declared.refusal.Halt.{Halt}

@@ -1,9 +1,8 @@
 -- Methods that have typings, and what their numbers say.
-use Rattle.std.proofs.Common.{◌≡◌, ℕ, Bool, true, Some, subst}
-use Rattle.std.specs.Prelude.{slice_get}
+use Rattle.std.proofs.Common.{◌≡◌, ℕ, Bool, Some, subst}
 use Rattle.std.specs.List.{AllByRecursion}
-use Rattle.objects.specs.Program.{Method, Program, method_at, has_code}
-use Rattle.objects.specs.Typing.{IsTypable, IsUntypableAt}
+use Rattle.objects.specs.Program.{Method, Program, method_at}
+use Rattle.objects.specs.Typing.{IsTypable}
 use Rattle.objects.proofs.Items.{item}
 use Rattle.program_typing.specs.Tables.{IsTypedFor, IsTypedOrBare}
 use Rattle.program_typing.specs.Typed.{IsUntyped}

@@ -1,6 +1,6 @@
 -- Lists: items of a rest, lists side by side, and what holds of each item.
 use Rattle.std.proofs.Common.{◌≡◌, ℕ, zero, suc, ◌+◌, ◌<◌, ◌≤◌, Bool, true, false, List, [], ◌∷◌, ◌++◌, length, map, take, drop, get_or, Some, Bor, refl, sym, ap, subst, ◌∙◌, arith}
-use Rattle.std.specs.Prelude.{cond, filter, min, slice_get, zip}
+use Rattle.std.specs.Prelude.{filter, slice_get, zip}
 use Rattle.std.specs.List.{AllByRecursion, AllZip, prefix_len}
 use Rattle.std.proofs.Math.ListN.{get_or-map}
 use Rattle.std.proofs.lemmas.List.{length-map, length-append}

@@ -1,6 +1,6 @@
 -- What linked classes have: of each class its fields and its methods, one class after another.
-use Rattle.std.proofs.Common.{◌≡◌, ℕ, suc, ◌+◌, ◌*◌, ◌≤◌, ◌<◌, Bool, true, false, List, [], ◌∷◌, ◌++◌, length, map, Some, None, Ok, refl, sym, ap, ◌∙◌, subst, arith, length-append}
-use Rattle.std.specs.Prelude.{filter, slice_get, if◌then◌else◌, ◌^◌}
+use Rattle.std.proofs.Common.{◌≡◌, ℕ, suc, ◌*◌, ◌≤◌, Bool, true, false, List, [], ◌∷◌, ◌++◌, length, refl, sym, ap, ◌∙◌, subst, arith, length-append}
+use Rattle.std.specs.Prelude.{filter, if◌then◌else◌}
 use Rattle.std.specs.List.{flat_map, AllByRecursion, AllZip, prefix_len}
 use Rattle.std.proofs.lemmas.List.{length-map}
 use Rattle.std.proofs.lemmas.List.Concat.{flat_map-cons}
@@ -9,9 +9,9 @@ use Rattle.jmodel.specs.ClassFile.{Member, ClassFile}
 use Rattle.jmodel.specs.ClassRules.{IsClassFile}
 use Rattle.jmodel.specs.Layout.{library, is_static}
 use Rattle.jmodel.specs.Superclasses.{own_name, super_name}
-use Rattle.jmodel.specs.Classes.{Declared, declared_in, methods_in, doubled_class}
+use Rattle.jmodel.specs.Classes.{Declared, declared_in, methods_in}
 use Rattle.jmodel.specs.ClassesTaken.{is_taken}
-use Rattle.objects.specs.Program.{Field, Method, Program, method_at}
+use Rattle.objects.specs.Program.{Field, Method, Program}
 use Rattle.objects.specs.Resolution.{is_interface}
 use Rattle.objects.specs.Constructs.{is_floating}
 use Rattle.objects.specs.Layout.{field_type, words_upward, field_record, if_not, fields_behind, class_fields, fields_from, fields_of}

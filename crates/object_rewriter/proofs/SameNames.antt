@@ -1,10 +1,10 @@
 -- Names that are within one another are the same.
-use Rattle.std.proofs.Common.{◌≡◌, ℕ, ◌<◌, ◌≤◌, List, [], ◌∷◌, ◌++◌, length, drop, Option, Some, Bool, true, false, refl, sym, ap, subst, ◌∙◌, arith, ⊎_elim}
+use Rattle.std.proofs.Common.{◌≡◌, ℕ, ◌≤◌, List, [], ◌∷◌, ◌++◌, length, drop, Option, Some, Bool, true, false, refl, sym, ap, subst, ◌∙◌, arith, ⊎_elim}
 use Rattle.std.specs.Prelude.{bytes_eq, codes, ◌&&◌, ◌==◌, if◌then◌else◌}
 use Rattle.std.proofs.lemmas.Bool.Decides.{nat_tests}
 use Rattle.std.proofs.lemmas.Slice.Eq.{bytes_eq-Decides}
 use Rattle.objects.specs.Program.{Declared, Row, Program, row_at}
-use Rattle.objects.specs.TypeOrder.{object_class, conflict_classes, from_class, classes_from, above_in, is_array, without_last, is_class_above, is_ended, is_element_within, is_array_within, is_reference_within}
+use Rattle.objects.specs.TypeOrder.{object_class, conflict_classes, from_class, classes_from, above_in, is_array, without_last, is_class_above, is_ended, is_element_within, is_reference_within}
 use Rattle.objects.specs.Source.{IsClass, AreTypes}
 use Rattle.objects.proofs.Order.{Among, either, first, Above, by_class, class_row, by_found, free_is, array_above}
 

@@ -6,7 +6,7 @@ use Rattle.jmodel.specs.declared.typing.VType.{VType}
 use Rattle.jmodel.specs.declared.typing.VType.TheVariants.{Int, Long, Second, Null, Ref, Uninit, UninitThis, Top}
 use Rattle.objects.specs.Program.{Method, Program, has_code}
 use Rattle.objects.specs.TypeOrder.{IsWithin, AreWithin}
-use Rattle.objects.specs.Typing.{Types, Table, types_at, FitsIn, Covers}
+use Rattle.objects.specs.Typing.{Types, Table, types_at, FitsIn}
 use Rattle.objects.specs.Source.{AreTypes}
 use Rattle.program_typing.specs.Tables.{IsNarrowTyping, IsTableFor, IsTableOf}
 use Rattle.object_rewriter.proofs.SameNames.{name_same}

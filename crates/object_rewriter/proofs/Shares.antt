@@ -1,7 +1,7 @@
 -- The shares of several classes of their program, one after another.
-use Rattle.std.proofs.Common.{◌≡◌, ℕ, zero, suc, ◌+◌, ◌≤◌, ◌<◌, Bool, List, [], ◌∷◌, ◌++◌, length, map, take, drop, Some, None, Result, Ok, Err, refl, sym, ap, ◌∙◌, subst, arith, append_assoc, length-append}
-use Rattle.std.specs.Prelude.{◌^◌, filter, slice_get}
-use Rattle.std.specs.List.{flat_map, AllByRecursion, AllZip, prefix_len}
+use Rattle.std.proofs.Common.{◌≡◌, ℕ, zero, suc, ◌+◌, ◌≤◌, Bool, List, [], ◌∷◌, ◌++◌, length, map, take, drop, Some, Result, Ok, Err, refl, sym, ap, ◌∙◌, subst, arith, append_assoc, length-append}
+use Rattle.std.specs.Prelude.{slice_get}
+use Rattle.std.specs.List.{flat_map, AllZip, prefix_len}
 use Rattle.std.proofs.lemmas.List.{append-nil, drop-drop, length-map, map-append}
 use Rattle.std.proofs.lemmas.List.Concat.{flat_map-cons}
 use Rattle.jmodel.specs.declared.refusal.Refusal.{Refusal}
@@ -18,13 +18,13 @@ use Rattle.objects.specs.Linking.{linking}
 use Rattle.objects.specs.LinkingLaw.{AreRead}
 use Rattle.objects.proofs.Links.{IsLinkedTo, links}
 use Rattle.program_typing.specs.Tables.{IsTableOf, AreTables}
-use Rattle.object_rewriter.specs.Part.{Part, Rest, StandsFirst, HasNext, is_of_class, wrapper_count, own_fields, own_methods, own_members, part_of, share_of}
+use Rattle.object_rewriter.specs.Part.{Part, Rest, StandsFirst, HasNext, is_of_class, wrapper_count, own_fields, own_methods, part_of, share_of}
 use Rattle.object_rewriter.specs.Asked.{IsShare}
 use Rattle.object_rewriter.specs.Rewritten.{rewritten_share}
 use Rattle.object_rewriter.specs.RewrittenClasses.{of_class, rewritten_from, rewritten_classes}
 use Rattle.object_rewriter.proofs.Lists.{drop-none, of_rest, zipped_parts, front_at, behind_front}
 use Rattle.object_rewriter.proofs.Grouped.{AreOthers, AreOther}
-use Rattle.object_rewriter.proofs.Owned.{is_taken_of, taken_of, AreAsMany, other, methods_are, fields_are, own_first}
+use Rattle.object_rewriter.proofs.Owned.{is_taken_of, AreAsMany, other, methods_are, fields_are, own_first}
 use Rattle.object_rewriter.proofs.Splits.{wrappers_few}
 
 -- ---- a class's share stands first

@@ -96,6 +96,7 @@ pub fn rewrite_classes(
     requires links { linking (map (λ c. c.now) classes.now) ≡ Ok (Some program.now) }
     // Each method that has code has a typing.
     requires typed { AllByRecursion (IsTypedOrBare program.now) program.now.methods }
+    // Whichever narrowest typings are taken: those of a method have the same types at each place.
     ensures { (Ts : List Table) → AreTables program.now Ts → Gives (λ v. v.items) result (rewritten_folder (map (λ c. c.now) classes.now) program.now Ts) }
 {
     let flags = are_taken(alloc, classes)?;

@@ -4,16 +4,20 @@ ghost use Rattle.std.specs.List.{AllByRecursion};
 ghost use Rattle.jmodel.specs.Typing.{IsTypable};
 
 use crate::fixture::COUNTER;
-use deuce::run::{RunEnd, class_of, prepare};
+use deuce::classes::class_of;
+use deuce::forming::{RewriteEnd, prepare};
 use jmodel::VType;
 use rewriter::Rewriting;
 use std::alloc::Global;
 
 /// The rewriting of a class file.
-fn rewriting_of(alloc: Global, bytes: &[u8]) -> Result<Rewriting, RunEnd>
+fn rewriting_of(alloc: Global, bytes: &[u8]) -> Result<Rewriting, RewriteEnd>
     ensures { IfOk result (λ r. AllByRecursion (IsTypable r.program) r.program.methods) }
 {
-    let files = [class_of(alloc, bytes)?];
+    let Ok(class) = class_of(alloc, bytes) else {
+        return Err(RewriteEnd::NoMemory);
+    };
+    let files = [class];
     Ok(prepare(alloc, files.as_slice())?.rewriting)
 }
 

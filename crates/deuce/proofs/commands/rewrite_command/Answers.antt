@@ -1,10 +1,10 @@
 use Rattle.std.proofs.Common.{◌∙◌, ap, inl, inr}
 use Rattle.std.specs.Prelude.{option_map}
 use Rattle.deuce.specs.Folder.{with_files}
-use Rattle.deuce.specs.Ending.{IsCallOfFolder, NoScript, NoOpening, IsNotRewritten, seen_files}
-use Rattle.deuce.specs.Outcomes.{IsUnreadAs, IsRefusedAs, IsNotPutAs}
+use Rattle.deuce.specs.Ending.{IsCallOfFolder, seen_files}
+use Rattle.deuce.specs.Outcomes.{IsUnreadAs, IsNotRewrittenAs, IsNotPutAs}
 use Rattle.deuce.proofs.Lists.{on_ok}
-use Rattle.deuce.proofs.Outcomes.{unread, not_good, refused, not_put, stopped}
+use Rattle.deuce.proofs.Outcomes.{unread, not_good, not_rewritten, not_put, stopped}
 use Rattle.deuce.proofs.Reading.{all_form, rewritten_of, rewriting_of}
 use Rattle.deuce.proofs.commands.rewrite_command.Goals as goal
 
@@ -16,25 +16,26 @@ returns-in-Err-clause-outcome g c =
     let old = g.F.Folder.seen c.args.folder.now in
     let new = g.F.Folder.seen c.read_classes.new.folder in
     on_ok c.unread.result (IsUnreadAs c.in-Err.end) _
-    (λ o is words w. unread words old new c.args.dir.now c.read_classes.ensures.files_kept (c.args.out.now, inr w) IsNotRewritten (λ h. inr (c.args.dir.now, c.args.out.now, w, h))
-    (IsCallOfFolder (g.F.Folder.seen c.args.folder.now).files c.args.dir.now) c.in-Err.end o (λ path failed. (c.args.dir.now, c.args.out.now, inr (w, failed))) c.in-Err.ensures.cause is) c.unread.ensures
+    (λ o is words w. unread words old new c.args.dir.now c.read_classes.ensures.files_kept (c.args.out.now, inr w)
+    (IsCallOfFolder (g.F.Folder.seen c.args.folder.now).files c.args.dir.now) c.in-Err.end o (λ path failed. (c.args.dir.now, c.args.out.now, inr (w, failed)))
+    (λ r over. (c.args.dir.now, c.args.out.now, inr (w, inl over))) c.in-Err.ensures.cause is) c.unread.ensures
 
 pub returns-in-Err-classes_of-clause-outcome : goal.returns-in-Err-classes_of-clause-outcome
 returns-in-Err-classes_of-clause-outcome g c =
     let old = g.F.Folder.seen c.args.folder.now in
     let new = g.F.Folder.seen c.read_classes.new.folder in
     on_ok c.unread-in-Err-classes_of.result (IsUnreadAs c.in-Err-classes_of.end) _
-    (λ o is words w. not_good words old new c.args.dir.now c.read_classes.ensures.files_kept (c.args.out.now, inr w) IsNotRewritten (λ h. inr (c.args.dir.now, c.args.out.now, w, h))
+    (λ o is words w. not_good words old new c.args.dir.now c.read_classes.ensures.files_kept (c.args.out.now, inr w)
     c.in-Ok.inputs.items c.in-Ok.ensures.inputs c.in-Err-classes_of.end o (rw c.as_slice.ensures.value at c.in-Err-classes_of.ensures.cause) is) c.unread-in-Err-classes_of.ensures
 
 pub returns-in-Err-write_rewriting-clause-outcome : goal.returns-in-Err-write_rewriting-clause-outcome
 returns-in-Err-write_rewriting-clause-outcome g c =
     let old = g.F.Folder.seen c.args.folder.now in
     let new = g.F.Folder.seen c.read_classes.new.folder in
-    on_ok c.refused.result (IsRefusedAs c.in-Err-write_rewriting.end) _
-    (λ o is words w. refused words old new c.args.dir.now c.read_classes.ensures.files_kept (c.args.out.now, inr w) IsNotRewritten (λ h. inr (c.args.dir.now, c.args.out.now, w, h))
-    c.in-Ok.inputs.items c.in-Ok.ensures.inputs c.in-Ok-classes_of.files.items NoScript NoOpening c.in-Err-write_rewriting.end o
-    (rw c.as_slice.ensures.value at c.in-Ok-classes_of.ensures.classes) (λ r h has. absurd h) (λ name x h has. absurd h) (rw c.as_slice-2.ensures.value at c.in-Err-write_rewriting.ensures.cause) is) c.refused.ensures
+    on_ok c.not_rewritten.result (IsNotRewrittenAs c.in-Err-write_rewriting.end) _
+    (λ o is words w. not_rewritten words old new c.args.dir.now c.args.out.now c.read_classes.ensures.files_kept
+    c.in-Ok.inputs.items c.in-Ok.ensures.inputs c.in-Ok-classes_of.files.items (rw c.as_slice.ensures.value at c.in-Ok-classes_of.ensures.classes) w c.in-Err-write_rewriting.end o
+    (rw c.as_slice-2.ensures.value at c.in-Err-write_rewriting.ensures.cause) is) c.not_rewritten.ensures
 
 pub returns-in-Ok-put_each-clause-outcome : goal.returns-in-Ok-put_each-clause-outcome
 returns-in-Ok-put_each-clause-outcome g c = λ words w.

@@ -1,28 +1,33 @@
 use Rattle.std.proofs.Common.{inl}
-use Rattle.deuce.specs.Ending.{IsCallOfRun, IsBadScript, IsUnopened, IsOutsideForm}
+use Rattle.deuce.specs.Ending.{IsCallOfRun}
 use Rattle.deuce.specs.Outcomes.{IsUnreadAs, IsRefusedAs}
 use Rattle.deuce.proofs.Lists.{on_ok}
 use Rattle.deuce.proofs.Outcomes.{unread, not_good, refused}
-use Rattle.deuce.proofs.Reading.{all_form, journal_of, unopened_of}
+use Rattle.deuce.proofs.Reading.{all_form, few_files, journal_of, unopened_of}
 use Rattle.deuce.proofs.commands.run_command.Goals as goal
 
 pub run_files-requires-clause-form : goal.run_files-requires-clause-form
 run_files-requires-clause-form g c = λ κs lives. rw c.as_slice-2.ensures.value (all_form c.as_slice.result.now c.in-Ok-classes_of.files.items c.in-Ok-classes_of.ensures.classes)
+
+pub run_files-requires-clause-few : goal.run_files-requires-clause-few
+run_files-requires-clause-few g c = λ κs lives.
+    rw c.as_slice-2.ensures.value (few_files (g.F.Folder.seen c.args.folder.now).files c.args.dir.now c.in-Ok.inputs.classes.items c.in-Ok-classes_of.files.items c.in-Ok.ensures.inputs.of_classes (rw c.as_slice.ensures.value at c.in-Ok-classes_of.ensures.classes))
 
 pub returns-in-Err-clause-outcome : goal.returns-in-Err-clause-outcome
 returns-in-Err-clause-outcome g c =
     let old = g.F.Folder.seen c.args.folder.now in
     let new = g.F.Folder.seen c.read_inputs.new.folder in
     on_ok c.unread.result (IsUnreadAs c.in-Err.end) _
-    (λ o is words w. unread words old new c.args.dir.now c.read_inputs.ensures.files_kept (c.args.script.now, inl w) IsOutsideForm (λ h. inl (c.args.dir.now, c.args.script.now, w, h))
-    (IsCallOfRun (g.F.Folder.seen c.args.folder.now).files c.args.dir.now c.args.script.now) c.in-Err.end o (λ path failed. (c.args.dir.now, c.args.script.now, inl (w, failed))) c.in-Err.ensures.cause is) c.unread.ensures
+    (λ o is words w. unread words old new c.args.dir.now c.read_inputs.ensures.files_kept (c.args.script.now, inl w)
+    (IsCallOfRun (g.F.Folder.seen c.args.folder.now).files c.args.dir.now c.args.script.now) c.in-Err.end o (λ path failed. (c.args.dir.now, c.args.script.now, inl (w, failed)))
+    (λ r over. (c.args.dir.now, c.args.script.now, inl (w, inl over))) c.in-Err.ensures.cause is) c.unread.ensures
 
 pub returns-in-Err-classes_of-clause-outcome : goal.returns-in-Err-classes_of-clause-outcome
 returns-in-Err-classes_of-clause-outcome g c =
     let old = g.F.Folder.seen c.args.folder.now in
     let new = g.F.Folder.seen c.read_inputs.new.folder in
     on_ok c.unread-in-Err-classes_of.result (IsUnreadAs c.in-Err-classes_of.end) _
-    (λ o is words w. not_good words old new c.args.dir.now c.read_inputs.ensures.files_kept (c.args.script.now, inl w) IsOutsideForm (λ h. inl (c.args.dir.now, c.args.script.now, w, h))
+    (λ o is words w. not_good words old new c.args.dir.now c.read_inputs.ensures.files_kept (c.args.script.now, inl w)
     c.in-Ok.inputs.classes.items c.in-Ok.ensures.inputs.of_classes c.in-Err-classes_of.end o (rw c.as_slice.ensures.value at c.in-Err-classes_of.ensures.cause) is) c.unread-in-Err-classes_of.ensures
 
 pub returns-in-Ok-run_files-clause-outcome : goal.returns-in-Ok-run_files-clause-outcome
@@ -46,9 +51,8 @@ returns-clause-outcome g c =
     let a = c.in-Ok.ensures.inputs in
     let bytes = c.in-Ok.inputs.script in
     on_ok c.refused.result (IsRefusedAs c.in-Err-run_files.end) _
-    (λ o is words w. refused words old new dir c.read_inputs.ensures.files_kept (c.args.script.now, inl w) IsOutsideForm (λ h. inl (dir, c.args.script.now, w, h))
-    c.in-Ok.inputs.classes.items a.of_classes c.in-Ok-classes_of.files.items (IsBadScript bytes) (IsUnopened bytes) c.in-Err-run_files.end o
-    (rw c.as_slice.ensures.value at c.in-Ok-classes_of.ensures.classes)
-    (λ r h has. (dir, c.args.script.now, w, record { script_bytes = bytes; script_front = a.script_bytes; of_classes = has }))
+    (λ o is words w. refused words old new dir c.args.script.now c.read_inputs.ensures.files_kept
+    c.in-Ok.inputs.classes.items a.of_classes c.in-Ok-classes_of.files.items (rw c.as_slice.ensures.value at c.in-Ok-classes_of.ensures.classes) w bytes c.in-Err-run_files.end o
+    (λ r has. (dir, c.args.script.now, w, record { script_bytes = bytes; script_front = a.script_bytes; of_classes = has }))
     (λ name x h has. (dir, c.args.script.now, w, unopened_of files dir c.args.script.now bytes name x a.script_bytes h.is_script.fits has))
     (rw (c.as_slice-2.ensures.value, c.as_slice-3.ensures) at c.in-Err-run_files.ensures.cause) is) c.refused.ensures

@@ -8,16 +8,16 @@ use Rattle.jmodel.specs.Schedule.{is_marked}
 use Rattle.jmodel.specs.Classes.{in_order}
 use Rattle.rewriter.proofs.ClassesMeant.{law}
 use Rattle.deuce.specs.Rewritten.{HasFewFields, IsNewOf}
-use Rattle.deuce.specs.Ending.{EndsOnClasses, NoScript, NoOpening, IsNotRewritten}
+use Rattle.deuce.specs.Ending.{EndsOnClasses, IsNotRewritten}
 use Rattle.deuce.proofs.Lists.{err_is}
 use Rattle.deuce.proofs.Named.{all_named, all_ruled, one_many}
-use Rattle.deuce.proofs.Running.{links_files, of_preparing}
+use Rattle.deuce.proofs.Formed.{links_files, of_preparing}
 use Rattle.deuce.proofs.rewriting.write_rewriting.Goals as goal
 
 pub returns-in_err-prepared-clause-cause : goal.returns-in_err-prepared-clause-cause
 returns-in_err-prepared-clause-cause c =
-    err_is c.from_residual.result c.in_err-prepared.field-0.0 (EndsOnClasses c.args.files.now NoScript NoOpening IsNotRewritten) c.from_residual.ensures.1
-    (of_preparing c.args.files.now NoScript NoOpening IsNotRewritten c.in_err-prepared.field-0.0 inl c.in_err-prepared.ensures.cause)
+    err_is c.from_residual.result c.in_err-prepared.field-0.0 (EndsOnClasses c.args.files.now IsNotRewritten) c.from_residual.ensures.1
+    (of_preparing c.args.files.now IsNotRewritten c.in_err-prepared.field-0.0 inl c.in_err-prepared.ensures.cause)
 
 pub returns-then-not-have_few_fields-clause-cause : goal.returns-then-not-have_few_fields-clause-cause
 returns-then-not-have_few_fields-clause-cause c =
@@ -56,7 +56,7 @@ returns-clause-rewriting c = λ contents are.
       files = files;
       are_files = are;
       program = P;
-      runnable = record { links = links_files files P c.in_ok-prepared.ensures.single linked.means; typed = c.in_ok-prepared.ensures.typed; instrumented = news; rewrites = made.1 };
+      rewritable = record { links = links_files files P c.in_ok-prepared.ensures.single linked.means; typed = c.in_ok-prepared.ensures.typed; instrumented = news; rewrites = made.1 };
       spelled = subst (λ (ds : List ClassFile). AllZip (IsNewOf ds) files c.in_ok-written.written.items) c.as_slice-classes.ensures.value c.in_ok-written.ensures;
       means = law (in_order files) news P linked.rules linked.filed linked.single linked.means made.1;
       stays_typed = subst (λ (Q : Program). AllByRecursion (IsTypable Q) Q.methods) made.0 c.in_ok-prepared.ensures.stays_typed;

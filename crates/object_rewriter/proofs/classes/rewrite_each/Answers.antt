@@ -12,7 +12,7 @@ use Rattle.object_rewriter.specs.Rewritten.{rewritten_share}
 use Rattle.object_rewriter.specs.RewrittenClasses.{of_class}
 use Rattle.object_rewriter.proofs.Codes.{ready}
 use Rattle.object_rewriter.proofs.Lists.{seen_item}
-use Rattle.object_rewriter.proofs.Shares.{IsUnderWay, starts, ends, part, behind, stands, has_next, is_share, here, next_typed, goes_on, fails}
+use Rattle.object_rewriter.proofs.Shares.{IsUnderWay, starts, part, behind, stands, has_next, is_share, here, next_typed, goes_on, fails}
 use Rattle.object_rewriter.proofs.classes.rewrite_each.Goals as goal
 
 abbrev seen : List (Bor ClassFile) → List ClassFile

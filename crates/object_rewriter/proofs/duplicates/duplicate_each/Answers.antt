@@ -1,13 +1,10 @@
-use Rattle.std.proofs.Common.{rules, ◌≡◌, ℕ, ◌+◌, ◌-◌, ◌++◌, ◌∷◌, [], List, Ok, drop, sym, subst, arith}
+use Rattle.std.proofs.Common.{◌≡◌, ℕ, ◌-◌, Ok, subst, arith}
 use Rattle.std.specs.Prelude.{zip}
 use Rattle.std.proofs.lemmas.Result.{err_from_is_err_and}
-use Rattle.jmodel.specs.ClassFile.{Member}
 use Rattle.jmodel.specs.Reading.{Fails}
-use Rattle.member_code.specs.Growing.{grow_from}
-use Rattle.member_code.proofs.Grow.{with_front}
 use Rattle.dup_methods.specs.Duplicates.{duplicate_of}
 use Rattle.program_typing.specs.Tables.{IsTableOf}
-use Rattle.object_rewriter.specs.Rewritten.{original_of, originals}
+use Rattle.object_rewriter.specs.Rewritten.{original_of}
 use Rattle.object_rewriter.proofs.Lists.{zipped_at}
 use Rattle.object_rewriter.proofs.Duplicating.{pair_at, method_there, no_more, goes_on, ends, done}
 use Rattle.object_rewriter.proofs.duplicates.duplicate_each.Goals as goal

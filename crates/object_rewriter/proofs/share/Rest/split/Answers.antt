@@ -4,7 +4,6 @@ use Rattle.std.specs.List.{prefix_len}
 use Rattle.std.proofs.lemmas.List.{length-map}
 use Rattle.jmodel.specs.ClassFile.{Member}
 use Rattle.jmodel.specs.Superclasses.{own_name}
-use Rattle.objects.specs.Program.{Field, Method}
 use Rattle.object_rewriter.specs.Part.{Rest, is_of_class, wrapper_count}
 use Rattle.object_rewriter.proofs.Lists.{taken_off}
 use Rattle.object_rewriter.proofs.Splits.{wrappers_few, same_share, same_rest}

@@ -1,3 +1,0 @@
-pub mod Meets
-pub mod Machine
-pub mod Running

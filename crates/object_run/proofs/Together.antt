@@ -1,0 +1,137 @@
+-- What the parts of a run make together.
+use Rattle.std.proofs.Common.{◌≡◌, ◌<◌, ℕ, zero, suc, List, [], ◌∷◌, map, length, Option, Some, Ok, inl, inr, refl, sym, ap, ◌∙◌, subst, arith}
+use Rattle.std.specs.Prelude.{slice_get}
+use Rattle.std.specs.List.{AllByRecursion}
+use Rattle.jmodel.specs.ClassFile.{ClassFile}
+use Rattle.jmodel.specs.Classes.{in_order}
+use Rattle.jmodel.specs.declared.value.Answer.{Answer}
+use Rattle.jmodel.specs.History.{Told}
+use Rattle.jmodel.specs.Schedule.{ScriptPhase}
+use Rattle.jmodel.specs.Output.{Line, journal_text}
+use Rattle.objects.specs.Program.{Method, Program}
+use Rattle.objects.specs.Layout.{opening_state}
+use Rattle.objects.specs.Linking.{linking, initialisers_in}
+use Rattle.objects.specs.LinkingLaw.{AreRead}
+use Rattle.objects.specs.Journal.{IsRootCall}
+use Rattle.objects.specs.Opening.{Opening, Fails}
+use Rattle.objects.specs.State.{State}
+use Rattle.objects.proofs.Links.{links}
+use Rattle.object_script.specs.Script.{Script, IsScript}
+use Rattle.object_session.specs.declared.record.Record.{Record}
+use Rattle.object_session.specs.Lane.{record_of}
+use Rattle.object_driver.specs.declared.journal.Journal.{Journal}
+use Rattle.object_driver.specs.declared.memory.Memory.{Memory}
+use Rattle.object_driver.specs.Memory.{Holds}
+use Rattle.object_driver.specs.Runs.{HasRun, made_of}
+use Rattle.object_driver.specs.SetUp.{EndsSetUp}
+use Rattle.object_driver.specs.declared.setting_up.SetUpEnd.{SetUpEnd}
+use Rattle.object_driver.specs.declared.setting_up.SetUpEnd.TheVariants as set_ends
+use Rattle.object_run.specs.declared.outcome.RunEnd.{RunEnd}
+use Rattle.object_run.specs.declared.outcome.RunEnd.TheVariants as run_ends
+use Rattle.object_run.specs.Headline.{line_of, name_in, AreCalls, IsRunOf, IsRunnable}
+use Rattle.object_run.specs.Lines.{line_in}
+use Rattle.object_run.specs.Faults.{IsShut, IsNumbered, IsUnopenedAs, EndsOpening, EndsScript, EndsRun}
+use Rattle.object_run.proofs.Roots.{all_roots}
+
+-- ---- what is run
+
+-- the lines of what is kept of calls are the lines of the calls
+lines_same : (P : Program) (ts : List Told) → map (line_in P) (map record_of ts) ≡ map (line_of P) (map made_of ts)
+lines_same P [] = refl
+lines_same P (t ∷ ts) = ap (λ (ls : List Line). line_of P (made_of t) ∷ ls) (lines_same P ts)
+
+-- the printed journal of a run is that of the calls of the original methods
+pub are_calls : (P : Program) (size budget : ℕ) (phases : List ScriptPhase) (memory : Memory) (journal : Journal) (σ : State) (text : List ℕ) → HasRun P size budget phases memory journal → Holds P size memory σ
+    → text ≡ journal_text (map (line_in P) journal.placed.items) (map (line_in P) journal.unplaced.items) → AreCalls P size budget σ phases text
+are_calls P size budget phases memory journal σ text run stands is = record {
+  placed = map made_of run.placed;
+  unplaced = map made_of run.unplaced;
+  is_journal = run.is_journal σ stands;
+  is_text = is ∙ ap (λ (rs : List Record). journal_text (map (line_in P) rs) (map (line_in P) journal.unplaced.items)) run.placed_are
+      ∙ ap (λ (rs : List Record). journal_text (map (line_in P) (map record_of run.placed)) (map (line_in P) rs)) run.unplaced_are
+      ∙ ap (λ (ls : List Line). journal_text ls (map (line_in P) (map record_of run.unplaced))) (lines_same P run.placed)
+      ∙ ap (journal_text (map (line_of P) (map made_of run.placed))) (lines_same P run.unplaced);
+}
+
+pub is_run : (bytes : List ℕ) (files : List ClassFile) (P : Program) (s : Script) (seen : List ScriptPhase) (text : List ℕ) → IsRunnable files P
+    → IsScript (in_order files) P bytes s → seen ≡ s.phases → (τ : State)
+    → Opening P s.region s.budget (opening_state (in_order files)) (initialisers_in (in_order files) P) τ → AreCalls P s.region s.budget τ seen text → IsRunOf files bytes text
+is_run bytes files P s seen text is is_script same τ opens are = record {
+  program = P;
+  runnable = is;
+  script = s;
+  is_script = is_script;
+  opening = τ;
+  opens = opens;
+  are_calls = subst (λ (ks : List ScriptPhase). AreCalls P s.region s.budget τ ks text) same are;
+}
+
+-- why a script isn't run on class files that can be
+pub of_script : (P : Program) (files : List ClassFile) (bytes : List ℕ) (e : RunEnd) → IsRunnable files P → EndsScript P (in_order files) bytes e → EndsRun files bytes e
+of_script P files bytes (run_ends.Refused r) is h = absurd h
+of_script P files bytes (run_ends.Untyped r) is h = absurd h
+of_script P files bytes (run_ends.BadScript r) is h = (P, is, h)
+of_script P files bytes (run_ends.Unopened n x) is h = record { program = P; runnable = is; script = h.0; is_script = h.1; shut = h.2 }
+of_script P files bytes run_ends.NoMemory is h = tt
+
+-- ---- static initialisers that fail
+
+-- a method by its number
+at_number : (ks : List Method) (n : ℕ) → n < length ks → (k : Method) × (slice_get ks n ≡ Some k)
+at_number [] n lt = absurd (omega (arith, lt))
+at_number (k ∷ ks) zero lt = (k, refl)
+at_number (k ∷ ks) (suc n) lt = at_number ks n (omega (arith, lt))
+
+-- the end of a run whose static initialisers fail
+pub of_failing : (cs : List ClassFile) (P : Program) (size budget : ℕ) (memory : Memory) (s : SetUpEnd) (e : RunEnd) → IsNumbered P s → EndsSetUp P size budget memory (initialisers_in cs P) s
+    → Holds P size memory (opening_state cs) → IsUnopenedAs P s e → EndsOpening P cs size budget e
+of_failing cs P size budget memory (set_ends.Failed n x) (run_ends.Refused r) numbered cause stands is = absurd is
+of_failing cs P size budget memory (set_ends.Failed n x) (run_ends.Untyped r) numbered cause stands is = absurd is
+of_failing cs P size budget memory (set_ends.Failed n x) (run_ends.BadScript r) numbered cause stands is = absurd is
+of_failing cs P size budget memory (set_ends.Failed n x) (run_ends.Unopened name y) numbered cause stands is =
+    let k = at_number P.methods n numbered in
+    let Failing : Answer → Type 0 = λ z. Fails P size budget (opening_state cs) (initialisers_in cs P) n z in
+    record {
+      number = n;
+      method = k.0;
+      there = k.1;
+      class = is.0 ∙ ap (λ (o : Option Method). (name_in o).class) k.1;
+      fails = subst Failing (sym is.1) (cause (opening_state cs) stands);
+    }
+of_failing cs P size budget memory (set_ends.Failed n x) run_ends.NoMemory numbered cause stands is = tt
+of_failing cs P size budget memory set_ends.NoMemory (run_ends.Refused r) numbered cause stands is = absurd is
+of_failing cs P size budget memory set_ends.NoMemory (run_ends.Untyped r) numbered cause stands is = absurd is
+of_failing cs P size budget memory set_ends.NoMemory (run_ends.BadScript r) numbered cause stands is = absurd is
+of_failing cs P size budget memory set_ends.NoMemory (run_ends.Unopened name y) numbered cause stands is = absurd is
+of_failing cs P size budget memory set_ends.NoMemory run_ends.NoMemory numbered cause stands is = tt
+
+-- one that fails is one of them
+failing : (P : Program) (size budget : ℕ) (Q : ℕ → Type 0) (σ : State) (ms : List ℕ) (n : ℕ) (x : Answer) → AllByRecursion Q ms → Fails P size budget σ ms n x → Q n
+failing P size budget Q σ [] n x all h = absurd h
+failing P size budget Q σ (m ∷ ms) n x all (inl first) = subst Q (sym first.0) all.0
+failing P size budget Q σ (m ∷ ms) n x all (inr (v, ρ, calls, later)) = failing P size budget Q ρ ms n x all.1 later
+
+inside : (ks : List Method) (n : ℕ) (k : Method) → slice_get ks n ≡ Some k → n < length ks
+inside [] n k h = cc
+inside (k ∷ ks) zero j h = omega arith
+inside (k ∷ ks) (suc n) j h = let lt = inside ks n j h in omega (arith, lt)
+
+-- the method of a static initialiser that failed
+pub numbered : (cs : List ClassFile) (P : Program) (size budget : ℕ) (memory : Memory) (s : SetUpEnd) → AreRead cs → linking cs ≡ Ok (Some P) → EndsSetUp P size budget memory (initialisers_in cs P) s
+    → Holds P size memory (opening_state cs) → IsNumbered P s
+numbered cs P size budget memory (set_ends.Failed n x) read is cause stands =
+    let root : IsRootCall P n [] = failing P size budget (λ m. IsRootCall P m []) (opening_state cs) (initialisers_in cs P) n x (all_roots cs P read (links cs P is)) (cause (opening_state cs) stands) in
+    inside P.methods n root.method root.there
+numbered cs P size budget memory set_ends.NoMemory read is cause stands = tt
+
+-- why a script isn't run whose static initialisers fail
+pub of_opening : (cs : List ClassFile) (P : Program) (bytes : List ℕ) (s : Script) (size budget : ℕ) (e : RunEnd) → IsScript cs P bytes s → size ≡ s.region → budget ≡ s.budget → EndsOpening P cs size budget e
+    → EndsScript P cs bytes e
+of_opening cs P bytes s size budget (run_ends.Refused r) is room same h = absurd h
+of_opening cs P bytes s size budget (run_ends.Untyped r) is room same h = absurd h
+of_opening cs P bytes s size budget (run_ends.BadScript r) is room same h = absurd h
+of_opening cs P bytes s size budget (run_ends.Unopened name x) is room same h =
+    let Sizes : ℕ → Type 0 = λ n. IsShut P cs n budget name x in
+    let Ends : ℕ → Type 0 = λ b. IsShut P cs s.region b name x in
+    (s, is, subst Ends same (subst Sizes room h))
+of_opening cs P bytes s size budget run_ends.NoMemory is room same h = tt

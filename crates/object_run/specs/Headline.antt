@@ -1,0 +1,73 @@
+-- What a run promises: its answers are those of the original methods, called one after another.
+use Rattle.std.specs.Prelude.{◌≡◌, Ok, ℕ, List, [], map, Option, Some, None}
+use Rattle.jmodel.specs.declared.name.MethodName.{MethodName}
+use Rattle.jmodel.specs.ClassFile.{ClassFile}
+use Rattle.jmodel.specs.Classes.{in_order}
+use Rattle.jmodel.specs.Output.{Line, journal_text}
+use Rattle.jmodel.specs.Schedule.{Made, ScriptPhase}
+use Rattle.objects.specs.Program.{Method, Program, method_at}
+use Rattle.objects.specs.State.{State}
+use Rattle.objects.specs.Layout.{opening_state}
+use Rattle.objects.specs.Linking.{linking_files, program_in, initialisers_in}
+use Rattle.objects.specs.Opening.{Opening}
+use Rattle.objects.specs.Journal.{IsJournal}
+use Rattle.objects.specs.Typing.{Table}
+use Rattle.program_typing.specs.Tables.{AreTables}
+use Rattle.program_typing.specs.Typed.{IsTyped}
+use Rattle.object_rewriter.specs.RewrittenClasses.{rewritten_folder}
+use Rattle.object_script.specs.Script.{Script, IsScript}
+
+abbrev pub no_name : MethodName
+no_name = record { class = []; name = []; descriptor = [] }
+
+abbrev pub name_in : Option Method → MethodName
+name_in None = no_name
+name_in (Some k) = k.name
+
+-- the line of a call
+abbrev pub line_of : Program → Made → Line
+line_of P m = record { phase = m.call.phase; lane = m.call.lane; index = m.call.index; method = name_in (method_at P m.call.method); answer = m.answer }
+
+-- The text is the journal of these calls of the original methods; a region has size words.
+pub record AreCalls (P : Program) (size budget : ℕ) (opening : State) (phases : List ScriptPhase) (text : List ℕ) : Type 0 where
+  pub placed : List Made
+  pub unplaced : List Made
+  pub is_journal : IsJournal P size budget opening phases placed unplaced
+  pub is_text : text ≡ journal_text (map (line_of P) placed) (map (line_of P) unplaced)
+
+-- The program that the classes of class files mean together, in the order of their names, of which no two are the same; none where they have a fault.
+abbrev pub linked_files : List ClassFile → Option Program
+linked_files files = program_in (linking_files files)
+
+-- Classes are instrumented so: by the narrowest typings of the methods of their program, their rewriting passes no limit of a class file, and gives these.
+abbrev pub IsInstrumented : List ClassFile → Program → List ClassFile → Type 0
+IsInstrumented cs P news = (Ts : List Table) → AreTables P Ts → rewritten_folder cs P Ts ≡ Ok news
+
+-- What class files can be run as: their classes mean a program each method of which that has code has a typing, and stores to no field of an object that
+-- another constructor has not run over; and they can be instrumented.
+pub record IsRunnable (files : List ClassFile) (P : Program) : Type 0 where
+  pub links : linked_files files ≡ Some P
+  pub typed : IsTyped P
+  pub instrumented : List ClassFile
+  pub rewriting : IsInstrumented (in_order files) P instrumented
+
+-- The script can be run on the class files: their classes' static initialisers, superclasses first, each return, within the script's turns and
+-- the words of a region.
+pub record CanRun (files : List ClassFile) (bytes : List ℕ) : Type 0 where
+  pub program : Program
+  pub runnable : IsRunnable files program
+  pub script : Script
+  pub is_script : IsScript (in_order files) program bytes script
+  pub opening : State
+  pub opens : Opening program script.region script.budget (opening_state (in_order files)) (initialisers_in (in_order files) program) opening
+
+-- The text is the journal of a run of a script on class files that can be run: each call of the script once, in an order that keeps the phases' and each
+-- lane's, from the state that the static initialisers leave.
+pub record IsRunOf (files : List ClassFile) (bytes text : List ℕ) : Type 0 where
+  pub program : Program
+  pub runnable : IsRunnable files program
+  pub script : Script
+  pub is_script : IsScript (in_order files) program bytes script
+  pub opening : State
+  pub opens : Opening program script.region script.budget (opening_state (in_order files)) (initialisers_in (in_order files) program) opening
+  pub are_calls : AreCalls program script.region script.budget opening script.phases text

@@ -1,0 +1,4 @@
+pub mod Faults
+pub mod Headline
+pub mod Lines
+pub mod Placing

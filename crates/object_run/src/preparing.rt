@@ -1,0 +1,99 @@
+//! Class files made ready for a run.
+ghost use Rattle.std.specs.Prelude.{◌≡◌, ◌≤◌, List, length, map, Some, Ok, IfOk, IfErr};
+ghost use Rattle.std.specs.List.{AllByRecursion};
+ghost use Rattle.jmodel.specs.ClassFile.{ClassFile as Form};
+ghost use Rattle.jmodel.specs.ClassRules.{IsClassFile};
+ghost use Rattle.jmodel.specs.Classes.{in_order as order_of_classes};
+ghost use Rattle.objects.specs.Linking.{linking};
+ghost use Rattle.objects.specs.LinkingLaw.{AreRead, IsLinkedFolder};
+ghost use Rattle.object_rewriter.specs.Asked.{AreFiled};
+ghost use Rattle.object_session.specs.Rule.{IsReady};
+ghost use Rattle.program_typing.specs.Typed.{IsTyped};
+ghost use Rattle.object_run.specs.Headline.{IsInstrumented, IsRunnable};
+ghost use Rattle.object_run.specs.Faults.{IsOrdered, EndsBuild, EndsPreparing, EndsRewriting};
+
+use crate::faults::type_program;
+use crate::outcome::RunEnd;
+use const_pool::ClassFile;
+use jmodel::Halt;
+use object_hierarchy::{BuildEnd, Program, in_order};
+use object_linking::build::build;
+use object_rewriter::rewrite_classes;
+use program_rewriter::rewrite_program;
+use std::alloc::Global;
+
+/// The classes of class files in the order of their names, the program that they mean, and its rewriting, which runs.
+#[derive(Drop)]
+pub struct Prepared<'a> {
+    pub classes: Vec<&'a ClassFile>,
+    pub original: Program,
+    pub rewritten: Program,
+}
+
+/// Gives the classes of class files their program, types that, and rewrites it.
+pub fn prepare(alloc: Global, files: &[ClassFile]) -> Result<Prepared<'_>, RunEnd>
+    requires few { length files.now ≤ 256 }
+    requires form { AllByRecursion IsClassFile files.now }
+    requires filed { AllByRecursion AreFiled files.now }
+    ensures order { IfOk result (λ p. map (λ c. c.now) p.classes.items ≡ order_of_classes files.now) }
+    ensures linked { IfOk result (λ p. IsLinkedFolder files.now p.original) }
+    ensures runnable { IfOk result (λ p. IsRunnable files.now p.original) }
+    ensures ready { IfOk result (λ p. IsReady p.original p.rewritten) }
+    ensures cause { IfErr result (EndsPreparing files.now) }
+{
+    let classes = ordered(alloc, files)?;
+    let original = linked(alloc, classes.as_slice())?;
+    type_program(alloc, classes.as_slice(), &original)?;
+    instrument(alloc, classes.as_slice(), &original)?;
+    let rewritten = rewrite_program(alloc, &original)?;
+    Ok(Prepared {
+        classes,
+        original,
+        rewritten,
+    })
+}
+
+/// The classes of class files in the order of their names.
+fn ordered(alloc: Global, files: &[ClassFile]) -> Result<Vec<&ClassFile>, RunEnd>
+    requires few { length files.now ≤ 256 }
+    requires form { AllByRecursion IsClassFile files.now }
+    ensures order { IfOk result (λ v. map (λ c. c.now) v.items ≡ order_of_classes files.now) }
+    ensures read { IfOk result (λ _. IsOrdered files.now) }
+    ensures cause { IfErr result (EndsPreparing files.now) }
+{
+    match in_order(alloc, files) {
+        Ok(classes) => Ok(classes),
+        Err(Halt::Refused(refusal)) => Err(RunEnd::Refused(refusal)),
+        Err(Halt::NoMemory) => Err(RunEnd::NoMemory),
+    }
+}
+
+/// The program that classes mean.
+fn linked(alloc: Global, classes: &[&ClassFile]) -> Result<Program, RunEnd>
+    requires read { AreRead (map (λ c. c.now) classes.now) }
+    ensures links { IfOk result (λ p. linking (map (λ c. c.now) classes.now) ≡ Ok (Some p)) }
+    ensures cause { IfErr result (EndsBuild (map (λ c. c.now) classes.now)) }
+{
+    match build(alloc, classes) {
+        Ok(program) => Ok(program),
+        Err(BuildEnd::Refused(refusal)) => Err(RunEnd::Refused(refusal)),
+        Err(BuildEnd::NotBuilt) => unreachable!(),
+        Err(BuildEnd::NoMemory) => Err(RunEnd::NoMemory),
+    }
+}
+
+/// Rewrites the classes of a typed program, whose new class files a run doesn't need, for the limits that they may pass.
+fn instrument(alloc: Global, classes: &[&ClassFile], original: &Program) -> Result<(), RunEnd>
+    requires filed { AllByRecursion AreFiled (map (λ c. c.now) classes.now) }
+    requires read { AreRead (map (λ c. c.now) classes.now) }
+    requires links { linking (map (λ c. c.now) classes.now) ≡ Ok (Some original.now) }
+    requires typed { IsTyped original.now }
+    ensures rewrites { IfOk result (λ _. (news : List Form) × IsInstrumented (map (λ c. c.now) classes.now) original.now news) }
+    ensures cause { IfErr result (EndsRewriting original.now (map (λ c. c.now) classes.now)) }
+{
+    match rewrite_classes(alloc, classes, original) {
+        Ok(_) => Ok(()),
+        Err(Halt::Refused(refusal)) => Err(RunEnd::Refused(refusal)),
+        Err(Halt::NoMemory) => Err(RunEnd::NoMemory),
+    }
+}

@@ -1,0 +1,107 @@
+//! A run, from class files and a script to the text of its journal.
+ghost use Rattle.std.specs.Prelude.{◌≡◌, ◌≤◌, List, length, map, Some, Ok, IfOk, IfErr};
+ghost use Rattle.std.specs.List.{AllByRecursion};
+ghost use Rattle.jmodel.specs.ClassFile.{ClassFile as Form};
+ghost use Rattle.jmodel.specs.ClassRules.{IsClassFile};
+ghost use Rattle.jmodel.specs.Classes.{in_order as order_of_classes};
+ghost use Rattle.objects.specs.Linking.{linking};
+ghost use Rattle.objects.specs.LinkingLaw.{AreRead};
+ghost use Rattle.object_rewriter.specs.Asked.{AreFiled};
+ghost use Rattle.object_session.specs.Rule.{IsReady};
+ghost use Rattle.object_script.specs.Script.{IsScript};
+ghost use Rattle.object_run.specs.Headline.{IsRunnable, IsRunOf};
+ghost use Rattle.object_run.specs.Faults.{EndsRun, EndsScript};
+
+use crate::opening::opened;
+use crate::outcome::RunEnd;
+use crate::preparing::prepare;
+use crate::text::journal;
+use const_pool::ClassFile;
+use jmodel::{Bytes, Halt};
+use object_driver::{Limits, run_phases};
+use object_hierarchy::Program;
+use object_layout::texts::fixed_words;
+use object_script::{Script, read_script};
+use std::alloc::Global;
+use std::thread::Threads;
+
+/// Runs a script on class files, and gives the text of its journal.
+pub fn run_files<R: Threads + Sync>(
+    rt: &R,
+    alloc: Global,
+    files: &[ClassFile],
+    script: &[u8],
+) -> Result<Bytes, RunEnd>
+    requires few { length files.now ≤ 256 }
+    requires form { AllByRecursion IsClassFile files.now }
+    requires filed { AllByRecursion AreFiled files.now }
+    ensures run { IfOk result (λ text. IsRunOf files.now script.now text) }
+    ensures cause { IfErr result (EndsRun files.now script.now) }
+{
+    let prepared = prepare(alloc, files)?;
+    run_script(
+        rt,
+        alloc,
+        prepared.classes.as_slice(),
+        &prepared.original,
+        &prepared.rewritten,
+        script,
+    )
+}
+
+/// The script that bytes are for classes and their program.
+fn script_of(
+    alloc: Global,
+    classes: &[&ClassFile],
+    program: &Program,
+    bytes: &[u8],
+) -> Result<Script, RunEnd>
+    ensures script { IfOk result (IsScript (map (λ c. c.now) classes.now) program.now bytes.now) }
+    ensures cause { IfErr result (EndsScript program.now (map (λ c. c.now) classes.now) bytes.now) }
+{
+    let fixed = fixed_words(alloc, classes)?;
+    match read_script(alloc, classes, program, fixed, bytes) {
+        Ok(script) => Ok(script),
+        Err(Halt::Refused(refusal)) => Err(RunEnd::BadScript(refusal)),
+        Err(Halt::NoMemory) => Err(RunEnd::NoMemory),
+    }
+}
+
+/// Runs a script on the program of classes by its rewriting.
+fn run_script<R: Threads + Sync>(
+    rt: &R,
+    alloc: Global,
+    classes: &[&ClassFile],
+    original: &Program,
+    rewritten: &Program,
+    script: &[u8],
+) -> Result<Bytes, RunEnd>
+    requires read { AreRead (map (λ c. c.now) classes.now) }
+    requires links { linking (map (λ c. c.now) classes.now) ≡ Ok (Some original.now) }
+    requires ready { IsReady original.now rewritten.now }
+    ensures run { IfOk result (λ text. (files : List Form) → order_of_classes files ≡ map (λ c. c.now) classes.now → IsRunnable files original.now → IsRunOf files script.now text) }
+    ensures cause { IfErr result (EndsScript original.now (map (λ c. c.now) classes.now) script.now) }
+{
+    let wanted = script_of(alloc, classes, original, script)?;
+    let limits = Limits {
+        budget: wanted.budget,
+        attempts: wanted.attempts,
+        size: wanted.region,
+    };
+    let memory = opened(alloc, classes, original, rewritten, wanted.lanes, limits)?;
+    let made = run_phases(
+        rt,
+        alloc,
+        original,
+        rewritten,
+        memory,
+        limits,
+        wanted.phases.as_slice(),
+    )?;
+    Ok(journal(
+        alloc,
+        original,
+        made.placed.as_slice(),
+        made.unplaced.as_slice(),
+    )?)
+}

@@ -1,9 +1,0 @@
-pub mod Tries
-pub mod Marked
-pub mod Calling
-pub mod Elements
-pub mod Lanes
-pub mod Stood
-pub mod Idle
-pub mod Claiming
-pub mod Longer

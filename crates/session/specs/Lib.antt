@@ -1,6 +1,0 @@
-pub mod Rule
-pub mod Lane
-pub mod Adds
-pub mod Passes
-pub mod Claimed
-pub mod Trials
