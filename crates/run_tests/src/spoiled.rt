@@ -22,7 +22,7 @@ fn a_front_of_a_class_is_truncated(rt: HostRuntime) -> Result<(), Fail> {
 }
 
 /// Whether a run of one call on a class ends: with its answer, with a fault of the file, of its name or superclass, of its annotations or of its code, with a
-/// call of no marked method, or as not built.
+/// construct that is left out, or with a call of no marked method.
 fn ends<R: Threads + Sync>(rt: &R, alloc: Global, class: &[u8]) -> Result<bool, IoEnd> {
     let mut folder = folder_of(alloc, class, ONE_CALL)?;
     let (status, text) = call(rt, alloc, RUN, &mut folder, MemSink::new(alloc, 64))?;
@@ -36,14 +36,16 @@ fn ends<R: Threads + Sync>(rt: &R, alloc: Global, class: &[u8]) -> Result<bool, 
                 || written == b"error 4 17 DoubledClass java/lang/Object\n".as_slice()
                 || written.starts_with(b"error 4 18 UnknownClass ")
                 || written == b"error 4 19 Circular Counter\n".as_slice()
+                || written.starts_with(b"error 4 20 Construct ")
+                || written.starts_with(b"error 4 21 ReservedName Counter")
                 || written.starts_with(b"error 4 22 BadAnnotation Counter.inc()I ")
+                || written.starts_with(b"error 4 31 BadSuper Counter ")
         }
         5 => written.starts_with(b"error 5 32 Untypable Counter.inc()I "),
         6 => {
             written == b"error 6 27 UnknownMethod /phases/0/lanes/0/0/call\n".as_slice()
                 || written == b"error 6 28 NotAtomic /phases/0/lanes/0/0/call\n".as_slice()
         }
-        12 => written == b"error 12 NotBuilt\n".as_slice(),
         _ => false,
     })
 }
