@@ -1,0 +1,5 @@
+package observers;
+
+interface Observer {
+    void told(Subject subject, int value);
+}

@@ -1,0 +1,7 @@
+package shapes;
+
+public interface Shape {
+    long area();
+
+    Shape scaled(int factor);
+}
