@@ -101,6 +101,33 @@ def crossed(classes):
     return {f"C{k}": text(k) for k in range(classes)}
 
 
+def objects():
+    return {
+        "Objects": ATOMIC
+        + """public class Objects {
+            Objects next; int item;
+            static Objects first; static int[] array;
+            @Atomic public static void link(int item) { Objects o = new Objects(); o.item = item; o.next = first; first = o; }
+            @Atomic public static void links(int k) { for (int i = 0; i < k; i++) { link(i); } }
+            @Atomic public static long walk() { long s = 0; for (Objects o = first; o != null; o = o.next) { s += o.item; } return s; }
+            @Atomic public static long fill(int k) {
+                int[] a = new int[k]; array = a; for (int i = 0; i < k; i++) { a[i] = i; }
+                return a[k - 1];
+            }
+            @Atomic public static long sum(int from, int to) { long s = 0; for (int i = from; i < to; i++) { s += array[i]; } return s; }
+            static int thrown(int k) { if (k == 0) { throw new IllegalStateException("deep"); } try { return thrown(k - 1); } finally { first = null; } }
+            @Atomic public static int deep(int k) { try { return thrown(k); } catch (IllegalStateException e) { return k; } }
+        }"""
+    }
+
+
+def above(classes):
+    """Classes one under another, each of which overrides the method that is called."""
+    upper = {f"C{k}": f"public class C{k} extends C{k - 1} {{ int m() {{ return {k}; }} }}" for k in range(1, classes)}
+    call = "static C0 of = new C150(); @Atomic public static int call() { return of.m(); }"
+    return {"C0": f"{ATOMIC}public class C0 {{ int m() {{ return 0; }} {call} }}", **upper}
+
+
 INC = "Counter.inc()I"
 CASES = {
     "100,000 calls of Counter, 1 lane": (counter, lambda: script([on_lanes(INC, 1, 100_000)])),
@@ -119,6 +146,18 @@ CASES = {
     "a method of 6,000 branches and 200 locals": (lambda: branches(6_000, 200), lambda: script([on_lanes("Branches.m(I)I", 1, 1, 3)])),
     "256 classes, 100 fields and methods each, 100,000 calls": (lambda: crossed(256), lambda: script([on_lanes("C0.m0()I", 1, 100_000)])),
     "256 classes, rewritten": (lambda: crossed(256), None),
+    "100,000 calls that make an object and link it": (objects, lambda: script([on_lanes("Objects.link(I)V", 1, 100_000, 5)], region=1_048_576)),
+    "the same on 4 lanes": (objects, lambda: script([on_lanes("Objects.link(I)V", 4, 25_000, 5)], 4, region=1_048_576)),
+    "a list of 60,000 objects, made and walked": (
+        objects,
+        lambda: script([{"lanes": [[*calls("Objects.links(I)V", 1, 60_000), *calls("Objects.walk()J", 1)]]}], budget=1_000_000, region=1_048_576),
+    ),
+    "an array of 999,999 ints, filled and summed": (
+        objects,
+        lambda: script([{"lanes": [[*calls("Objects.fill(I)J", 1, 999_999), *calls("Objects.sum(II)J", 1, 0, 999_999)]]}], budget=1_000_000, region=1_048_576),
+    ),
+    "10,000 exceptions through 190 handlers": (objects, lambda: script([on_lanes("Objects.deep(I)I", 1, 10_000, 190)], region=1_048_576)),
+    "256 classes one under another, an overridden method, 100,000 calls": (lambda: above(256), lambda: script([on_lanes("C0.call()I", 1, 100_000)], region=1_048_576)),
     "a script of 450,000 calls, refused": (counter, lambda: script([on_lanes(INC, 1, 450_000)])),
 }
 
