@@ -141,7 +141,7 @@ duplicate_init = refl
 duplicate_abstract : seen (method_at code (duplicate program 4)) ≡ Some (record {
   name = named (codes "I") (codes "f") (codes "(Lorg/deuce/transaction/Context;)I");
   locals = 2;
-  most = 1;
+  most = 0;
   ops = [];
 })
 duplicate_abstract = refl

@@ -339,9 +339,9 @@ duplicate_code P k xs = record {
   catches = catch 0 (block_at xs (length xs)) (block_at xs (length xs)) Conflict ∷ map (moved_catch (block_at xs)) k.catches;
 }
 
--- without code, where these instructions are none
+-- without code and stack, where these instructions are none
 abbrev pub abstracted : List Op → Method → Method
-abstracted [] k = record k { ops = []; catches = [] }
+abstracted [] k = record k { max_stack = 0; ops = []; catches = [] }
 abstracted (o ∷ os) k = k
 
 -- that of a method without code has none

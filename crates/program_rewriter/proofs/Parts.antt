@@ -35,7 +35,7 @@ abstracted_is : (os : List Op) (K : Method) → is_code os ≡ true → abstract
 abstracted_is [] K h = absurd cc
 abstracted_is (o ∷ os) K h = refl
 
-abstracted_none : (os : List Op) (K : Method) → os ≡ [] → abstracted os K ≡ record K { ops = []; catches = [] }
+abstracted_none : (os : List Op) (K : Method) → os ≡ [] → abstracted os K ≡ record K { max_stack = 0; ops = []; catches = [] }
 abstracted_none [] K h = refl
 abstracted_none (o ∷ os) K h = absurd cc
 
@@ -44,9 +44,9 @@ pub coded_has : (P : Program) (k : Method) (T : Table) (b : Body) → is_code k.
 coded_has P k T b code has = subst (λ (m : Method). HasBody m b) (sym (abstracted_is k.ops (duplicate_code P k (typed_from 0 T k.ops)) code)) has
 
 -- that of a method without code
-pub bare_has : (P : Program) (k : Method) (T : Table) (b : Body) → k.ops ≡ [] → b.locals ≡ k.locals + 1 → b.max_stack ≡ k.max_stack + 1 → b.ops.items ≡ [] → b.catches.items ≡ [] → HasBody (duplicate_method P k T) b
+pub bare_has : (P : Program) (k : Method) (T : Table) (b : Body) → k.ops ≡ [] → b.locals ≡ k.locals + 1 → b.max_stack ≡ 0 → b.ops.items ≡ [] → b.catches.items ≡ [] → HasBody (duplicate_method P k T) b
 bare_has P k T b bare locals max_stack ops catches =
-    let same : duplicate_method P k T ≡ record (duplicate_code P k (typed_from 0 T k.ops)) { ops = []; catches = [] } = abstracted_none k.ops (duplicate_code P k (typed_from 0 T k.ops)) bare in
+    let same : duplicate_method P k T ≡ record (duplicate_code P k (typed_from 0 T k.ops)) { max_stack = 0; ops = []; catches = [] } = abstracted_none k.ops (duplicate_code P k (typed_from 0 T k.ops)) bare in
     subst (λ (m : Method). HasBody m b) (sym same) (record {
       locals = locals ∙ sym (ap (λ (os : List Op). k.locals + more_locals (list_any (is_stray k.places) os)) bare);
       max_stack = max_stack;
@@ -58,7 +58,7 @@ pub coded_ok : {E : Type 0} (r : Result Body E) (P : Program) (k : Method) (T : 
 coded_ok (Ok b) P k T code has = coded_has P k T b code has
 coded_ok (Err e) P k T code has = tt
 
-pub bare_ok : {E : Type 0} (r : Result Body E) (P : Program) (k : Method) (T : Table) → k.ops ≡ [] → IfOk r (λ b. b.locals ≡ k.locals + 1) → IfOk r (λ b. b.max_stack ≡ k.max_stack + 1)
+pub bare_ok : {E : Type 0} (r : Result Body E) (P : Program) (k : Method) (T : Table) → k.ops ≡ [] → IfOk r (λ b. b.locals ≡ k.locals + 1) → IfOk r (λ b. b.max_stack ≡ 0)
     → IfOk r (λ b. b.ops.items ≡ []) → IfOk r (λ b. b.catches.items ≡ []) → IfOk r (HasBody (duplicate_method P k T))
 bare_ok (Ok b) P k T bare locals max_stack ops catches = bare_has P k T b bare locals max_stack ops catches
 bare_ok (Err e) P k T bare locals max_stack ops catches = tt
@@ -106,7 +106,7 @@ made_for : (os : List Op) (K : Method) (name : MethodName) (dispatch : Dispatch)
     → name ≡ K.name → dispatch ≡ K.dispatch → parameters ≡ K.parameters → places ≡ K.places → result ≡ K.result → true ≡ K.counted → None ≡ K.retries → HasBody (abstracted os K) b
     → method_of name dispatch parameters places b.locals b.max_stack result true None b.ops.items b.catches.items ≡ abstracted os K
 made_for [] K name dispatch parameters places result b e1 e2 e3 e4 e5 e6 e7 has =
-    same_parts (record K { ops = []; catches = [] }) name dispatch parameters places b.locals b.max_stack result true None b.ops.items b.catches.items e1 e2 e3 e4 has.locals has.max_stack e5 e6 e7 has.ops has.catches
+    same_parts (record K { max_stack = 0; ops = []; catches = [] }) name dispatch parameters places b.locals b.max_stack result true None b.ops.items b.catches.items e1 e2 e3 e4 has.locals has.max_stack e5 e6 e7 has.ops has.catches
 made_for (o ∷ os) K name dispatch parameters places result b e1 e2 e3 e4 e5 e6 e7 has =
     same_parts K name dispatch parameters places b.locals b.max_stack result true None b.ops.items b.catches.items e1 e2 e3 e4 has.locals has.max_stack e5 e6 e7 has.ops has.catches
 

@@ -107,13 +107,13 @@ ghost use Rattle.program_rewriter.specs.Bodies.{HasBody, IsShaped};
 fn bare_body(alloc: Global, method: &Method) -> Result<Body, NoMemory>
     requires { method.now.ops ≡ [] }
     ensures locals { IfOk result (λ b. b.locals ≡ method.now.locals + 1) }
-    ensures stack { IfOk result (λ b. b.max_stack ≡ method.now.max_stack + 1) }
+    ensures stack { IfOk result (λ b. b.max_stack ≡ 0) }
     ensures ops { IfOk result (λ b. b.ops.items ≡ []) }
     ensures catches { IfOk result (λ b. b.catches.items ≡ []) }
 {
     Ok(Body {
         locals: sum(method.entry().locals, 1)?,
-        max_stack: sum(method.max_stack(), 1)?,
+        max_stack: 0,
         ops: Vec::new(alloc),
         catches: Vec::new(alloc),
     })
