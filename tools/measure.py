@@ -124,8 +124,14 @@ def objects():
 def above(classes):
     """Classes one under another, each of which overrides the method that is called."""
     upper = {f"C{k}": f"public class C{k} extends C{k - 1} {{ int m() {{ return {k}; }} }}" for k in range(1, classes)}
-    call = "static C0 of = new C150(); @Atomic public static int call() { return of.m(); }"
-    return {"C0": f"{ATOMIC}public class C0 {{ int m() {{ return 0; }} {call} }}", **upper}
+    call = "static C0 of = new C150(); @Atomic public static int call() { return of.m(); } @Atomic public static int upper() { return of.n(); }"
+    return {"C0": f"{ATOMIC}public class C0 {{ int m() {{ return 0; }} int n() {{ return 1; }} {call} }}", **upper}
+
+
+def loads(statements, dimensions):
+    """A method of statements, each of which loads one array out of another as often as an array has dimensions."""
+    chain = "[0]" * dimensions
+    return {"Loads": f"{ATOMIC}public class Loads {{ static Object o; static Object{'[]' * dimensions} a; @Atomic public static void m() {{ {f'o = a{chain}; ' * statements}}} }}"}
 
 
 INC = "Counter.inc()I"
@@ -148,9 +154,9 @@ CASES = {
     "256 classes, rewritten": (lambda: crossed(256), None),
     "100,000 calls that make an object and link it": (objects, lambda: script([on_lanes("Objects.link(I)V", 1, 100_000, 5)], region=1_048_576)),
     "the same on 4 lanes": (objects, lambda: script([on_lanes("Objects.link(I)V", 4, 25_000, 5)], 4, region=1_048_576)),
-    "a list of 60,000 objects, made and walked": (
+    "a list of 100,000 objects, made and walked": (
         objects,
-        lambda: script([{"lanes": [[*calls("Objects.links(I)V", 1, 60_000), *calls("Objects.walk()J", 1)]]}], budget=1_000_000, region=1_048_576),
+        lambda: script([{"lanes": [[*calls("Objects.links(I)V", 1, 100_000), *calls("Objects.walk()J", 1)]]}], budget=1_000_000, region=1_048_576),
     ),
     "an array of 999,999 ints, filled and summed": (
         objects,
@@ -158,6 +164,8 @@ CASES = {
     ),
     "10,000 exceptions through 190 handlers": (objects, lambda: script([on_lanes("Objects.deep(I)I", 1, 10_000, 190)], region=1_048_576)),
     "256 classes one under another, an overridden method, 100,000 calls": (lambda: above(256), lambda: script([on_lanes("C0.call()I", 1, 100_000)], region=1_048_576)),
+    "the same, a method that the first of them alone has": (lambda: above(256), lambda: script([on_lanes("C0.upper()I", 1, 100_000)], region=1_048_576)),
+    "a method of 64,000 bytes that loads from arrays, refused": (lambda: loads(126, 250), lambda: script([on_lanes("Loads.m()V", 1, 1)])),
     "a script of 450,000 calls, refused": (counter, lambda: script([on_lanes(INC, 1, 450_000)])),
 }
 

@@ -1,0 +1,9 @@
+pub mod Kept
+pub mod CodeKept
+pub mod Marks
+pub mod TypesAlike
+pub mod Instructions
+pub mod Bodies
+pub mod SameHeads
+pub mod Meant
+pub mod Rewritten
