@@ -1,6 +1,7 @@
 -- What invokes of the original name.
 use Rattle.std.proofs.Common.{◌≡◌, ℕ, ℤ, ◌<◌, Bool, true, false, List, Option, Some, None, refl}
 use Rattle.std.specs.Prelude.{if◌then◌else◌, codes, bytes_eq, ◌==◌, option_and_then}
+use Rattle.std.proofs.lemmas.Bool.Decides.{Decides-eqb}
 use Rattle.jmodel.specs.declared.class_file.Constant.{Constant}
 use Rattle.jmodel.specs.declared.class_file.Constant.TheVariants as constants
 use Rattle.jmodel.specs.declared.instruction.Operands.{Operands}
@@ -84,25 +85,26 @@ module _ (s : Symbols) where
     pub name : MemberName
     pub there : option_and_then (member_name s.class.pool) (index_of operand) ≡ Some name
     pub means : call_op s c name ≡ Some o
+    pub calls : is_among 182 185 c ≡ true
 
-  of_pool : (c i : ℕ) (o : Op) → is_invoke o ≡ true → pool_op s c i ≡ Some o → (n : MemberName) × (member_name s.class.pool i ≡ Some n) × (call_op s c n ≡ Some o)
+  of_pool : (c i : ℕ) (o : Op) → is_invoke o ≡ true → pool_op s c i ≡ Some o → (n : MemberName) × (member_name s.class.pool i ≡ Some n) × (call_op s c n ≡ Some o) × (is_among 182 185 c ≡ true)
   of_pool c i o t e = first (is_among 18 20 c) e
     where
-      named : (m : Option MemberName) → member_name s.class.pool i ≡ m → option_and_then (call_op s c) m ≡ Some o → (n : MemberName) × (member_name s.class.pool i ≡ Some n) × (call_op s c n ≡ Some o)
-      named None q h = absurd cc
-      named (Some n) q h = (n, q, h)
+      named : is_among 182 185 c ≡ true → (m : Option MemberName) → member_name s.class.pool i ≡ m → option_and_then (call_op s c) m ≡ Some o → (n : MemberName) × (member_name s.class.pool i ≡ Some n) × (call_op s c n ≡ Some o) × (is_among 182 185 c ≡ true)
+      named a None q h = absurd cc
+      named a (Some n) q h = (n, q, h, a)
 
-      third : (b : Bool) → (if b then option_and_then (call_op s c) (member_name s.class.pool i) else option_and_then (class_op s c) (class_name s.class.pool i)) ≡ Some o → (n : MemberName) × (member_name s.class.pool i ≡ Some n) × (call_op s c n ≡ Some o)
-      third true h = named (member_name s.class.pool i) refl h
-      third false h = absurd ((chained is_invoke (class_op s c) (class_name s.class.pool i) (class_not c)).other o h t)
+      third : (b : Bool) → is_among 182 185 c ≡ b → (if b then option_and_then (call_op s c) (member_name s.class.pool i) else option_and_then (class_op s c) (class_name s.class.pool i)) ≡ Some o → (n : MemberName) × (member_name s.class.pool i ≡ Some n) × (call_op s c n ≡ Some o) × (is_among 182 185 c ≡ true)
+      third true a h = named a (member_name s.class.pool i) refl h
+      third false a h = absurd ((chained is_invoke (class_op s c) (class_name s.class.pool i) (class_not c)).other o h t)
 
       second : (b : Bool) → (if b then option_and_then (field_op s c) (field_name s.class.pool i) else if is_among 182 185 c then option_and_then (call_op s c) (member_name s.class.pool i) else option_and_then (class_op s c) (class_name s.class.pool i)) ≡ Some o
-          → (n : MemberName) × (member_name s.class.pool i ≡ Some n) × (call_op s c n ≡ Some o)
+          → (n : MemberName) × (member_name s.class.pool i ≡ Some n) × (call_op s c n ≡ Some o) × (is_among 182 185 c ≡ true)
       second true h = absurd ((chained is_invoke (field_op s c) (field_name s.class.pool i) (field_not c)).other o h t)
-      second false h = third (is_among 182 185 c) h
+      second false h = third (is_among 182 185 c) refl h
 
       first : (b : Bool) → (if b then ldc_op s i else if is_among 178 181 c then option_and_then (field_op s c) (field_name s.class.pool i) else if is_among 182 185 c then option_and_then (call_op s c) (member_name s.class.pool i) else option_and_then (class_op s c) (class_name s.class.pool i)) ≡ Some o
-          → (n : MemberName) × (member_name s.class.pool i ≡ Some n) × (call_op s c n ≡ Some o)
+          → (n : MemberName) × (member_name s.class.pool i ≡ Some n) × (call_op s c n ≡ Some o) × (is_among 182 185 c ≡ true)
       first true h = absurd ((ldc_not i).other o h t)
       first false h = second (is_among 178 181 c) h
 
@@ -115,8 +117,8 @@ module _ (s : Symbols) where
   invokes_is is c (operands.Number n) o less t e w = absurd ((number_not c n).other o e t)
   invokes_is is c (operands.Local n) o less t e w = absurd ((local_not n c less).other o e t)
   invokes_is is c (operands.LocalAdd n a) o less t e w = absurd ((leaf is_invoke (op.Increment n a) refl).other o e t)
-  invokes_is is c (operands.Pool i) o less t e w = let r = of_pool c i o t e in record { name = r.0; there = r.1; means = r.2 }
-  invokes_is is c (operands.Interface i n) o less t e w = let r = of_pool c i o t e in record { name = r.0; there = r.1; means = r.2 }
+  invokes_is is c (operands.Pool i) o less t e w = let r = of_pool c i o t e in record { name = r.0; there = r.1; means = r.2; calls = r.3 }
+  invokes_is is c (operands.Interface i n) o less t e w = let r = of_pool c i o t e in record { name = r.0; there = r.1; means = r.2; calls = r.3 }
   invokes_is is c (operands.Dimensions i n) o less t e w = absurd cc
   invokes_is is c (operands.Target to) o less t e w = absurd ((jump_none is_invoke (λ t to. refl) (λ t to. refl) (λ b to. refl) (λ to. refl) (λ b to. refl) is c to).other o e t)
   invokes_is is c (operands.Table other low ts) o less t e w = absurd ((switch_none is_invoke (λ o cs. refl) is other (table_cases low ts)).other o e t)
@@ -179,3 +181,13 @@ module _ (s : Symbols) where
     interface_is o t e = by_opcode (interface_call_op s n ≡ Some o) o e
         (λ h. absurd ((virtual_not is_interface (λ c. refl) (λ m c. refl) n).other o h t)) (λ h. absurd ((special_not is_interface (λ c x. refl) (λ m. refl) n).other o h t))
         (λ h. absurd ((static_not is_interface refl (λ n. refl) (λ n. refl) (λ n. refl) (λ m. refl) n).other o h t)) (λ h. h)
+
+    pub interface_opcode : (o : Op) → is_interface o ≡ true → call_op s c n ≡ Some o → c ≡ 185
+    interface_opcode o t e = go (c == 182) (c == 183) (c == 184) (c == 185) refl e
+      where
+        go : (a b d f : Bool) → (c == 185) ≡ f → (if a then virtual_call_op s n else if b then special_call_op s n else if d then static_call_op s n else if f then interface_call_op s n else None) ≡ Some o → c ≡ 185
+        go true b d f q h = absurd ((virtual_not is_interface (λ c. refl) (λ m c. refl) n).other o h t)
+        go false true d f q h = absurd ((special_not is_interface (λ c x. refl) (λ m. refl) n).other o h t)
+        go false false true f q h = absurd ((static_not is_interface refl (λ n. refl) (λ n. refl) (λ n. refl) (λ m. refl) n).other o h t)
+        go false false false true q h = (Decides-eqb c 185).0 q
+        go false false false false q h = absurd cc

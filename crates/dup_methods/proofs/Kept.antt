@@ -9,7 +9,9 @@ use Rattle.jmodel.specs.declared.instruction.Operands.TheVariants as operands
 use Rattle.jmodel.specs.declared.instruction.Instr.{Instr}
 use Rattle.jmodel.specs.declared.value.Value.{Value}
 use Rattle.jmodel.specs.declared.value.Value.TheVariants as value
-use Rattle.jmodel.specs.Pool.{MemberName, entry, string_in, utf8, class_name, field_name, member_name}
+use Rattle.jmodel.specs.ClassFile.{Pool}
+use Rattle.jmodel.specs.Pool.{MemberName, entry, string_in, utf8, class_name, field_in, field_name, member_in, member_name}
+use Rattle.jmodel.specs.ClassesTaken.{index_of}
 use Rattle.jmodel.specs.Decoding.{table_cases}
 use Rattle.jmodel.specs.Relocation.{retarget}
 use Rattle.objects.specs.declared.op.Op.{Op}
@@ -19,6 +21,7 @@ use Rattle.objects.specs.TypeOrder.{context_class}
 use Rattle.objects.specs.LibraryMethods.{is_library_constructor, is_library_function}
 use Rattle.objects.specs.Layout.{class_read, type_number, array_over}
 use Rattle.objects.specs.Resolution.{special_method}
+use Rattle.objects.specs.Constructs.{accessed}
 use Rattle.objects.specs.Decoding.{Symbols, is_among, field_number, number_of, method_number, primitive_array, new_array, number_op, pushed_op, text_op, ldc_op, added_address, is_base, get_static_op, field_op, function_op, is_get_context, static_call_op, special_call_op, virtual_call_op, call_op, class_op, pool_op, meaning, op_of}
 use Rattle.member_code.proofs.Grown.{Grown, entry_grown, utf8_grown, class_grown, field_grown, member_grown}
 use Rattle.member_code.proofs.Single.{Means}
@@ -62,13 +65,33 @@ kept_when : (b : Bool) (x x' y y' : Option Op) → Kept x x' → Kept y y' → K
 kept_when true x x' y y' p q = p
 kept_when false x x' y y' p q = q
 
+kept_if : (b : Bool) (x x' y y' : Option Op) → (b ≡ true → Kept x x') → Kept y y' → Kept (if b then x else y) (if b then x' else y')
+kept_if true x x' y y' p q = p refl
+kept_if false x x' y y' p q = q
+
 kept_map : {A : Type 0} (f : A → Op) (x y : Option A) → ((a : A) → x ≡ Some a → y ≡ Some a) → Kept (option_map f x) (option_map f y)
 kept_map f None y h = record { kept = λ o e t. absurd cc }
 kept_map f (Some a) y h = let e = h a refl in rw e (kept_refl _)
 
+kept_known : {A : Type 0} (f g : A → Option Op) (x y : Option A) → ((a : A) → x ≡ Some a → y ≡ Some a) → ((a : A) → x ≡ Some a → Kept (f a) (g a)) → Kept (option_and_then f x) (option_and_then g y)
+kept_known f g None y h k = record { kept = λ o e t. absurd cc }
+kept_known f g (Some a) y h k = let e = h a refl in rw e (k a refl)
+
 kept_then : {A : Type 0} (f g : A → Option Op) (x y : Option A) → ((a : A) → x ≡ Some a → y ≡ Some a) → ((a : A) → Kept (f a) (g a)) → Kept (option_and_then f x) (option_and_then g y)
-kept_then f g None y h k = record { kept = λ o e t. absurd cc }
-kept_then f g (Some a) y h k = let e = h a refl in rw e (k a)
+kept_then f g x y h k = kept_known f g x y h (λ a e. k a)
+
+-- a reference to a field is one to a member
+field_member : (pool : Pool) (i : ℕ) (n : MemberName) → field_name pool i ≡ Some n → member_name pool i ≡ Some n
+field_member pool i n e = go (entry pool i) e
+  where
+    go : (c : Option Constant) → option_and_then (field_in pool) c ≡ Some n → option_and_then (member_in pool) c ≡ Some n
+    go None e = e
+    go (Some (constants.Field class p)) e = e
+    go (Some c) e = absurd cc
+
+-- the field that a name of an opcode is accessed by
+accessed_by : (pool : Pool) (i : Instr) (j : ℕ) (n : MemberName) → index_of i.operands ≡ Some j → is_among 178 181 i.op ≡ true → field_name pool j ≡ Some n → accessed pool i ≡ Some n
+accessed_by pool i j n at a e = rw a (ap (option_and_then (member_name pool)) at ∙ field_member pool j n e)
 
 -- ldc by the entry that it names
 abbrev ldc_of : Symbols → Option Constant → Option Op
@@ -84,7 +107,7 @@ static_field s n o e t = go (field_number s n) (added_address s.class n) (is_bas
     go None None true h = let same : op.Constant (value.Ref s.base) ≡ o = cc in (value.Ref s.base, sym same)
     go None None false h = absurd cc
 
-module _ (P : Program) (s0 s : Symbols) (T : Ties P s0 s) (G : Grown s0.class.pool s.class.pool) where
+module _ (P : Program) (Called Accessed : MemberName → Type 0) (s0 s : Symbols) (T : Ties P Called Accessed s0 s) (G : Grown s0.class.pool s.class.pool) where
   type_kept : (n : List ℕ) (t : ℕ) → type_number s0.types n ≡ Some t → type_number s.types n ≡ Some t
   type_kept n t e = ap (λ (ts : List Row). type_number ts n) T.types ∙ e
 
@@ -120,12 +143,12 @@ module _ (P : Program) (s0 s : Symbols) (T : Ties P s0 s) (G : Grown s0.class.po
       go None b same = record { kept = λ o e t. absurd cc }
       go (Some c) b same = let e = same c refl in rw e (ldc_same c)
 
-  get_static_kept : (n : MemberName) → Kept (get_static_op s0 n) (get_static_op s n)
-  get_static_kept n = record { kept = λ o e t. let v = static_field s0 n o e t in T.constants n v.0 (e ∙ ap (λ (q : Op). Some q) v.1) ∙ ap (λ (q : Op). Some q) (sym v.1) }
+  get_static_kept : (n : MemberName) → Accessed n → Kept (get_static_op s0 n) (get_static_op s n)
+  get_static_kept n a = record { kept = λ o e t. let v = static_field s0 n o e t in T.constants n v.0 a (e ∙ ap (λ (q : Op). Some q) v.1) ∙ ap (λ (q : Op). Some q) (sym v.1) }
 
-  field_kept : (c : ℕ) (n : MemberName) → Kept (field_op s0 c n) (field_op s c n)
-  field_kept c n =
-      kept_when (c == 178) _ _ _ _ (get_static_kept n)
+  field_kept : (c : ℕ) (n : MemberName) → Accessed n → Kept (field_op s0 c n) (field_op s c n)
+  field_kept c n a =
+      kept_when (c == 178) _ _ _ _ (get_static_kept n a)
       (kept_none _ _ (either is_same (c == 179) _ _ (mapped is_same op.PutStatic (field_number s0 n) (λ x. refl))
       (either is_same (c == 180) _ _ (mapped is_same (λ f. op.GetField f (class_read s0.classes n.class)) (field_number s0 n) (λ x. refl))
       (either is_same (c == 181) _ None (mapped is_same (λ f. op.PutField f (class_read s0.classes n.class)) (field_number s0 n) (λ x. refl)) (nothing is_same)))))
@@ -152,29 +175,30 @@ module _ (P : Program) (s0 s : Symbols) (T : Ties P s0 s) (G : Grown s0.class.po
       kept_when (c == 187) _ _ _ _ (kept_map op.New (type_number s0.types n) (type_number s.types n) (type_kept n))
       (kept_when (c == 189) _ _ _ _ (new_array_kept (array_over n)) (kept_refl _))
 
-  pool_kept : (c i : ℕ) → Kept (pool_op s0 c i) (pool_op s c i)
-  pool_kept c i =
+  pool_kept : (c i : ℕ) → (is_among 178 181 c ≡ true → (n : MemberName) → field_name s0.class.pool i ≡ Some n → Accessed n) → Kept (pool_op s0 c i) (pool_op s c i)
+  pool_kept c i reads =
       kept_when (is_among 18 20 c) _ _ _ _ (ldc_kept i)
-      (kept_when (is_among 178 181 c) _ _ _ _ (kept_then (field_op s0 c) (field_op s c) (field_name s0.class.pool i) (field_name s.class.pool i) (field_grown s0.class.pool s.class.pool G i) (field_kept c))
+      (kept_if (is_among 178 181 c) _ _ _ _ (λ a. kept_known (field_op s0 c) (field_op s c) (field_name s0.class.pool i) (field_name s.class.pool i) (field_grown s0.class.pool s.class.pool G i) (λ n e. field_kept c n (reads a n e)))
       (kept_when (is_among 182 185 c) _ _ _ _ (kept_then (call_op s0 c) (call_op s c) (member_name s0.class.pool i) (member_name s.class.pool i) (member_grown s0.class.pool s.class.pool G i) (call_kept c))
       (kept_then (class_op s0 c) (class_op s c) (class_name s0.class.pool i) (class_name s.class.pool i) (class_grown s0.class.pool s.class.pool G i) (class_kept c))))
 
   -- ---- instructions
 
   module _ (is0 is : List Instr) (place : ℕ → ℕ) where
-    meaning_kept : (c : ℕ) (o : Operands) → Kept (meaning s0 is0 c o) (meaning s is c (retarget place o))
-    meaning_kept c operands.Nothing = kept_refl _
-    meaning_kept c (operands.Number n) = number_kept c n
-    meaning_kept c (operands.Local n) = kept_refl _
-    meaning_kept c (operands.LocalAdd n a) = kept_refl _
-    meaning_kept c (operands.Pool i) = pool_kept c i
-    meaning_kept c (operands.Interface i n) = pool_kept c i
-    meaning_kept c (operands.Dimensions i n) = kept_refl None
-    meaning_kept c (operands.Target t) = kept_none _ _ (jump_none is_same (λ t to. refl) (λ t to. refl) (λ b to. refl) (λ to. refl) (λ b to. refl) is0 c t)
-    meaning_kept c (operands.Table other low ts) = kept_none _ _ (switch_none is_same (λ o cs. refl) is0 other (table_cases low ts))
-    meaning_kept c (operands.Lookup other ps) = kept_none _ _ (switch_none is_same (λ o cs. refl) is0 other ps)
-    meaning_kept c (operands.Wide w n a) = kept_refl _
+    meaning_kept : (c : ℕ) (o : Operands) → ((j : ℕ) → index_of o ≡ Some j → is_among 178 181 c ≡ true → (n : MemberName) → field_name s0.class.pool j ≡ Some n → Accessed n)
+        → Kept (meaning s0 is0 c o) (meaning s is c (retarget place o))
+    meaning_kept c operands.Nothing reads = kept_refl _
+    meaning_kept c (operands.Number n) reads = number_kept c n
+    meaning_kept c (operands.Local n) reads = kept_refl _
+    meaning_kept c (operands.LocalAdd n a) reads = kept_refl _
+    meaning_kept c (operands.Pool i) reads = pool_kept c i (reads i refl)
+    meaning_kept c (operands.Interface i n) reads = pool_kept c i (reads i refl)
+    meaning_kept c (operands.Dimensions i n) reads = kept_refl None
+    meaning_kept c (operands.Target t) reads = kept_none _ _ (jump_none is_same (λ t to. refl) (λ t to. refl) (λ b to. refl) (λ to. refl) (λ b to. refl) is0 c t)
+    meaning_kept c (operands.Table other low ts) reads = kept_none _ _ (switch_none is_same (λ o cs. refl) is0 other (table_cases low ts))
+    meaning_kept c (operands.Lookup other ps) reads = kept_none _ _ (switch_none is_same (λ o cs. refl) is0 other ps)
+    meaning_kept c (operands.Wide w n a) reads = kept_refl _
 
     -- an instruction that leads nowhere means what it meant
-    pub same_means : (i : Instr) (o : Op) → is_same o ≡ true → op_of s0 is0 i ≡ Some o → Means s place is o i
-    same_means i o h e at = (meaning_kept i.op i.operands).kept o e h
+    pub same_means : (i : Instr) (o : Op) → ((n : MemberName) → accessed s0.class.pool i ≡ Some n → Accessed n) → is_same o ≡ true → op_of s0 is0 i ≡ Some o → Means s place is o i
+    same_means i o reads h e at = (meaning_kept i.op i.operands (λ j is a n f. reads n (accessed_by s0.class.pool i j n is a f))).kept o e h

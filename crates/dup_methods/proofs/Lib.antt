@@ -10,4 +10,15 @@ pub mod Rows
 pub mod RowsProof
 pub mod Whole
 pub mod Little
+pub mod Widened
+pub mod KeptFlags
+pub mod OverPool
+pub mod Counted
+pub mod Ends
+pub mod Laid
+pub mod Heads
+pub mod Copied
+pub mod Members
+pub mod CopiesAre
+pub mod MembersProof
 mod ExampleDuplicates

@@ -10,7 +10,7 @@ use Rattle.jmodel.specs.declared.typing.VType.TheVariants as type
 use Rattle.jmodel.specs.declared.value.Value.TheVariants as value
 use Rattle.jmodel.specs.ClassFile.{ClassFile}
 use Rattle.jmodel.specs.Pool.{MemberName, member_name}
-use Rattle.jmodel.specs.ClassesTaken.{index_of}
+use Rattle.jmodel.specs.ClassesTaken.{index_of, invoked}
 use Rattle.jmodel.specs.Decoding.{number_at}
 use Rattle.objects.specs.declared.op.Sort.TheVariants as sort
 use Rattle.objects.specs.declared.op.WordType.{WordType}
@@ -23,7 +23,8 @@ use Rattle.objects.specs.Source.{IsSourceOp}
 use Rattle.objects.specs.Typing.{Types}
 use Rattle.objects.specs.TypeOrder.{object_class, element_class}
 use Rattle.objects.specs.Rewriting.{getter, setter, element_getter, places_of, moved, moved_to, after_load, array_under, helped, block_of}
-use Rattle.objects.specs.Decoding.{Symbols, static_call_op, special_call_op, virtual_call_op, interface_call_op, op_of}
+use Rattle.objects.specs.Constructs.{accessed}
+use Rattle.objects.specs.Decoding.{Symbols, is_among, static_call_op, special_call_op, virtual_call_op, interface_call_op, op_of}
 use Rattle.member_code.specs.Names.{duplicate_named}
 use Rattle.member_code.proofs.Grown.{Grown}
 use Rattle.member_code.proofs.Single.{Means, AreMeant, meant_append, load_means, store_means, increment_means, call_static_means, call_special_means, call_virtual_means, check_cast_means, named_member}
@@ -38,10 +39,10 @@ use Rattle.dup_methods.proofs.Jumps.{IsWideOp, jump_by, jump_is, jump_means, swi
 use Rattle.dup_methods.proofs.Kept.{same_means}
 
 -- the wide opcode of operands
-wide_of : (o : Operands) → IsWideOp o → (w n : ℕ) (a : _) → o ≡ operands.Wide w n a → w < 256
+pub wide_of : (o : Operands) → IsWideOp o → (w n : ℕ) (a : _) → o ≡ operands.Wide w n a → w < 256
 wide_of o h w n a e = subst IsWideOp e h
 
-module _ (O : Original) (s0 s : Symbols) (T : Ties O.program s0 s) (G : Grown s0.class.pool s.class.pool) (class_is : s0.class ≡ O.class) (is0 L : List Instr) (place at : ℕ → ℕ)
+module _ (O : Original) (Called Accessed : MemberName → Type 0) (s0 s : Symbols) (T : Ties O.program Called Accessed s0 s) (G : Grown s0.class.pool s.class.pool) (class_is : s0.class ≡ O.class) (is0 L : List Instr) (place at : ℕ → ℕ)
     (moves : (t n : ℕ) → number_at is0 t ≡ Some n → number_at L (place t) ≡ Some (at n)) where
   abbrev p : ℕ
   p = O.method.places
@@ -96,10 +97,16 @@ module _ (O : Original) (s0 s : Symbols) (T : Ties O.program s0 s) (G : Grown s0
   alone_meant : (o : Op) (i : Instr) (js : List Instr) → Means s place L o i → IsKept i s.class.pool js → AreMeant s place L js (o ∷ [])
   alone_meant o i js m c = subst (λ (l : List Instr). AreMeant s place L l (o ∷ [])) (sym c) (m, tt)
 
-  module _ (i : Instr) (less : i.op < 256) (wide : IsWideOp i.operands) where
+  module _ (i : Instr) (less : i.op < 256) (wide : IsWideOp i.operands) (calls : (n : MemberName) → invoked O.class.pool i ≡ Some n → Called n) (reads : (n : MemberName) → accessed O.class.pool i ≡ Some n → Accessed n) where
     -- the method that an invoke names, as the original's class has it
     named_in : (n : MemberName) → option_and_then (member_name s0.class.pool) (index_of i.operands) ≡ Some n → called O i ≡ Some n
     named_in n e = ap (λ (c : ClassFile). option_and_then (member_name c.pool) (index_of i.operands)) (sym class_is) ∙ e
+
+    called_in : (n : MemberName) → is_among 182 185 i.op ≡ true → option_and_then (member_name s0.class.pool) (index_of i.operands) ≡ Some n → Called n
+    called_in n a e = calls n (rw a (named_in n e))
+
+    reads_in : (n : MemberName) → accessed s0.class.pool i ≡ Some n → Accessed n
+    reads_in n e = reads n (ap (λ (c : ClassFile). accessed c.pool i) (sym class_is) ∙ e)
 
     invoke : (o : Op) → is_invoke o ≡ true → op_of s0 is0 i ≡ Some o → Invokes s0 i.op i.operands o
     invoke o t e = invokes_is s0 is0 i.op i.operands o less t e (wide_of i.operands wide)
@@ -119,16 +126,16 @@ module _ (O : Original) (s0 s : Symbols) (T : Ties O.program s0 s) (G : Grown s0
     block_meant (op.StoreElement t) h js e r c = static_meant (store_named (helped (array_under (1 + places_of t) h) t)) _ js c (T.stores (helped (array_under (1 + places_of t) h) t))
     block_meant (op.InvokeStatic m) h js e r c =
         let v = invoke (op.InvokeStatic m) refl e in
-        static_meant (duplicate_named (as_name v.name)) _ js (subst (λ (x : Option MemberName). IsDuplicateCall O.method.places 184 x i s.class.pool js) (named_in v.name v.there) c) (T.statics v.name m (static_is s0 i.op v.name (op.InvokeStatic m) refl v.means))
+        static_meant (duplicate_named (as_name v.name)) _ js (subst (λ (x : Option MemberName). IsDuplicateCall O.method.places 184 x i s.class.pool js) (named_in v.name v.there) c) (T.statics v.name m (called_in v.name v.calls v.there) (static_is s0 i.op v.name (op.InvokeStatic m) refl v.means))
     block_meant (op.InvokeSpecial m) h js e r c =
         let v = invoke (op.InvokeSpecial m) refl e in
-        special_meant (duplicate_named (as_name v.name)) _ js (subst (λ (x : Option MemberName). IsDuplicateCall O.method.places 183 x i s.class.pool js) (named_in v.name v.there) c) (T.specials v.name m (special_is s0 i.op v.name (op.InvokeSpecial m) refl v.means))
+        special_meant (duplicate_named (as_name v.name)) _ js (subst (λ (x : Option MemberName). IsDuplicateCall O.method.places 183 x i s.class.pool js) (named_in v.name v.there) c) (T.specials v.name m (called_in v.name v.calls v.there) (special_is s0 i.op v.name (op.InvokeSpecial m) refl v.means))
     block_meant (op.InvokeVirtual m d) h js e r c =
         let v = invoke (op.InvokeVirtual m d) refl e in
-        virtual_meant (duplicate_named (as_name v.name)) _ js (subst (λ (x : Option MemberName). IsDuplicateCall O.method.places 182 x i s.class.pool js) (named_in v.name v.there) c) (T.virtuals v.name m d (virtual_is s0 i.op v.name (op.InvokeVirtual m d) refl v.means))
+        virtual_meant (duplicate_named (as_name v.name)) _ js (subst (λ (x : Option MemberName). IsDuplicateCall O.method.places 182 x i s.class.pool js) (named_in v.name v.there) c) (T.virtuals v.name m d (called_in v.name v.calls v.there) (virtual_is s0 i.op v.name (op.InvokeVirtual m d) refl v.means))
     block_meant (op.InvokeInterface m d) h js e r c =
         let v = invoke (op.InvokeInterface m d) refl e in
-        interface_meant _ (duplicate_named (as_name v.name)) _ js (subst (λ (x : Option MemberName). IsInterfaceBlock O.method.places x i s.class.pool js) (named_in v.name v.there) c) (T.interfaces v.name m d (interface_is s0 i.op v.name (op.InvokeInterface m d) refl v.means))
+        interface_meant _ (duplicate_named (as_name v.name)) _ js (subst (λ (x : Option MemberName). IsInterfaceBlock O.method.places x i s.class.pool js) (named_in v.name v.there) c) (T.interfaces v.name m d (called_in v.name v.calls v.there) (interface_is s0 i.op v.name (op.InvokeInterface m d) refl v.means))
     block_meant (op.Load q n) h js e r c = subst (λ (l : List Instr). AreMeant s place L l (op.Load q (moved_to q O.method.places O.method.locals n) ∷ [])) (sym c) (load_means s place L q (moved_to q O.method.places O.method.locals n), tt)
     block_meant (op.Store q n) h js e r c = subst (λ (l : List Instr). AreMeant s place L l (op.Store q (moved_to q O.method.places O.method.locals n) ∷ [])) (sym c) (store_means s place L q (moved_to q O.method.places O.method.locals n), tt)
     block_meant (op.Increment n x) h js e r c = subst (λ (l : List Instr). AreMeant s place L l (op.Increment (moved O.method.places n) x ∷ [])) (sym c) (increment_means s place L (moved O.method.places n) x, tt)
@@ -138,4 +145,4 @@ module _ (O : Original) (s0 s : Symbols) (T : Ties O.program s0 s) (G : Grown s0
     block_meant (op.BranchReferences b to) h js e r c = jump_meant (op.BranchReferences b to) js refl e c
     block_meant (op.Goto to) h js e r c = jump_meant (op.Goto to) js refl e c
     block_meant (op.Switch other cases) h js e r c = alone_meant _ i js (switch_means is0 L place at moves s i other cases (switch_is s0 is0 i.op i.operands other cases less wide e)) c
-    block_meant o h js e r c = alone_meant o i js (same_means O.program s0 s T G is0 L place i o refl e) c
+    block_meant o h js e r c = alone_meant o i js (same_means O.program Called Accessed s0 s T G is0 L place i o reads_in refl e) c

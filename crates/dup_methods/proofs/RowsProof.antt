@@ -1,14 +1,16 @@
 -- The law of rows.
-use Rattle.std.proofs.Common.{ℕ, Some, arith}
+use Rattle.std.proofs.Common.{◌≡◌, ℕ, Some, arith}
 use Rattle.jmodel.specs.declared.instruction.Form.{Form}
 use Rattle.jmodel.specs.declared.instruction.Form.TheVariants as form
 use Rattle.jmodel.specs.declared.instruction.Operands.{Operands}
 use Rattle.jmodel.specs.declared.instruction.Operands.TheVariants as operands
 use Rattle.jmodel.specs.ClassFile.{Pool, ClassFile}
 use Rattle.jmodel.specs.Instruction.{form_of, IsSizedAs}
+use Rattle.jmodel.specs.ClassesTaken.{invoked}
 use Rattle.jmodel.specs.PoolAdding.{IsLonger}
 use Rattle.std.specs.Prelude.{Option, None}
 use Rattle.std.proofs.Common.{subst, sym}
+use Rattle.objects.specs.Constructs.{accessed}
 use Rattle.objects.specs.Rewriting.{block_of as block_in_program}
 use Rattle.member_code.proofs.Grown.{Grown, grown_trans}
 use Rattle.member_code.proofs.Single.{all_meant}
@@ -33,4 +35,4 @@ rows_are O s0 s o h i before after place at pool r T same e instr source moves l
     let G0 : Grown O.class.pool s.class.pool = grown_trans O.class.pool r.1 s.class.pool (grown_trans O.class.pool pool r.1 (longer O.class.pool pool l) q.grown) (longer r.1 s.class.pool m) in
     let G : Grown s0.class.pool s.class.pool = subst (λ (c : ClassFile). Grown c.pool s.class.pool) (sym same) G0 in
     all_meant s place after a r.0 (block_in_program O.program O.method.places O.method.locals at h o)
-    (block_meant O s0 s T G same before after place at moves i (omega (arith, instr.op)) (wide_small i.pc (form_of i.op) i.operands instr.operands) o h r.0 e source (q.facts s.class.pool (longer r.1 s.class.pool m)))
+    (block_meant O (λ n. invoked O.class.pool i ≡ Some n) (λ n. accessed O.class.pool i ≡ Some n) s0 s T G same before after place at moves i (omega (arith, instr.op)) (wide_small i.pc (form_of i.op) i.operands instr.operands) (λ n e. e) (λ n e. e) o h r.0 e source (q.facts s.class.pool (longer r.1 s.class.pool m)))

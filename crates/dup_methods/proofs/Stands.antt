@@ -59,7 +59,7 @@ for_kept : (i : Instr) (Z : Pool) (is : List Instr) → IsKept i Z is → AreFor
 for_kept i Z is e = subst (AreFor i) (sym e) (inr refl, tt)
 
 -- which opcodes call
-abbrev Calls : ℕ → Type 0
+abbrev pub Calls : ℕ → Type 0
 Calls opcode = (Z : Pool) (index : ℕ) (m : MemberName) → index < 65535 → method_name Z index ≡ Some m → IsLaid Z (naming opcode index)
 
 module _ (p : ℕ) (few : p ≤ 254) (i : Instr) (Z : Pool) where

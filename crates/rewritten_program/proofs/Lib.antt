@@ -1,0 +1,17 @@
+pub mod Grows
+pub mod Addresses
+pub mod Accessing
+pub mod Copying
+pub mod Wrapped
+pub mod Made
+pub mod Helping
+pub mod Placed
+pub mod Headed
+pub mod Folder
+pub mod Each
+pub mod Told
+pub mod Olds
+pub mod Grouped
+pub mod Assembled
+pub mod Whole
+pub mod Applied

@@ -1,0 +1,4 @@
+//! Rewritten classes together mean the rewritten program.
+#![tactic(auto)]
+
+pub mod laws;

@@ -1,0 +1,15 @@
+pub mod Places
+pub mod Texts
+pub mod FullNames
+pub mod Ops
+pub mod HelperNames
+pub mod Used
+pub mod Added
+pub mod Tied
+pub mod Alike
+pub mod OwnFields
+pub mod Known
+pub mod Distinct
+pub mod OwnMethods
+pub mod Rooted
+pub mod Started

@@ -1,0 +1,4 @@
+//! In rewritten classes the premises hold of the laws on what members mean.
+#![tactic(auto)]
+
+pub mod laws;
