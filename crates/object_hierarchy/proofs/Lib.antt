@@ -15,3 +15,5 @@ pub mod Standing
 pub mod Upward
 pub mod Switching
 pub mod Distinct
+pub mod GroupPlaces
+pub mod LineageFirsts

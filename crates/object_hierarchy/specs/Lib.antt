@@ -8,3 +8,5 @@ pub mod Ordered
 pub mod Places
 pub mod Starting
 pub mod Switches
+pub mod Selecting
+pub mod Selects

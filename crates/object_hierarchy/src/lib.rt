@@ -17,6 +17,7 @@ pub mod program;
 pub mod reference;
 pub mod reserved;
 pub mod row;
+mod selection;
 pub mod simple;
 pub mod starting;
 pub mod superclasses;

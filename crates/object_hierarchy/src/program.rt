@@ -1,15 +1,17 @@
 //! A program: its types of objects, its fields, and its methods with their instructions.
-ghost use Rattle.std.specs.Prelude.{◌≡◌, slice_get, length, ◌<◌, ◌+◌, ◌^◌, IfSome, Option, option_copied, nat_le, nat_lt, ◌&&◌, Some, None, position};
-ghost use Rattle.objects.specs.Program.{Field as JField, Method as JMethod, Program as JProgram, op_at, is_counted, method_at, field_at, row_at, name_at, is_instance, has_code, selected, overrides, is_selectable, first_in};
+ghost use Rattle.std.specs.Prelude.{◌≡◌, slice_get, length, ◌<◌, ◌+◌, ◌^◌, IfSome, Option, option_copied, true, nat_le, nat_lt, ◌&&◌, Some, None, IfOk};
+ghost use Rattle.objects.specs.Program.{Field as JField, Method as JMethod, Program as JProgram, op_at, is_counted, method_at, field_at, row_at, name_at, is_instance, has_code, selected, is_selectable, first_in, lineage_in, runnable};
 ghost use Rattle.objects.specs.Step.{catch_at, find_catch, takes};
 ghost use Rattle.jmodel.specs.Coded.{names_initialiser};
 
 use crate::row::{Declared, Row};
+use crate::selection::Selection;
 use crate::text::same;
-use jmodel::VType;
 use jmodel::bytes::Bytes;
 use jmodel::name::MethodName;
+use jmodel::{NoMemory, VType};
 use objects::op::{Catch, Catches, Dispatch, Op};
+use std::alloc::Global;
 use std::marker::Model;
 
 /// A field: its names and descriptor, the reference of its class's static fields where it is one of them, its place among the values of
@@ -150,20 +152,10 @@ impl Method {
     }
 
     /// Whether the class of an object has a part in which method a call of it runs.
-    fn is_selectable(&self) -> bool
+    pub(crate) fn is_selectable(&self) -> bool
         ensures { result ≡ is_selectable self.now.dispatch }
     {
         matches!(self.shape.dispatch, Dispatch::Virtual | Dispatch::Abstract)
-    }
-
-    /// Whether it is the one that a class declares for calls of another.
-    fn overrides(&self, class: &[u8], called: &Method) -> bool
-        ensures { result ≡ overrides called.now class.now self.now }
-    {
-        self.is_selectable()
-            && same(&self.name.class, class)
-            && same(&self.name.name, called.name.name.as_slice())
-            && same(&self.name.descriptor, called.name.descriptor.as_slice())
     }
 
     /// Whether it has code.
@@ -228,25 +220,39 @@ pub struct Program {
     texts: Vec<u64>,
     fields: Vec<Field>,
     methods: Vec<Method>,
+    selection: Selection,
 }
 
 impl Model for Program {
+    ghost use Rattle.objects.specs.Program.{Program as JProgram};
+    ghost use Rattle.object_hierarchy.specs.Selects.{Selects};
+
     ghost Value = { JProgram };
 
     ghost view = { λ p. record { types = p.types.items; texts = p.texts.items; fields = p.fields.items; methods = p.methods.items } };
+
+    ghost invariant = { λ p. Selects p.selection (record { types = p.types.items; texts = p.texts.items; fields = p.fields.items; methods = p.methods.items }) };
 }
 
 impl Program {
     /// A program of these types, texts, fields and methods.
-    pub fn new(types: Vec<Row>, texts: Vec<u64>, fields: Vec<Field>, methods: Vec<Method>) -> Self
-        ensures { result ≡ record { types = types.items; texts = texts.items; fields = fields.items; methods = methods.items } }
+    pub fn new(
+        alloc: Global,
+        types: Vec<Row>,
+        texts: Vec<u64>,
+        fields: Vec<Field>,
+        methods: Vec<Method>,
+    ) -> Result<Self, NoMemory>
+        ensures { IfOk result (λ p. p ≡ record { types = types.items; texts = texts.items; fields = fields.items; methods = methods.items }) }
     {
-        Program {
+        let selection = Selection::new(alloc, types.as_slice(), methods.as_slice())?;
+        Ok(Program {
             types,
             texts,
             fields,
             methods,
-        }
+            selection,
+        })
     }
 
     /// All types of objects.
@@ -375,25 +381,23 @@ impl Program {
         }
     }
 
-    /// The first method of a class that stands for calls of another.
-    fn declared_for(&self, class: &[u8], called: &Method) -> Option<usize>
-        ensures { result ≡ position (overrides called.now class.now) self.now.methods }
+    // The first method from the class of a type upward that is declared for calls of one.
+    fn first_in(&self, of: usize, method: usize) -> Option<usize>
+        ensures { (k : JMethod) → method_at self.now method ≡ Some k → is_selectable k.dispatch ≡ true → result ≡ first_in self.now k (lineage_in (row_at self.now of)) }
     {
-        self.methods
-            .iter()
-            .position(|m: &Method| m.overrides(class, called))
+        self.selection.first(of.checked_sub(1)?, method)
     }
 
-    /// From a class upward the first method that is declared for calls of one.
-    fn first_in(&self, lineage: &[Bytes], called: &Method) -> Option<usize>
-        ensures { result ≡ first_in self.now called.now lineage.now }
+    // A method that has code.
+    fn runnable(&self, found: Option<usize>) -> Option<usize>
+        ensures { result ≡ runnable self.now found }
     {
-        for class in lineage {
-            if let Some(found) = self.declared_for(class.as_slice(), called) {
-                return Some(found);
-            }
+        let method = found?;
+        if self.has_code(method) {
+            Some(method)
+        } else {
+            None
         }
-        None
     }
 
     /// The method that a call of one runs over an object of a type: itself, where calls find it by its name; else the first from the object's
@@ -401,16 +405,10 @@ impl Program {
     pub fn selected(&self, of: usize, method: usize) -> Option<usize>
         ensures { result ≡ selected self.now of method }
     {
-        let called = self.methods.get(method)?;
-        let found = if called.is_selectable() {
-            self.first_in(self.row(of)?.lineage(), called)?
+        if self.methods.get(method)?.is_selectable() {
+            self.runnable(self.first_in(of, method))
         } else {
-            method
-        };
-        if self.has_code(found) {
-            Some(found)
-        } else {
-            None
+            self.runnable(Some(method))
         }
     }
 }

@@ -123,7 +123,7 @@ fn program_with(
     let layout = Layout::of(alloc, classes)?;
     let built = linked_methods(alloc, &*classes, &layout, &*methods, coded)?;
     let text_places = text_places(alloc, classes)?;
-    Ok(Program::new(layout.types, text_places, layout.fields, built))
+    Ok(Program::new(alloc, layout.types, text_places, layout.fields, built)?)
 }
 
 // The first construct that is left out in the taken methods of classes, which are these.

@@ -113,7 +113,7 @@ fn program_of(
         &*methods,
     )?;
     let text_places = text_places(alloc, originals)?;
-    Ok(Program::new(layout.types, text_places, layout.fields, built))
+    Ok(Program::new(alloc, layout.types, text_places, layout.fields, built)?)
 }
 
 /// The program of rewritten classes over that of their originals, which these are linked to: its types, texts and fields, and of each rewritten class the

@@ -83,5 +83,5 @@ pub fn rewrite_program(alloc: Global, program: &Program) -> Result<Program, NoMe
     let types = copy_rows(alloc, program.types())?;
     let texts = Vec::from_slice(alloc, program.texts())?;
     let fields = copy_fields(alloc, program.fields())?;
-    Ok(Program::new(types, texts, fields, methods))
+    Ok(Program::new(alloc, types, texts, fields, methods)?)
 }
