@@ -1,5 +1,5 @@
 -- The first method that is declared from a class upward, by numbers.
-use Rattle.std.proofs.Common.{◌≡◌, ℕ, List, [], ◌∷◌, map, Option, Some, None, Vec, refl, sym, ap, ◌∙◌}
+use Rattle.std.proofs.Common.{◌≡◌, ℕ, List, [], ◌∷◌, map, Option, Some, None, refl, sym, ap, ◌∙◌}
 use Rattle.std.specs.Prelude.{slice_get, position, option_map, option_and_then}
 use Rattle.std.specs.Option.{option_flatten}
 use Rattle.std.specs.Ordering.{nat_cmp}
@@ -7,11 +7,11 @@ use Rattle.std.specs.BTreeMap.{BTreeMap, get}
 use Rattle.std.proofs.lemmas.Option.{slice_get-map}
 use Rattle.jmodel.specs.declared.name.MethodName.{MethodName}
 use Rattle.jmodel.specs.Linking.{is_name}
-use Rattle.objects.specs.Program.{Program, Method, Row, is_selectable, overrides, or_else, first_in, lineage_in}
+use Rattle.objects.specs.Program.{Program, Method, Row, overrides, or_else, first_in, lineage_in}
 use Rattle.object_hierarchy.specs.declared.selection.Selection.{Selection}
 use Rattle.object_hierarchy.specs.Names.{number_of, AreFirst}
 use Rattle.object_hierarchy.specs.Selecting.{class_of, class_key, group_key, place_in, is_place, first_at, numbers_upward, first_upward}
-use Rattle.object_hierarchy.specs.Selects.{first_for, Selects}
+use Rattle.object_hierarchy.specs.Selects.{Selects}
 use Rattle.object_hierarchy.proofs.GroupPlaces.{declared, none_declared, none_grouped}
 
 -- where no class declares one, there is none

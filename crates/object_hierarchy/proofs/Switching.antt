@@ -1,5 +1,5 @@
 -- The keys of the switches of code ascend.
-use Rattle.std.proofs.Common.{◌≡◌, ℕ, ℤ, suc, ◌+◌, ◌&&◌, Bool, true, false, List, [], ◌∷◌, length, pos, ◌+ℤ◌, ◌-ℤ◌, ◌≤ℤ◌, Option, Some, None, refl, sym, ap, ◌∙◌, subst, arith}
+use Rattle.std.proofs.Common.{◌≡◌, ℕ, ℤ, true, List, [], ◌∷◌, length, pos, ◌+ℤ◌, ◌-ℤ◌, Option, Some, None, refl, ◌∙◌, arith}
 use Rattle.std.specs.Prelude.{int_lt, FitsSigned}
 use Rattle.std.specs.List.{AllByRecursion}
 use Rattle.std.specs.Int.{w32, int_wrapping_add}
@@ -12,7 +12,7 @@ use Rattle.jmodel.specs.declared.instruction.Operands.TheVariants.{Nothing, Numb
 use Rattle.jmodel.specs.declared.instruction.Instr.{Instr}
 use Rattle.jmodel.specs.declared.class_file.Handler.{Handler}
 use Rattle.jmodel.specs.ClassFile.{Pool as Entries}
-use Rattle.jmodel.specs.Instruction.{ascend_after, ascend, highest, form_of, IsTable, IsLookup, IsSized, IsSizedAs, IsInstrOver, SpellsInstrs}
+use Rattle.jmodel.specs.Instruction.{ascend_after, ascend, form_of, IsTable, IsSized, IsSizedAs, IsInstrOver, SpellsInstrs}
 use Rattle.jmodel.specs.Decoding.{table_cases}
 use Rattle.object_hierarchy.specs.Switches.{IsSwitchOf, AreSwitches}
 

@@ -1,11 +1,10 @@
 -- How calls over objects find their methods by numbers.
-use Rattle.std.specs.Prelude.{◌≡◌, ℕ, ◌&&◌, List, [], ◌∷◌, Option, Some, None, Bool, true, false, nat_eq, slice_get, option_and_then, if◌then◌else◌}
+use Rattle.std.specs.Prelude.{ℕ, ◌&&◌, List, [], ◌∷◌, Option, Some, None, Bool, false, nat_eq, option_and_then, if◌then◌else◌}
 use Rattle.std.specs.List.{filter_map}
-use Rattle.std.specs.Option.{option_flatten}
 use Rattle.std.specs.Ordering.{nat_cmp}
 use Rattle.std.specs.BTreeMap.{BTreeMap, get}
 use Rattle.jmodel.specs.declared.name.MethodName.{MethodName}
-use Rattle.objects.specs.Program.{Program, Method, Row, is_selectable, or_else, first_in, lineage_in}
+use Rattle.objects.specs.Program.{Method, is_selectable, or_else}
 use Rattle.object_hierarchy.specs.Names.{named, number_of}
 
 -- the name of a class, as that of a member

@@ -1,5 +1,5 @@
 -- The numbers by which calls over objects find their methods, and what they say of a program.
-use Rattle.std.specs.Prelude.{◌≡◌, ℕ, List, Option, Some, true, slice_get, option_and_then}
+use Rattle.std.specs.Prelude.{◌≡◌, ℕ, Option, Some, true, slice_get, option_and_then}
 use Rattle.std.specs.Option.{option_flatten}
 use Rattle.std.specs.Ordering.{nat_cmp}
 use Rattle.std.specs.BTreeMap.{get}

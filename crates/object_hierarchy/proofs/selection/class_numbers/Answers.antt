@@ -1,4 +1,4 @@
-use Rattle.std.proofs.Common.{ℕ, List, [], ap, ◌∙◌}
+use Rattle.std.proofs.Common.{ℕ, List, ap, ◌∙◌}
 use Rattle.jmodel.specs.declared.name.MethodName.{MethodName}
 use Rattle.object_hierarchy.specs.Selecting.{class_key, class_of}
 use Rattle.object_hierarchy.proofs.Numbers.{noted_more, same_note}

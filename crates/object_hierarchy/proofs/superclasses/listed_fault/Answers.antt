@@ -1,4 +1,4 @@
-use Rattle.std.proofs.Common.{◌≡◌, ℕ, ◌+◌, List, ◌∷◌, map, drop, get_or, sym, ap, ◌∙◌}
+use Rattle.std.proofs.Common.{◌≡◌, ℕ, ◌+◌, ◌∷◌, map, drop, get_or, sym, ap, ◌∙◌}
 use Rattle.jmodel.specs.ClassesLinking.{first_fault}
 use Rattle.jmodel.specs.Layout.{text_or_none}
 use Rattle.jmodel.specs.Pool.{class_name}

@@ -1,6 +1,6 @@
-use Rattle.std.proofs.Common.{◌≡◌, ℕ, suc, Option, Some, sym, ap, ◌∙◌, arith}
+use Rattle.std.proofs.Common.{◌≡◌, ℕ, suc, ap, ◌∙◌, arith}
 use Rattle.std.specs.Prelude.{slice_get}
-use Rattle.objects.specs.Program.{Program, Row, method_at, row_at, first_in, lineage_in}
+use Rattle.objects.specs.Program.{Program, method_at, row_at, first_in, lineage_in}
 use Rattle.object_hierarchy.proofs.program.Program.first_in.Goals as goal
 
 pub returns : goal.returns

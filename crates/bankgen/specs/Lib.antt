@@ -1,0 +1,12 @@
+pub mod Instructions
+pub mod Entries
+pub mod Code
+pub mod Classes
+pub mod Formed
+pub mod Transfers
+pub mod Script
+pub mod Separator
+pub mod Workload
+pub mod Summary
+pub mod Numbers
+pub mod BankLaw
