@@ -1,2 +1,2 @@
-mod Gets
-mod HelperIs
+pub mod Gets
+pub mod HelperIs

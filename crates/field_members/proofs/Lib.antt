@@ -1,6 +1,6 @@
-mod Gets
-mod Laid
+pub mod Gets
+pub mod Laid
 mod Flat
 mod Types
-mod AccessorsAre
+pub mod AccessorsAre
 mod FieldsAre

@@ -1,7 +1,7 @@
-mod Gets
-mod Loop
+pub mod Gets
+pub mod Loop
 mod Meant
 mod Swapped
-mod WrapperIs
+pub mod WrapperIs
 mod Loads
 mod Fits
