@@ -30,3 +30,8 @@ module _ (words : List (String Global)) where
   pub rewriting_folder : (d e t : List ℕ) → NamesFolder words d → seen_words words ≡ rewrite_words e t → d ≡ e
   rewriting_folder d e t (s, inr is) q = (one_rewriting d s e t is q).0
   rewriting_folder d e t (s, inl is) q = absurd (apart d s e t is q)
+
+  -- words name one folder
+  pub one_folder : (d e : List ℕ) → NamesFolder words d → NamesFolder words e → d ≡ e
+  one_folder d e n (t, inl q) = run_folder d e t n q
+  one_folder d e n (t, inr q) = rewriting_folder d e t n q

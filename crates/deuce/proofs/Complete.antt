@@ -1,35 +1,30 @@
--- What can be run is run, and what can be rewritten is rewritten.
-use Rattle.std.proofs.Common.{◌≡◌, ◌≤◌, ◌+◌, ◌⊎◌, ℕ, zero, suc, List, [], ◌∷◌, ◌++◌, length, take, Option, Some, None, Result, Ok, Err, inl, inr, refl, sym, ap, ◌∙◌, subst, arith}
-use Rattle.std.specs.Prelude.{String, string_bytes, option_map, Contains}
+-- What can be run is run, and what can be rewritten is rewritten; and a folder with a file at the path of the helper of arrays is neither.
+use Rattle.std.proofs.Common.{◌≡◌, ◌≤◌, ◌+◌, ◌⊎◌, ℕ, List, [], ◌∷◌, ◌++◌, length, take, Option, Some, None, inl, inr, refl, sym, ap, ◌∙◌, subst, arith}
+use Rattle.std.specs.Prelude.{String, string_bytes, option_map}
 use Rattle.std.specs.declared.alloc.Global.{Global}
-use Rattle.std.specs.List.{AllByRecursion, AllZip}
+use Rattle.std.specs.List.{AllZip}
 use Rattle.std.proofs.lemmas.List.{take_all}
-use Rattle.deuce_io.specs.Files.{Files}
+use Rattle.deuce_io.specs.Files.{Files, inside}
 use Rattle.jmodel.specs.declared.refusal.Refusal.{Refusal}
 use Rattle.jmodel.specs.declared.value.Answer.{Answer}
 use Rattle.jmodel.specs.ClassFile.{ClassFile}
 use Rattle.jmodel.specs.ClassRules.{Spells}
-use Rattle.jmodel.specs.Program.{Program}
-use Rattle.jmodel.specs.Classes.{in_order}
-use Rattle.jmodel.specs.ClassesLinking.{linking_files, program_in}
-use Rattle.jmodel.specs.Typing.{IsTypable}
+use Rattle.objects.specs.Program.{Program}
 use Rattle.class_reader.proofs.ClassLaws.{class_again}
-use Rattle.rewriter.specs.RewrittenClasses.{rewritten_classes}
-use Rattle.deuce.specs.Command.{seen_words, run_words, rewrite_words, NamesFolder}
+use Rattle.deuce.specs.Command.{seen_words, run_words, rewrite_words, IsNoCommand, NamesFolder}
 use Rattle.object_script.specs.Script.{script_limit}
-use Rattle.object_run.specs.Headline.{CanRun}
-use Rattle.object_run.specs.Faults.{IsBadProgram, IsUntypable, IsBadScript, IsUnopened}
+use Rattle.object_run.specs.Headline.{IsRunnable, CanRun}
+use Rattle.object_run.specs.Faults.{HasFault, IsBadRewriting, IsUntypable, IsBadScript, IsUnopened}
 use Rattle.object_run.proofs.Complete.{no_bad_program, all_typed, good_script, opens}
-use Rattle.deuce.specs.Rewritten.{formed_files, IsRewritable, HasFewFields, CanRewrite}
+use Rattle.deuce.specs.Rewritten.{CanRewrite}
 use Rattle.deuce.specs.declared.outcome.Outcome.{Outcome}
-use Rattle.deuce.specs.declared.outcome.Outcome.TheVariants.{Journal, Rewritten, Usage, BadClass, BadProgram, Untyped, BadScript, Unopened, Outside, NotPut, NotBuilt}
-use Rattle.deuce.specs.Folder.{class_limit, HoldsClasses, IsTooDeep, HasManyClasses, IsOverfull, IsGoodFile, HasClasses, IsBadClass}
-use Rattle.deuce.specs.Ending.{IsBadForm, HasBadProgram, IsUntypableForm, HasBadScript, HasUnopened, IsNotRewritten, CanRunIn, CanRewriteIn}
+use Rattle.deuce.specs.declared.outcome.Outcome.TheVariants.{Journal, Rewritten, Usage, BadClass, BadProgram, Untyped, BadScript, Unopened, Outside, NotPut}
+use Rattle.deuce.specs.Folder.{helper_path, LacksHelper, class_limit, HoldsClasses, IsTooDeep, HasManyClasses, IsOverfull, IsGoodFile, HasClasses, IsBadClass}
+use Rattle.deuce.specs.Ending.{HasReservedPath, HasBadClasses, HasBadProgram, HasUntypable, HasBadScript, HasUnopened, CanRunIn, CanRewriteIn}
 use Rattle.deuce_io.specs.Seen.{Seen}
-use Rattle.deuce.specs.Outcomes.{Says, IsBadProgramOfWords, IsUntypableOfWords, IsNotBuilt, IsBadClassOfWords, IsBadScriptOfWords, IsUnopenedOfWords, CanRunWords, CanRewriteWords, status_of}
+use Rattle.deuce.specs.Outcomes.{Says, IsBadProgramOfWords, IsUntypableOfWords, IsBadClassOfWords, IsBadScriptOfWords, IsUnopenedOfWords, HasHelperOfWords, CanRunWords, CanRewriteWords, IsRefusedOrFailed, status_of}
 use Rattle.deuce.proofs.Folders.{same_paths}
-use Rattle.deuce.proofs.Lists.{all_at}
-use Rattle.deuce.proofs.Asked.{one_run, one_rewriting, apart, run_folder, rewriting_folder}
+use Rattle.deuce.proofs.Asked.{one_run, apart, one_folder, run_folder, rewriting_folder}
 
 -- bytes spell one class
 one_class : (bytes : List ℕ) (a b : ClassFile) → Spells bytes a → Spells bytes b → a ≡ b
@@ -113,39 +108,34 @@ module _ (told : Files) (dir : List ℕ) where
           | inr none ↦ none.1.0 one.0 (subst (λ (b : List ℕ). Spells b one.0) (sym bytes) good.is_file.1)
         ]
 
--- ---- classes that can be run or rewritten
-
--- class files of the form mean one program
-one_program : (files : List ClassFile) (P Q : Program) → formed_files files ≡ Some P → formed_files files ≡ Some Q → P ≡ Q
-one_program files P Q p q = let both : Some P ≡ Some Q = sym p ∙ q in cc (both)
-
-faultless : (r : Result (Option Program) Refusal) (P : Program) (f : Refusal) → program_in r ≡ Some P → r ≡ Err f → ⊥
-faultless (Ok o) P f h is = cc
-faultless (Err e) P f h is = cc
-
-not_formed : (r : Result (Option Program) Refusal) (P : Program) → program_in r ≡ Some P → r ≡ Ok None → ⊥
-not_formed (Ok o) P h is = let none : o ≡ None = cc in let some : o ≡ Some P = h in cc
-not_formed (Err f) P h is = cc
-
--- what can be rewritten has no fault, passes no limit, and has typings
-no_bad_form : (files : List ClassFile) (P : Program) (r : Refusal) → IsRewritable files P → IsBadForm r files → ⊥
-no_bad_form files P r can (inl fault) = faultless (linking_files files) P r can.links fault
-no_bad_form files P r can (inr (Q, is, typed, limit)) =
-    let same = one_program files P Q can.links is in
-    let made : rewritten_classes (in_order files) Q ≡ Ok can.instrumented = subst (λ (p : Program). rewritten_classes (in_order files) p ≡ Ok can.instrumented) same can.rewrites in
-    cc
-
-all_typed_form : (files : List ClassFile) (P : Program) (r : Refusal) → IsRewritable files P → IsUntypableForm r files → ⊥
-all_typed_form files P r can (Q, is, un) =
-    let same = one_program files P Q can.links is in
-    let typed : AllByRecursion (IsTypable Q) Q.methods = subst (λ (p : Program). AllByRecursion (IsTypable p) p.methods) same can.typed in
-    let one = all_at (IsTypable Q) Q.methods un.number un.method typed un.there in
-    un.untypable.none one.table (record { first = one.typing.first; each = λ pc h le is. one.typing.each pc h is })
+-- ---- class files that can be run or rewritten
 
 -- what is said of refused class files isn't said of them
-no_bad_class : (words : List (String Global)) (told : Files) (dir : List ℕ) (Holding : List ClassFile → Type 0) → HasClasses (Some told) dir Holding → ((d : List ℕ) → NamesFolder words d → d ≡ dir)
-    → (files : Option Files) (path : List ℕ) (r : Refusal) → files ≡ Some told → IsBadClassOfWords words files path r → ⊥
-no_bad_class words told dir Holding can named files path r is h = no_fault told dir Holding can path r (rw (is, named h.0 h.1) at h.2)
+module _ (words : List (String Global)) (told : Files) (dir : List ℕ) (free : told (inside dir helper_path) ≡ None) (Holding : List ClassFile → Type 0) (has : HasClasses (Some told) dir Holding)
+    (P : Program) (can : IsRunnable has.classes P) (named : (d : List ℕ) → NamesFolder words d → d ≡ dir) where
+  no_bad_class : (files : Option Files) (path : List ℕ) (r : Refusal) → files ≡ Some told → IsBadClassOfWords words files path r → ⊥
+  no_bad_class files path r is h = no_fault told dir Holding has path r (rw (is, named h.0 h.1) at h.2)
+
+  no_reserved : (r : Refusal) → HasReservedPath (Some told) dir r → ⊥
+  no_reserved r h = let some = h.good.holds told refl in cc
+
+  no_program_fault : (files : Option Files) (r : Refusal) → files ≡ Some told → IsBadProgramOfWords words files r → ⊥
+  no_program_fault files r is h = refused (rw (is, named h.0 h.1) at h.2)
+    where
+      classes : HasBadClasses (Some told) dir r → ⊥
+      classes (inl bad) = no_bad_program has.classes P r can (inl (held told dir Holding has (HasFault r) bad))
+      classes (inr (inl bad)) = no_reserved r bad
+      classes (inr (inr bad)) = no_bad_program has.classes P r can (inr (held told dir Holding has (IsBadRewriting r) bad.1))
+
+      refused : HasBadProgram (Some told) dir r → ⊥
+      refused (inl over) = fits told dir Holding has r over
+      refused (inr bad) = classes bad
+
+  none_untyped : (files : Option Files) (r : Refusal) → files ≡ Some told → IsUntypableOfWords words files r → ⊥
+  none_untyped files r is h = typed (rw (is, named h.0 h.1) at h.2)
+    where
+      typed : HasUntypable (Some told) dir r → ⊥
+      typed bad = all_typed has.classes P r can (held told dir Holding has (IsUntypable r) bad.1)
 
 -- ---- runs
 
@@ -156,22 +146,11 @@ module _ (words : List (String Global)) (told : Files) (dir script : List ℕ) (
   abbrev has : HasClasses (Some told) dir (CanRunOn can.script_bytes)
   has = can.of_classes
 
-  abbrev held_by : (Other : List ClassFile → Type 0) → HasClasses (Some told) dir Other → Other has.classes
+  held_by : (Other : List ClassFile → Type 0) → HasClasses (Some told) dir Other → Other has.classes
   held_by Other h = held told dir (CanRunOn can.script_bytes) has Other h
 
-  no_program_fault : (files : Option Files) (r : Refusal) → files ≡ Some told → IsBadProgramOfWords words files r → ⊥
-  no_program_fault files r is (d, other, inr h) = apart words dir script d other asked h.0
-  no_program_fault files r is (d, other, inl h) = let same = one_run words d other dir script h.0 asked in refused (rw (is, same.0) at h.1)
-    where
-      refused : HasBadProgram IsBadProgram (Some told) dir r → ⊥
-      refused (inl over) = fits told dir (CanRunOn can.script_bytes) has r over
-      refused (inr bad) = no_bad_program has.classes has.holding.program r has.holding.runnable (held_by (IsBadProgram r) bad)
-
-  none_untyped : (files : Option Files) (r : Refusal) → files ≡ Some told → IsUntypableOfWords words files r → ⊥
-  none_untyped files r is (d, other, inr h) = apart words dir script d other asked h.0
-  none_untyped files r is (d, other, inl h) =
-      let same = one_run words d other dir script h.0 asked in
-      all_typed has.classes has.holding.program r has.holding.runnable (held_by (IsUntypable r) (rw (is, same.0) at h.1))
+  run_named : (d : List ℕ) → NamesFolder words d → d ≡ dir
+  run_named d n = run_folder words d dir script n asked
 
   script_taken : (r : Refusal) → HasBadScript (Some told) dir script r → ⊥
   script_taken r bad =
@@ -193,74 +172,75 @@ module _ (words : List (String Global)) (told : Files) (dir script : List ℕ) (
   opens_of_words : (files : Option Files) (class : List ℕ) (x : Answer) → files ≡ Some told → IsUnopenedOfWords words files class x → ⊥
   opens_of_words files class x is h = let same = one_run words h.0 h.1 dir script h.2 asked in opened class x (rw (is, same.0, same.1) at h.3)
 
--- no other status than these
+  -- no status of a refusal
+  run_completes : (old new : Seen) (o : Outcome) (status : ℕ) → old.files ≡ Some told → Says words old new o → status ≡ status_of o
+      → (status ≡ 0) ⊎ ((status ≡ 8) ⊎ ((status ≡ 9) ⊎ (status ≡ 10)))
+  run_completes old new (Journal text) status is h s = inl s
+  run_completes old new (Rewritten n taken marked) status is h s = inl s
+  run_completes old new Usage status is h s = absurd (h.0 dir script asked)
+  run_completes old new (BadClass path r) status is h s =
+      absurd (no_bad_class words told dir can.free (CanRunOn can.script_bytes) has has.holding.program has.holding.runnable run_named old.files (string_bytes path) r is h)
+  run_completes old new (BadProgram r) status is h s =
+      absurd (no_program_fault words told dir can.free (CanRunOn can.script_bytes) has has.holding.program has.holding.runnable run_named old.files r is h)
+  run_completes old new (Untyped r) status is h s =
+      absurd (none_untyped words told dir can.free (CanRunOn can.script_bytes) has has.holding.program has.holding.runnable run_named old.files r is h)
+  run_completes old new (BadScript r) status is h s = absurd (good_script_of_words old.files r is h)
+  run_completes old new (Unopened class x) status is h s = absurd (opens_of_words old.files class x is h)
+  run_completes old new (Outside path) status is h s = inr (inl s)
+  run_completes old new (NotPut path) status is h s = absurd (apart words dir script h.0 h.1 asked h.2)
+
 pub complete : (words : List (String Global)) (old new : Seen) (o : Outcome) (status : ℕ) → Says words old new o → status ≡ status_of o → CanRunWords words old.files
     → (status ≡ 0) ⊎ ((status ≡ 8) ⊎ ((status ≡ 9) ⊎ (status ≡ 10)))
-complete words old new (Journal text) status h s can = inl s
-complete words old new (Rewritten n taken marked) status h s can = inl s
-complete words old new Usage status h s can = absurd (h.0 can.0 can.1 can.3)
-complete words old new (BadClass path r) status h s can =
-    absurd (no_bad_class words can.2 can.0 (CanRunOn can.5.script_bytes) can.5.of_classes (λ d n. run_folder words d can.0 can.1 n can.3) old.files (string_bytes path) r can.4 h)
-complete words old new (BadProgram r) status h s can = absurd (no_program_fault words can.2 can.0 can.1 can.3 can.5 old.files r can.4 h)
-complete words old new (Untyped r) status h s can = absurd (none_untyped words can.2 can.0 can.1 can.3 can.5 old.files r can.4 h)
-complete words old new (BadScript r) status h s can = absurd (good_script_of_words words can.2 can.0 can.1 can.3 can.5 old.files r can.4 h)
-complete words old new (Unopened class x) status h s can = absurd (opens_of_words words can.2 can.0 can.1 can.3 can.5 old.files class x can.4 h)
-complete words old new (Outside path) status h s can = inr (inl s)
-complete words old new (NotPut path) status h s can = absurd (apart words can.0 can.1 h.0 h.1 can.3 h.2)
-complete words old new NotBuilt status h s can = absurd (apart words can.0 can.1 h.0 h.1 can.3 h.2)
+complete words old new o status h s can = run_completes words can.2 can.0 can.1 can.3 can.5 old new o status can.4 h s
 
 -- ---- rewritings
 
-few_at : (cs : List ClassFile) (c : ClassFile) → AllByRecursion HasFewFields cs → Contains cs c → HasFewFields c
-few_at [] c few (i, lt, is) = absurd (omega (arith, lt))
-few_at (d ∷ cs) c few (zero, lt, is) = let same : d ≡ c = is in subst HasFewFields same few.0
-few_at (d ∷ cs) c few (suc i, lt, is) = few_at cs c few.1 (i, omega (arith, lt), is)
-
--- what can be rewritten is
-is_rewritten : (files : List ClassFile) → CanRewrite files → IsNotRewritten files → ⊥
-is_rewritten files can (inl none) = not_formed (linking_files files) can.program can.rewritable.links none
-is_rewritten files can (inr h) =
-    let same = one_program files can.program h.program can.rewritable.links h.links in
-    let made : rewritten_classes (in_order files) h.program ≡ Ok can.rewritable.instrumented = subst (λ (p : Program). rewritten_classes (in_order files) p ≡ Ok can.rewritable.instrumented) same can.rewritable.rewrites in
-    let one : can.rewritable.instrumented ≡ h.instrumented = let other = h.rewrites in cc in
-    let few = few_at h.instrumented h.class (subst (AllByRecursion HasFewFields) one can.few) h.there in
-    let many = h.many in
-    omega (arith, few, many)
-
-unbuilt_rewriting : (told : Files) (dir : List ℕ) → CanRewriteIn told dir → HasClasses (Some told) dir IsNotRewritten → ⊥
-unbuilt_rewriting told dir can h = is_rewritten can.classes can.holding (held told dir CanRewrite can IsNotRewritten h)
-
-built_rewriting : (words : List (String Global)) (files : Option Files) → IsNotBuilt words files → CanRewriteWords words files → ⊥
-built_rewriting words files h can =
-    let same = one_rewriting words h.0 h.1 can.0 can.1 h.2 can.3 in
-    unbuilt_rewriting can.2 can.0 can.5 (rw (can.4, same.0) at h.3)
-
 module _ (words : List (String Global)) (told : Files) (dir out : List ℕ) (asked : seen_words words ≡ rewrite_words dir out) (can : CanRewriteIn told dir) where
-  no_form_fault : (files : Option Files) (r : Refusal) → files ≡ Some told → IsBadProgramOfWords words files r → ⊥
-  no_form_fault files r is (d, other, inl h) = apart words d other dir out h.0 asked
-  no_form_fault files r is (d, other, inr h) = let same = one_rewriting words d other dir out h.0 asked in refused (rw (is, same.0) at h.1)
-    where
-      refused : HasBadProgram IsBadForm (Some told) dir r → ⊥
-      refused (inl over) = fits told dir CanRewrite can r over
-      refused (inr bad) = no_bad_form can.classes can.holding.program r can.holding.rewritable (held told dir CanRewrite can (IsBadForm r) bad)
+  rewriting_named : (d : List ℕ) → NamesFolder words d → d ≡ dir
+  rewriting_named d n = rewriting_folder words d dir out n asked
 
-  none_untyped_form : (files : Option Files) (r : Refusal) → files ≡ Some told → IsUntypableOfWords words files r → ⊥
-  none_untyped_form files r is (d, other, inl h) = apart words d other dir out h.0 asked
-  none_untyped_form files r is (d, other, inr h) =
-      let same = one_rewriting words d other dir out h.0 asked in
-      all_typed_form can.classes can.holding.program r can.holding.rewritable (held told dir CanRewrite can (IsUntypableForm r) (rw (is, same.0) at h.1))
+  -- no status of a refusal
+  rewriting_completes : (old new : Seen) (o : Outcome) (status : ℕ) → old.files ≡ Some told → Says words old new o → status ≡ status_of o
+      → (status ≡ 0) ⊎ ((status ≡ 8) ⊎ ((status ≡ 9) ⊎ ((status ≡ 10) ⊎ (status ≡ 11))))
+  rewriting_completes old new (Journal text) status is h s = inl s
+  rewriting_completes old new (Rewritten n taken marked) status is h s = inl s
+  rewriting_completes old new Usage status is h s = absurd (h.1 dir out asked)
+  rewriting_completes old new (BadClass path r) status is h s =
+      absurd (no_bad_class words told dir can.free CanRewrite can.of_classes can.of_classes.holding.0 can.of_classes.holding.1 rewriting_named old.files (string_bytes path) r is h)
+  rewriting_completes old new (BadProgram r) status is h s =
+      absurd (no_program_fault words told dir can.free CanRewrite can.of_classes can.of_classes.holding.0 can.of_classes.holding.1 rewriting_named old.files r is h)
+  rewriting_completes old new (Untyped r) status is h s =
+      absurd (none_untyped words told dir can.free CanRewrite can.of_classes can.of_classes.holding.0 can.of_classes.holding.1 rewriting_named old.files r is h)
+  rewriting_completes old new (BadScript r) status is h s = absurd (apart words h.0 h.1 dir out h.2 asked)
+  rewriting_completes old new (Unopened class x) status is h s = absurd (apart words h.0 h.1 dir out h.2 asked)
+  rewriting_completes old new (Outside path) status is h s = inr (inl s)
+  rewriting_completes old new (NotPut path) status is h s = inr (inr (inr (inr s)))
 
 pub complete_rewriting : (words : List (String Global)) (old new : Seen) (o : Outcome) (status : ℕ) → Says words old new o → status ≡ status_of o → CanRewriteWords words old.files
     → (status ≡ 0) ⊎ ((status ≡ 8) ⊎ ((status ≡ 9) ⊎ ((status ≡ 10) ⊎ (status ≡ 11))))
-complete_rewriting words old new (Journal text) status h s can = inl s
-complete_rewriting words old new (Rewritten n taken marked) status h s can = inl s
-complete_rewriting words old new Usage status h s can = absurd (h.1 can.0 can.1 can.3)
-complete_rewriting words old new (BadClass path r) status h s can =
-    absurd (no_bad_class words can.2 can.0 CanRewrite can.5 (λ d n. rewriting_folder words d can.0 can.1 n can.3) old.files (string_bytes path) r can.4 h)
-complete_rewriting words old new (BadProgram r) status h s can = absurd (no_form_fault words can.2 can.0 can.1 can.3 can.5 old.files r can.4 h)
-complete_rewriting words old new (Untyped r) status h s can = absurd (none_untyped_form words can.2 can.0 can.1 can.3 can.5 old.files r can.4 h)
-complete_rewriting words old new (BadScript r) status h s can = absurd (apart words h.0 h.1 can.0 can.1 h.2 can.3)
-complete_rewriting words old new (Unopened class x) status h s can = absurd (apart words h.0 h.1 can.0 can.1 h.2 can.3)
-complete_rewriting words old new (Outside path) status h s can = inr (inl s)
-complete_rewriting words old new (NotPut path) status h s can = inr (inr (inr (inr s)))
-complete_rewriting words old new NotBuilt status h s can = absurd (built_rewriting words old.files h can)
+complete_rewriting words old new o status h s can = rewriting_completes words can.2 can.0 can.1 can.3 can.5 old new o status can.4 h s
+
+-- ---- a file at the path of the helper of arrays
+
+not_free : (words : List (String Global)) (files : Option Files) (d : List ℕ) → NamesFolder words d → LacksHelper files d → HasHelperOfWords words files → ⊥
+not_free words files d names free has = go (subst (λ (e : List ℕ). LacksHelper files e) (one_folder words d has.0 names has.2) free has.1 has.3)
+  where
+    go : has.1 (inside has.0 helper_path) ≡ None → ⊥
+    go none = let some = has.4 in cc
+
+no_usage : (words : List (String Global)) (files : Option Files) → IsNoCommand words → HasHelperOfWords words files → ⊥
+no_usage words files none (dir, told, (other, inl w), is, some) = none.0 dir other w
+no_usage words files none (dir, told, (other, inr w), is, some) = none.1 dir other w
+
+-- nothing is run or rewritten
+pub helper_refused : (words : List (String Global)) (old new : Seen) (o : Outcome) (status : ℕ) → Says words old new o → status ≡ status_of o → HasHelperOfWords words old.files → IsRefusedOrFailed status
+helper_refused words old new (Journal text) status h s has = absurd (not_free words old.files h.0 (h.1, inl h.2) h.3.free has)
+helper_refused words old new (Rewritten n taken marked) status h s has = absurd (not_free words old.files h.0 (h.1, inr h.2) h.3.rewriting.free has)
+helper_refused words old new Usage status h s has = absurd (no_usage words old.files h has)
+helper_refused words old new (BadClass path r) status h s has = inl s
+helper_refused words old new (BadProgram r) status h s has = inr (inl s)
+helper_refused words old new (Untyped r) status h s has = absurd (not_free words old.files h.0 h.1 h.2.0 has)
+helper_refused words old new (BadScript r) status h s has = absurd (not_free words old.files h.0 (h.1, inl h.2) h.3.free has)
+helper_refused words old new (Unopened class x) status h s has = absurd (not_free words old.files h.0 (h.1, inl h.2) h.3.free has)
+helper_refused words old new (Outside path) status h s has = inr (inr (inl s))
+helper_refused words old new (NotPut path) status h s has = absurd (not_free words old.files h.0 (h.1, inr h.2) h.3.stopped.rewriting.free has)

@@ -3,7 +3,7 @@ use Rattle.std.proofs.Common.{ℕ, zero, suc, List, [], ◌∷◌, ◌++◌, len
 use Rattle.std.specs.List.{flat_map, AllByRecursion}
 use Rattle.jmodel.specs.ClassFile.{u2, u4, magic, constants, indexes, attribute, attributes, member, members, Attribute, Member, ClassFile}
 use Rattle.jmodel.specs.ClassRules.{Spells}
-use Rattle.rewriter.specs.Meaning.{AreBytes, HasBytes, AreFiled}
+use Rattle.object_rewriter.specs.Asked.{AreBytes, HasBytes, AreFiled}
 
 behind : (xs ys : List ℕ) → AreBytes (xs ++ ys) → AreBytes ys
 behind [] ys h i = h i

@@ -2,7 +2,6 @@ pub mod Lists
 pub mod Ordered
 pub mod Named
 pub mod Reading
-pub mod Formed
 pub mod Folders
 pub mod Depths
 pub mod Sets
@@ -12,7 +11,10 @@ pub mod Asked
 pub mod Outcomes
 pub mod Printed
 pub mod Complete
+pub mod Retyped
+pub mod Written
+pub mod Marked
 pub mod Filed
-pub mod Placed
 pub mod PutFiles
 pub mod Refused
+pub mod HelperPath

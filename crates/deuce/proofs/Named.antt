@@ -1,6 +1,6 @@
 -- Classes by their names, and how rewriting keeps these.
-use Rattle.std.proofs.Common.{◌≡◌, ◌<◌, ◌≤◌, ◌++◌, ◌∙◌, ℕ, zero, suc, Bor, Bool, true, false, cond, List, [], ◌∷◌, length, map, reverse, slice_get, Option, Some, None, refl, sym, ap, subst, arith}
-use Rattle.std.specs.Prelude.{◌^◌, option_map, option_and_then, bytes_eq, if◌then◌else◌, IsSome, IsSomeAnd, Contains, nat_lt}
+use Rattle.std.proofs.Common.{◌≡◌, ◌++◌, ◌∙◌, ℕ, Bor, Bool, true, false, cond, List, [], ◌∷◌, map, reverse, Option, Some, None, refl, sym, ap, subst}
+use Rattle.std.specs.Prelude.{option_map, bytes_eq, if◌then◌else◌, IsSome}
 use Rattle.std.specs.List.{AllByRecursion, AllZip}
 use Rattle.std.specs.Map.{lookup}
 use Rattle.std.specs.BTreeMap.{is_at}
@@ -8,21 +8,13 @@ use Rattle.std.specs.declared.cmp.Ordering.{Ordering}
 use Rattle.std.specs.Ordering.{nat_cmp}
 use Rattle.std.specs.Cmp.Lexicographic.{slice_cmp}
 use Rattle.std.proofs.lemmas.List.{map-append, reverse-append}
-use Rattle.std.proofs.lemmas.Bool.Decides.{nat_tests}
 use Rattle.std.proofs.lemmas.Slice.Eq.{bytes_eq-Decides}
 use Rattle.std.proofs.lemmas.Map.Text.{is_eq-slice_cmp}
-use Rattle.jmodel.specs.declared.class_file.Constant.{Constant}
-use Rattle.jmodel.specs.declared.class_file.Constant.TheVariants as constants
-use Rattle.jmodel.specs.ClassFile.{Pool, ClassFile}
-use Rattle.jmodel.specs.ClassRules.{IsClassFile}
-use Rattle.jmodel.specs.Descriptor.{IsClassName}
-use Rattle.jmodel.specs.Pool.{entry, text_in, utf8, name_in, class_name}
-use Rattle.jmodel.specs.Layout.{text_or_none}
+use Rattle.jmodel.specs.ClassFile.{ClassFile}
 use Rattle.jmodel.specs.Superclasses.{own_name, class_named}
 use Rattle.jmodel.specs.Classes.{is_before, placed, in_order}
-use Rattle.rewriter.specs.Meaning.{HasFewMembers}
-use Rattle.deuce.specs.Rewritten.{HasFewFields}
-use Rattle.rewriter.specs.Rewritten.{Keeps}
+use Rattle.objects.specs.Program.{Program}
+use Rattle.rewritten_names.specs.Heads.{Rewrites}
 use Rattle.deuce.specs.Ending.{AreUnderNames}
 use Rattle.deuce.proofs.Lists.{all_as}
 
@@ -118,69 +110,39 @@ named_in_order (c ∷ cs) = (
 
 -- ---- names that are kept
 
-there_in : (pool more : Pool) (i : ℕ) (x : Constant) → slice_get pool i ≡ Some x → slice_get (pool ++ more) i ≡ Some x
-there_in [] more i x h = cc
-there_in (y ∷ pool) more zero x h = h
-there_in (y ∷ pool) more (suc i) x h = there_in pool more i x h
+abbrev KeepsName : ClassFile → ClassFile → Type 0
+KeepsName c d = own_name d ≡ own_name c
 
-entry_in : (pool more : Pool) (i : ℕ) (x : Constant) → entry pool i ≡ Some x → entry (pool ++ more) i ≡ Some x
-entry_in pool more zero x h = h
-entry_in pool more (suc i) x h = there_in pool more i x h
-
-text_in_more : (pool more : Pool) (i : ℕ) (text : List ℕ) → utf8 pool i ≡ Some text → utf8 (pool ++ more) i ≡ Some text
-text_in_more pool more i text h = go (entry pool i) refl h
-  where
-    go : (o : Option Constant) → entry pool i ≡ o → option_and_then text_in o ≡ Some text → utf8 (pool ++ more) i ≡ Some text
-    go None e h = cc
-    go (Some x) e h = ap (option_and_then text_in) (entry_in pool more i x e) ∙ h
-
-name_in_more : (pool more : Pool) (x : Constant) (name : List ℕ) → name_in pool x ≡ Some name → name_in (pool ++ more) x ≡ Some name
-name_in_more pool more (constants.Class i) name h = text_in_more pool more i name h
-name_in_more pool more (constants.Utf8 b) name h = cc
-name_in_more pool more (constants.Integer n) name h = cc
-name_in_more pool more (constants.Float n) name h = cc
-name_in_more pool more (constants.Long n) name h = cc
-name_in_more pool more (constants.Double n) name h = cc
-name_in_more pool more (constants.Text i) name h = cc
-name_in_more pool more (constants.Field i j) name h = cc
-name_in_more pool more (constants.Method i j) name h = cc
-name_in_more pool more (constants.InterfaceMethod i j) name h = cc
-name_in_more pool more (constants.NameAndType i j) name h = cc
-name_in_more pool more constants.Second name h = cc
-
-class_in_more : (pool more : Pool) (i : ℕ) (name : List ℕ) → class_name pool i ≡ Some name → class_name (pool ++ more) i ≡ Some name
-class_in_more pool more i name h = go (entry pool i) refl h
-  where
-    go : (o : Option Constant) → entry pool i ≡ o → option_and_then (name_in pool) o ≡ Some name → class_name (pool ++ more) i ≡ Some name
-    go None e h = cc
-    go (Some x) e h = ap (option_and_then (name_in (pool ++ more))) (entry_in pool more i x e) ∙ name_in_more pool more x name h
-
--- a class that keeps another's pool and number has its name
-pub same_name : (c d : ClassFile) → IsClassFile c → Keeps c d → own_name d ≡ own_name c
-same_name c d rules keeps = go (class_name c.pool c.this_class) refl rules.this_name
-  where
-    go : (o : Option (List ℕ)) → class_name c.pool c.this_class ≡ o → IsSomeAnd o IsClassName → own_name d ≡ own_name c
-    go None e h = absurd h
-    go (Some name) e h =
-        let more = keeps.pool.0 in
-        let there : class_name d.pool d.this_class ≡ Some name =
-        ap (λ (p : Pool). class_name p d.this_class) keeps.pool.1 ∙ ap (class_name (c.pool ++ more)) keeps.this_class ∙ class_in_more c.pool more c.this_class name e in
-        ap text_or_none there ∙ sym (ap text_or_none e)
-
-pub named_still : (cs ds : List ClassFile) (name : List ℕ) → AllByRecursion IsClassFile cs → AllZip Keeps cs ds → IsNamed cs name → IsNamed ds name
-named_still [] [] name rules keeps h = h
-named_still [] (d ∷ ds) name rules keeps h = absurd keeps
-named_still (c ∷ cs) [] name rules keeps h = absurd keeps
-named_still (c ∷ cs) (d ∷ ds) name rules keeps h = rw (same_name c d rules.0 keeps.0) (go (bytes_eq (own_name c) name) (named_still cs ds name rules.1 keeps.1) h)
+named_still : (cs ds : List ClassFile) (name : List ℕ) → AllZip KeepsName cs ds → IsNamed cs name → IsNamed ds name
+named_still [] [] name keeps h = h
+named_still [] (d ∷ ds) name keeps h = absurd keeps
+named_still (c ∷ cs) [] name keeps h = absurd keeps
+named_still (c ∷ cs) (d ∷ ds) name keeps h = rw keeps.0 (go (bytes_eq (own_name c) name) (named_still cs ds name keeps.1) h)
   where
     go : (b : Bool) → (IsNamed cs name → IsNamed ds name) → IsSome (cond b (Some c) (class_named cs name)) → IsSome (cond b (Some d) (class_named ds name))
     go true f k = refl
     go false f k = f k
 
+-- what is named is still named with more classes behind
+named_before : (cs more : List ClassFile) (name : List ℕ) → IsNamed cs name → IsNamed (cs ++ more) name
+named_before [] more name h = absurd (cc)
+named_before (c ∷ cs) more name h = go (bytes_eq (own_name c) name) (named_before cs more name) h
+  where
+    go : (b : Bool) → (IsNamed cs name → IsNamed (cs ++ more) name) → IsSome (cond b (Some c) (class_named cs name)) → IsSome (cond b (Some c) (class_named (cs ++ more) name))
+    go true f k = refl
+    go false f k = f k
+
+all_keep : (P : Program) (cs ds : List ClassFile) → AllZip (Rewrites P) cs ds → AllZip KeepsName cs ds
+all_keep P [] [] h = tt
+all_keep P [] (d ∷ ds) h = absurd h
+all_keep P (c ∷ cs) [] h = absurd h
+all_keep P (c ∷ cs) (d ∷ ds) h = (h.0.own, all_keep P cs ds h.1)
+
 -- each class file's class is among the rewritten ones
-pub all_named : (files news : List ClassFile) → AllByRecursion IsClassFile (in_order files) → AllZip Keeps (in_order files) news → AllByRecursion (λ (f : ClassFile). IsNamed news (own_name f)) files
-all_named files news rules keeps =
-    all_as (λ (f : ClassFile). IsNamed (in_order files) (own_name f)) (λ (f : ClassFile). IsNamed news (own_name f)) (λ f h. named_still (in_order files) news (own_name f) rules keeps h) files (named_in_order files)
+pub all_named : (P : Program) (files classes more : List ClassFile) → AllZip (Rewrites P) (in_order files) classes → AllByRecursion (λ (f : ClassFile). IsNamed (classes ++ more) (own_name f)) files
+all_named P files classes more each =
+    all_as (λ (f : ClassFile). IsNamed (in_order files) (own_name f)) (λ (f : ClassFile). IsNamed (classes ++ more) (own_name f))
+    (λ f h. named_before classes more (own_name f) (named_still (in_order files) classes (own_name f) (all_keep P (in_order files) classes each) h)) files (named_in_order files)
 
 -- a class that has a name is one of them
 pub holds_of : (Q : ClassFile → Type 0) (cs : List ClassFile) (name : List ℕ) (c : ClassFile) → class_named cs name ≡ Some c → AllByRecursion Q cs → Q c
@@ -190,22 +152,3 @@ holds_of Q (d ∷ cs) name c is all = go (bytes_eq (own_name d) name) (λ e. hol
     go : (b : Bool) → (class_named cs name ≡ Some c → Q c) → cond b (Some d) (class_named cs name) ≡ Some c → Q c
     go true f e = let same : d ≡ c = cc (e) in subst Q same all.0
     go false f e = f e
-
--- ---- what can be written
-
-pub all_ruled : (cs : List ClassFile) → AllByRecursion (λ (c : ClassFile). HasFewMembers c → IsClassFile c) cs → AllByRecursion (λ (c : ClassFile). length c.methods < 2 ^ 16) cs → AllByRecursion HasFewFields cs
-    → AllByRecursion IsClassFile cs
-all_ruled [] rules methods fields = tt
-all_ruled (c ∷ cs) rules methods fields = (rules.0 (record { fields = fields.0; methods = methods.0 }), all_ruled cs rules.1 methods.1 fields.1)
-
--- where not each has few fields, one has too many
-pub one_many : (cs : List ClassFile) → (AllByRecursion HasFewFields cs → ⊥) → (c : ClassFile) × Contains cs c × (2 ^ 16 ≤ length c.fields)
-one_many [] none = absurd (none tt)
-one_many (c ∷ cs) none = go (one_many cs) (nat_lt (length c.fields) 65536) refl
-  where
-    later : (d : ClassFile) × Contains cs d × (2 ^ 16 ≤ length d.fields) → (d : ClassFile) × Contains (c ∷ cs) d × (2 ^ 16 ≤ length d.fields)
-    later rest = let lt = rest.1.1 in (rest.0, (suc rest.1.0, omega (arith, lt), rest.1.2), rest.2)
-
-    go : ((AllByRecursion HasFewFields cs → ⊥) → (d : ClassFile) × Contains cs d × (2 ^ 16 ≤ length d.fields)) → (b : Bool) → nat_lt (length c.fields) 65536 ≡ b → (d : ClassFile) × Contains (c ∷ cs) d × (2 ^ 16 ≤ length d.fields)
-    go others false p = (c, (0, omega arith, refl), grind (arith, nat_tests))
-    go others true p = let few : HasFewFields c = grind (arith, nat_tests) in later (others (λ all. none (few, all)))

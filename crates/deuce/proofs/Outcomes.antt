@@ -1,5 +1,5 @@
 -- The outcomes of commands.
-use Rattle.std.proofs.Common.{◌≡◌, ◌≤◌, ℕ, List, Option, inl, inr, subst}
+use Rattle.std.proofs.Common.{◌≡◌, ◌≤◌, ℕ, List, Option, Some, None, inl, inr, subst}
 use Rattle.std.specs.Prelude.{String, string_bytes}
 use Rattle.std.specs.declared.alloc.Global.{Global}
 use Rattle.deuce_io.specs.Fault.{Call, rose_since}
@@ -14,17 +14,15 @@ use Rattle.deuce.specs.declared.inputs.InputEnd.{InputEnd}
 use Rattle.deuce.specs.declared.inputs.InputEnd.TheVariants as ends
 use Rattle.deuce.specs.declared.putting.PutEnd.{PutEnd}
 use Rattle.deuce.specs.declared.putting.PutEnd.TheVariants as put_ends
-use Rattle.object_run.specs.Faults.{IsBadProgram, IsUntypable, IsBadScript, IsUnopened, EndsRun}
+use Rattle.object_run.specs.Faults.{HasFault, IsBadRewriting, IsUntypable, IsBadScript, IsUnopened, EndsRun, EndsPreparing}
 use Rattle.object_run.specs.declared.outcome.RunEnd.{RunEnd}
 use Rattle.object_run.specs.declared.outcome.RunEnd.TheVariants as run_ends
-use Rattle.deuce.specs.declared.forming.RewriteEnd.{RewriteEnd}
-use Rattle.deuce.specs.declared.forming.RewriteEnd.TheVariants as rewrite_ends
 use Rattle.deuce.specs.declared.outcome.Outcome.{Outcome}
 use Rattle.deuce.specs.declared.outcome.Outcome.TheVariants as outcomes
-use Rattle.deuce.specs.Folder.{IsOverfull, HasClasses, placed_in, ArePutUpTo}
-use Rattle.deuce.specs.Ending.{Failed, paths_of, AreRewritten, EndsPuts, AreClassInputs, AreClassesOf, EndsInputs, EndsClasses, EndsOnClasses, IsBadForm, IsUntypableForm, IsNotRewritten}
-use Rattle.deuce.specs.Outcomes.{Says, ArePut, IsUnreadAs, IsRefusedAs, IsNotRewrittenAs, IsNotPutAs, IsOutcome, IsBadProgramOfWords, FailedOutside}
-use Rattle.deuce.proofs.Reading.{bad_class, has_classes, stopped_at}
+use Rattle.deuce.specs.Folder.{IsOverfull, HasClasses, LacksHelper, placed_with, ArePutUpTo}
+use Rattle.deuce.specs.Ending.{Failed, paths_of, AreRewritten, EndsPuts, AreClassInputs, AreClassesOf, EndsInputs, EndsClasses, IsReservedAs, EndsReserved}
+use Rattle.deuce.specs.Outcomes.{Says, ArePut, IsUnreadAs, IsRefusedAs, IsNotPutAs, IsOutcome, IsBadProgramOfWords, FailedOutside}
+use Rattle.deuce.proofs.Reading.{bad_class, has_classes, reserved_of, stopped_at}
 
 module _ (words : List (String Global)) (old new : Seen) (dir : List ℕ) (kept : new.files ≡ old.files) (names : NamesFolder words dir) where
   -- of a command whose inputs weren't there
@@ -42,29 +40,40 @@ module _ (words : List (String Global)) (old new : Seen) (dir : List ℕ) (kept 
   not_good inputs a (ends.Refused r) o h is = absurd h
   not_good inputs a ends.NoMemory o h is = absurd is
 
-module _ (words : List (String Global)) (old new : Seen) (dir other : List ℕ) (kept : new.files ≡ old.files) (inputs : List ClassInput) (a : AreClassInputs old.files dir inputs) (cs : List ClassFile) (good : AreClassesOf inputs cs) where
-  -- of a run on the class files that were read
-  pub refused : (w : seen_words words ≡ run_words dir other) (bytes : List ℕ) (end : RunEnd) (o : Outcome)
-      → ((r : Refusal) → HasClasses old.files dir (IsBadScript bytes r) → Says words old new (outcomes.BadScript r))
-      → ((name : List ℕ) (x : Answer) → IsUnopened bytes name x cs → HasClasses old.files dir (IsUnopened bytes name x) → Says words old new (outcomes.Unopened name x))
-      → EndsRun cs bytes end → IsRefusedAs end o → IsOutcome words old new o
-  refused w bytes (run_ends.Refused r) o bad shut h is = rw is (kept, (dir, other, inl (w, inr (has_classes old.files dir inputs cs (IsBadProgram r) a good h))))
-  refused w bytes (run_ends.Untyped r) o bad shut h is = rw is (kept, (dir, other, inl (w, has_classes old.files dir inputs cs (IsUntypable r) a good h)))
-  refused w bytes (run_ends.BadScript r) o bad shut h is = rw is (kept, bad r (has_classes old.files dir inputs cs (IsBadScript bytes r) a good h))
-  refused w bytes (run_ends.Unopened name x) o bad shut h is = rw is (kept, shut name x h (has_classes old.files dir inputs cs (IsUnopened bytes name x) a good h))
-  refused w bytes run_ends.NoMemory o bad shut h is = absurd is
+module _ (words : List (String Global)) (old new : Seen) (dir : List ℕ) (kept : new.files ≡ old.files) (names : NamesFolder words dir) (inputs : List ClassInput) (a : AreClassInputs old.files dir inputs) (cs : List ClassFile) (good : AreClassesOf inputs cs) where
+  -- of a command over class files one of which has the path of the helper of arrays
+  pub kept_for_helper : (o : Option Refusal) (r : Refusal) → EndsReserved inputs cs o → o ≡ Some r → IsOutcome words old new (outcomes.BadProgram r)
+  kept_for_helper None r h is = absurd (cc)
+  kept_for_helper (Some s) r h is =
+      let same : s ≡ r = cc in
+      (kept, (dir, names, inr (reserved_of old.files dir inputs cs h.0 r a good h.1 (subst (IsReservedAs cs h.0) same h.2))))
 
-  -- of a rewriting of them
-  pub not_rewritten : (w : seen_words words ≡ rewrite_words dir other) (end : RewriteEnd) (o : Outcome) → EndsOnClasses cs IsNotRewritten end → IsNotRewrittenAs end o → IsOutcome words old new o
-  not_rewritten w (rewrite_ends.Refused r) o h is = rw is (kept, (dir, other, inr (w, inr (has_classes old.files dir inputs cs (IsBadForm r) a good h))))
-  not_rewritten w (rewrite_ends.Untyped r) o h is = rw is (kept, (dir, other, inr (w, has_classes old.files dir inputs cs (IsUntypableForm r) a good h)))
-  not_rewritten w rewrite_ends.NotBuilt o h is = rw is (kept, (dir, other, w, has_classes old.files dir inputs cs IsNotRewritten a good h))
-  not_rewritten w rewrite_ends.NoMemory o h is = absurd is
+  module _ (free : LacksHelper old.files dir) where
+    -- of a run on them
+    pub refused : (bytes : List ℕ) (end : RunEnd) (o : Outcome)
+        → ((r : Refusal) → IsBadScript bytes r cs → HasClasses old.files dir (IsBadScript bytes r) → Says words old new (outcomes.BadScript r))
+        → ((name : List ℕ) (x : Answer) → IsUnopened bytes name x cs → HasClasses old.files dir (IsUnopened bytes name x) → Says words old new (outcomes.Unopened name x))
+        → EndsRun cs bytes end → IsRefusedAs end o → IsOutcome words old new o
+    refused bytes (run_ends.Refused r) o bad shut (inl h) is = rw is (kept, (dir, names, inr (inl (has_classes old.files dir inputs cs (HasFault r) a good h))))
+    refused bytes (run_ends.Refused r) o bad shut (inr h) is = rw is (kept, (dir, names, inr (inr (inr (free, has_classes old.files dir inputs cs (IsBadRewriting r) a good h)))))
+    refused bytes (run_ends.Untyped r) o bad shut h is = rw is (kept, (dir, names, (free, has_classes old.files dir inputs cs (IsUntypable r) a good h)))
+    refused bytes (run_ends.BadScript r) o bad shut h is = rw is (kept, bad r h (has_classes old.files dir inputs cs (IsBadScript bytes r) a good h))
+    refused bytes (run_ends.Unopened name x) o bad shut h is = rw is (kept, shut name x h (has_classes old.files dir inputs cs (IsUnopened bytes name x) a good h))
+    refused bytes run_ends.NoMemory o bad shut h is = absurd is
+
+    -- of a rewriting of them
+    pub not_rewritten : (end : RunEnd) (o : Outcome) → EndsPreparing cs end → IsRefusedAs end o → IsOutcome words old new o
+    not_rewritten (run_ends.Refused r) o (inl h) is = rw is (kept, (dir, names, inr (inl (has_classes old.files dir inputs cs (HasFault r) a good h))))
+    not_rewritten (run_ends.Refused r) o (inr h) is = rw is (kept, (dir, names, inr (inr (inr (free, has_classes old.files dir inputs cs (IsBadRewriting r) a good h)))))
+    not_rewritten (run_ends.Untyped r) o h is = rw is (kept, (dir, names, (free, has_classes old.files dir inputs cs (IsUntypable r) a good h)))
+    not_rewritten (run_ends.BadScript r) o h is = absurd h
+    not_rewritten (run_ends.Unopened name x) o h is = absurd h
+    not_rewritten run_ends.NoMemory o h is = absurd is
 
 -- ---- puts that stopped
 
-module _ (words : List (String Global)) (old new : Seen) (dir out : List ℕ) (w : seen_words words ≡ rewrite_words dir out) (inputs : List ClassInput) (news : List (List ℕ)) (taken marked : ℕ)
-    (made : AreRewritten old.files dir (paths_of inputs) news taken marked) (puts : List (List ℕ × List ℕ)) (are : puts ≡ placed_in out (paths_of inputs) news) (before : Seen) (kept : before.files ≡ old.files) (later : old.put_faults ≤ before.put_faults) where
+module _ (words : List (String Global)) (old new : Seen) (dir out : List ℕ) (w : seen_words words ≡ rewrite_words dir out) (inputs : List ClassInput) (news : List (List ℕ)) (helper : List ℕ) (taken marked : ℕ)
+    (made : AreRewritten old.files dir (paths_of inputs) news helper taken marked) (puts : List (List ℕ × List ℕ)) (are : puts ≡ placed_with out (paths_of inputs) news helper) (before : Seen) (kept : before.files ≡ old.files) (later : old.put_faults ≤ before.put_faults) where
   -- the files that were put since the folder was read were put since before
   since : (path : List ℕ) → ArePutUpTo puts before.files new.files path → ArePutUpTo puts old.files new.files path
   since path h = subst (λ (f : Option Files). ArePutUpTo puts f new.files path) kept h
@@ -77,7 +86,7 @@ module _ (words : List (String Global)) (old new : Seen) (dir out : List ℕ) (w
       out,
       w,
       record {
-        stopped = stopped_at old.files new.files dir out inputs news taken marked made puts are (string_bytes path) (since (string_bytes path) h.0);
+        stopped = stopped_at old.files new.files dir out inputs news helper taken marked made puts are (string_bytes path) (since (string_bytes path) h.0);
         rose = rose_since old.put_faults before.put_faults new.put_faults later h.1.rose;
         is_last = h.1.is_last;
       },
@@ -86,5 +95,5 @@ module _ (words : List (String Global)) (old new : Seen) (dir out : List ℕ) (w
   not_put put_ends.NoMemory o h is = absurd is
 
   pub stopped : (end : PutEnd) → EndsPuts puts before new end → ArePut words old.files new.files
-  stopped (put_ends.Failed path) h = inr (dir, out, w, inr (string_bytes path, stopped_at old.files new.files dir out inputs news taken marked made puts are (string_bytes path) (since (string_bytes path) h.0)))
-  stopped put_ends.NoMemory h = inr (dir, out, w, inr (h.0, stopped_at old.files new.files dir out inputs news taken marked made puts are h.0 (since h.0 h.1)))
+  stopped (put_ends.Failed path) h = inr (dir, out, w, inr (string_bytes path, stopped_at old.files new.files dir out inputs news helper taken marked made puts are (string_bytes path) (since (string_bytes path) h.0)))
+  stopped put_ends.NoMemory h = inr (dir, out, w, inr (h.0, stopped_at old.files new.files dir out inputs news helper taken marked made puts are h.0 (since h.0 h.1)))

@@ -8,10 +8,10 @@ use Rattle.jmodel.specs.Output.{◌and◌, answer_text, refusal_text, error_text
 use Rattle.deuce.specs.Command.{seen_words, run_words, rewrite_words}
 use Rattle.deuce.specs.Rewritten.{counts_text}
 use Rattle.deuce.specs.declared.outcome.Outcome.{Outcome}
-use Rattle.deuce.specs.declared.outcome.Outcome.TheVariants.{Journal, Rewritten, Usage, BadClass, BadProgram, Untyped, BadScript, Unopened, Outside, NotPut, NotBuilt}
+use Rattle.deuce.specs.declared.outcome.Outcome.TheVariants.{Journal, Rewritten, Usage, BadClass, BadProgram, Untyped, BadScript, Unopened, Outside, NotPut}
 use Rattle.deuce.specs.Ending.{IsJournalOf, IsRewritingOf}
 use Rattle.deuce_io.specs.Seen.{Seen}
-use Rattle.deuce.specs.Outcomes.{Keeps, IsRefusal, Says, IsTextOf, Appends, status_of, IsBadClassOfWords, IsBadProgramOfWords, IsUntypableOfWords, IsBadScriptOfWords, IsUnopenedOfWords}
+use Rattle.deuce.specs.Outcomes.{Keeps, IsRefusal, Says, IsTextOf, Appends, status_of, IsBadClassOfWords, IsBadProgramOfWords, IsUntypableOfWords, IsBadScriptOfWords, IsUnopenedOfWords, FailedPutOfWords}
 use Rattle.deuce.proofs.Asked.{one_run, one_rewriting, apart}
 
 module _ (words : List (String Global)) (old new : Seen) (printed : List ℕ) (before now : Option (List ℕ)) (status : ℕ) where
@@ -30,7 +30,6 @@ module _ (words : List (String Global)) (old new : Seen) (printed : List ℕ) (b
   journal_printed (Unopened class x) h s is all z = absurd (omega (arith, s, z))
   journal_printed (Outside path) h s is all z = absurd (omega (arith, s, z))
   journal_printed (NotPut path) h s is all z = absurd (omega (arith, s, z))
-  journal_printed NotBuilt h s is all z = absurd (omega (arith, s, z))
 
   -- counts of a rewriting, where one was asked for
   pub rewriting_printed : (o : Outcome) → Says words old new o → status ≡ status_of o → IsTextOf o printed → Appends before now printed → status ≡ 0
@@ -47,7 +46,6 @@ module _ (words : List (String Global)) (old new : Seen) (printed : List ℕ) (b
   rewriting_printed (Unopened class x) h s is all z = absurd (omega (arith, s, z))
   rewriting_printed (Outside path) h s is all z = absurd (omega (arith, s, z))
   rewriting_printed (NotPut path) h s is all z = absurd (omega (arith, s, z))
-  rewriting_printed NotBuilt h s is all z = absurd (omega (arith, s, z))
 
   -- a fault of a class file
   pub fault_printed : (o : Outcome) → Says words old new o → status ≡ status_of o → IsTextOf o printed → Appends before now printed → status ≡ 3
@@ -62,7 +60,6 @@ module _ (words : List (String Global)) (old new : Seen) (printed : List ℕ) (b
   fault_printed (Unopened class x) h s is all z = absurd (omega (arith, s, z))
   fault_printed (Outside path) h s is all z = absurd (omega (arith, s, z))
   fault_printed (NotPut path) h s is all z = absurd (omega (arith, s, z))
-  fault_printed NotBuilt h s is all z = absurd (omega (arith, s, z))
 
   -- a fault of the classes, or a limit
   pub program_printed : (o : Outcome) → Says words old new o → status ≡ status_of o → IsTextOf o printed → Appends before now printed → status ≡ 4
@@ -77,7 +74,6 @@ module _ (words : List (String Global)) (old new : Seen) (printed : List ℕ) (b
   program_printed (Unopened class x) h s is all z = absurd (omega (arith, s, z))
   program_printed (Outside path) h s is all z = absurd (omega (arith, s, z))
   program_printed (NotPut path) h s is all z = absurd (omega (arith, s, z))
-  program_printed NotBuilt h s is all z = absurd (omega (arith, s, z))
 
   -- a method without a typing
   pub untyped_printed : (o : Outcome) → Says words old new o → status ≡ status_of o → IsTextOf o printed → Appends before now printed → status ≡ 5
@@ -92,7 +88,6 @@ module _ (words : List (String Global)) (old new : Seen) (printed : List ℕ) (b
   untyped_printed (Unopened class x) h s is all z = absurd (omega (arith, s, z))
   untyped_printed (Outside path) h s is all z = absurd (omega (arith, s, z))
   untyped_printed (NotPut path) h s is all z = absurd (omega (arith, s, z))
-  untyped_printed NotBuilt h s is all z = absurd (omega (arith, s, z))
 
   -- a script that is none
   pub script_printed : (o : Outcome) → Says words old new o → status ≡ status_of o → IsTextOf o printed → Appends before now printed → status ≡ 6
@@ -107,7 +102,6 @@ module _ (words : List (String Global)) (old new : Seen) (printed : List ℕ) (b
   script_printed (Unopened class x) h s is all z = absurd (omega (arith, s, z))
   script_printed (Outside path) h s is all z = absurd (omega (arith, s, z))
   script_printed (NotPut path) h s is all z = absurd (omega (arith, s, z))
-  script_printed NotBuilt h s is all z = absurd (omega (arith, s, z))
 
   -- a static initialiser that doesn't return
   pub unopened_printed : (o : Outcome) → Says words old new o → status ≡ status_of o → IsTextOf o printed → Appends before now printed → status ≡ 7
@@ -122,7 +116,20 @@ module _ (words : List (String Global)) (old new : Seen) (printed : List ℕ) (b
   unopened_printed (Unopened class x) h s is all z = (class, x, h, rw is at all)
   unopened_printed (Outside path) h s is all z = absurd (omega (arith, s, z))
   unopened_printed (NotPut path) h s is all z = absurd (omega (arith, s, z))
-  unopened_printed NotBuilt h s is all z = absurd (omega (arith, s, z))
+
+  -- a put that failed
+  pub put_printed : (o : Outcome) → Says words old new o → status ≡ status_of o → IsTextOf o printed → Appends before now printed → status ≡ 11
+      → (path : List ℕ) × FailedPutOfWords words path old new × Appends before now (error_text (codes "11") path)
+  put_printed (Journal text) h s is all z = absurd (omega (arith, s, z))
+  put_printed (Rewritten n t m) h s is all z = absurd (omega (arith, s, z))
+  put_printed Usage h s is all z = absurd (omega (arith, s, z))
+  put_printed (BadClass path r) h s is all z = absurd (omega (arith, s, z))
+  put_printed (BadProgram r) h s is all z = absurd (omega (arith, s, z))
+  put_printed (Untyped r) h s is all z = absurd (omega (arith, s, z))
+  put_printed (BadScript r) h s is all z = absurd (omega (arith, s, z))
+  put_printed (Unopened class x) h s is all z = absurd (omega (arith, s, z))
+  put_printed (Outside path) h s is all z = absurd (omega (arith, s, z))
+  put_printed (NotPut path) h s is all z = (string_bytes path, h, rw is at all)
 
 -- nothing is put before a refusal
 pub refusal_keeps : (o : Outcome) (old new : Seen) (status : ℕ) → Keeps o old new → status ≡ status_of o → IsRefusal status → new.files ≡ old.files
@@ -142,4 +149,3 @@ refusal_keeps (NotPut path) old new status kept s h = absurd (none status s h)
   where
     none : (status : ℕ) → status ≡ 11 → IsRefusal status → ⊥
     none status s h = grind (arith, s, h)
-refusal_keeps NotBuilt old new status kept s h = kept

@@ -6,7 +6,7 @@ use Rattle.std.proofs.lemmas.Option.{slice_get_read}
 use Rattle.deuce_io.specs.Files.{Files, inside, with_content}
 use Rattle.deuce.specs.declared.inputs.ClassInput.{ClassInput}
 use Rattle.deuce.specs.declared.putting.NewFile.{NewFile}
-use Rattle.deuce.specs.Folder.{with_files, placed_in, ArePutUpTo}
+use Rattle.deuce.specs.Folder.{helper_path, with_files, placed_in, placed_with, ArePutUpTo}
 use Rattle.deuce.specs.Ending.{paths_of, seen_files}
 
 abbrev pub seen_file : NewFile → List ℕ × List ℕ
@@ -24,6 +24,10 @@ placed_each out [] news = refl
 placed_each out (i ∷ inputs) [] = refl
 placed_each out (i ∷ inputs) (new ∷ news) = ap (λ (l : List (List ℕ × List ℕ)). placed out (i, new) ∷ l) (placed_each out inputs news)
 
+pushed : (old : List NewFile) (f : NewFile) → seen_files (old ++ f ∷ []) ≡ seen_files old ++ seen_file f ∷ []
+pushed [] f = refl
+pushed (g ∷ old) f = ap (λ (l : List (List ℕ × List ℕ)). seen_file g ∷ l) (pushed old f)
+
 -- one more
 pub placed_more : (out : List ℕ) (inputs : List ClassInput) (news : List (List ℕ)) (k : ℕ) (p : ClassInput × List ℕ) (old more : List NewFile) (f : NewFile) → k < length (zip inputs news) → p ≡ get_or (zip inputs news) k p
     → seen_file f ≡ placed out p → more ≡ old ++ f ∷ [] → seen_files old ≡ take k (placed_in out (paths_of inputs) news) → seen_files more ≡ take (k + 1) (placed_in out (paths_of inputs) news)
@@ -35,10 +39,6 @@ placed_more out inputs news k p old more f lt is seen one so_far =
     subst Seen (sym (placed_each out inputs news))
     (ap seen_files one ∙ pushed old f ∙ ap (λ (l : List (List ℕ × List ℕ)). l ++ seen_file f ∷ []) (so_far ∙ ap (take k) (placed_each out inputs news))
     ∙ ap (λ (x : List ℕ × List ℕ). take k all ++ x ∷ []) (seen ∙ sym at) ∙ sym (take_more all k (placed out p) long))
-  where
-    pushed : (old : List NewFile) (f : NewFile) → seen_files (old ++ f ∷ []) ≡ seen_files old ++ seen_file f ∷ []
-    pushed [] f = refl
-    pushed (g ∷ old) f = ap (λ (l : List (List ℕ × List ℕ)). seen_file g ∷ l) (pushed old f)
 
 -- all of them
 pub placed_all : (out : List ℕ) (inputs : List ClassInput) (news : List (List ℕ)) (k : ℕ) (files : List NewFile) → k ≡ length (zip inputs news) → seen_files files ≡ take k (placed_in out (paths_of inputs) news)
@@ -46,6 +46,12 @@ pub placed_all : (out : List ℕ) (inputs : List ClassInput) (news : List (List 
 placed_all out inputs news k files all h =
     let same = ap length (placed_each out inputs news) ∙ length-map (zip inputs news) (placed out) in
     h ∙ take_all k (placed_in out (paths_of inputs) news) (omega (arith, all, same))
+
+-- the helper behind them
+pub placed_last : (out : List ℕ) (paths news : List (List ℕ)) (helper : List ℕ) (old more : List NewFile) (f : NewFile) → seen_file f ≡ (inside out helper_path, helper) → more ≡ old ++ f ∷ []
+    → seen_files old ≡ placed_in out paths news → seen_files more ≡ placed_with out paths news helper
+placed_last out paths news helper old more f seen one so_far =
+    ap seen_files one ∙ pushed old f ∙ ap (λ (l : List (List ℕ × List ℕ)). l ++ seen_file f ∷ []) so_far ∙ ap (λ (x : List ℕ × List ℕ). placed_in out paths news ++ x ∷ []) seen
 
 -- ---- how they are put
 

@@ -1,6 +1,6 @@
 -- Files that were read whole.
-use Rattle.std.proofs.Common.{◌≡◌, ◌∙◌, ℕ, suc, ◌+◌, ◌≤◌, List, [], ◌∷◌, ◌++◌, length, map, min, Option, Some, None, refl, sym, subst, ap, take, arith}
-use Rattle.std.specs.Prelude.{option_map, string_bytes}
+use Rattle.std.proofs.Common.{◌≡◌, ◌∙◌, ℕ, zero, suc, ◌+◌, ◌≤◌, List, [], ◌∷◌, ◌++◌, length, map, min, Option, Some, None, refl, sym, subst, ap, take, slice_get, inl, inr, arith}
+use Rattle.std.specs.Prelude.{option_map, string_bytes, codes, Contains}
 use Rattle.std.specs.List.{AllByRecursion, AllZip}
 use Rattle.std.proofs.lemmas.List.{length-map, length-take, take_all, map-append}
 use Rattle.deuce_io.specs.Files.{Files, inside}
@@ -11,11 +11,12 @@ use Rattle.jmodel.specs.ClassRules.{IsClassFile}
 use Rattle.deuce.specs.declared.inputs.ClassInput.{ClassInput}
 use Rattle.deuce.specs.declared.inputs.Inputs.{Inputs}
 use Rattle.object_run.specs.Headline.{IsRunOf}
-use Rattle.object_run.specs.Faults.{IsUnopened}
+use Rattle.object_run.specs.Faults.{HasFault, IsUnopened}
 use Rattle.deuce.specs.Rewritten.{IsRewriting}
 use Rattle.object_script.specs.Script.{script_limit}
-use Rattle.deuce.specs.Folder.{class_limit, HoldsClasses, HoldsContents, IsFrontOf, Holds, IsFileOf, IsGoodFile, HasClasses, IsBadClass, with_files, placed_in, ArePutUpTo}
-use Rattle.deuce.specs.Ending.{IsClassInput, AreClassInputs, AreInputs, paths_of, AreClassesOf, IsFirstFault, IsJournalOf, AreRewritten, IsRewritingOf, StopsAt, HasUnopened}
+use Rattle.deuce.specs.Folder.{class_limit, HoldsClasses, HoldsContents, IsFrontOf, Holds, IsFileOf, IsGoodFile, HasClasses, IsBadClass, helper_path, LacksHelper, AreClassPaths, with_files, placed_with, ArePutUpTo}
+use Rattle.deuce.proofs.Lists.{all_at}
+use Rattle.deuce.specs.Ending.{IsClassInput, AreClassInputs, AreInputs, paths_of, AreClassesOf, IsFirstFault, AreLinked, HasBadClasses, IsHelperAmong, IsReservedAs, IsJournalOf, AreRewritten, IsRewritingOf, StopsAt, HasUnopened}
 
 whole : (most limit : ℕ) (o : Option (List ℕ)) (bytes : List ℕ) → most ≡ suc limit → option_map (take most) o ≡ Some bytes → length bytes ≤ limit → o ≡ Some bytes
 whole most limit None bytes m e le = absurd (cc)
@@ -112,7 +113,7 @@ module _ (files : Option Files) (dir : List ℕ) where
   read_whole inputs cs a good = record { class_files = a.class_files; few = a.few; each = all_hold inputs cs a.each good }
 
 -- there are as many classes as class files, and so no more than a folder may have
-same_count : (inputs : List ClassInput) (cs : List ClassFile) → AreClassesOf inputs cs → length cs ≡ length inputs
+pub same_count : (inputs : List ClassInput) (cs : List ClassFile) → AreClassesOf inputs cs → length cs ≡ length inputs
 same_count [] [] good = refl
 same_count [] (c ∷ cs) good = absurd good
 same_count (i ∷ inputs) [] good = absurd good
@@ -123,11 +124,40 @@ few_files files dir inputs cs a good =
     let few = a.few in
     omega (arith, same_count inputs cs good, length-map inputs (λ (i : ClassInput). string_bytes i.relative), few)
 
+-- ---- the path of the helper of arrays
+
+path_at : (inputs : List ClassInput) (i : ℕ) (input : ClassInput) → slice_get inputs i ≡ Some input → slice_get (paths_of inputs) i ≡ Some (string_bytes input.relative)
+path_at [] i input h = cc
+path_at (x ∷ inputs) zero input h = let same : x ≡ input = cc in ap (λ (y : ClassInput). Some (string_bytes y.relative)) same
+path_at (x ∷ inputs) (suc i) input h = path_at inputs i input h
+
+-- where none of the class files that were read has it, no file stands there
+pub lacks_helper : (files : Option Files) (dir : List ℕ) (inputs : List ClassInput) → AreClassInputs files dir inputs → (Contains (paths_of inputs) helper_path → ⊥) → LacksHelper files dir
+lacks_helper files dir inputs a none = λ told is. go told (a.class_files told is) (told (inside dir helper_path)) refl
+  where
+    go : (told : Files) → AreClassPaths told dir (paths_of inputs) → (o : Option (List ℕ)) → told (inside dir helper_path) ≡ o → told (inside dir helper_path) ≡ None
+    go told paths None e = e
+    go told paths (Some bytes) e = absurd (none ((paths.each helper_path).1 (rw e refl, (codes "org/deuce/transaction/ArrayHelper", refl))))
+
+-- one that has it is good
+pub helper_good : (files : Option Files) (dir : List ℕ) (inputs : List ClassInput) (class : ClassFile) → AreClassInputs files dir inputs → IsHelperAmong inputs class → IsGoodFile files dir helper_path class
+helper_good files dir inputs class a h =
+    let input = all_at (IsClassInput files dir) inputs h.number h.input a.each h.there in
+    subst (λ (p : List ℕ). IsGoodFile files dir p class) h.at_helper (good_file files dir h.input class input h.good)
+
+-- why class files that were read are refused before they are typed
+pub reserved_of : (files : Option Files) (dir : List ℕ) (inputs : List ClassInput) (cs : List ClassFile) (class : ClassFile) (r : Refusal) → AreClassInputs files dir inputs → AreClassesOf inputs cs
+    → IsHelperAmong inputs class → IsReservedAs cs class r → HasBadClasses files dir r
+reserved_of files dir inputs cs class r a good h (inl fault) = inl (has_classes files dir inputs cs (HasFault r) a good fault)
+reserved_of files dir inputs cs class r a good h (inr (linked, is)) =
+    inr (inl (record { linked = has_classes files dir inputs cs AreLinked a good linked; class = class; good = helper_good files dir inputs class a h; refusal = is }))
+
 -- a run of what was read whole
 pub journal_of : (files : Option Files) (dir script : List ℕ) (inputs : Inputs) (cs : List ClassFile) (text : List ℕ) → AreInputs files dir script inputs → AreClassesOf inputs.classes.items cs
-    → IsRunOf cs inputs.script text → IsJournalOf files dir script text
-journal_of files dir script inputs cs text a good run =
+    → LacksHelper files dir → IsRunOf cs inputs.script text → IsJournalOf files dir script text
+journal_of files dir script inputs cs text a good free run =
     record {
+      free = free;
       paths = paths_of inputs.classes.items;
       contents = contents_of inputs.classes.items;
       class_files = read_whole files dir inputs.classes.items cs a.of_classes good;
@@ -137,25 +167,28 @@ journal_of files dir script inputs cs text a good run =
     }
 
 -- a run that doesn't begin, of what was read whole
-pub unopened_of : (files : Option Files) (dir script bytes name : List ℕ) (x : Answer) → IsFrontOf files script (script_limit + 1) bytes → length bytes ≤ script_limit → HasClasses files dir (IsUnopened bytes name x) → HasUnopened files dir script name x
-unopened_of files dir script bytes name x front fits h = record { script_bytes = bytes; script_holds = holds files script (script_limit + 1) script_limit bytes refl front fits; of_classes = h }
+pub unopened_of : (files : Option Files) (dir script bytes name : List ℕ) (x : Answer) → LacksHelper files dir → IsFrontOf files script (script_limit + 1) bytes → length bytes ≤ script_limit → HasClasses files dir (IsUnopened bytes name x)
+    → HasUnopened files dir script name x
+unopened_of files dir script bytes name x free front fits h = record { free = free; script_bytes = bytes; script_holds = holds files script (script_limit + 1) script_limit bytes refl front fits; of_classes = h }
 
 -- a rewriting of what was read whole
-pub rewritten_of : (files : Option Files) (dir : List ℕ) (inputs : List ClassInput) (cs : List ClassFile) (news : List (List ℕ)) (taken marked : ℕ) → AreClassInputs files dir inputs → AreClassesOf inputs cs
-    → ((contents : List (List ℕ)) → AllZip IsFileOf contents cs → IsRewriting contents news taken marked) → AreRewritten files dir (paths_of inputs) news taken marked
-rewritten_of files dir inputs cs news taken marked a good made = record {
+pub rewritten_of : (files : Option Files) (dir : List ℕ) (inputs : List ClassInput) (cs : List ClassFile) (news : List (List ℕ)) (helper : List ℕ) (taken marked : ℕ) → AreClassInputs files dir inputs → AreClassesOf inputs cs
+    → LacksHelper files dir → ((contents : List (List ℕ)) → AllZip IsFileOf contents cs → IsRewriting contents news helper taken marked) → AreRewritten files dir (paths_of inputs) news helper taken marked
+rewritten_of files dir inputs cs news helper taken marked a good free made = record {
+  free = free;
   contents = contents_of inputs;
   class_files = read_whole files dir inputs cs a good;
   rewriting = made (contents_of inputs) (are_files inputs cs good);
 }
 
-module _ (files files' : Option Files) (dir out : List ℕ) (inputs : List ClassInput) (news : List (List ℕ)) (taken marked : ℕ) (made : AreRewritten files dir (paths_of inputs) news taken marked)
-    (puts : List (List ℕ × List ℕ)) (are : puts ≡ placed_in out (paths_of inputs) news) where
+module _ (files files' : Option Files) (dir out : List ℕ) (inputs : List ClassInput) (news : List (List ℕ)) (helper : List ℕ) (taken marked : ℕ) (made : AreRewritten files dir (paths_of inputs) news helper taken marked)
+    (puts : List (List ℕ × List ℕ)) (are : puts ≡ placed_with out (paths_of inputs) news helper) where
   -- that was put
   pub rewriting_of : (classes : ℕ) → classes ≡ length inputs → files' ≡ option_map (with_files puts) files → IsRewritingOf files files' dir out classes taken marked
   rewriting_of classes count put = record {
     paths = paths_of inputs;
     news = news;
+    helper = helper;
     rewriting = made;
     count = count ∙ sym (length-map inputs (λ (i : ClassInput). string_bytes i.relative));
     put = subst (λ (fs : List (List ℕ × List ℕ)). files' ≡ option_map (with_files fs) files) are put;
@@ -166,6 +199,7 @@ module _ (files files' : Option Files) (dir out : List ℕ) (inputs : List Class
   stopped_at path put = record {
     paths = paths_of inputs;
     news = news;
+    helper = helper;
     taken = taken;
     marked = marked;
     rewriting = made;

@@ -1,5 +1,5 @@
 -- What the program writes, and why it ends as it does.
-use Rattle.std.specs.Prelude.{◌≡◌, ◌⊎◌, ℕ, ◌+◌, ◌<◌, ◌≤◌, pos, List, ◌∷◌, ◌++◌, length, map, bytes_eq, Option, Some, IsSome, None, Ok, Err, slice_get, string_bytes, option_map, take}
+use Rattle.std.specs.Prelude.{◌≡◌, ◌⊎◌, ℕ, ◌+◌, ◌<◌, ◌≤◌, pos, List, ◌∷◌, ◌++◌, length, map, bytes_eq, Option, Some, IsSome, None, Contains, slice_get, string_bytes, option_map}
 use Rattle.std.specs.Option.{ForSome}
 use Rattle.std.specs.List.{AllByRecursion, AllZip}
 use Rattle.std.specs.Borrow.{Bor}
@@ -12,22 +12,16 @@ use Rattle.deuce_io.specs.declared.end.IoEnd.TheVariants as io
 use Rattle.jmodel.specs.declared.refusal.Refusal.{Refusal}
 use Rattle.jmodel.specs.declared.refusal.Halt.{Halt}
 use Rattle.jmodel.specs.declared.refusal.Halt.TheVariants as halts
-use Rattle.jmodel.specs.declared.refusal.Refusal.TheVariants.{OverLimit, Untypable}
+use Rattle.jmodel.specs.declared.refusal.Refusal.TheVariants.{OverLimit, ReservedName}
 use Rattle.jmodel.specs.ClassFile.{ClassFile}
-use Rattle.jmodel.specs.Name.{printed}
 use Rattle.jmodel.specs.declared.value.Answer.{Answer}
-use Rattle.jmodel.specs.Program.{Method, Program}
-use Rattle.jmodel.specs.Superclasses.{class_named}
-use Rattle.jmodel.specs.Classes.{in_order, doubled_class}
-use Rattle.jmodel.specs.ClassesLinking.{linking, linking_files, pc_of}
-use Rattle.jmodel.specs.Typing.{IsTypable, IsUntypableAt}
-use Rattle.rewriter.specs.RewrittenClasses.{rewritten_classes}
+use Rattle.jmodel.specs.Superclasses.{own_name, class_named}
 use Rattle.object_script.specs.Script.{script_limit}
-use Rattle.object_run.specs.Headline.{CanRun}
-use Rattle.object_run.specs.Faults.{IsBadScript, IsUnopened}
-use Rattle.deuce.specs.Folder.{IsClassFileName, depth, class_limit, IsFolder, HoldsClasses, IsTooDeep, IsOverfull, IsFrontOf, Holds, HoldsContents, IsFileFault, IsFileOf, HasClasses, with_files, placed_in, ArePutUpTo}
+use Rattle.object_run.specs.Headline.{linked_files, CanRun}
+use Rattle.object_run.specs.Faults.{HasFault, IsBadRewriting, IsUntypable, IsBadScript, IsUnopened}
+use Rattle.deuce.specs.Folder.{IsClassFileName, depth, helper_path, LacksHelper, class_limit, IsFolder, HoldsClasses, IsTooDeep, IsOverfull, IsFrontOf, Holds, HoldsContents, IsFileFault, IsFileOf, IsGoodFile, HasClasses, with_files, placed_with, ArePutUpTo}
 use Rattle.deuce.specs.Headline.{IsRun}
-use Rattle.deuce.specs.Rewritten.{formed_files, IsRewriting, CanRewrite, HasManyFields}
+use Rattle.deuce.specs.Rewritten.{IsRewriting, CanRewrite}
 use Rattle.deuce.specs.declared.inputs.ClassInput.{ClassInput}
 use Rattle.deuce.specs.declared.inputs.Inputs.{Inputs}
 use Rattle.deuce.specs.declared.inputs.InputEnd.{InputEnd}
@@ -35,8 +29,6 @@ use Rattle.deuce.specs.declared.inputs.InputEnd.TheVariants as ends
 use Rattle.deuce.specs.declared.putting.NewFile.{NewFile}
 use Rattle.deuce.specs.declared.putting.PutEnd.{PutEnd}
 use Rattle.deuce.specs.declared.putting.PutEnd.TheVariants as put_ends
-use Rattle.deuce.specs.declared.forming.RewriteEnd.{RewriteEnd}
-use Rattle.deuce.specs.declared.forming.RewriteEnd.TheVariants as rewrite_ends
 
 -- the path from a folder to one under it, which is there, no more than 16 levels down, where the folder tells its files
 abbrev pub IsListed : Option Files → List ℕ → List ℕ → Type 0
@@ -85,6 +77,7 @@ pub record AreInputs (files : Option Files) (dir script : List ℕ) (inputs : In
 
 -- The text is that of a run of the script at a path on the class files of a folder.
 pub record IsJournalOf (files : Option Files) (dir script text : List ℕ) : Type 0 where
+  pub free : LacksHelper files dir
   pub paths : List (List ℕ)
   pub contents : List (List ℕ)
   pub class_files : HoldsContents files dir paths contents
@@ -92,28 +85,33 @@ pub record IsJournalOf (files : Option Files) (dir script text : List ℕ) : Typ
   pub script_holds : Holds files script script_bytes
   pub run : IsRun contents script_bytes text
 
--- The class files under a folder have these paths, and these are the bytes of their rewriting, file by file.
-pub record AreRewritten (files : Option Files) (dir : List ℕ) (paths news : List (List ℕ)) (taken marked : ℕ) : Type 0 where
+-- The class files under a folder have these paths, none of them the helper's, and these are the bytes of their rewriting, file by file, and of the helper.
+pub record AreRewritten (files : Option Files) (dir : List ℕ) (paths news : List (List ℕ)) (helper : List ℕ) (taken marked : ℕ) : Type 0 where
+  pub free : LacksHelper files dir
   pub contents : List (List ℕ)
   pub class_files : HoldsContents files dir paths contents
-  pub rewriting : IsRewriting contents news taken marked
+  pub rewriting : IsRewriting contents news helper taken marked
 
--- The class files under a folder, so many, were rewritten, and each new one was put under another folder at the same path, with nothing else.
+-- The class files under a folder, so many, were rewritten, and each new one was put under another folder at the same path, and the helper last, with
+-- nothing else.
 pub record IsRewritingOf (files files' : Option Files) (dir out : List ℕ) (classes taken marked : ℕ) : Type 0 where
   pub paths : List (List ℕ)
   pub news : List (List ℕ)
-  pub rewriting : AreRewritten files dir paths news taken marked
+  pub helper : List ℕ
+  pub rewriting : AreRewritten files dir paths news helper taken marked
   pub count : classes ≡ length paths
-  pub put : files' ≡ option_map (with_files (placed_in out paths news)) files
+  pub put : files' ≡ option_map (with_files (placed_with out paths news helper)) files
 
--- The new files of a rewriting were put one after another, in the order of their paths, up to the one at this path, of which nothing is known.
+-- The new files of a rewriting were put one after another, in the order of their paths and the helper last, up to the one at this path, of which nothing
+-- is known.
 pub record StopsAt (files files' : Option Files) (dir out path : List ℕ) : Type 0 where
   pub paths : List (List ℕ)
   pub news : List (List ℕ)
+  pub helper : List ℕ
   pub taken : ℕ
   pub marked : ℕ
-  pub rewriting : AreRewritten files dir paths news taken marked
-  pub put : ArePutUpTo (placed_in out paths news) files files' path
+  pub rewriting : AreRewritten files dir paths news helper taken marked
+  pub put : ArePutUpTo (placed_with out paths news helper) files files' path
 
 -- the count of failed puts rose, and the last failed call is the put of this path, where the puts of a rewriting stopped
 pub record FailedPut (old new : Seen) (dir out path : List ℕ) : Type 0 where
@@ -121,67 +119,55 @@ pub record FailedPut (old new : Seen) (dir out path : List ℕ) : Type 0 where
   pub rose : Rose old.put_faults new.put_faults
   pub is_last : new.failed ≡ Some (put_of path)
 
--- this is the first limit that the rewriting of a program's classes passes
-abbrev pub PassesLimit : Program → List ClassFile → Refusal → Type 0
-PassesLimit P cs r = rewritten_classes cs P ≡ Err r
+-- the classes of class files have no fault
+abbrev pub AreLinked : List ClassFile → Type 0
+AreLinked files = IsSome (linked_files files)
 
--- The classes of class files mean a program of which each method has a typing, and this is the first limit that their rewriting passes.
-abbrev pub IsOverLimit : Refusal → List ClassFile → Type 0
-IsOverLimit r files = (P : Program) × (formed_files files ≡ Some P) × AllByRecursion (IsTypable P) P.methods × PassesLimit P (in_order files) r
+-- Good class files have classes without a fault, but one stands where rewriting puts the helper of arrays, as the refusal says by the name of its class.
+pub record HasReservedPath (files : Option Files) (dir : List ℕ) (r : Refusal) : Type 0 where
+  pub linked : HasClasses files dir AreLinked
+  pub class : ClassFile
+  pub good : IsGoodFile files dir helper_path class
+  pub refusal : r ≡ ReservedName (own_name class)
 
--- Why class files that are good aren't rewritten: the linking of their classes ends with this fault, or their rewriting passes this limit.
-abbrev pub IsBadForm : Refusal → List ClassFile → Type 0
-IsBadForm r files = (linking_files files ≡ Err r) ⊎ IsOverLimit r files
+-- Why good class files are refused: the linking of their classes ends with this fault; or one of them has the helper's path; or none has it, and their
+-- program makes a store that is too early, or their rewriting passes a limit.
+abbrev pub HasBadClasses : Option Files → List ℕ → Refusal → Type 0
+HasBadClasses files dir r = HasClasses files dir (HasFault r) ⊎ (HasReservedPath files dir r ⊎ (LacksHelper files dir × HasClasses files dir (IsBadRewriting r)))
 
--- Why a folder of class files is refused: it passes a limit of folders, or its class files are good, and their classes are refused.
-abbrev pub HasBadProgram : (Refusal → List ClassFile → Type 0) → Option Files → List ℕ → Refusal → Type 0
-HasBadProgram Bad files dir r = IsOverfull files dir r ⊎ HasClasses files dir (Bad r)
+-- Why a folder of class files is refused: it passes a limit of folders, or its class files are good and refused so.
+abbrev pub HasBadProgram : Option Files → List ℕ → Refusal → Type 0
+HasBadProgram files dir r = IsOverfull files dir r ⊎ HasBadClasses files dir r
 
--- Of a program's methods, those before this one have typings, and it has none, for the instruction at a place, as the refusal says.
-pub record IsFirstUntypable (P : Program) (cs : List ClassFile) (r : Refusal) : Type 0 where
-  pub number : ℕ
-  pub method : Method
-  pub there : slice_get P.methods number ≡ Some method
-  pub before : AllByRecursion (IsTypable P) (take number P.methods)
-  pub place : ℕ
-  pub untypable : IsUntypableAt P method place
-  pub pc : ℕ
-  pub pc_is : pc_of cs number place ≡ Some pc
-  pub refusal : r ≡ Untypable (printed method.name) (pos pc)
-
--- The classes of class files mean a program, a method of which has no typing, as the refusal says; it is the first.
-abbrev pub IsUntypableForm : Refusal → List ClassFile → Type 0
-IsUntypableForm r files = (P : Program) × (formed_files files ≡ Some P) × IsFirstUntypable P (in_order files) r
-
--- the classes of class files have no fault, but aren't of the form that is rewritten
-abbrev pub IsOutsideForm : List ClassFile → Type 0
-IsOutsideForm files = linking_files files ≡ Ok None
-
--- They aren't of that form, or of their rewriting a class would have too many fields.
-abbrev pub IsNotRewritten : List ClassFile → Type 0
-IsNotRewritten files = IsOutsideForm files ⊎ HasManyFields files
+-- A folder has good class files, none at the helper's path, and a method of their classes has code and no typing, as the refusal says; it is the first.
+abbrev pub HasUntypable : Option Files → List ℕ → Refusal → Type 0
+HasUntypable files dir r = LacksHelper files dir × HasClasses files dir (IsUntypable r)
 
 -- A folder has good class files, for which the script, of which at most one byte over the limit is looked at, has this fault.
 pub record HasBadScript (files : Option Files) (dir script : List ℕ) (r : Refusal) : Type 0 where
+  pub free : LacksHelper files dir
   pub script_bytes : List ℕ
   pub script_front : IsFrontOf files script (script_limit + 1) script_bytes
   pub of_classes : HasClasses files dir (IsBadScript script_bytes r)
 
 -- A folder has good class files, and a script for them, but a run of it doesn't begin.
 pub record HasUnopened (files : Option Files) (dir script name : List ℕ) (x : Answer) : Type 0 where
+  pub free : LacksHelper files dir
   pub script_bytes : List ℕ
   pub script_holds : Holds files script script_bytes
   pub of_classes : HasClasses files dir (IsUnopened script_bytes name x)
 
 -- The files of a folder, as it tells them, let the script at a path be run on the folder's class files.
 pub record CanRunIn (told : Files) (dir script : List ℕ) : Type 0 where
+  pub free : told (inside dir helper_path) ≡ None
   pub script_bytes : List ℕ
   pub script_holds : told script ≡ Some script_bytes
   pub of_classes : HasClasses (Some told) dir (λ files. CanRun files script_bytes)
 
 -- The files of a folder, as it tells them, let its class files be rewritten.
-abbrev pub CanRewriteIn : Files → List ℕ → Type 0
-CanRewriteIn told dir = HasClasses (Some told) dir CanRewrite
+pub record CanRewriteIn (told : Files) (dir : List ℕ) : Type 0 where
+  pub free : told (inside dir helper_path) ≡ None
+  pub of_classes : HasClasses (Some told) dir CanRewrite
 
 -- a command that ended before its inputs were there: where it failed outside, the folder says so
 abbrev pub EndsInputs : (Call → Type 0) → List ℕ → Seen → Seen → InputEnd → Type 0
@@ -255,37 +241,29 @@ abbrev pub EndsReading : List ℕ → Halt → Type 0
 EndsReading class (halts.Refused r) = IsFileFault class r
 EndsReading class halts.NoMemory = Unit {0}
 
--- Why class files aren't rewritten; what isn't built is said of them.
-abbrev pub EndsOnClasses : List ClassFile → (List ClassFile → Type 0) → RewriteEnd → Type 0
-EndsOnClasses files Unbuilt (rewrite_ends.Refused r) = IsBadForm r files
-EndsOnClasses files Unbuilt (rewrite_ends.Untyped r) = IsUntypableForm r files
-EndsOnClasses files Unbuilt rewrite_ends.NotBuilt = Unbuilt files
-EndsOnClasses files Unbuilt rewrite_ends.NoMemory = Unit {0}
+-- of the class files that were read the one at this place has the helper's path
+pub record IsHelperAt (inputs : List ClassInput) (number : ℕ) : Type 0 where
+  pub input : ClassInput
+  pub there : slice_get inputs number ≡ Some input
+  pub at_helper : string_bytes input.relative ≡ helper_path
 
--- why class files have no order
-abbrev pub EndsOrder : List ClassFile → RewriteEnd → Type 0
-EndsOrder files (rewrite_ends.Refused r) = doubled_class files ≡ Some r
-EndsOrder files rewrite_ends.NoMemory = Unit {0}
-EndsOrder files end = ⊥
+-- of the class files that were read this one has the helper's path, and it spells this class
+pub record IsHelperAmong (inputs : List ClassInput) (class : ClassFile) : Type 0 where
+  pub number : ℕ
+  pub input : ClassInput
+  pub there : slice_get inputs number ≡ Some input
+  pub at_helper : string_bytes input.relative ≡ helper_path
+  pub good : IsFileOf input.bytes class
 
--- why classes have no program
-abbrev pub EndsBuild : List ClassFile → RewriteEnd → Type 0
-EndsBuild cs (rewrite_ends.Refused r) = linking cs ≡ Err r
-EndsBuild cs rewrite_ends.NotBuilt = linking cs ≡ Ok None
-EndsBuild cs rewrite_ends.NoMemory = Unit {0}
-EndsBuild cs end = ⊥
+-- Why class files with these classes, of which the file of one has the helper's path, are refused: the linking of the classes ends with this fault; or
+-- they have none, and that class is told.
+abbrev pub IsReservedAs : List ClassFile → ClassFile → Refusal → Type 0
+IsReservedAs files class r = HasFault r files ⊎ (AreLinked files × (r ≡ ReservedName (own_name class)))
 
--- why not each method of a program has a typing
-abbrev pub EndsTyping : Program → List ClassFile → RewriteEnd → Type 0
-EndsTyping P cs (rewrite_ends.Untyped r) = IsFirstUntypable P cs r
-EndsTyping P cs rewrite_ends.NoMemory = Unit {0}
-EndsTyping P cs end = ⊥
-
--- why the classes of a program have no rewriting
-abbrev pub EndsRewriting : Program → List ClassFile → RewriteEnd → Type 0
-EndsRewriting P cs (rewrite_ends.Refused r) = PassesLimit P cs r
-EndsRewriting P cs rewrite_ends.NoMemory = Unit {0}
-EndsRewriting P cs end = ⊥
+-- Class files that were read are refused so, or none of them has the helper's path.
+abbrev pub EndsReserved : List ClassInput → List ClassFile → Option Refusal → Type 0
+EndsReserved inputs files (Some r) = (class : ClassFile) × IsHelperAmong inputs class × IsReservedAs files class r
+EndsReserved inputs files None = Contains (paths_of inputs) helper_path → ⊥
 
 -- the end of a run whose call of the folder ended so at a path
 abbrev pub IsOutsideAt : IoEnd → List ℕ → InputEnd → Type 0

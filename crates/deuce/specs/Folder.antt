@@ -1,5 +1,5 @@
 -- What a folder of class files is: the paths of the class files under it in their order, the classes that these spell, and the first file that is none.
-use Rattle.std.specs.Prelude.{◌≡◌, ◌==◌, ◌⊎◌, ◌↔◌, ℕ, ◌+◌, ◌<◌, ◌≤◌, pos, List, [], ◌∷◌, ◌++◌, length, map, zip, count_by, true, Option, Some, IsSome, Err, Contains, codes, option_map, slice_get, take}
+use Rattle.std.specs.Prelude.{◌≡◌, ◌==◌, ◌⊎◌, ◌↔◌, ℕ, ◌+◌, ◌<◌, ◌≤◌, pos, List, [], ◌∷◌, ◌++◌, length, map, zip, count_by, true, Option, Some, None, IsSome, Err, Contains, codes, option_map, slice_get, take}
 use Rattle.std.specs.Option.{ForSome}
 use Rattle.std.specs.List.{AllPairs, AllZip}
 use Rattle.deuce_io.specs.Files.{Files, inside, with_content}
@@ -23,6 +23,14 @@ depth path = count_by (λ c. c == 47) path
 -- a folder stands at this path: some file's path goes on behind it
 abbrev pub IsFolder : Files → List ℕ → Type 0
 IsFolder told path = (rest : List ℕ) × IsSome (told (inside path rest))
+
+-- where rewriting puts the helper of arrays: its path from the folder of the rewritten class files
+abbrev pub helper_path : List ℕ
+helper_path = codes "org/deuce/transaction/ArrayHelper.class"
+
+-- under a folder, where it tells its files, no file stands at that path
+abbrev pub LacksHelper : Option Files → List ℕ → Type 0
+LacksHelper files dir = ForSome files (λ told. told (inside dir helper_path) ≡ None)
 
 -- These are the paths from a folder to the class files under it, each once, in the ascending order of their bytes; and no file under it lies in a
 -- folder more than 16 levels down.
@@ -128,6 +136,10 @@ with_files (f ∷ fs) told = with_files fs (with_content f.0 (Some f.1) told)
 -- new bytes for files at these paths from a folder, each with its path
 abbrev pub placed_in : List ℕ → List (List ℕ) → List (List ℕ) → List (List ℕ × List ℕ)
 placed_in dir paths news = zip (map (inside dir) paths) news
+
+-- the same, and behind them those of the helper of arrays
+abbrev pub placed_with : List ℕ → List (List ℕ) → List (List ℕ) → List ℕ → List (List ℕ × List ℕ)
+placed_with dir paths news helper = placed_in dir paths news ++ (inside dir helper_path, helper) ∷ []
 
 -- Of files with their paths, those before one were put. Nothing is known of the path of that one; all else is as before.
 pub record ArePutUpTo (fs : List (List ℕ × List ℕ)) (files files' : Option Files) (path : List ℕ) : Type 0 where

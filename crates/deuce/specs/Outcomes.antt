@@ -1,27 +1,24 @@
 -- What each outcome of a command says of the words and of the folder, and how it is printed.
-use Rattle.std.specs.Prelude.{◌≡◌, ◌⊎◌, ℕ, List, Option, Some, codes, string_bytes, String, take}
+use Rattle.std.specs.Prelude.{◌≡◌, ◌⊎◌, ℕ, List, Option, Some, IsSome, codes, string_bytes, String, take}
 use Rattle.std.specs.Io.KnownBytes.{append_known}
 use Rattle.std.specs.declared.alloc.Global.{Global}
-use Rattle.deuce_io.specs.Files.{Files}
+use Rattle.deuce_io.specs.Files.{Files, inside}
 use Rattle.deuce_io.specs.Seen.{Seen}
 use Rattle.jmodel.specs.declared.refusal.Refusal.{Refusal}
 use Rattle.jmodel.specs.declared.value.Answer.{Answer}
 use Rattle.jmodel.specs.Output.{◌and◌, answer_text, refusal_text, error_text}
-use Rattle.object_run.specs.Faults.{IsBadProgram, IsUntypable}
 use Rattle.deuce.specs.Command.{seen_words, run_words, rewrite_words, IsNoCommand, NamesFolder}
 use Rattle.deuce.specs.Rewritten.{counts_text}
-use Rattle.deuce.specs.Folder.{IsBadClass, HasClasses}
-use Rattle.deuce.specs.Ending.{IsCallOfFolder, IsCallOfRun, Failed, FailedPut, IsJournalOf, IsRewritingOf, StopsAt, IsBadForm, HasBadProgram, IsUntypableForm, HasBadScript, HasUnopened, IsNotRewritten, CanRunIn, CanRewriteIn}
+use Rattle.deuce.specs.Folder.{IsBadClass, helper_path}
+use Rattle.deuce.specs.Ending.{IsCallOfFolder, IsCallOfRun, Failed, FailedPut, IsJournalOf, IsRewritingOf, StopsAt, HasBadProgram, HasUntypable, HasBadScript, HasUnopened, CanRunIn, CanRewriteIn}
 use Rattle.deuce.specs.declared.inputs.InputEnd.{InputEnd}
 use Rattle.deuce.specs.declared.inputs.InputEnd.TheVariants as ends
 use Rattle.deuce.specs.declared.putting.PutEnd.{PutEnd}
 use Rattle.deuce.specs.declared.putting.PutEnd.TheVariants as put_ends
 use Rattle.object_run.specs.declared.outcome.RunEnd.{RunEnd}
 use Rattle.object_run.specs.declared.outcome.RunEnd.TheVariants as run_ends
-use Rattle.deuce.specs.declared.forming.RewriteEnd.{RewriteEnd}
-use Rattle.deuce.specs.declared.forming.RewriteEnd.TheVariants as rewrite_ends
 use Rattle.deuce.specs.declared.outcome.Outcome.{Outcome}
-use Rattle.deuce.specs.declared.outcome.Outcome.TheVariants.{Journal, Rewritten, Usage, BadClass, BadProgram, Untyped, BadScript, Unopened, Outside, NotPut, NotBuilt}
+use Rattle.deuce.specs.declared.outcome.Outcome.TheVariants.{Journal, Rewritten, Usage, BadClass, BadProgram, Untyped, BadScript, Unopened, Outside, NotPut}
 
 -- the text that an outcome is printed as
 abbrev pub IsTextOf : Outcome → List ℕ → Type 0
@@ -35,7 +32,6 @@ IsTextOf (BadScript refusal) printed = printed ≡ error_text (codes "6") (refus
 IsTextOf (Unopened class answer) printed = printed ≡ error_text (codes "7") (class and answer_text answer)
 IsTextOf (Outside path) printed = printed ≡ error_text (codes "8") (string_bytes path)
 IsTextOf (NotPut path) printed = printed ≡ error_text (codes "11") (string_bytes path)
-IsTextOf NotBuilt printed = printed ≡ error_text (codes "12") (codes "NotBuilt")
 
 -- the status of an outcome that is printed whole
 abbrev pub status_of : Outcome → ℕ
@@ -49,7 +45,6 @@ status_of (BadScript refusal) = 6
 status_of (Unopened class answer) = 7
 status_of (Outside path) = 8
 status_of (NotPut path) = 11
-status_of NotBuilt = 12
 
 -- the outcome of a run that ended so
 abbrev pub IsRefusedAs : RunEnd → Outcome → Type 0
@@ -58,13 +53,6 @@ IsRefusedAs (run_ends.Untyped r) o = o ≡ Untyped r
 IsRefusedAs (run_ends.BadScript r) o = o ≡ BadScript r
 IsRefusedAs (run_ends.Unopened class x) o = o ≡ Unopened class x
 IsRefusedAs run_ends.NoMemory o = ⊥
-
--- the outcome of a rewriting that ended so
-abbrev pub IsNotRewrittenAs : RewriteEnd → Outcome → Type 0
-IsNotRewrittenAs (rewrite_ends.Refused r) o = o ≡ BadProgram r
-IsNotRewrittenAs (rewrite_ends.Untyped r) o = o ≡ Untyped r
-IsNotRewrittenAs rewrite_ends.NotBuilt o = o ≡ NotBuilt
-IsNotRewrittenAs rewrite_ends.NoMemory o = ⊥
 
 -- the outcome of a command without inputs, or without their classes
 abbrev pub IsUnreadAs : InputEnd → Outcome → Type 0
@@ -82,17 +70,13 @@ IsNotPutAs put_ends.NoMemory o = ⊥
 abbrev pub IsBadClassOfWords : List (String Global) → Option Files → List ℕ → Refusal → Type 0
 IsBadClassOfWords words files path r = (dir : List ℕ) × NamesFolder words dir × IsBadClass files dir path r
 
--- A folder passes a limit of folders, or its class files are good, and their classes are refused so: by the command that the words ask for.
+-- The folder that the words name is refused: it passes a limit of folders, or its class files are good, and they are refused so.
 abbrev pub IsBadProgramOfWords : List (String Global) → Option Files → Refusal → Type 0
-IsBadProgramOfWords words files r = (dir : List ℕ) × (other : List ℕ)
-    × (((seen_words words ≡ run_words dir other) × HasBadProgram IsBadProgram files dir r)
-    ⊎ ((seen_words words ≡ rewrite_words dir other) × HasBadProgram IsBadForm files dir r))
+IsBadProgramOfWords words files r = (dir : List ℕ) × NamesFolder words dir × HasBadProgram files dir r
 
--- The class files of a folder are good, and a method of their classes has no typing, as the refusal says: by the command that the words ask for.
+-- The class files of the folder that the words name are good, and a method of their classes has no typing, as the refusal says.
 abbrev pub IsUntypableOfWords : List (String Global) → Option Files → Refusal → Type 0
-IsUntypableOfWords words files r = (dir : List ℕ) × (other : List ℕ)
-    × (((seen_words words ≡ run_words dir other) × HasClasses files dir (IsUntypable r))
-    ⊎ ((seen_words words ≡ rewrite_words dir other) × HasClasses files dir (IsUntypableForm r)))
+IsUntypableOfWords words files r = (dir : List ℕ) × NamesFolder words dir × HasUntypable files dir r
 
 -- The words ask for a run, and its script has this fault.
 abbrev pub IsBadScriptOfWords : List (String Global) → Option Files → Refusal → Type 0
@@ -101,10 +85,6 @@ IsBadScriptOfWords words files r = (dir : List ℕ) × (script : List ℕ) × (s
 -- The words ask for a run, and a static initialiser of its classes, of the class of this name, doesn't return.
 abbrev pub IsUnopenedOfWords : List (String Global) → Option Files → List ℕ → Answer → Type 0
 IsUnopenedOfWords words files class x = (dir : List ℕ) × (script : List ℕ) × (seen_words words ≡ run_words dir script) × HasUnopened files dir script class x
-
--- The words ask for a rewriting, and its class files are good, but not of the form, or a rewritten class would have too many fields.
-abbrev pub IsNotBuilt : List (String Global) → Option Files → Type 0
-IsNotBuilt words files = (dir : List ℕ) × (out : List ℕ) × (seen_words words ≡ rewrite_words dir out) × HasClasses files dir IsNotRewritten
 
 -- The text is that of the run that the words ask for.
 abbrev pub IsJournalOfWords : List (String Global) → Option Files → List ℕ → Type 0
@@ -122,6 +102,10 @@ CanRunWords words files = (dir : List ℕ) × (script : List ℕ) × (told : Fil
 -- The words ask for a rewriting, and the folder tells class files that can be rewritten.
 abbrev pub CanRewriteWords : List (String Global) → Option Files → Type 0
 CanRewriteWords words files = (dir : List ℕ) × (out : List ℕ) × (told : Files) × (seen_words words ≡ rewrite_words dir out) × (files ≡ Some told) × CanRewriteIn told dir
+
+-- The words name a folder that tells its files, and one stands where rewriting puts the helper of arrays.
+abbrev pub HasHelperOfWords : List (String Global) → Option Files → Type 0
+HasHelperOfWords words files = (dir : List ℕ) × (told : Files) × NamesFolder words dir × (files ≡ Some told) × IsSome (told (inside dir helper_path))
 
 -- a list or a read of the command that the words ask for failed, at this path
 abbrev pub FailedOutside : List (String Global) → List ℕ → Seen → Seen → Type 0
@@ -145,7 +129,7 @@ ArePut words files files' = (files' ≡ files) ⊎ ((dir : List ℕ) × (out : L
 
 -- the statuses of refusals: nothing was put before them
 abbrev pub IsRefusal : ℕ → Type 0
-IsRefusal status = (status ≡ 2) ⊎ ((status ≡ 3) ⊎ ((status ≡ 4) ⊎ ((status ≡ 5) ⊎ ((status ≡ 6) ⊎ ((status ≡ 7) ⊎ ((status ≡ 8) ⊎ (status ≡ 12)))))))
+IsRefusal status = (status ≡ 2) ⊎ ((status ≡ 3) ⊎ ((status ≡ 4) ⊎ ((status ≡ 5) ⊎ ((status ≡ 6) ⊎ ((status ≡ 7) ⊎ (status ≡ 8))))))
 
 -- the statuses of a run that can be made: done, or a list, a read or the sink failed, or memory ran out
 abbrev pub IsRunOrFailed : ℕ → Type 0
@@ -155,10 +139,14 @@ IsRunOrFailed status = (status ≡ 0) ⊎ ((status ≡ 8) ⊎ ((status ≡ 9) �
 abbrev pub IsRewrittenOrFailed : ℕ → Type 0
 IsRewrittenOrFailed status = (status ≡ 0) ⊎ ((status ≡ 8) ⊎ ((status ≡ 9) ⊎ ((status ≡ 10) ⊎ (status ≡ 11))))
 
+-- the statuses of a folder with a file where rewriting puts the helper of arrays: a refusal, or a list, a read or the sink failed, or memory ran out
+abbrev pub IsRefusedOrFailed : ℕ → Type 0
+IsRefusedOrFailed status = (status ≡ 3) ⊎ ((status ≡ 4) ⊎ ((status ≡ 8) ⊎ ((status ≡ 9) ⊎ (status ≡ 10))))
+
 -- all statuses
 abbrev pub IsStatus : ℕ → Type 0
 IsStatus status = (status ≡ 0) ⊎ ((status ≡ 2) ⊎ ((status ≡ 3) ⊎ ((status ≡ 4) ⊎ ((status ≡ 5) ⊎ ((status ≡ 6) ⊎ ((status ≡ 7)
-    ⊎ ((status ≡ 8) ⊎ ((status ≡ 9) ⊎ ((status ≡ 10) ⊎ ((status ≡ 11) ⊎ (status ≡ 12)))))))))))
+    ⊎ ((status ≡ 8) ⊎ ((status ≡ 9) ⊎ ((status ≡ 10) ⊎ (status ≡ 11))))))))))
 
 -- an outcome before which nothing is put
 abbrev pub Keeps : Outcome → Seen → Seen → Type 0
@@ -178,7 +166,6 @@ Says words old new (BadScript refusal) = IsBadScriptOfWords words old.files refu
 Says words old new (Unopened class answer) = IsUnopenedOfWords words old.files class answer
 Says words old new (Outside path) = FailedOutside words (string_bytes path) old new
 Says words old new (NotPut path) = FailedPutOfWords words (string_bytes path) old new
-Says words old new NotBuilt = IsNotBuilt words old.files
 
 abbrev pub IsOutcome : List (String Global) → Seen → Seen → Outcome → Type 0
 IsOutcome words old new o = Keeps o old new × Says words old new o

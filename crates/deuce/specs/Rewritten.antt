@@ -1,32 +1,21 @@
--- What `rewrite` promises: the files that it puts are the rewriting of the class files, each of its own.
-use Rattle.std.specs.Prelude.{◌≡◌, ◌<◌, ◌≤◌, ◌^◌, ℕ, List, ◌++◌, length, filter, Option, Some, Ok, Contains, codes}
-use Rattle.std.specs.List.{AllByRecursion, AllZip}
+-- What `rewrite` promises: the files that it puts are the rewriting of the class files, each of its own, and behind them the helper of arrays.
+use Rattle.std.specs.Prelude.{◌≡◌, ℕ, List, [], ◌∷◌, ◌++◌, length, filter, Some, Ok, true, codes}
+use Rattle.std.specs.List.{AllZip}
 use Rattle.std.specs.Fmt.{decimal}
 use Rattle.jmodel.specs.ClassFile.{ClassFile}
 use Rattle.jmodel.specs.ClassRules.{Spells}
-use Rattle.jmodel.specs.Program.{Program}
-use Rattle.jmodel.specs.Schedule.{is_marked}
 use Rattle.jmodel.specs.Superclasses.{own_name, class_named}
 use Rattle.jmodel.specs.Classes.{in_order}
-use Rattle.jmodel.specs.ClassesLinking.{linking_files, program_in, relinked}
-use Rattle.jmodel.specs.Rewriting.{rewritten}
-use Rattle.jmodel.specs.Typing.{IsTypable}
 use Rattle.jmodel.specs.Output.{◌and◌, line}
-use Rattle.rewriter.specs.RewrittenClasses.{rewritten_classes}
+use Rattle.objects.specs.Program.{Method, Program, method_at, has_code}
+use Rattle.objects.specs.Journal.{is_marked}
+use Rattle.objects.specs.Typing.{Table, IsTypable}
+use Rattle.objects.specs.Rewriting.{rewritten}
+use Rattle.objects.specs.Relinking.{relinked}
+use Rattle.array_helper.specs.Helper.{helper_file}
+use Rattle.program_typing.specs.Tables.{AreTables}
+use Rattle.object_run.specs.Headline.{IsRunnable}
 use Rattle.deuce.specs.Folder.{IsFileOf}
-
--- The program that the classes of class files of the form that can be rewritten mean together, in the order of their names, of which no two are the
--- same; none where they have a fault.
-abbrev pub formed_files : List ClassFile → Option Program
-formed_files files = program_in (linking_files files)
-
--- What class files can be rewritten as: their classes mean a program of which each method has a typing, and their rewriting passes no limit of a
--- class file.
-pub record IsRewritable (files : List ClassFile) (P : Program) : Type 0 where
-  pub links : formed_files files ≡ Some P
-  pub typed : AllByRecursion (IsTypable P) P.methods
-  pub instrumented : List ClassFile
-  pub rewrites : rewritten_classes (in_order files) P ≡ Ok instrumented
 
 -- what is printed: how many class files the folder has, how many of their methods are taken, and how many are marked
 abbrev pub counts_text : ℕ → ℕ → ℕ → List ℕ
@@ -44,34 +33,31 @@ pub record IsNewOf (instrumented : List ClassFile) (file : ClassFile) (new : Lis
   pub named : class_named instrumented (own_name file) ≡ Some class
   pub spelled : Spells new class
 
--- New bytes, some for each class file, spell the rewriting of class files, each within its limit: classes that mean the rewritten
--- program, each of whose methods has a typing too.
-pub record IsRewriting (class_files news : List (List ℕ)) (taken marked : ℕ) : Type 0 where
+-- New bytes spell the last of rewritten classes, which is the helper of arrays.
+pub record IsNewHelper (instrumented : List ClassFile) (new : List ℕ) : Type 0 where
+  pub front : List ClassFile
+  pub class : ClassFile
+  pub last : instrumented ≡ front ++ class ∷ []
+  pub helper : helper_file ≡ Ok class
+  pub spelled : Spells new class
+
+-- each method of a program that has code has a typing
+abbrev pub AreTypable : Program → Type 0
+AreTypable P = (m : ℕ) (k : Method) → method_at P m ≡ Some k → has_code (Some k) ≡ true → IsTypable P k
+
+-- New bytes, some for each class file, and those of the helper spell the rewriting of class files, each within its limit, that can be run: classes that,
+-- by whichever narrowest typings, mean the rewritten program, each of whose methods that has code has a typing too.
+pub record IsRewriting (class_files news : List (List ℕ)) (helper : List ℕ) (taken marked : ℕ) : Type 0 where
   pub files : List ClassFile
   pub are_files : AllZip IsFileOf class_files files
   pub program : Program
-  pub rewritable : IsRewritable files program
-  pub spelled : AllZip (IsNewOf rewritable.instrumented) files news
-  pub means : relinked program rewritable.instrumented ≡ Some (rewritten program)
-  pub stays_typed : AllByRecursion (IsTypable (rewritten program)) (rewritten program).methods
+  pub runnable : IsRunnable files program
+  pub spelled : AllZip (IsNewOf runnable.instrumented) files news
+  pub new_helper : IsNewHelper runnable.instrumented helper
+  pub means : (Ts : List Table) → AreTables program Ts → relinked program (in_order files) runnable.instrumented ≡ Some (rewritten program Ts)
+  pub stays_typed : (Ts : List Table) → AreTables program Ts → AreTypable (rewritten program Ts)
   pub counts : AreCountsOf program taken marked
 
--- the count of a class file's fields has two bytes
-abbrev pub HasFewFields : ClassFile → Type 0
-HasFewFields c = length c.fields < 2 ^ 16
-
--- Class files can be rewritten: of what they are rewritten to no class has more fields than a class file counts.
-pub record CanRewrite (files : List ClassFile) : Type 0 where
-  pub program : Program
-  pub rewritable : IsRewritable files program
-  pub few : AllByRecursion HasFewFields rewritable.instrumented
-
--- of the rewriting of class files one class would have more fields than a class file counts
-pub record HasManyFields (files : List ClassFile) : Type 0 where
-  pub program : Program
-  pub links : formed_files files ≡ Some program
-  pub instrumented : List ClassFile
-  pub rewrites : rewritten_classes (in_order files) program ≡ Ok instrumented
-  pub class : ClassFile
-  pub there : Contains instrumented class
-  pub many : 2 ^ 16 ≤ length class.fields
+-- Class files can be rewritten: they are what can be run.
+abbrev pub CanRewrite : List ClassFile → Type 0
+CanRewrite files = (P : Program) × IsRunnable files P

@@ -2,13 +2,13 @@
 ghost use Rattle.std.specs.Prelude.{◌≡◌, List, String, IfOk};
 ghost use Rattle.std.specs.declared.alloc.Global.{Global};
 ghost use Rattle.deuce.specs.Command.{seen_words, run_words, rewrite_words};
-ghost use Rattle.deuce.specs.Outcomes.{IsUnreadAs, IsRefusedAs, IsNotRewrittenAs, IsNotPutAs, IsOutcome, ArePut};
+ghost use Rattle.deuce.specs.Outcomes.{IsUnreadAs, IsRefusedAs, IsNotPutAs, IsOutcome, ArePut};
 
 use crate::classes::classes_of;
-use crate::forming::RewriteEnd;
 use crate::inputs::{InputEnd, read_classes, read_inputs};
 use crate::outcome::Outcome;
 use crate::putting::{PutEnd, new_files, put_each};
+use crate::reserved::reserved;
 use crate::rewriting::write_rewriting;
 use deuce_io::Folder;
 use jmodel::NoMemory;
@@ -36,13 +36,16 @@ pub fn run_command<R: Threads + Sync, F: Folder>(
         Ok(files) => files,
         Err(end) => return unread(end),
     };
+    if let Some(refusal) = reserved(alloc, inputs.classes.as_slice(), files.as_slice())? {
+        return Ok(Outcome::BadProgram(refusal));
+    }
     match run_files(rt, alloc, files.as_slice(), inputs.script.as_slice()) {
         Ok(text) => Ok(Outcome::Journal(text)),
         Err(end) => refused(end),
     }
 }
 
-/// Rewrites the class files under a folder, and puts the new ones under another, at the same paths.
+/// Rewrites the class files under a folder, and puts the new ones under another, at the same paths, and behind them the helper of arrays.
 pub fn rewrite_command<F: Folder>(
     alloc: Global,
     folder: &mut F,
@@ -61,11 +64,20 @@ pub fn rewrite_command<F: Folder>(
         Ok(files) => files,
         Err(end) => return unread(end),
     };
+    if let Some(refusal) = reserved(alloc, inputs.as_slice(), files.as_slice())? {
+        return Ok(Outcome::BadProgram(refusal));
+    }
     let written = match write_rewriting(alloc, files.as_slice()) {
         Ok(written) => written,
-        Err(end) => return not_rewritten(end),
+        Err(end) => return refused(end),
     };
-    let news = new_files(alloc, out, inputs.as_slice(), written.files)?;
+    let news = new_files(
+        alloc,
+        out,
+        inputs.as_slice(),
+        written.files,
+        written.helper,
+    )?;
     match put_each(folder, news) {
         Ok(()) => Ok(Outcome::Rewritten {
             classes: inputs.len(),
@@ -88,7 +100,7 @@ fn unread(end: InputEnd) -> Result<Outcome, NoMemory>
     }
 }
 
-/// The outcome of a run that ended so.
+/// The outcome of a run or a rewriting that ended so.
 fn refused(end: RunEnd) -> Result<Outcome, NoMemory>
     ensures { IfOk result (IsRefusedAs end) }
 {
@@ -98,18 +110,6 @@ fn refused(end: RunEnd) -> Result<Outcome, NoMemory>
         RunEnd::BadScript(refusal) => Ok(Outcome::BadScript(refusal)),
         RunEnd::Unopened { class, answer } => Ok(Outcome::Unopened { class, answer }),
         RunEnd::NoMemory => Err(NoMemory),
-    }
-}
-
-/// The outcome of a rewriting that ended so.
-fn not_rewritten(end: RewriteEnd) -> Result<Outcome, NoMemory>
-    ensures { IfOk result (IsNotRewrittenAs end) }
-{
-    match end {
-        RewriteEnd::Refused(refusal) => Ok(Outcome::BadProgram(refusal)),
-        RewriteEnd::Untyped(refusal) => Ok(Outcome::Untyped(refusal)),
-        RewriteEnd::NotBuilt => Ok(Outcome::NotBuilt),
-        RewriteEnd::NoMemory => Err(NoMemory),
     }
 }
 

@@ -4,14 +4,13 @@
 
 pub mod classes;
 mod commands;
-pub mod forming;
 mod inputs;
 pub mod listing;
 mod outcome;
 mod print;
 mod putting;
 mod refusal;
+mod reserved;
 mod rewriting;
 pub mod top;
-mod typed;
 mod words;

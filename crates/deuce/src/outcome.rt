@@ -27,7 +27,8 @@ pub enum Outcome {
         path: String,
         refusal: Refusal,
     },
-    /// A folder lies too deep, or there are too many class files, or their classes have this fault, or their rewriting passes this limit.
+    /// A folder lies too deep, or there are too many class files; or their classes have this fault, one has the path of the helper of arrays, a
+    /// constructor stores too early, or their rewriting passes this limit.
     BadProgram(Refusal),
     /// A method of the classes has no typing.
     Untyped(Refusal),
@@ -42,8 +43,6 @@ pub enum Outcome {
     Outside(String),
     /// The put at this path failed.
     NotPut(String),
-    /// The classes aren't of the form that is taken, or a rewritten class would have too many fields.
-    NotBuilt,
 }
 
 fn bad_class_line(alloc: Global, path: &str, refusal: &Refusal) -> Result<Bytes, AllocError>
@@ -116,7 +115,6 @@ pub fn text_of(alloc: Global, outcome: Outcome) -> Result<Bytes, AllocError>
         Outcome::Unopened { class, answer } => unopened_line(alloc, &class, &answer),
         Outcome::Outside(path) => path_line(alloc, b"error 8 ", path.as_str()),
         Outcome::NotPut(path) => path_line(alloc, b"error 11 ", path.as_str()),
-        Outcome::NotBuilt => Bytes::from_slice(alloc, b"error 12 NotBuilt\n"),
     }
 }
 
@@ -138,7 +136,6 @@ impl Outcome {
             Outcome::Unopened { .. } => 7,
             Outcome::Outside(_) => 8,
             Outcome::NotPut(_) => 11,
-            Outcome::NotBuilt => 12,
         }
     }
 }

@@ -1,10 +1,11 @@
 //! New files, and how they are put into a folder.
 ghost use Rattle.std.specs.Prelude.{◌≡◌, map, IfOk, IfErr, OnOk};
 ghost use Rattle.std.specs.Option.{option_map};
-ghost use Rattle.deuce.specs.Folder.{with_files, placed_in};
+ghost use Rattle.deuce.specs.Folder.{with_files, placed_in, placed_with};
 ghost use Rattle.deuce.specs.Ending.{paths_of, seen_files, EndsPuts};
 
 use crate::inputs::ClassInput;
+use crate::reserved::HELPER_PATH;
 use deuce_io::{Folder, IoEnd};
 use jmodel::Bytes;
 use std::alloc::{AllocError, Global};
@@ -24,8 +25,25 @@ pub enum PutEnd {
     NoMemory,
 }
 
-/// The new files of class files, each with its bytes: they go under a folder, at the paths that the class files have under theirs.
+/// The new files of class files, each with its bytes, and behind them the helper of arrays: they go under a folder, at the paths that the class files
+/// have under theirs, and at the helper's.
 pub fn new_files(
+    alloc: Global,
+    out: &str,
+    inputs: &[ClassInput],
+    news: Vec<Bytes>,
+    last: Bytes,
+) -> Result<Vec<NewFile>, AllocError>
+    ensures { IfOk result (λ v. seen_files v.items ≡ placed_with out.now (paths_of inputs.now) news.items last) }
+{
+    let mut files = class_files(alloc, out, inputs, news)?;
+    let path = format!(in alloc; "{out}/{helper}", helper = HELPER_PATH)?;
+    files.push(NewFile { path, bytes: last })?;
+    Ok(files)
+}
+
+/// The new files of class files, without the helper.
+fn class_files(
     alloc: Global,
     out: &str,
     inputs: &[ClassInput],

@@ -1,21 +1,24 @@
 //! A rewriting, from class files to the bytes of the new ones.
-ghost use Rattle.std.specs.Prelude.{◌≡◌, ◌↔◌, ℕ, List, Some, length, filter, map, option_map, IfOk, IfErr, IsSome, IsTrue};
+ghost use Rattle.std.specs.Prelude.{◌≡◌, ◌≤◌, ◌<◌, ◌∷◌, ◌++◌, [], ℕ, List, length, filter, map, option_map, IfOk, IfErr, IsSome};
 ghost use Rattle.std.specs.List.{AllByRecursion, AllZip};
 ghost use Rattle.jmodel.specs.ClassFile.{ClassFile as Form};
-ghost use Rattle.jmodel.specs.ClassRules.{IsClassFile};
+ghost use Rattle.jmodel.specs.ClassRules.{IsClassFile, Spells};
 ghost use Rattle.jmodel.specs.Superclasses.{own_name as own_name_of, class_named};
-ghost use Rattle.rewriter.specs.Meaning.{AreFiled};
-ghost use Rattle.jmodel.specs.Schedule.{is_marked};
-ghost use Rattle.deuce.specs.Ending.{EndsOnClasses, IsNotRewritten, AreUnderNames};
+ghost use Rattle.objects.specs.Journal.{is_marked as is_marked_method};
+ghost use Rattle.object_rewriter.specs.Asked.{AreFiled};
+ghost use Rattle.object_run.specs.Faults.{EndsPreparing};
+ghost use Rattle.deuce.specs.Ending.{AreUnderNames};
 ghost use Rattle.deuce.specs.Folder.{IsFileOf};
-ghost use Rattle.deuce.specs.Rewritten.{HasFewFields, IsNewOf, IsRewriting};
+ghost use Rattle.deuce.specs.Rewritten.{IsNewOf, IsRewriting};
 
-use crate::forming::{RewriteEnd, prepare};
 use class_writer::write_class;
 use const_pool::ClassFile;
-use hierarchy::Method;
-use hierarchy::symbols::own_name;
 use jmodel::{Bytes, NoMemory};
+use object_hierarchy::Method;
+use object_hierarchy::symbols::own_name;
+use object_run::{RunEnd, instrument_files};
+use rewritten_form::laws::form_law;
+use rewritten_program::laws::{heads_law, meaning_law};
 use std::alloc::{AllocError, Global};
 use std::collections::BTreeMap;
 
@@ -24,6 +27,8 @@ use std::collections::BTreeMap;
 pub struct WrittenClasses {
     /// The bytes of the new class files, in the order of the old ones.
     pub files: Vec<Bytes>,
+    /// Those of the helper of arrays.
+    pub helper: Bytes,
     /// How many methods of the classes are taken.
     pub taken: usize,
     /// How many of them are marked.
@@ -31,21 +36,24 @@ pub struct WrittenClasses {
 }
 
 /// Rewrites the classes of class files, and writes the new ones.
-pub fn write_rewriting(alloc: Global, files: &[ClassFile]) -> Result<WrittenClasses, RewriteEnd>
+pub fn write_rewriting(alloc: Global, files: &[ClassFile]) -> Result<WrittenClasses, RunEnd>
+    requires few { length files.now ≤ 256 }
     requires form { AllByRecursion IsClassFile files.now }
     requires filed { AllByRecursion AreFiled files.now }
-    ensures rewriting { IfOk result (λ r. (contents : List (List ℕ)) → AllZip IsFileOf contents files.now → IsRewriting contents r.files.items r.taken r.marked) }
-    ensures cause { IfErr result (EndsOnClasses files.now IsNotRewritten) }
+    ensures rewriting { IfOk result (λ r. (contents : List (List ℕ)) → AllZip IsFileOf contents files.now → IsRewriting contents r.files.items r.helper r.taken r.marked) }
+    ensures cause { IfErr result (EndsPreparing files.now) }
 {
-    let prepared = prepare(alloc, files)?;
-    let classes = prepared.rewriting.classes.as_slice();
-    if !have_few_fields(classes) {
-        return Err(RewriteEnd::NotBuilt);
-    }
+    heads_law();
+    form_law();
+    meaning_law();
+    let made = instrument_files(alloc, files)?;
+    let classes = made.rewritten.as_slice();
     let written = write_each(alloc, files, classes)?;
-    let methods = prepared.original.methods();
+    let helper = write_last(alloc, classes)?;
+    let methods = made.original.methods();
     Ok(WrittenClasses {
         files: written,
+        helper,
         taken: methods.len(),
         marked: count_marked(methods),
     })
@@ -86,23 +94,29 @@ fn write_each(
     Ok(written)
 }
 
-/// Whether a class has no more fields than a class file counts.
-fn has_few_fields(class: &ClassFile) -> bool
-    ensures { IsTrue result ↔ HasFewFields class.now }
+/// Writes the last of classes, of which there is one.
+fn write_last(alloc: Global, classes: &[ClassFile]) -> Result<Bytes, NoMemory>
+    requires rules { AllByRecursion IsClassFile classes.now }
+    requires some { 0 < length classes.now }
+    ensures { IfOk result (λ new. (front : List Form) (last : Form) → classes.now ≡ front ++ last ∷ [] → Spells new last) }
 {
-    class.fields.len() <= 65_535
+    write_class(alloc, &classes[classes.len() - 1])
 }
 
-/// The same of each class.
-fn have_few_fields(classes: &[ClassFile]) -> bool
-    ensures { IsTrue result ↔ AllByRecursion HasFewFields classes.now }
+/// Whether a method is marked.
+fn is_marked(method: &Method) -> bool
+    ensures { result ≡ is_marked_method method.now }
 {
-    classes.iter().all(has_few_fields)
+    method.retries().is_some() && !method.is_initialiser()
 }
 
 /// How many methods are marked.
 fn count_marked(methods: &[Method]) -> usize
-    ensures { result ≡ length (filter is_marked methods.now) }
+    ensures { result ≡ length (filter is_marked_method methods.now) }
 {
-    methods.iter().filter(|method| method.is_marked()).count()
+    let mut count = 0;
+    for method in methods {
+        count += usize::from(is_marked(method));
+    }
+    count
 }

@@ -6,7 +6,7 @@ ghost use Rattle.jmodel.specs.declared.value.Answer.{Answer};
 ghost use Rattle.jmodel.specs.Output.{◌and◌, answer_text, refusal_text, error_text};
 ghost use Rattle.deuce.specs.Command.{seen_words, run_words, rewrite_words, IsNoRewriting, IsNoCommand};
 ghost use Rattle.deuce.specs.Ending.{IsJournalOf, IsRewritingOf};
-ghost use Rattle.deuce.specs.Outcomes.{IsOutcome, IsBadClassOfWords, IsBadProgramOfWords, IsUntypableOfWords, IsBadScriptOfWords, IsUnopenedOfWords, IsNotBuilt, CanRunWords, CanRewriteWords, FailedOutside, FailedPutOfWords, ArePut, IsRefusal, IsStatus, IsRunOrFailed, IsRewrittenOrFailed, Appends, IsCut};
+ghost use Rattle.deuce.specs.Outcomes.{IsOutcome, IsBadClassOfWords, IsBadProgramOfWords, IsUntypableOfWords, IsBadScriptOfWords, IsUnopenedOfWords, HasHelperOfWords, CanRunWords, CanRewriteWords, FailedOutside, FailedPutOfWords, ArePut, IsRefusal, IsRefusedOrFailed, IsStatus, IsRunOrFailed, IsRewrittenOrFailed, Appends, IsCut};
 ghost use Rattle.deuce.specs.Rewritten.{counts_text};
 
 use crate::commands::{rewrite_command, run_command};
@@ -22,18 +22,17 @@ use std::thread::Threads;
 ///
 /// | Status | Comes |
 /// |---|---|
-/// | 0 | the journal of the run was written whole; or each rewritten class file was put, and the counts were written whole |
+/// | 0 | the journal of the run was written whole; or each rewritten class file and the helper of arrays were put, and the counts were written whole |
 /// | 2 | the words are none of the forms |
 /// | 3 | a file is no class file; the path of the first and its first fault are printed |
-/// | 4 | a folder lies 17 levels down, there are more than 256 class files, their classes have a fault, a constructor stores to a field before another has run over its object, or their rewriting passes a limit; that is printed |
+/// | 4 | a folder lies 17 levels down, there are more than 256 class files, their classes have a fault, one has the path of the helper of arrays, a constructor stores to a field before another has run over its object, or their rewriting passes a limit; that is printed |
 /// | 5 | a method of the classes has no typing; the first is printed |
 /// | 6 | the script is none for the classes; the first rule that it breaks is printed |
 /// | 7 | a static initialiser doesn't return; its class and the answer are printed |
 /// | 8 | a list or a read of this command failed |
 /// | 9 | the sink failed; a front of the output was written |
 /// | 10 | memory ran out; nothing was written, or a front of the output |
-/// | 11 | the put of a rewritten class file failed; those before it, in the order of their paths, were put |
-/// | 12 | for `rewrite` alone: the classes aren't of the form that is rewritten, or a rewritten class would have too many fields |
+/// | 11 | the put of a rewritten class file or of the helper failed; those before it, in the order of their paths and the helper last, were put |
 pub fn deuce<R: Threads + Sync, F: Folder, O: Sink>(
     rt: &R,
     alloc: Global,
@@ -68,14 +67,15 @@ pub fn deuce<R: Threads + Sync, F: Folder, O: Sink>(
         (error_text (codes "3") (path and refusal_text refusal)) }
 
     // A folder lies 17 levels down, or there are more class files than 256, as this says; or they
-    // are good, and their classes have this fault, or their rewriting passes this limit.
+    // are good, and their classes have this fault; or one of them stands where rewriting puts the
+    // helper of arrays; or a constructor stores too early, or their rewriting passes this limit.
     ensures bad_program { result ≡ 4 → (refusal : Refusal)
         × IsBadProgramOfWords words.now (F.seen folder.old).files refusal
         × Appends (O.written out.old) (O.written out.new)
         (error_text (codes "4") (refusal_text refusal)) }
 
-    // The class files are good and their classes without a fault, and this method of theirs is the
-    // first that has code and no typing.
+    // The class files are good and their classes without a fault, none has the helper's path, and
+    // this method of theirs is the first that has code and no typing.
     ensures untypable { result ≡ 5 → (refusal : Refusal)
         × IsUntypableOfWords words.now (F.seen folder.old).files refusal
         × Appends (O.written out.old) (O.written out.new)
@@ -95,12 +95,10 @@ pub fn deuce<R: Threads + Sync, F: Folder, O: Sink>(
         × Appends (O.written out.old) (O.written out.new)
         (error_text (codes "7") (class and answer_text answer)) }
 
-    // They were to be rewritten, and are good and their classes without a fault, but not of the form,
-    // or a rewritten class would have too many fields.
-    ensures not_built { result ≡ 12 → IsNotBuilt words.now (F.seen folder.old).files }
-    ensures not_built_line { result ≡ 12
-        → Appends (O.written out.old) (O.written out.new)
-        (error_text (codes "12") (codes "NotBuilt")) }
+    // Where a file stands under the folder at the path where rewriting puts the helper of arrays,
+    // nothing is run or rewritten.
+    ensures helper_path { HasHelperOfWords words.now (F.seen folder.old).files
+        → IsRefusedOrFailed result }
 
     // A fault of the folder is one of this command's calls, and its path is printed; the new files
     // before one whose put failed were put whole. A fault of the sink is the sink's.

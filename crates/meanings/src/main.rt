@@ -1,27 +1,34 @@
-//! What class files mean, as data. For each class file of `data/classes`, alone, and for those of each folder of `data/folders`, together, in the order of
-//! their names, the program prints whether each is written as it was read, which methods are taken, the words that a run opens with, the methods of the program
-//! that the classes mean, with their instructions and whether they have a typing, and the methods of the program that their rewriting means.
+//! What rewritten class files mean. For each folder of `data/folders` the program puts the rewriting of its class files into a folder, reads that again, and
+//! prints whether the program that the class files there mean is the rewriting of the program that the folder's own mean.
 #![tactic(auto)]
 
-ghost use Rattle.std.specs.Prelude.{◌≡◌, Some, None, map};
-ghost use Rattle.jmodel.specs.Classes.{doubled_class};
-ghost use Rattle.jmodel.specs.ClassesLinking.{linked};
+ghost use Rattle.std.specs.Prelude.{IfOk};
+ghost use Rattle.std.specs.List.{AllByRecursion};
+ghost use Rattle.jmodel.specs.ClassRules.{IsClassFile};
+ghost use Rattle.objects.specs.Source.{IsSource};
+ghost use Rattle.program_typing.specs.Tables.{IsTypedOrBare};
+ghost use Rattle.object_rewriter.specs.Asked.{AreFiled};
 
-use class_reader::read_class;
-use class_writer::write_class;
 use const_pool::ClassFile;
-use hierarchy::{Method, Program, are_taken, in_order, opening_words};
-use rewriter::rewrite_classes;
+use deuce::classes::class_of;
+use deuce::listing::class_paths;
+use deuce::top::deuce;
+use deuce_io::{Folder, IoEnd, MemSink, RealFolder, names_in};
+use object_hierarchy::Program;
+use object_hierarchy::symbols::own_name;
+use object_linking::rebuild::rebuild;
+use object_run::instrument_files;
+use program_rewriter::rewrite_program;
 use std::alloc::{AllocError, Global};
+use std::collections::BTreeMap;
+use std::io;
 use std::rt::Runtime;
-use std::{fs, io};
-use verifier::infer;
+use std::thread::Threads;
+
+/// The most bytes of a class file.
+const CLASS_LIMIT: usize = 1_048_576;
 
 fn main(rt: HostRuntime) -> io::Result<()> {
-    for name in &names_in(&rt, rt.alloc(), "classes")? {
-        println!(rt; "== {name}")?;
-        print_file(&rt, rt.alloc(), name.as_str())?;
-    }
     for name in &names_in(&rt, rt.alloc(), "folders")? {
         println!(rt; "== {name}")?;
         print_folder(&rt, rt.alloc(), name.as_str())?;
@@ -29,147 +36,132 @@ fn main(rt: HostRuntime) -> io::Result<()> {
     Ok(())
 }
 
-/// The names of what a folder has, in order.
-fn names_in<R: Runtime + AllocGlobal>(
+/// Puts the rewriting of the class files of a folder, prints what the top call answers, and then what was put means.
+fn print_folder<R: Runtime + AllocGlobal + Threads + Sync>(
     rt: &R,
     alloc: Global,
-    path: &str,
-) -> io::Result<Vec<String>> {
-    let mut names = Vec::new(alloc);
-    for entry in fs::read_dir(rt, path)? {
-        names.push(String::from_str(alloc, entry?.file_name())?)?;
+    name: &str,
+) -> io::Result<()> {
+    let old = format!(in alloc; "folders/{name}")?;
+    let new = format!(in alloc; "rewritten/{name}")?;
+    let mut words = Vec::new(alloc);
+    for word in ["rewrite", old.as_str(), new.as_str()] {
+        words.push(String::from_str(alloc, word)?)?;
     }
-    names.sort()?;
-    Ok(names)
-}
-
-/// Prints what a class file means alone, or its fault.
-fn print_file<R: Runtime + AllocGlobal>(rt: &R, alloc: Global, name: &str) -> io::Result<()> {
-    let path = format!(in alloc; "classes/{name}")?;
-    match read_file(rt, alloc, path.as_str())? {
-        Some(class) => print_files(rt, alloc, vec![in alloc; class]?.as_slice()),
-        None => Ok(()),
-    }
-}
-
-/// Prints what the class files of a folder mean together, without those that have a fault, which is printed.
-fn print_folder<R: Runtime + AllocGlobal>(rt: &R, alloc: Global, name: &str) -> io::Result<()> {
-    let folder = format!(in alloc; "folders/{name}")?;
-    let mut files = Vec::new(alloc);
-    for file in &names_in(rt, alloc, folder.as_str())? {
-        let path = format!(in alloc; "{folder}/{file}")?;
-        if let Some(class) = read_file(rt, alloc, path.as_str())? {
-            files.push(class)?;
-        }
-    }
-    print_files(rt, alloc, files.as_slice())
-}
-
-/// Prints what the classes of files mean, in the order of their names, or that two have one name.
-fn print_files<R: Runtime>(rt: &R, alloc: Global, files: &[ClassFile]) -> io::Result<()> {
-    match in_order(alloc, files) {
-        Ok(classes) => print_classes(rt, alloc, classes.as_slice()),
-        Err(halt) => println!(rt; "{halt:?}"),
+    let mut folder = RealFolder::new(alloc, rt);
+    let mut out = MemSink::new(alloc, 64);
+    let status = deuce(rt, alloc, words.as_slice(), &mut folder, &mut out);
+    let text = str::from_utf8(out.written.as_slice()).unwrap_or("no text\n");
+    print!(rt; "status {status}\n{text}")?;
+    if status == 0 {
+        print_put(rt, alloc, &mut folder, old.as_str(), new.as_str())
+    } else {
+        Ok(())
     }
 }
 
-/// Reads a class file, and prints whether it is written as it was read, or its fault.
-fn read_file<R: Runtime + AllocGlobal>(
+/// Prints what the class files under a folder mean, as the rewriting of those under another.
+fn print_put<R: Runtime, F: Folder>(
     rt: &R,
     alloc: Global,
-    path: &str,
-) -> io::Result<Option<ClassFile>> {
-    let bytes = fs::read(rt, path)?;
-    match read_class(alloc, bytes.as_slice()) {
-        Ok(class) => {
-            let is_kept = write_class(alloc, &class).is_ok_and(|written| written.as_slice()
-                == bytes.as_slice());
-            println!(rt; "written as read: {is_kept}")?;
-            Ok(Some(class))
-        }
-        Err(halt) => {
-            println!(rt; "{halt:?}")?;
-            Ok(None)
-        }
-    }
-}
-
-/// Prints what classes mean, and what their rewriting means; or why they mean no program.
-fn print_classes<R: Runtime>(rt: &R, alloc: Global, classes: &[&ClassFile]) -> io::Result<()>
-    requires { doubled_class (map (λ c. c.now) classes.now) ≡ None }
-{
-    let Ok(taken) = are_taken(alloc, classes) else {
-        return println!(rt; "no memory");
+    folder: &mut F,
+    old: &str,
+    new: &str,
+) -> io::Result<()> {
+    let Ok(originals) = classes_in(alloc, folder, old) else {
+        return println!(rt; "no class files");
     };
-    println!(rt; "taken {taken:?}")?;
-    match Program::build(alloc, classes) {
-        Ok(program) => {
-            let words = opening_words(alloc, classes)?;
-            println!(rt; "words {words:?}")?;
-            print_program(rt, alloc, &program)?;
-            print_rewriting(rt, alloc, classes, &program)
-        }
+    let Ok(rewritten) = classes_in(alloc, folder, new) else {
+        return println!(rt; "no rewritten class files");
+    };
+    print_meaning(rt, alloc, originals.as_slice(), rewritten.as_slice())
+}
+
+/// The class of the class file at a path under a folder.
+fn class_at<F: Folder>(
+    alloc: Global,
+    folder: &mut F,
+    dir: &str,
+    path: &str,
+) -> Result<ClassFile, IoEnd>
+    ensures form { IfOk result IsClassFile }
+    ensures filed { IfOk result AreFiled }
+{
+    let file = format!(in alloc; "{dir}/{path}")?;
+    let bytes = folder.read(file.as_str(), CLASS_LIMIT + 1)?;
+    match class_of(alloc, bytes.as_slice()) {
+        Ok(class) => Ok(class),
+        Err(_) => Err(IoEnd::Failed),
+    }
+}
+
+/// The classes of the class files under a folder.
+fn classes_in<F: Folder>(
+    alloc: Global,
+    folder: &mut F,
+    dir: &str,
+) -> Result<Vec<ClassFile>, IoEnd>
+    ensures form { IfOk result (λ v. AllByRecursion IsClassFile v.items) }
+    ensures filed { IfOk result (λ v. AllByRecursion AreFiled v.items) }
+{
+    let Ok(paths) = class_paths(alloc, folder, dir) else {
+        return Err(IoEnd::Failed);
+    };
+    let mut classes = Vec::new(alloc);
+    for path in &paths {
+        classes.push(class_at(alloc, folder, dir, path.as_str())?)?;
+    }
+    Ok(classes)
+}
+
+/// Classes in the order of their names.
+fn sorted(alloc: Global, classes: &[ClassFile]) -> Result<Vec<&ClassFile>, AllocError> {
+    let mut named = BTreeMap::new(alloc);
+    for class in classes {
+        named.insert(own_name(class), class)?;
+    }
+    Ok(named.into_values().collect(alloc)?)
+}
+
+/// Prints what rewritten classes mean over the program of their originals.
+fn print_meaning<R: Runtime>(
+    rt: &R,
+    alloc: Global,
+    originals: &[ClassFile],
+    rewritten: &[ClassFile],
+) -> io::Result<()>
+    requires form { AllByRecursion IsClassFile originals.now }
+    requires filed { AllByRecursion AreFiled originals.now }
+{
+    if originals.len() > 256 {
+        return println!(rt; "too many class files");
+    }
+    let Ok(made) = instrument_files(alloc, originals) else {
+        return println!(rt; "no program");
+    };
+    let classes = sorted(alloc, rewritten)?;
+    let before = made.classes.as_slice();
+    match rebuild(alloc, before, classes.as_slice(), &made.original) {
+        Ok(rebuilt) => print_rebuilt(rt, alloc, &made.original, &rebuilt),
         Err(end) => println!(rt; "{end:?}"),
     }
 }
 
-/// Prints the methods of the program that the rewriting of classes means, or why there is none.
-fn print_rewriting<R: Runtime>(
+/// Prints how many methods a program has, and whether it is the rewriting of another.
+fn print_rebuilt<R: Runtime>(
     rt: &R,
     alloc: Global,
-    classes: &[&ClassFile],
     original: &Program,
+    rebuilt: &Program,
 ) -> io::Result<()>
-    requires links { linked (map (λ c. c.now) classes.now) ≡ Some original.now }
-    requires single { doubled_class (map (λ c. c.now) classes.now) ≡ None }
+    requires source { IsSource original.now }
+    requires typed { AllByRecursion (IsTypedOrBare original.now) original.now.methods }
 {
-    println!(rt; "rewritten")?;
-    match rewrite_classes(alloc, classes, original) {
-        Ok(rewritten) => {
-            let rewritten = borrowed(alloc, rewritten.as_slice())?;
-            match Program::rebuilt(alloc, rewritten.as_slice(), original) {
-                Ok(program) => print_program(rt, alloc, &program),
-                Err(end) => println!(rt; "{end:?}"),
-            }
-        }
-        Err(halt) => println!(rt; "{halt:?}"),
-    }
-}
-
-/// References to classes.
-fn borrowed(alloc: Global, classes: &[ClassFile]) -> Result<Vec<&ClassFile>, AllocError> {
-    let mut references = Vec::new(alloc);
-    for class in classes {
-        references.push(class)?;
-    }
-    Ok(references)
-}
-
-/// Prints the methods of a program, each with its instructions.
-fn print_program<R: Runtime>(rt: &R, alloc: Global, program: &Program) -> io::Result<()> {
-    for (number, method) in program.methods().iter().enumerate() {
-        let printed = method.name().printed(alloc)?;
-        let name = str::from_utf8(printed.as_slice()).unwrap_or("no text");
-        println!(rt; "{number} {name}")?;
-        print_method(rt, method)?;
-        match infer(alloc, program, number) {
-            Ok(_) => println!(rt; "  typed")?,
-            Err(end) => println!(rt; "  {end:?}")?,
-        }
-    }
-    Ok(())
-}
-
-/// Prints what entering a method needs, its attempts, its instructions and its exception entries.
-fn print_method<R: Runtime>(rt: &R, method: &Method) -> io::Result<()> {
-    println!(rt; "  {:?}, attempts {:?}", method.entry(), method.retries())?;
-    print!(rt; " ")?;
-    for op in method.ops() {
-        print!(rt; " {op:?}")?;
-    }
-    println!(rt)?;
-    for catch in method.catches() {
-        println!(rt; "  {catch:?}")?;
-    }
-    Ok(())
+    let Ok(wanted) = rewrite_program(alloc, original) else {
+        return println!(rt; "no rewriting");
+    };
+    let text = format!(in alloc; "{rebuilt:?}")?;
+    let is_meant = text.as_str() == format!(in alloc; "{wanted:?}")?.as_str();
+    let methods = rebuilt.methods().len();
+    println!(rt; "methods {methods}, as rewritten: {is_meant}")
 }

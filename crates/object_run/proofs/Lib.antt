@@ -3,7 +3,7 @@ mod Lists
 mod Opens
 mod Ordered
 mod Placed
-mod Readying
+pub mod Readying
 mod Roots
 mod Scripted
 mod Together

@@ -58,10 +58,17 @@ pub record PassesLimit (P : Program) (cs : List ClassFile) (r : Refusal) : Type 
   pub typed : IsTyped P
   pub limit : (Ts : List Table) → AreTables P Ts → rewritten_folder cs P Ts ≡ Err r
 
--- Why class files are refused: the linking of their classes ends with this fault; or their program makes such a store; or their rewriting passes this limit.
+-- the linking of the classes of class files ends with this fault
+abbrev pub HasFault : Refusal → List ClassFile → Type 0
+HasFault r files = linking_files files ≡ Err r
+
+-- Why class files that are linked are refused: their program makes such a store, or their rewriting passes this limit.
+abbrev pub IsBadRewriting : Refusal → List ClassFile → Type 0
+IsBadRewriting r files = (P : Program) × (linked_files files ≡ Some P) × (IsEarlyAs P (in_order files) r ⊎ PassesLimit P (in_order files) r)
+
+-- why class files are refused before they are typed, or once they are
 abbrev pub IsBadProgram : Refusal → List ClassFile → Type 0
-IsBadProgram r files = (linking_files files ≡ Err r)
-    ⊎ ((P : Program) × (linked_files files ≡ Some P) × (IsEarlyAs P (in_order files) r ⊎ PassesLimit P (in_order files) r))
+IsBadProgram r files = HasFault r files ⊎ IsBadRewriting r files
 
 -- The classes of class files mean a program, a method of which has code and no typing, as the refusal says; it is the first.
 abbrev pub IsUntypable : Refusal → List ClassFile → Type 0
@@ -104,7 +111,13 @@ EndsRun files bytes (ends.BadScript r) = IsBadScript bytes r files
 EndsRun files bytes (ends.Unopened name x) = IsUnopened bytes name x files
 EndsRun files bytes ends.NoMemory = Unit {0}
 
--- why class files aren't prepared for a run
+-- why class files aren't linked
+abbrev pub EndsLinking : List ClassFile → RunEnd → Type 0
+EndsLinking files (ends.Refused r) = HasFault r files
+EndsLinking files ends.NoMemory = Unit {0}
+EndsLinking files end = ⊥
+
+-- why class files aren't rewritten, nor prepared for a run
 abbrev pub EndsPreparing : List ClassFile → RunEnd → Type 0
 EndsPreparing files (ends.Refused r) = IsBadProgram r files
 EndsPreparing files (ends.Untyped r) = IsUntypable r files

@@ -9,6 +9,6 @@ mod running;
 mod text;
 
 pub use outcome::RunEnd;
-pub use preparing::{Prepared, prepare};
+pub use preparing::{Instrumented, Prepared, instrument_files, link_files, prepare};
 pub use running::run_files;
 pub use text::{push_answer, push_number, push_signed};

@@ -1,7 +1,6 @@
-//! Class files made ready for a run.
-ghost use Rattle.std.specs.Prelude.{◌≡◌, ◌≤◌, List, length, map, Some, Ok, IfOk, IfErr};
+//! Class files linked, typed and rewritten, and made ready for a run.
+ghost use Rattle.std.specs.Prelude.{◌≡◌, ◌≤◌, length, map, Some, Ok, IfOk, IfErr, IsSome};
 ghost use Rattle.std.specs.List.{AllByRecursion};
-ghost use Rattle.jmodel.specs.ClassFile.{ClassFile as Form};
 ghost use Rattle.jmodel.specs.ClassRules.{IsClassFile};
 ghost use Rattle.jmodel.specs.Classes.{in_order as order_of_classes};
 ghost use Rattle.objects.specs.Linking.{linking};
@@ -9,8 +8,8 @@ ghost use Rattle.objects.specs.LinkingLaw.{AreRead, IsLinkedFolder};
 ghost use Rattle.object_rewriter.specs.Asked.{AreFiled};
 ghost use Rattle.object_session.specs.Rule.{IsReady};
 ghost use Rattle.program_typing.specs.Typed.{IsTyped};
-ghost use Rattle.object_run.specs.Headline.{IsInstrumented, IsRunnable};
-ghost use Rattle.object_run.specs.Faults.{IsOrdered, EndsBuild, EndsPreparing, EndsRewriting};
+ghost use Rattle.object_run.specs.Headline.{linked_files, IsInstrumented, IsRunnable};
+ghost use Rattle.object_run.specs.Faults.{IsOrdered, EndsBuild, EndsLinking, EndsPreparing, EndsRewriting};
 
 use crate::faults::type_program;
 use crate::outcome::RunEnd;
@@ -22,6 +21,15 @@ use object_rewriter::rewrite_classes;
 use program_rewriter::rewrite_program;
 use std::alloc::Global;
 
+/// The classes of class files in the order of their names, the program that they mean, and their rewriting, behind which stands the helper of
+/// arrays.
+#[derive(Drop)]
+pub struct Instrumented<'a> {
+    pub classes: Vec<&'a ClassFile>,
+    pub original: Program,
+    pub rewritten: Vec<ClassFile>,
+}
+
 /// The classes of class files in the order of their names, the program that they mean, and its rewriting, which runs.
 #[derive(Drop)]
 pub struct Prepared<'a> {
@@ -30,7 +38,42 @@ pub struct Prepared<'a> {
     pub rewritten: Program,
 }
 
-/// Gives the classes of class files their program, types that, and rewrites it.
+/// Links the classes of class files, for their first fault.
+pub fn link_files(alloc: Global, files: &[ClassFile]) -> Result<(), RunEnd>
+    requires few { length files.now ≤ 256 }
+    requires form { AllByRecursion IsClassFile files.now }
+    ensures links { IfOk result (λ _. IsSome (linked_files files.now)) }
+    ensures cause { IfErr result (EndsLinking files.now) }
+{
+    let classes = ordered(alloc, files)?;
+    linked(alloc, classes.as_slice())?;
+    Ok(())
+}
+
+/// Gives the classes of class files their program, types that, and rewrites them.
+pub fn instrument_files(alloc: Global, files: &[ClassFile]) -> Result<Instrumented<'_>, RunEnd>
+    requires few { length files.now ≤ 256 }
+    requires form { AllByRecursion IsClassFile files.now }
+    requires filed { AllByRecursion AreFiled files.now }
+    ensures order { IfOk result (λ i. map (λ c. c.now) i.classes.items ≡ order_of_classes files.now) }
+    ensures linked { IfOk result (λ i. IsLinkedFolder files.now i.original) }
+    ensures links { IfOk result (λ i. linked_files files.now ≡ Some i.original) }
+    ensures typed { IfOk result (λ i. IsTyped i.original) }
+    ensures rewrites { IfOk result (λ i. IsInstrumented (order_of_classes files.now) i.original i.rewritten.items) }
+    ensures cause { IfErr result (EndsPreparing files.now) }
+{
+    let classes = ordered(alloc, files)?;
+    let original = linked(alloc, classes.as_slice())?;
+    type_program(alloc, classes.as_slice(), &original)?;
+    let rewritten = instrument(alloc, classes.as_slice(), &original)?;
+    Ok(Instrumented {
+        classes,
+        original,
+        rewritten,
+    })
+}
+
+/// Prepares class files for a run. Their rewritten classes are made for the limits that they may pass, and aren't held behind this call.
 pub fn prepare(alloc: Global, files: &[ClassFile]) -> Result<Prepared<'_>, RunEnd>
     requires few { length files.now ≤ 256 }
     requires form { AllByRecursion IsClassFile files.now }
@@ -41,14 +84,11 @@ pub fn prepare(alloc: Global, files: &[ClassFile]) -> Result<Prepared<'_>, RunEn
     ensures ready { IfOk result (λ p. IsReady p.original p.rewritten) }
     ensures cause { IfErr result (EndsPreparing files.now) }
 {
-    let classes = ordered(alloc, files)?;
-    let original = linked(alloc, classes.as_slice())?;
-    type_program(alloc, classes.as_slice(), &original)?;
-    instrument(alloc, classes.as_slice(), &original)?;
-    let rewritten = rewrite_program(alloc, &original)?;
+    let instrumented = instrument_files(alloc, files)?;
+    let rewritten = rewrite_program(alloc, &instrumented.original)?;
     Ok(Prepared {
-        classes,
-        original,
+        classes: instrumented.classes,
+        original: instrumented.original,
         rewritten,
     })
 }
@@ -59,7 +99,7 @@ fn ordered(alloc: Global, files: &[ClassFile]) -> Result<Vec<&ClassFile>, RunEnd
     requires form { AllByRecursion IsClassFile files.now }
     ensures order { IfOk result (λ v. map (λ c. c.now) v.items ≡ order_of_classes files.now) }
     ensures read { IfOk result (λ _. IsOrdered files.now) }
-    ensures cause { IfErr result (EndsPreparing files.now) }
+    ensures cause { IfErr result (EndsLinking files.now) }
 {
     match in_order(alloc, files) {
         Ok(classes) => Ok(classes),
@@ -82,17 +122,21 @@ fn linked(alloc: Global, classes: &[&ClassFile]) -> Result<Program, RunEnd>
     }
 }
 
-/// Rewrites the classes of a typed program, whose new class files a run doesn't need, for the limits that they may pass.
-fn instrument(alloc: Global, classes: &[&ClassFile], original: &Program) -> Result<(), RunEnd>
+/// Rewrites the classes of a typed program.
+fn instrument(
+    alloc: Global,
+    classes: &[&ClassFile],
+    original: &Program,
+) -> Result<Vec<ClassFile>, RunEnd>
     requires filed { AllByRecursion AreFiled (map (λ c. c.now) classes.now) }
     requires read { AreRead (map (λ c. c.now) classes.now) }
     requires links { linking (map (λ c. c.now) classes.now) ≡ Ok (Some original.now) }
     requires typed { IsTyped original.now }
-    ensures rewrites { IfOk result (λ _. (news : List Form) × IsInstrumented (map (λ c. c.now) classes.now) original.now news) }
+    ensures rewrites { IfOk result (λ news. IsInstrumented (map (λ c. c.now) classes.now) original.now news.items) }
     ensures cause { IfErr result (EndsRewriting original.now (map (λ c. c.now) classes.now)) }
 {
     match rewrite_classes(alloc, classes, original) {
-        Ok(_) => Ok(()),
+        Ok(rewritten) => Ok(rewritten),
         Err(Halt::Refused(refusal)) => Err(RunEnd::Refused(refusal)),
         Err(Halt::NoMemory) => Err(RunEnd::NoMemory),
     }

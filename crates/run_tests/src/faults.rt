@@ -115,6 +115,58 @@ fn a_put_that_fails_leaves_those_before_it(rt: HostRuntime) -> Result<(), Fail> 
     Ok(())
 }
 
+/// Where rewriting puts the helper of arrays.
+const HELPER: &str = "org/deuce/transaction/ArrayHelper.class";
+
+#[test]
+fn the_helper_is_put_last(rt: HostRuntime) -> Result<(), Fail> {
+    let alloc = rt.alloc();
+    let helper = format!(in alloc; "o/{HELPER}")?;
+    let mut folder = folder_of(alloc, COUNTER.as_slice(), THREE_CALLS)?;
+    folder.fail_puts.push(4)?;
+    let (status, written) = call(&rt, alloc, REWRITE, &mut folder, MemSink::new(alloc, 64))?;
+    let line = format!(in alloc; "error 11 {helper}\n")?;
+    assert!(rt; status == 11 && written.as_slice() == line.as_bytes());
+    assert!(rt; folder.read("o/Counter.class", 2000).is_ok());
+    assert!(rt; folder.read(helper.as_str(), 2000).is_err());
+    Ok(())
+}
+
+#[test]
+fn what_was_rewritten_is_not_rewritten_again(rt: HostRuntime) -> Result<(), Fail> {
+    let alloc = rt.alloc();
+    let mut folder = folder_of(alloc, COUNTER.as_slice(), THREE_CALLS)?;
+    let counts = "classes 1\ntaken 1\natomic 1\n";
+    let (status, written) = call(&rt, alloc, REWRITE, &mut folder, MemSink::new(alloc, 64))?;
+    assert!(rt; status == 0 && written.as_slice() == counts.as_bytes());
+    let refused = "error 4 21 ReservedName Counter\n";
+    assert!(rt; gives(&rt, alloc, ["rewrite", "o", "p"], folder, 4, refused)?);
+    Ok(())
+}
+
+/// A folder with the example's class at the helper's path, and another class of this name.
+fn with_helper(alloc: Global, class: &[u8]) -> Result<MemFolder, IoEnd> {
+    let mut folder = folder_of(alloc, class, THREE_CALLS)?;
+    let path = format!(in alloc; "d/{HELPER}")?;
+    folder.put(path.as_str(), COUNTER.as_slice())?;
+    Ok(folder)
+}
+
+#[test]
+fn a_class_at_the_path_of_the_helper_is_refused(rt: HostRuntime) -> Result<(), Fail> {
+    let alloc = rt.alloc();
+    for words in [RUN, REWRITE] {
+        let folder = with_helper(alloc, renamed().as_slice())?;
+        let line = "error 4 21 ReservedName Counter\n";
+        assert!(rt; gives(&rt, alloc, words, folder, 4, line)?, "{}", words[0]);
+        // a fault of the classes is told first
+        let folder = with_helper(alloc, COUNTER.as_slice())?;
+        let line = "error 4 17 DoubledClass Counter\n";
+        assert!(rt; gives(&rt, alloc, words, folder, 4, line)?, "{}", words[0]);
+    }
+    Ok(())
+}
+
 /// Whether a run on this class file and this script ends with this status and text.
 fn ends_as<R: Threads + Sync>(
     rt: &R,

@@ -14,5 +14,3 @@ mod lanes;
 mod machine_files;
 #[cfg(test)]
 mod spoiled;
-#[cfg(test)]
-mod typings;

@@ -2,14 +2,32 @@ use Rattle.std.proofs.Common.{◌∙◌, ap, inl, inr}
 use Rattle.std.specs.Prelude.{option_map}
 use Rattle.deuce.specs.Folder.{with_files}
 use Rattle.deuce.specs.Ending.{IsCallOfFolder, seen_files}
-use Rattle.deuce.specs.Outcomes.{IsUnreadAs, IsNotRewrittenAs, IsNotPutAs}
+use Rattle.deuce.specs.Outcomes.{IsUnreadAs, IsRefusedAs, IsNotPutAs}
+use Rattle.deuce.proofs.HelperPath.{are_elsewhere}
 use Rattle.deuce.proofs.Lists.{on_ok}
-use Rattle.deuce.proofs.Outcomes.{unread, not_good, not_rewritten, not_put, stopped}
-use Rattle.deuce.proofs.Reading.{all_form, rewritten_of, rewriting_of}
+use Rattle.deuce.proofs.Outcomes.{unread, not_good, kept_for_helper, not_rewritten, not_put, stopped}
+use Rattle.deuce.proofs.Reading.{all_form, few_files, lacks_helper, rewritten_of, rewriting_of}
 use Rattle.deuce.proofs.commands.rewrite_command.Goals as goal
 
 pub write_rewriting-requires-clause-form : goal.write_rewriting-requires-clause-form
-write_rewriting-requires-clause-form g c = rw c.as_slice-2.ensures.value (all_form c.as_slice.result.now c.in-Ok-classes_of.files.items c.in-Ok-classes_of.ensures.classes)
+write_rewriting-requires-clause-form g c = rw c.as_slice-4.ensures.value (all_form c.as_slice.result.now c.in-Ok-classes_of.files.items c.in-Ok-classes_of.ensures.classes)
+
+pub write_rewriting-requires-clause-few : goal.write_rewriting-requires-clause-few
+write_rewriting-requires-clause-few g c =
+    rw c.as_slice-4.ensures.value (few_files (g.F.Folder.seen c.args.folder.now).files c.args.dir.now c.in-Ok.inputs.items c.in-Ok-classes_of.files.items c.in-Ok.ensures.inputs (rw c.as_slice.ensures.value at c.in-Ok-classes_of.ensures.classes))
+
+pub reserved-requires-clause-form : goal.reserved-requires-clause-form
+reserved-requires-clause-form g c = rw c.as_slice-3.ensures.value (all_form c.as_slice.result.now c.in-Ok-classes_of.files.items c.in-Ok-classes_of.ensures.classes)
+
+pub reserved-requires-clause-few : goal.reserved-requires-clause-few
+reserved-requires-clause-few g c =
+    rw c.as_slice-3.ensures.value (few_files (g.F.Folder.seen c.args.folder.now).files c.args.dir.now c.in-Ok.inputs.items c.in-Ok-classes_of.files.items c.in-Ok.ensures.inputs (rw c.as_slice.ensures.value at c.in-Ok-classes_of.ensures.classes))
+
+pub returns-in-Some-clause-outcome : goal.returns-in-Some-clause-outcome
+returns-in-Some-clause-outcome g c = λ words w.
+    kept_for_helper words (g.F.Folder.seen c.args.folder.now) (g.F.Folder.seen c.read_classes.new.folder) c.args.dir.now c.read_classes.ensures.files_kept (c.args.out.now, inr w)
+    c.in-Ok.inputs.items c.in-Ok.ensures.inputs c.in-Ok-classes_of.files.items (rw c.as_slice.ensures.value at c.in-Ok-classes_of.ensures.classes)
+    c.in_ok-refusal.field-0 c.in-Some.refusal (rw (c.as_slice-2.ensures.value, c.as_slice-3.ensures.value) at c.in_ok-refusal.ensures) c.in-Some.is
 
 pub returns-in-Err-clause-outcome : goal.returns-in-Err-clause-outcome
 returns-in-Err-clause-outcome g c =
@@ -18,7 +36,7 @@ returns-in-Err-clause-outcome g c =
     on_ok c.unread.result (IsUnreadAs c.in-Err.end) _
     (λ o is words w. unread words old new c.args.dir.now c.read_classes.ensures.files_kept (c.args.out.now, inr w)
     (IsCallOfFolder (g.F.Folder.seen c.args.folder.now).files c.args.dir.now) c.in-Err.end o (λ path failed. (c.args.dir.now, c.args.out.now, inr (w, failed)))
-    (λ r over. (c.args.dir.now, c.args.out.now, inr (w, inl over))) c.in-Err.ensures.cause is) c.unread.ensures
+    (λ r over. (c.args.dir.now, (c.args.out.now, inr w), inl over)) c.in-Err.ensures.cause is) c.unread.ensures
 
 pub returns-in-Err-classes_of-clause-outcome : goal.returns-in-Err-classes_of-clause-outcome
 returns-in-Err-classes_of-clause-outcome g c =
@@ -32,10 +50,12 @@ pub returns-in-Err-write_rewriting-clause-outcome : goal.returns-in-Err-write_re
 returns-in-Err-write_rewriting-clause-outcome g c =
     let old = g.F.Folder.seen c.args.folder.now in
     let new = g.F.Folder.seen c.read_classes.new.folder in
-    on_ok c.not_rewritten.result (IsNotRewrittenAs c.in-Err-write_rewriting.end) _
-    (λ o is words w. not_rewritten words old new c.args.dir.now c.args.out.now c.read_classes.ensures.files_kept
-    c.in-Ok.inputs.items c.in-Ok.ensures.inputs c.in-Ok-classes_of.files.items (rw c.as_slice.ensures.value at c.in-Ok-classes_of.ensures.classes) w c.in-Err-write_rewriting.end o
-    (rw c.as_slice-2.ensures.value at c.in-Err-write_rewriting.ensures.cause) is) c.not_rewritten.ensures
+    on_ok c.refused.result (IsRefusedAs c.in-Err-write_rewriting.end) _
+    (λ o is words w. not_rewritten words old new c.args.dir.now c.read_classes.ensures.files_kept (c.args.out.now, inr w)
+    c.in-Ok.inputs.items c.in-Ok.ensures.inputs c.in-Ok-classes_of.files.items (rw c.as_slice.ensures.value at c.in-Ok-classes_of.ensures.classes)
+    (lacks_helper (g.F.Folder.seen c.args.folder.now).files c.args.dir.now c.in-Ok.inputs.items c.in-Ok.ensures.inputs
+    (are_elsewhere c.in-Ok.inputs.items c.in-Ok-classes_of.files.items c.in_ok-refusal.field-0 (rw (c.as_slice-2.ensures.value, c.as_slice-3.ensures.value) at c.in_ok-refusal.ensures) c.in_default.not-Some)) c.in-Err-write_rewriting.end o
+    (rw c.as_slice-4.ensures.value at c.in-Err-write_rewriting.ensures.cause) is) c.refused.ensures
 
 pub returns-in-Ok-put_each-clause-outcome : goal.returns-in-Ok-put_each-clause-outcome
 returns-in-Ok-put_each-clause-outcome g c = λ words w.
@@ -44,15 +64,17 @@ returns-in-Ok-put_each-clause-outcome g c = λ words w.
     let inputs = c.in-Ok.inputs.items in
     let written = c.in-Ok-write_rewriting.written in
     let puts = seen_files c.in_ok-news.news.items in
-    let made = rewritten_of files c.args.dir.now inputs c.in-Ok-classes_of.files.items written.files.items written.taken written.marked c.in-Ok.ensures.inputs
-    (rw c.as_slice.ensures.value at c.in-Ok-classes_of.ensures.classes) (rw c.as_slice-2.ensures.value at c.in-Ok-write_rewriting.ensures.rewriting) in
+    let made = rewritten_of files c.args.dir.now inputs c.in-Ok-classes_of.files.items written.files.items written.helper written.taken written.marked c.in-Ok.ensures.inputs
+    (rw c.as_slice.ensures.value at c.in-Ok-classes_of.ensures.classes)
+    (lacks_helper (g.F.Folder.seen c.args.folder.now).files c.args.dir.now c.in-Ok.inputs.items c.in-Ok.ensures.inputs
+    (are_elsewhere c.in-Ok.inputs.items c.in-Ok-classes_of.files.items c.in_ok-refusal.field-0 (rw (c.as_slice-2.ensures.value, c.as_slice-3.ensures.value) at c.in_ok-refusal.ensures) c.in_default.not-Some)) (rw c.as_slice-4.ensures.value at c.in-Ok-write_rewriting.ensures.rewriting) in
     let put = c.in-Ok-put_each.ensures.put ∙ ap (option_map (with_files puts)) c.read_classes.ensures.files_kept in (
       tt,
       (
         c.args.dir.now,
         c.args.out.now,
         w,
-        rewriting_of files now c.args.dir.now c.args.out.now inputs written.files.items written.taken written.marked made puts (rw c.as_slice-3.ensures.value at c.in_ok-news.ensures)
+        rewriting_of files now c.args.dir.now c.args.out.now inputs written.files.items written.helper written.taken written.marked made puts (rw c.as_slice-5.ensures.value at c.in_ok-news.ensures)
             c.len.result (c.len.ensures ∙ c.in-Ok.inputs.ok.0) put,
       ),
     )
@@ -64,8 +86,10 @@ returns-in-Ok-put_each-clause-put g c = λ words w.
     let inputs = c.in-Ok.inputs.items in
     let written = c.in-Ok-write_rewriting.written in
     let puts = seen_files c.in_ok-news.news.items in
-    let made = rewritten_of files c.args.dir.now inputs c.in-Ok-classes_of.files.items written.files.items written.taken written.marked c.in-Ok.ensures.inputs
-    (rw c.as_slice.ensures.value at c.in-Ok-classes_of.ensures.classes) (rw c.as_slice-2.ensures.value at c.in-Ok-write_rewriting.ensures.rewriting) in
+    let made = rewritten_of files c.args.dir.now inputs c.in-Ok-classes_of.files.items written.files.items written.helper written.taken written.marked c.in-Ok.ensures.inputs
+    (rw c.as_slice.ensures.value at c.in-Ok-classes_of.ensures.classes)
+    (lacks_helper (g.F.Folder.seen c.args.folder.now).files c.args.dir.now c.in-Ok.inputs.items c.in-Ok.ensures.inputs
+    (are_elsewhere c.in-Ok.inputs.items c.in-Ok-classes_of.files.items c.in_ok-refusal.field-0 (rw (c.as_slice-2.ensures.value, c.as_slice-3.ensures.value) at c.in_ok-refusal.ensures) c.in_default.not-Some)) (rw c.as_slice-4.ensures.value at c.in-Ok-write_rewriting.ensures.rewriting) in
     let put = c.in-Ok-put_each.ensures.put ∙ ap (option_map (with_files puts)) c.read_classes.ensures.files_kept in
     inr (
       c.args.dir.now,
@@ -75,7 +99,7 @@ returns-in-Ok-put_each-clause-put g c = λ words w.
         c.len.result,
         written.taken,
         written.marked,
-        rewriting_of files now c.args.dir.now c.args.out.now inputs written.files.items written.taken written.marked made puts (rw c.as_slice-3.ensures.value at c.in_ok-news.ensures)
+        rewriting_of files now c.args.dir.now c.args.out.now inputs written.files.items written.helper written.taken written.marked made puts (rw c.as_slice-5.ensures.value at c.in_ok-news.ensures)
             c.len.result (c.len.ensures ∙ c.in-Ok.inputs.ok.0) put,
       ),
     )
@@ -88,12 +112,14 @@ returns-clause-outcome g c =
     let inputs = c.in-Ok.inputs.items in
     let written = c.in-Ok-write_rewriting.written in
     let puts = seen_files c.in_ok-news.news.items in
-    let made = rewritten_of files c.args.dir.now inputs c.in-Ok-classes_of.files.items written.files.items written.taken written.marked c.in-Ok.ensures.inputs
-    (rw c.as_slice.ensures.value at c.in-Ok-classes_of.ensures.classes) (rw c.as_slice-2.ensures.value at c.in-Ok-write_rewriting.ensures.rewriting) in
+    let made = rewritten_of files c.args.dir.now inputs c.in-Ok-classes_of.files.items written.files.items written.helper written.taken written.marked c.in-Ok.ensures.inputs
+    (rw c.as_slice.ensures.value at c.in-Ok-classes_of.ensures.classes)
+    (lacks_helper (g.F.Folder.seen c.args.folder.now).files c.args.dir.now c.in-Ok.inputs.items c.in-Ok.ensures.inputs
+    (are_elsewhere c.in-Ok.inputs.items c.in-Ok-classes_of.files.items c.in_ok-refusal.field-0 (rw (c.as_slice-2.ensures.value, c.as_slice-3.ensures.value) at c.in_ok-refusal.ensures) c.in_default.not-Some)) (rw c.as_slice-4.ensures.value at c.in-Ok-write_rewriting.ensures.rewriting) in
     let end = c.in-Err-put_each.end in
     let read = g.F.Folder.seen c.read_classes.new.folder in
     on_ok c.not_put.result (IsNotPutAs end) _
-    (λ o is words w. not_put words old new c.args.dir.now c.args.out.now w inputs written.files.items written.taken written.marked made puts (rw c.as_slice-3.ensures.value at c.in_ok-news.ensures)
+    (λ o is words w. not_put words old new c.args.dir.now c.args.out.now w inputs written.files.items written.helper written.taken written.marked made puts (rw c.as_slice-5.ensures.value at c.in_ok-news.ensures)
     read c.read_classes.ensures.files_kept c.read_classes.ensures.put_counts end o c.in-Err-put_each.ensures.cause is) c.not_put.ensures
 
 pub returns-clause-put : goal.returns-clause-put
@@ -104,9 +130,11 @@ returns-clause-put g c = λ words w.
     let inputs = c.in-Ok.inputs.items in
     let written = c.in-Ok-write_rewriting.written in
     let puts = seen_files c.in_ok-news.news.items in
-    let made = rewritten_of files c.args.dir.now inputs c.in-Ok-classes_of.files.items written.files.items written.taken written.marked c.in-Ok.ensures.inputs
-    (rw c.as_slice.ensures.value at c.in-Ok-classes_of.ensures.classes) (rw c.as_slice-2.ensures.value at c.in-Ok-write_rewriting.ensures.rewriting) in
+    let made = rewritten_of files c.args.dir.now inputs c.in-Ok-classes_of.files.items written.files.items written.helper written.taken written.marked c.in-Ok.ensures.inputs
+    (rw c.as_slice.ensures.value at c.in-Ok-classes_of.ensures.classes)
+    (lacks_helper (g.F.Folder.seen c.args.folder.now).files c.args.dir.now c.in-Ok.inputs.items c.in-Ok.ensures.inputs
+    (are_elsewhere c.in-Ok.inputs.items c.in-Ok-classes_of.files.items c.in_ok-refusal.field-0 (rw (c.as_slice-2.ensures.value, c.as_slice-3.ensures.value) at c.in_ok-refusal.ensures) c.in_default.not-Some)) (rw c.as_slice-4.ensures.value at c.in-Ok-write_rewriting.ensures.rewriting) in
     let end = c.in-Err-put_each.end in
     let read = g.F.Folder.seen c.read_classes.new.folder in
-    stopped words old new c.args.dir.now c.args.out.now w inputs written.files.items written.taken written.marked made puts (rw c.as_slice-3.ensures.value at c.in_ok-news.ensures)
+    stopped words old new c.args.dir.now c.args.out.now w inputs written.files.items written.helper written.taken written.marked made puts (rw c.as_slice-5.ensures.value at c.in_ok-news.ensures)
     read c.read_classes.ensures.files_kept c.read_classes.ensures.put_counts end c.in-Err-put_each.ensures.cause

@@ -1,17 +1,32 @@
 use Rattle.std.proofs.Common.{inl}
+use Rattle.deuce.specs.Folder.{LacksHelper}
 use Rattle.deuce.specs.Ending.{IsCallOfRun}
 use Rattle.deuce.specs.Outcomes.{IsUnreadAs, IsRefusedAs}
+use Rattle.deuce.proofs.HelperPath.{are_elsewhere}
 use Rattle.deuce.proofs.Lists.{on_ok}
-use Rattle.deuce.proofs.Outcomes.{unread, not_good, refused}
-use Rattle.deuce.proofs.Reading.{all_form, few_files, journal_of, unopened_of}
+use Rattle.deuce.proofs.Outcomes.{unread, not_good, kept_for_helper, refused}
+use Rattle.deuce.proofs.Reading.{all_form, few_files, lacks_helper, journal_of, unopened_of}
 use Rattle.deuce.proofs.commands.run_command.Goals as goal
 
 pub run_files-requires-clause-form : goal.run_files-requires-clause-form
-run_files-requires-clause-form g c = λ κs lives. rw c.as_slice-2.ensures.value (all_form c.as_slice.result.now c.in-Ok-classes_of.files.items c.in-Ok-classes_of.ensures.classes)
+run_files-requires-clause-form g c = λ κs lives. rw c.as_slice-4.ensures.value (all_form c.as_slice.result.now c.in-Ok-classes_of.files.items c.in-Ok-classes_of.ensures.classes)
 
 pub run_files-requires-clause-few : goal.run_files-requires-clause-few
 run_files-requires-clause-few g c = λ κs lives.
-    rw c.as_slice-2.ensures.value (few_files (g.F.Folder.seen c.args.folder.now).files c.args.dir.now c.in-Ok.inputs.classes.items c.in-Ok-classes_of.files.items c.in-Ok.ensures.inputs.of_classes (rw c.as_slice.ensures.value at c.in-Ok-classes_of.ensures.classes))
+    rw c.as_slice-4.ensures.value (few_files (g.F.Folder.seen c.args.folder.now).files c.args.dir.now c.in-Ok.inputs.classes.items c.in-Ok-classes_of.files.items c.in-Ok.ensures.inputs.of_classes (rw c.as_slice.ensures.value at c.in-Ok-classes_of.ensures.classes))
+
+pub reserved-requires-clause-form : goal.reserved-requires-clause-form
+reserved-requires-clause-form g c = rw c.as_slice-3.ensures.value (all_form c.as_slice.result.now c.in-Ok-classes_of.files.items c.in-Ok-classes_of.ensures.classes)
+
+pub reserved-requires-clause-few : goal.reserved-requires-clause-few
+reserved-requires-clause-few g c =
+    rw c.as_slice-3.ensures.value (few_files (g.F.Folder.seen c.args.folder.now).files c.args.dir.now c.in-Ok.inputs.classes.items c.in-Ok-classes_of.files.items c.in-Ok.ensures.inputs.of_classes (rw c.as_slice.ensures.value at c.in-Ok-classes_of.ensures.classes))
+
+pub returns-in-Some-clause-outcome : goal.returns-in-Some-clause-outcome
+returns-in-Some-clause-outcome g c = λ words w.
+    kept_for_helper words (g.F.Folder.seen c.args.folder.now) (g.F.Folder.seen c.read_inputs.new.folder) c.args.dir.now c.read_inputs.ensures.files_kept (c.args.script.now, inl w)
+    c.in-Ok.inputs.classes.items c.in-Ok.ensures.inputs.of_classes c.in-Ok-classes_of.files.items (rw c.as_slice.ensures.value at c.in-Ok-classes_of.ensures.classes)
+    c.in_ok-refusal.field-0 c.in-Some.refusal (rw (c.as_slice-2.ensures.value, c.as_slice-3.ensures.value) at c.in_ok-refusal.ensures) c.in-Some.is
 
 pub returns-in-Err-clause-outcome : goal.returns-in-Err-clause-outcome
 returns-in-Err-clause-outcome g c =
@@ -20,7 +35,7 @@ returns-in-Err-clause-outcome g c =
     on_ok c.unread.result (IsUnreadAs c.in-Err.end) _
     (λ o is words w. unread words old new c.args.dir.now c.read_inputs.ensures.files_kept (c.args.script.now, inl w)
     (IsCallOfRun (g.F.Folder.seen c.args.folder.now).files c.args.dir.now c.args.script.now) c.in-Err.end o (λ path failed. (c.args.dir.now, c.args.script.now, inl (w, failed)))
-    (λ r over. (c.args.dir.now, c.args.script.now, inl (w, inl over))) c.in-Err.ensures.cause is) c.unread.ensures
+    (λ r over. (c.args.dir.now, (c.args.script.now, inl w), inl over)) c.in-Err.ensures.cause is) c.unread.ensures
 
 pub returns-in-Err-classes_of-clause-outcome : goal.returns-in-Err-classes_of-clause-outcome
 returns-in-Err-classes_of-clause-outcome g c =
@@ -38,7 +53,9 @@ returns-in-Ok-run_files-clause-outcome g c = λ words w. (
     c.args.script.now,
     w,
     journal_of (g.F.Folder.seen c.args.folder.now).files c.args.dir.now c.args.script.now c.in-Ok.inputs c.in-Ok-classes_of.files.items c.in-Ok-run_files.text c.in-Ok.ensures.inputs
-        (rw c.as_slice.ensures.value at c.in-Ok-classes_of.ensures.classes) (rw (c.as_slice-2.ensures.value, c.as_slice-3.ensures) at c.in-Ok-run_files.ensures.run),
+        (rw c.as_slice.ensures.value at c.in-Ok-classes_of.ensures.classes)
+        (lacks_helper (g.F.Folder.seen c.args.folder.now).files c.args.dir.now c.in-Ok.inputs.classes.items c.in-Ok.ensures.inputs.of_classes
+    (are_elsewhere c.in-Ok.inputs.classes.items c.in-Ok-classes_of.files.items c.in_ok-refusal.field-0 (rw (c.as_slice-2.ensures.value, c.as_slice-3.ensures.value) at c.in_ok-refusal.ensures) c.in_default.not-Some)) (rw (c.as_slice-4.ensures.value, c.as_slice-5.ensures) at c.in-Ok-run_files.ensures.run),
   ),
 )
 
@@ -50,9 +67,11 @@ returns-clause-outcome g c =
     let dir = c.args.dir.now in
     let a = c.in-Ok.ensures.inputs in
     let bytes = c.in-Ok.inputs.script in
+    let free : LacksHelper files dir = lacks_helper (g.F.Folder.seen c.args.folder.now).files c.args.dir.now c.in-Ok.inputs.classes.items c.in-Ok.ensures.inputs.of_classes
+    (are_elsewhere c.in-Ok.inputs.classes.items c.in-Ok-classes_of.files.items c.in_ok-refusal.field-0 (rw (c.as_slice-2.ensures.value, c.as_slice-3.ensures.value) at c.in_ok-refusal.ensures) c.in_default.not-Some) in
     on_ok c.refused.result (IsRefusedAs c.in-Err-run_files.end) _
-    (λ o is words w. refused words old new dir c.args.script.now c.read_inputs.ensures.files_kept
-    c.in-Ok.inputs.classes.items a.of_classes c.in-Ok-classes_of.files.items (rw c.as_slice.ensures.value at c.in-Ok-classes_of.ensures.classes) w bytes c.in-Err-run_files.end o
-    (λ r has. (dir, c.args.script.now, w, record { script_bytes = bytes; script_front = a.script_bytes; of_classes = has }))
-    (λ name x h has. (dir, c.args.script.now, w, unopened_of files dir c.args.script.now bytes name x a.script_bytes h.is_script.fits has))
-    (rw (c.as_slice-2.ensures.value, c.as_slice-3.ensures) at c.in-Err-run_files.ensures.cause) is) c.refused.ensures
+    (λ o is words w. refused words old new dir c.read_inputs.ensures.files_kept (c.args.script.now, inl w)
+    c.in-Ok.inputs.classes.items a.of_classes c.in-Ok-classes_of.files.items (rw c.as_slice.ensures.value at c.in-Ok-classes_of.ensures.classes) free bytes c.in-Err-run_files.end o
+    (λ r bad has. (dir, c.args.script.now, w, record { free = free; script_bytes = bytes; script_front = a.script_bytes; of_classes = has }))
+    (λ name x h has. (dir, c.args.script.now, w, unopened_of files dir c.args.script.now bytes name x free a.script_bytes h.is_script.fits has))
+    (rw (c.as_slice-4.ensures.value, c.as_slice-5.ensures) at c.in-Err-run_files.ensures.cause) is) c.refused.ensures

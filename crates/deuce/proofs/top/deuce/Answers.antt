@@ -1,6 +1,6 @@
 use Rattle.std.proofs.Common.{Err, ap, inr}
-use Rattle.deuce.proofs.Printed.{journal_printed, rewriting_printed, fault_printed, program_printed, untyped_printed, script_printed, unopened_printed, refusal_keeps}
-use Rattle.deuce.proofs.Complete.{complete, complete_rewriting}
+use Rattle.deuce.proofs.Printed.{journal_printed, rewriting_printed, fault_printed, program_printed, untyped_printed, script_printed, unopened_printed, put_printed, refusal_keeps}
+use Rattle.deuce.proofs.Complete.{complete, complete_rewriting, helper_refused}
 use Rattle.deuce.proofs.top.deuce.Goals as goal
 
 pub returns-in-Ok-print-clause-journal : goal.returns-in-Ok-print-clause-journal
@@ -38,11 +38,19 @@ returns-in-Ok-print-clause-unopened g c = λ seven.
     unopened_printed c.args.words.now (g.F.Folder.seen c.args.folder.now) (g.F.Folder.seen c.outcome_of.new.folder) c.in-Ok-text_of.text _ _ c.status-status.result c.in-Ok.outcome
     c.in-Ok.ensures.outcome.1 c.status-status.ensures c.in-Ok-text_of.ensures (rw c.as_slice.ensures at c.in-Ok-print.ensures.written) seven
 
+pub returns-in-Ok-print-clause-not_put : goal.returns-in-Ok-print-clause-not_put
+returns-in-Ok-print-clause-not_put g c = λ eleven.
+    put_printed c.args.words.now (g.F.Folder.seen c.args.folder.now) (g.F.Folder.seen c.outcome_of.new.folder) c.in-Ok-text_of.text _ _ c.status-status.result c.in-Ok.outcome
+    c.in-Ok.ensures.outcome.1 c.status-status.ensures c.in-Ok-text_of.ensures (rw c.as_slice.ensures at c.in-Ok-print.ensures.written) eleven
+
 pub returns-in-Ok-print-clause-complete : goal.returns-in-Ok-print-clause-complete
 returns-in-Ok-print-clause-complete g c = complete c.args.words.now (g.F.Folder.seen c.args.folder.now) (g.F.Folder.seen c.outcome_of.new.folder) c.in-Ok.outcome c.status-status.result c.in-Ok.ensures.outcome.1 c.status-status.ensures
 
 pub returns-in-Ok-print-clause-complete_rewriting : goal.returns-in-Ok-print-clause-complete_rewriting
 returns-in-Ok-print-clause-complete_rewriting g c = complete_rewriting c.args.words.now (g.F.Folder.seen c.args.folder.now) (g.F.Folder.seen c.outcome_of.new.folder) c.in-Ok.outcome c.status-status.result c.in-Ok.ensures.outcome.1 c.status-status.ensures
+
+pub returns-in-Ok-print-clause-helper_path : goal.returns-in-Ok-print-clause-helper_path
+returns-in-Ok-print-clause-helper_path g c = helper_refused c.args.words.now (g.F.Folder.seen c.args.folder.now) (g.F.Folder.seen c.outcome_of.new.folder) c.in-Ok.outcome c.status-status.result c.in-Ok.ensures.outcome.1 c.status-status.ensures
 
 pub returns-in-Err-Failed-clause-sink : goal.returns-in-Err-Failed-clause-sink
 returns-in-Err-Failed-clause-sink g c = λ nine. c.in-Err-Failed.ensures.failed (ap Err c.in-Err-Failed.field-0-is)

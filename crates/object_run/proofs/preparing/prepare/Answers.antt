@@ -1,64 +1,18 @@
-use Rattle.std.proofs.Common.{◌≡◌, ◌∙◌, Bor, List, map, Ok, Some, ap, sym, subst}
-use Rattle.std.specs.List.{AllByRecursion}
-use Rattle.jmodel.specs.ClassFile.{ClassFile}
 use Rattle.jmodel.specs.Classes.{in_order}
-use Rattle.objects.specs.Program.{Program}
-use Rattle.objects.specs.Linking.{linking}
-use Rattle.objects.specs.LinkingLaw.{AreRead}
-use Rattle.object_rewriter.specs.Asked.{AreFiled}
 use Rattle.program_typing.proofs.Typings.{all_typed}
-use Rattle.object_run.proofs.Ordered.{all_in_order}
-use Rattle.object_run.proofs.Readying.{linked_folder, ready}
+use Rattle.object_run.proofs.Readying.{ready}
 use Rattle.object_run.proofs.preparing.prepare.Goals as goal
 
-abbrev seen : List (Bor ClassFile) → List ClassFile
-seen cs = map (λ k. k.now) cs
-
--- what is behind a slice of them
-behind : (files : List ClassFile) (cs slice : List (Bor ClassFile)) → seen cs ≡ in_order files → slice ≡ cs → seen slice ≡ in_order files
-behind files cs slice order is = ap seen is ∙ order
-
-linked_to : (files : List ClassFile) (cs slice : List (Bor ClassFile)) (P : Program) → seen cs ≡ in_order files → slice ≡ cs → linking (seen slice) ≡ Ok (Some P) → linking (in_order files) ≡ Ok (Some P)
-linked_to files cs slice P order is links = sym (ap linking (behind files cs slice order is)) ∙ links
-
-pub linked-requires : goal.linked-requires
-linked-requires c = record { read = subst AreRead (sym (behind c.args.files.now c.in_ok-classes.classes.items c.as_slice.result.now c.in_ok-classes.ensures.order c.as_slice.ensures.value)) c.in_ok-classes.ensures.read.read }
-
-pub type_program-requires-clause-source : goal.type_program-requires-clause-source
-type_program-requires-clause-source c =
-    let files = c.args.files.now in
-    let P = c.in_ok-original.original in
-    let e = linked_to files c.in_ok-classes.classes.items c.as_slice.result.now P c.in_ok-classes.ensures.order c.as_slice.ensures.value c.in_ok-original.ensures.links in
-    (linked_folder files c.in_ok-classes.ensures.read P e).source
-
-pub instrument-requires-clause-filed : goal.instrument-requires-clause-filed
-instrument-requires-clause-filed c =
-    let files = c.args.files.now in
-    subst (AllByRecursion AreFiled) (sym (behind files c.in_ok-classes.classes.items c.as_slice-3.result.now c.in_ok-classes.ensures.order c.as_slice-3.ensures.value)) (all_in_order AreFiled files c.requires.filed)
-
 pub rewrite_program-requires-clause-source : goal.rewrite_program-requires-clause-source
-rewrite_program-requires-clause-source c =
-    let files = c.args.files.now in
-    let P = c.in_ok-original.original in
-    let e = linked_to files c.in_ok-classes.classes.items c.as_slice.result.now P c.in_ok-classes.ensures.order c.as_slice.ensures.value c.in_ok-original.ensures.links in
-    (linked_folder files c.in_ok-classes.ensures.read P e).source
+rewrite_program-requires-clause-source c = c.in_ok-instrumented.ensures.linked.source
 
 pub rewrite_program-requires-clause-typed : goal.rewrite_program-requires-clause-typed
 rewrite_program-requires-clause-typed c =
-    let P = c.in_ok-original.original in
-    let typed = c.in_ok-type_program.ensures.typed in
+    let P = c.in_ok-instrumented.instrumented.original in
+    let typed = c.in_ok-instrumented.ensures.typed in
     all_typed P typed.tables P.methods typed.narrowest
-
-pub returns-clause-linked : goal.returns-clause-linked
-returns-clause-linked c =
-    let files = c.args.files.now in
-    let P = c.in_ok-original.original in
-    let e = linked_to files c.in_ok-classes.classes.items c.as_slice.result.now P c.in_ok-classes.ensures.order c.as_slice.ensures.value c.in_ok-original.ensures.links in
-    linked_folder files c.in_ok-classes.ensures.read P e
 
 pub returns-clause-ready : goal.returns-clause-ready
 returns-clause-ready c =
-    let files = c.args.files.now in
-    let P = c.in_ok-original.original in
-    let e = linked_to files c.in_ok-classes.classes.items c.as_slice.result.now P c.in_ok-classes.ensures.order c.as_slice.ensures.value c.in_ok-original.ensures.links in
-    ready (in_order files) P c.in_ok-rewritten.rewritten c.in_ok-classes.ensures.read.read e c.in_ok-rewritten.ensures
+    let folder = c.in_ok-instrumented.ensures.linked in
+    ready (in_order c.args.files.now) c.in_ok-instrumented.instrumented.original c.in_ok-rewritten.rewritten folder.read folder.linked c.in_ok-rewritten.ensures

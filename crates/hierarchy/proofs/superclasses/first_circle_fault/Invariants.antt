@@ -1,7 +1,0 @@
-use Rattle.std.proofs.Common.{◌≡◌, map, drop}
-use Rattle.jmodel.specs.ClassesLinking.{circle_fault, first_fault}
-use Rattle.hierarchy.proofs.superclasses.first_circle_fault.Given as goal
-
--- the classes before have no fault
-abbrev pub invariant-loop-class : goal.invariant-loop-class
-invariant-loop-class l = first_fault (circle_fault l.places) (map (λ c. c.now) (drop l.class-index l.class-items)) ≡ first_fault (circle_fault l.places) (map (λ c. c.now) l.class-items)

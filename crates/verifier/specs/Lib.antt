@@ -1,5 +1,0 @@
-pub mod Order
-pub mod Effect
-pub mod Search
-pub mod Answer
-pub mod Check
