@@ -33,6 +33,7 @@ pub record IsMeantAs (s : Symbols) (m : Member) (o : Option Coded) (k : Method) 
   pub bodied : body_of s (length (receiver_types s.classes s.class m ++ parameter_types s.classes signature)) o ≡ Some body
   pub is : k ≡ method_with s true m signature body
 
+-- a method that is meant has both
 pub meant_as : (s : Symbols) (m : Member) (o : Option Coded) (k : Method) → method_of s true m o ≡ Some k → IsMeantAs s m o k
 meant_as s m o k e = by_signature (signature_in (record { class = s.class; member = m })) refl e
   where
@@ -51,6 +52,7 @@ pub record IsBodyOf (s : Symbols) (x : Coded) (b : Body) : Type 0 where
   pub ops : ops_of s x.instrs ≡ Some b.ops
   pub catches : each (catch_of s.class.pool x.instrs (length x.code.code)) x.code.handlers ≡ Some b.catches
 
+-- a body that is meant has these parts
 pub body_parts : (s : Symbols) (x : Coded) (b : Body) → coded_body s x ≡ Some b → IsBodyOf s x b
 body_parts s x b e = go (ops_of s x.instrs) refl (each (catch_of s.class.pool x.instrs (length x.code.code)) x.code.handlers) refl e
   where

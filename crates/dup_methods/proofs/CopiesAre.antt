@@ -46,6 +46,7 @@ use Rattle.dup_methods.proofs.Heads.{IsHeadOf, head_is}
 use Rattle.dup_methods.proofs.Copied.{IsMeantAs, IsBodyOf, body_parts, made_as, head_means, full_duplicate}
 use Rattle.dup_methods.proofs.Members.{HasTexts, adds_texts, IsCopy}
 
+-- as many are put as there are items
 put_long : {A B : Type 0} (Facts : ℕ → A → Pool → B → Type 0) (n : ℕ) (xs : List A) (Z : Pool) (ys : List B) → AllPut Facts n xs Z ys → length ys ≡ length xs
 put_long Facts n [] Z [] h = refl
 put_long Facts n [] Z (y ∷ ys) h = absurd h

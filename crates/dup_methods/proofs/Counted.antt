@@ -23,6 +23,7 @@ use Rattle.dup_methods.proofs.BlockFacts.{IsBlock, IsNumbered}
 use Rattle.dup_methods.proofs.OverPool.{fit_block}
 use Rattle.dup_methods.proofs.Whole.{AreParts, block_some, one_long, from_here, from_next, next_typed}
 
+-- instructions with their types are as many as the instructions
 pub typed_long : (n : ℕ) (os : List Op) (O : Original) → length (typed_from n O.table os) ≡ length os
 typed_long n [] O = refl
 typed_long n (o ∷ os) O = omega (arith, typed_long (suc n) os O)

@@ -24,6 +24,7 @@ use Rattle.dup_methods.specs.Duplicates.{stub}
 
 -- ---- places ascend
 
+-- a pc of blocks is none below their first
 pc_above : (n : ℕ) (bs : List Block) (t : ℕ) → AscendFrom n bs → is_pc bs t ≡ true → n ≤ t
 pc_above n [] t a h = absurd cc
 pc_above n (b ∷ bs) t a h = go (b.pc == t) refl h (pc_above (b.pc + 1) bs t a.1)
@@ -32,6 +33,7 @@ pc_above n (b ∷ bs) t a h = go (b.pc == t) refl h (pc_above (b.pc + 1) bs t a.
     go true e h more = omega (arith, a.0, eqb-true b.pc t e)
     go false e h more = omega (arith, a.0, more h)
 
+-- no block stands before the first place
 from_over : (at : ℕ) (bs : List Block) (t : ℕ) → at ≤ place_from at bs t
 from_over at [] t = omega arith
 from_over at (b ∷ bs) t = go (b.pc == t) (from_over (behind at b.instrs) bs t)
@@ -40,6 +42,7 @@ from_over at (b ∷ bs) t = go (b.pc == t) (from_over (behind at b.instrs) bs t)
     go true h = omega arith
     go false h = omega (arith, h, behind_over at b.instrs)
 
+-- instructions take room
 pub behind_some : (at : ℕ) (is : List Instr) → AllByRecursion IsShaped is → 0 < length is → at < behind at is
 behind_some at [] h some = absurd (omega arith)
 behind_some at (i ∷ is) h some = omega (arith, some_size at i h.0, behind_over (at + size_at at i) is)
@@ -90,6 +93,7 @@ record IsCatch (pool : Pool) (is : List Instr) (len : ℕ) (h : Handler) (c : Ca
   at : number_at is h.handler ≡ Some c.at
   catches : catches_of pool h.catch_type ≡ Some c.catches
 
+-- the parts of the meaning of an entry
 catch_parts : (pool : Pool) (is : List Instr) (len : ℕ) (h : Handler) (c : Catch) → catch_of pool is len h ≡ Some c → IsCatch pool is len h c
 catch_parts pool is len h c e = go (number_at is h.start) refl (end_at is len h.end) refl (number_at is h.handler) refl (catches_of pool h.catch_type) refl e
   where
@@ -102,6 +106,7 @@ catch_parts pool is len h c e = go (number_at is h.start) refl (end_at is len h.
     go (Some f) p (Some t) q None r k u e = cc
     go (Some f) p (Some t) q (Some a) r None u e = cc
 
+-- what an entry catches stays in a longer pool
 catches_stay : (pool Z : Pool) → Grown pool Z → (i : ℕ) (k : Catches) → catches_of pool i ≡ Some k → catches_of Z i ≡ Some k
 catches_stay pool Z G i k e = go (i == 0) (class_name pool i) refl e
   where
@@ -110,6 +115,7 @@ catches_stay pool Z G i k e = go (i == 0) (class_name pool i) refl e
     go false None q e = cc
     go false (Some n) q e = let there = class_grown pool Z G i n q in rw there e
 
+-- an entry of parts that are known
 make_is : (f t a : Option ℕ) (k : Option Catches) (x y z : ℕ) (w : Catches) → f ≡ Some x → t ≡ Some y → a ≡ Some z → k ≡ Some w → make_catch f t a k ≡ Some (catch x y z w)
 make_is f t a k x y z w p q r u = rw (p, q, r, u) refl
 

@@ -32,10 +32,12 @@ use Rattle.dup_methods.proofs.Widened.{wider, widened}
 
 -- ---- how many places parameters take
 
+-- of two tests that both fail
 first_none : (a b : Bool) → (a || b) ≡ false → (a ≡ false) × (b ≡ false)
 first_none true b h = cc
 first_none false b h = (refl, h)
 
+-- a type that is no float takes its places
 one_taken : (cs : List ClassFile) (t : FieldType) → is_floating t ≡ false → length (place_types (declared_as cs t)) ≡ places t
 one_taken cs types.Boolean h = refl
 one_taken cs types.Byte h = refl
@@ -46,6 +48,7 @@ one_taken cs types.Long h = refl
 one_taken cs (types.Reference n) h = refl
 one_taken cs t h = cc
 
+-- so do all types of parameters
 all_taken : (cs : List ClassFile) (ts : List FieldType) → list_any is_floating ts ≡ false → length (flat_map (λ (t : FieldType). place_types (declared_as cs t)) ts) ≡ places_of ts
 all_taken cs [] h = refl
 all_taken cs (t ∷ ts) h =
@@ -54,6 +57,7 @@ all_taken cs (t ∷ ts) h =
     let both = length-append (place_types (declared_as cs t)) (flat_map (λ (t : FieldType). place_types (declared_as cs t)) ts) in
     omega (arith, list, both, one_taken cs t f.0, all_taken cs ts f.1)
 
+-- a descriptor without floats has none among its parameters
 no_floats : (d : List ℕ) (g : Signature) → signature_of d ≡ Some g → is_float_descriptor d ≡ false → list_any is_floating g.parameters ≡ false
 no_floats d g e h = (first_none (list_any is_floating g.parameters) _ (of (signature_of d) e h)).0
   where
@@ -63,6 +67,7 @@ no_floats d g e h = (first_none (list_any is_floating g.parameters) _ (of (signa
 
 -- ---- types with the context
 
+-- the places of types behind others
 taken_append : (cs : List ClassFile) (ts us : List FieldType) → flat_map (λ (t : FieldType). place_types (declared_as cs t)) (ts ++ us) ≡ flat_map (λ (t : FieldType). place_types (declared_as cs t)) ts ++ flat_map (λ (t : FieldType). place_types (declared_as cs t)) us
 taken_append cs [] us = refl
 taken_append cs (t ∷ ts) us =
@@ -70,6 +75,7 @@ taken_append cs (t ∷ ts) us =
     ∙ sym (append_assoc (place_types (declared_as cs t)) (flat_map (λ (t : FieldType). place_types (declared_as cs t)) ts) (flat_map (λ (t : FieldType). place_types (declared_as cs t)) us))
     ∙ ap (λ (l : List VType). l ++ flat_map (λ (t : FieldType). place_types (declared_as cs t)) us) (sym (flat_map-cons (λ (t : FieldType). place_types (declared_as cs t)) t ts))
 
+-- the context is taken as itself
 context_taken : (cs : List ClassFile) → flat_map (λ (t : FieldType). place_types (declared_as cs t)) (types.Reference context_class ∷ []) ≡ context ∷ []
 context_taken cs = flat_map-cons (λ (t : FieldType). place_types (declared_as cs t)) (types.Reference context_class) [] ∙ refl
 
@@ -85,6 +91,7 @@ pub record IsHeadOf (s : Symbols) (y : Member) (k : Method) (g : Signature) : Ty
   pub result : result_type s.classes (wider g) ≡ k.result
   pub retries : retries_of s.class.pool y ≡ None
 
+-- a name of these parts
 abbrev named_so : List ℕ → List ℕ → List ℕ → MethodName
 named_so class name descriptor = record { class = class; name = name; descriptor = descriptor }
 

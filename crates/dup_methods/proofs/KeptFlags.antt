@@ -28,6 +28,7 @@ has_bits n = not (n == 0)
 
 -- ---- names
 
+-- a duplicate is named as a constructor where its method is
 constructor_named : (o : Option (List ℕ)) → same_text (Some (duplicate_name (text_or_none o))) (codes "<init>") ≡ same_text o (codes "<init>")
 constructor_named None = refl
 constructor_named (Some t) = go (bytes_eq t (codes "<clinit>")) refl
@@ -36,6 +37,7 @@ constructor_named (Some t) = go (bytes_eq t (codes "<clinit>")) refl
     go false e = refl
     go true e = let is : t ≡ codes "<clinit>" = (bytes_eq-Decides t (codes "<clinit>")).0 e in ap (λ (n : List ℕ). bytes_eq n (codes "<init>")) (sym is)
 
+-- no duplicate is named as a static initialiser
 not_initialiser : (n : List ℕ) → bytes_eq (duplicate_name n) (codes "<clinit>") ≡ false
 not_initialiser n = go (bytes_eq n (codes "<clinit>")) refl
   where
@@ -83,10 +85,12 @@ module _ (c d : ClassFile) (m x : Member) (flags : x.flags ≡ duplicate_flags m
 
 -- ---- marks
 
+-- a member without attributes has no mark
 pub bare_unmarked : (pool : Pool) (flags name descriptor : ℕ) → mark_retries pool (record { flags = flags; name = name; descriptor = descriptor; attributes = [] }) ≡ None
 unfolding retries_in all_annotations
 bare_unmarked pool flags name descriptor = refl
 
+-- nor has one whose attribute is its Code
 pub coded_unmarked : (pool : Pool) (flags name descriptor code : ℕ) (bytes : List ℕ) → utf8 pool code ≡ Some (codes "Code") → mark_retries pool (added_method flags name descriptor code bytes) ≡ None
 unfolding retries_in all_annotations
 coded_unmarked pool flags name descriptor code bytes c = rw c refl

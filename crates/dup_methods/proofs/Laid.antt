@@ -40,11 +40,13 @@ behind_bytes : (xs ys : List ℕ) → IsBytes (xs ++ ys) → IsBytes ys
 behind_bytes [] ys h i = h i
 behind_bytes (x ∷ xs) ys h i = behind_bytes xs ys (λ j. h (suc j)) i
 
+-- so are their first part
 front_bytes : (xs ys : List ℕ) → IsBytes (xs ++ ys) → IsBytes xs
 front_bytes [] ys h i = omega arith
 front_bytes (x ∷ xs) ys h zero = h zero
 front_bytes (x ∷ xs) ys h (suc i) = front_bytes xs ys (λ j. h (suc j)) i
 
+-- the bytes of a Code that is found
 found_bytes : (pool : Pool) (xs : List Attribute) (k : Code) → AllByRecursion (λ (a : Attribute). IsBytes a.bytes) xs → option_and_then (λ (a : Attribute). code_of pool a.bytes) (find (is_named pool (codes "Code")) xs) ≡ Some k
     → (bytes : List ℕ) × IsBytes bytes × (code_of pool bytes ≡ Some k)
 found_bytes pool [] k h e = absurd cc
@@ -61,6 +63,7 @@ pub record IsKeptCode (pool : Pool) (k : Code) : Type 0 where
   pub rules : IsCode pool k
   pub bytes : IsBytes k.code
 
+-- code of attributes that hold bytes
 pub kept_code : (pool : Pool) (m : Member) (k : Code) → HasBytes m → code_in pool m ≡ Some k → IsKeptCode pool k
 kept_code pool m k h e =
     let f = found_bytes pool m.attributes k h e in
@@ -72,6 +75,7 @@ kept_code pool m k h e =
     let c = front_bytes (first ++ k.code) (u2 (length k.handlers)) b in
     record { rules = s.code; bytes = behind_bytes first k.code c }
 
+-- it spells the instructions that are read of it
 pub kept_spelled : (pool : Pool) (k : Code) (is : List Instr) → IsKeptCode pool k → instrs_of pool k.handlers k.code ≡ Ok is → SpellsInstrs pool k.handlers k.code is
 kept_spelled pool k is h e = code_take pool k.handlers k.code h.bytes h.rules.short is e
 
@@ -82,10 +86,12 @@ blocks_long : (bs : List Block) → HaveInstrs bs → EachInstr IsShaped bs → 
 blocks_long [] h s n = absurd (omega arith)
 blocks_long (b ∷ bs) h s n = omega (arith, behind_block 0 b bs, behind_some 0 b.instrs s.0 h.0, behind_over (behind 0 b.instrs) (all_instrs bs))
 
+-- naming the method changes no code
 of_method_ok : {A : Type 0} (name : List ℕ) (r : Result A Refusal) (x : A) → of_method name r ≡ Ok x → r ≡ Ok x
 of_method_ok name (Ok y) x e = e
 of_method_ok name (Err y) x e = cc
 
+-- code without attributes
 abbrev pub code_with : ℕ → ℕ → List ℕ → List Handler → Code
 code_with max_stack max_locals code handlers = record { max_stack = max_stack; max_locals = max_locals; code = code; handlers = handlers; attributes = [] }
 
@@ -95,6 +101,7 @@ pub record IsLaidCopy (k : Method) (old : Code) (bs : List Block) (conflict : �
   pub laid : relocate bs old.handlers (Some conflict) stub ≡ Ok (code, moved_handlers bs old.handlers (Some conflict))
   pub bytes_are : bytes ≡ code_spelling (code_with (old.max_stack + 1) (old.max_locals + added_locals k) code (moved_handlers bs old.handlers (Some conflict)))
 
+-- what the bytes of a duplicate's Code are
 pub laid_is : (k : Method) (old : Code) (bs : List Block) (conflict : ℕ) (bytes : List ℕ) → duplicate_bytes k old bs conflict ≡ Ok bytes → IsLaidCopy k old bs conflict bytes
 laid_is k old bs conflict bytes h =
     let stack : ℕ = old.max_stack + 1 in

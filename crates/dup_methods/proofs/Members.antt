@@ -26,6 +26,7 @@ use Rattle.dup_methods.specs.Duplicates.{refs_of, texts_of, duplicate_bytes, dup
 abbrev pub HasTexts : Method → Pool → (ℕ × ℕ) × ℕ → Type 0
 HasTexts k Z x = (utf8 Z x.0.0 ≡ Some (duplicate_name k.name.name)) × (utf8 Z x.0.1 ≡ Some (with_context k.name.descriptor)) × (utf8 Z x.1 ≡ Some (codes "Code"))
 
+-- adding them puts them into the pool
 pub adds_texts : (k : Method) → Adding (HasTexts k) (texts_of k)
 unfolding texts_of
 adds_texts k pool r s e =
@@ -36,6 +37,7 @@ adds_texts k pool r s e =
     subst (Puts (HasTexts k) pool) (ok_is ((a.0.0, b.0.0), b.0.1) r b.2)
     (record { grown = grown_trans pool a.0.1 b.0.1 p.grown q.grown; short = q.short; facts = λ Z g. let h = p.facts Z (grown_trans a.0.1 b.0.1 Z q.grown g) in (h.0, h.1, q.facts Z g) })
 
+-- a member with the pool that is left
 abbrev both : Member → Pool → Member × Pool
 both m p = (m, p)
 
@@ -56,9 +58,11 @@ pub record IsCopy (O : Original) (x : Coded) (pool : Pool) (r : Member × Pool) 
   pub member : r.0 ≡ added_method (duplicate_flags O.member.flags) texts.0.0.0 texts.0.0.1 texts.0.1 bytes
   pub left : r.1 ≡ texts.1
 
+-- what passes answers nothing more
 the_unit : (r : Result (Unit {0}) Refusal) (u : Unit {0}) → r ≡ Ok u → r ≡ Ok tt
 the_unit r u e = e
 
+-- a duplicate that is made has these parts
 pub copy_parts : (O : Original) (x : Coded) (pool : Pool) (r : Member × Pool) → coded_duplicate O x pool ≡ Ok r → IsCopy O x pool r
 unfolding coded_duplicate made_duplicate
 copy_parts O x pool r e =
@@ -89,6 +93,7 @@ pub record IsBareCopy (O : Original) (pool : Pool) (r : Member × Pool) : Type 0
   pub member : r.0 ≡ record { flags = duplicate_flags O.member.flags; name = texts.0.0; descriptor = texts.0.1; attributes = [] }
   pub left : r.1 ≡ texts.1
 
+-- so has one without code
 pub bare_parts : (O : Original) (pool : Pool) (r : Member × Pool) → abstract_duplicate O pool ≡ Ok r → IsBareCopy O pool r
 unfolding abstract_duplicate
 bare_parts O pool r e =
@@ -104,6 +109,7 @@ pub record IsSplit (O : Original) (room : ℕ) (pool : Pool) (r : Member × Pool
   pub decodes : decoded_member (record { class = O.class; member = O.member }) ≡ Ok coded
   pub makes : duplicate_with O coded pool ≡ Ok r
 
+-- every duplicate is made in these steps
 pub split : (room : ℕ) (O : Original) (pool : Pool) (r : Member × Pool) → duplicate_of room O pool ≡ Ok r → IsSplit O room pool r
 unfolding duplicate_of
 split room O pool r e =

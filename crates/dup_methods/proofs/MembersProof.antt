@@ -71,6 +71,7 @@ meant_by s0 O o same decodes e =
     let here : decoded_member (record { class = s0.class; member = O.member }) ≡ Ok o = ap (λ (c : ClassFile). decoded_member (record { class = c; member = O.member })) same ∙ decodes in
     meant_as s0 O.member o O.method (sym (ap (λ (x : Result (Option Coded) Refusal). option_and_then (method_of s0 true O.member) (decoded_or_none x)) here) ∙ e)
 
+-- every duplicate, with code or without
 pub members_are : DuplicateLaw
 members_are O s0 s room pool r ties alike same bytes means source floatless front short told rest =
     let p = split room O pool r told in

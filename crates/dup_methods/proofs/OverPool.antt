@@ -86,6 +86,7 @@ record IsCount (count : ℕ) (d : List ℕ) : Type 0 where
   is : signature_of d ≡ Some signature
   places : suc (places_of signature.parameters) ≡ count
 
+-- what the count of an invokeinterface says of what it names
 count_is : (pool : Pool) (i count : ℕ) (n : MemberName) → argument_places pool i ≡ Some count → member_name pool i ≡ Some n → IsCount count n.descriptor
 count_is pool i count n h e = go (is_entry pool kind.InterfaceMethod i) (h' (is_entry pool kind.InterfaceMethod i) h)
   where
@@ -114,9 +115,11 @@ count_more Z i class_at pair_at count n small c there m typed named =
 
 -- ---- blocks
 
+-- each fits the pool
 abbrev AllFit : Pool → List Instr → Type 0
 AllFit Z is = AllByRecursion (Fits Z) is
 
+-- so do instructions behind others
 fit_append : (Z : Pool) (is js : List Instr) → AllFit Z is → AllFit Z js → AllFit Z (is ++ js)
 fit_append Z [] js h k = k
 fit_append Z (i ∷ is) js h k = (h.0, fit_append Z is js h.1 k)

@@ -23,9 +23,11 @@ name_over (c ∷ name) ds h =
     let rest = name_over name ds h.1 in
     rw no (omega (arith, rest))
 
+-- the descriptor of a class's type
 class_text : (class : List ℕ) → IsClassName class → field_descriptor (types.Reference class) ≡ 76 ∷ (class ++ 59 ∷ [])
 class_text class h = let n = h.no_array in rw n refl
 
+-- the parameters end behind a class's type
 class_over : (class ds : List ℕ) → IsClassName class → before_end false (field_descriptor (types.Reference class) ++ ds) ≡ length (field_descriptor (types.Reference class)) + before_end false ds
 class_over class ds h =
     let text = class_text class h in
@@ -35,6 +37,7 @@ class_over class ds h =
     let end : before_end false (76 ∷ (class ++ 59 ∷ ds)) ≡ length class + 2 + before_end false ds = omega (arith, over) in
     ap (before_end false) list ∙ end ∙ ap (λ (n : ℕ). n + before_end false ds) (sym long)
 
+-- behind a type that is no array
 element_over : (t : FieldType) (ds : List ℕ) → IsElement t → before_end false (field_descriptor t ++ ds) ≡ length (field_descriptor t) + before_end false ds
 element_over types.Boolean ds h = omega arith
 element_over types.Byte ds h = omega arith
@@ -46,17 +49,21 @@ element_over types.Float ds h = omega arith
 element_over types.Double ds h = omega arith
 element_over (types.Reference n) ds h = class_over n ds h
 
+-- and with brackets before it
 brackets_over : (n : ℕ) (text ds : List ℕ) → before_end false (text ++ ds) ≡ length text + before_end false ds → before_end false ((replicate n 91 ++ text) ++ ds) ≡ length (replicate n 91 ++ text) + before_end false ds
 brackets_over zero text ds h = h
 brackets_over (suc n) text ds h = let rest = brackets_over n text ds h in omega (arith, rest)
 
+-- behind an array type
 array_over : (name ds : List ℕ) → IsArrayName name → before_end false (name ++ ds) ≡ length name + before_end false ds
 array_over name ds h = subst (λ (l : List ℕ). before_end false (l ++ ds) ≡ length l + before_end false ds) (sym h.is) (brackets_over h.dimensions (field_descriptor h.element) ds (element_over h.element ds h.is_element))
 
+-- behind a type of references
 reference_over : (b : Bool) (name ds : List ℕ) → is_array_name name ≡ b → IsReferenceName b name → before_end false (field_descriptor (types.Reference name) ++ ds) ≡ length (field_descriptor (types.Reference name)) + before_end false ds
 reference_over true name ds e h = let text : field_descriptor (types.Reference name) ≡ name = rw e refl in subst (λ (l : List ℕ). before_end false (l ++ ds) ≡ length l + before_end false ds) (sym text) (array_over name ds h)
 reference_over false name ds e h = class_over name ds h
 
+-- behind any type
 type_over : (t : FieldType) (ds : List ℕ) → IsFieldType t → before_end false (field_descriptor t ++ ds) ≡ length (field_descriptor t) + before_end false ds
 type_over types.Boolean ds h = omega arith
 type_over types.Byte ds h = omega arith
@@ -68,6 +75,7 @@ type_over types.Float ds h = omega arith
 type_over types.Double ds h = omega arith
 type_over (types.Reference n) ds h = reference_over (is_array_name n) n ds refl h
 
+-- behind all types, at the parenthesis
 types_over : (ts : List FieldType) (rest : List ℕ) → AllByRecursion IsFieldType ts → before_end false (flat_map field_descriptor ts ++ 41 ∷ rest) ≡ length (flat_map field_descriptor ts)
 types_over [] rest h = refl
 types_over (t ∷ ts) rest h =
@@ -80,6 +88,7 @@ types_over (t ∷ ts) rest h =
 
 -- ---- the context put in
 
+-- the first of two texts
 take_front : (xs ys : List ℕ) → take (length xs) (xs ++ ys) ≡ xs
 take_front [] ys = take_none ys
   where
@@ -88,6 +97,7 @@ take_front [] ys = take_none ys
     take_none (y ∷ ys) = refl
 take_front (x ∷ xs) ys = let e : length (x ∷ xs) ≡ suc (length xs) = omega arith in ap (λ (n : ℕ). take n (x ∷ (xs ++ ys))) e ∙ ap (λ (l : List ℕ). x ∷ l) (take_front xs ys)
 
+-- the second of two texts
 drop_front : (xs ys : List ℕ) → drop (length xs) (xs ++ ys) ≡ ys
 drop_front [] ys = refl
 drop_front (x ∷ xs) ys = let e : length (x ∷ xs) ≡ suc (length xs) = omega arith in ap (λ (n : ℕ). drop n (x ∷ (xs ++ ys))) e ∙ drop_front xs ys
@@ -106,20 +116,24 @@ put_at_end front back d is n =
 abbrev pub wider : Signature → Signature
 wider g = record { parameters = g.parameters ++ types.Reference context_class ∷ []; result = g.result }
 
+-- the descriptors of types behind others
 flat_append : (ts us : List FieldType) → flat_map field_descriptor (ts ++ us) ≡ flat_map field_descriptor ts ++ flat_map field_descriptor us
 flat_append [] us = refl
 flat_append (t ∷ ts) us =
     flat_map-cons field_descriptor t (ts ++ us) ∙ ap (λ (l : List ℕ). field_descriptor t ++ l) (flat_append ts us) ∙ sym (append_assoc (field_descriptor t) (flat_map field_descriptor ts) (flat_map field_descriptor us))
     ∙ ap (λ (l : List ℕ). l ++ flat_map field_descriptor us) (sym (flat_map-cons field_descriptor t ts))
 
+-- the context takes one place
 pub one_more : (ts : List FieldType) → places_of (ts ++ types.Reference context_class ∷ []) ≡ places_of ts + 1
 one_more [] = refl
 one_more (t ∷ ts) = omega (arith, one_more ts)
 
+-- what holds of each holds with one more
 each_more : (P : FieldType → Type 0) (ts : List FieldType) (t : FieldType) → AllByRecursion P ts → P t → AllByRecursion P (ts ++ t ∷ [])
 each_more P [] t h p = (p, tt)
 each_more P (x ∷ ts) t h p = (h.0, each_more P ts t h.1 p)
 
+-- a text that a test finds without semicolons has none
 unlike : (cs : List ℕ) → list_all (λ c. not (c == 59)) cs ≡ true → AllByRecursion (λ c. c ≢ 59) cs
 unlike [] h = tt
 unlike (c ∷ cs) h = let f = two_true (not (c == 59)) (list_all (λ c. not (c == 59)) cs) h in (no (c == 59) refl f.0, unlike cs f.1)
@@ -128,6 +142,7 @@ unlike (c ∷ cs) h = let f = two_true (not (c == 59)) (list_all (λ c. not (c =
     no true q h = cc
     no false q h = λ e. let t : (c == 59) ≡ true = eq-eqb c 59 e in absurd cc
 
+-- the context's name is a class's
 context_named : IsClassName context_class
 context_named = record { is_there = λ e. absurd cc; no_end = unlike context_class refl; no_array = refl }
 

@@ -1,6 +1,6 @@
 -- A class keeps the rules when members are added over a pool that has grown.
-use Rattle.std.proofs.Common.{◌≡◌, ℕ, ◌<◌, List, [], ◌∷◌, ◌++◌, length, map, Some, sym, subst, ◌∙◌}
-use Rattle.std.specs.Prelude.{◌^◌, IsSome, IsSomeAnd}
+use Rattle.std.proofs.Common.{ℕ, ◌<◌, List, [], ◌∷◌, length, map}
+use Rattle.std.specs.Prelude.{◌^◌, IsSome}
 use Rattle.std.specs.List.{AllByRecursion}
 use Rattle.jmodel.specs.ClassFile.{Member, Pool, ClassFile}
 use Rattle.jmodel.specs.Pool.{class_name}
@@ -8,7 +8,7 @@ use Rattle.jmodel.specs.ClassRules.{IsTwoBytes, IsPool, IsMember, IsField, IsMet
 use Rattle.member_code.proofs.Grown.{Grown}
 use Rattle.rewritten_form.proofs.Lists.{all_as}
 use Rattle.rewritten_form.proofs.StillForms.{class_still, class_still_fits, attributes_still, member_still, method_still}
-use Rattle.rewritten_form.proofs.Keys.{Key, AreKeyed, AreUnlike, distinct, unlike, key_of, member_keyed, keys_grown}
+use Rattle.rewritten_form.proofs.Keys.{Key, AreKeyed, distinct, unlike, key_of, member_keyed, keys_grown}
 
 -- members that keep the rules by their names and descriptors
 pub members_keyed : (Z : Pool) (Fits : List ℕ → Type 0) (ms : List Member) → AllByRecursion (IsMember Z Fits) ms → AreKeyed Z ms (map (key_of Z) ms)

@@ -1,5 +1,5 @@
 -- Methods whose Code was laid keep the rules of methods.
-use Rattle.std.proofs.Common.{◌≡◌, ℕ, ◌+◌, ◌*◌, ◌<◌, Bool, true, false, not, List, [], ◌∷◌, ◌++◌, length, map, Some, None, refl, sym, ap, ◌∙◌, subst, arith, length-append}
+use Rattle.std.proofs.Common.{◌≡◌, ℕ, ◌+◌, ◌*◌, ◌<◌, Bool, true, false, not, List, [], ◌∷◌, ◌++◌, length, map, Some, refl, sym, ap, ◌∙◌, subst, arith, length-append}
 use Rattle.std.specs.Prelude.{codes, bit_and, bit_or, ◌^◌, ◌==◌}
 use Rattle.std.specs.List.{AllByRecursion, flat_map}
 use Rattle.std.proofs.lemmas.List.{length-map}
@@ -13,7 +13,7 @@ use Rattle.jmodel.specs.ClassRules.{IsTwoBytes, IsPool, IsAttribute, IsCode, is_
 use Rattle.member_code.specs.Coding.{added_method}
 use Rattle.dup_methods.specs.Duplicates.{duplicate_flags}
 use Rattle.retry_wrapper.specs.Wrappers.{with_bytes, with_code}
-use Rattle.member_code.proofs.Grown.{Grown, grown_trans}
+use Rattle.member_code.proofs.Grown.{Grown}
 use Rattle.rewritten_form.proofs.StillForms.{named_same, two_bytes, some_text, text_fits, attribute_still, member_still}
 
 -- ---- the length of a Code

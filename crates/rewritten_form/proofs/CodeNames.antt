@@ -1,10 +1,9 @@
 -- What the duplicate of a taken method names may stand in a class file.
-use Rattle.std.proofs.Common.{◌≡◌, ℕ, ℤ, suc, ◌+◌, ◌≤◌, ◌<◌, Bool, true, false, ◌||◌, List, [], ◌∷◌, length, Option, Some, None, refl, sym, ap, ◌∙◌, subst, arith}
+use Rattle.std.proofs.Common.{◌≡◌, ℕ, ℤ, suc, ◌+◌, ◌≤◌, ◌<◌, Bool, true, false, List, [], ◌∷◌, Option, Some, None, refl, sym, ap, ◌∙◌, subst, arith}
 use Rattle.std.specs.Prelude.{nat_lt, slice_get, option_map, option_and_then, bytes_eq, codes, if◌then◌else◌}
 use Rattle.std.specs.List.{AllByRecursion, list_any}
 use Rattle.std.proofs.lemmas.Bool.Decides.{nat_tests}
 use Rattle.jmodel.specs.declared.instruction.Instr.{Instr}
-use Rattle.jmodel.specs.declared.instruction.Operands.{Operands}
 use Rattle.jmodel.specs.declared.instruction.Operands.TheVariants as operands
 use Rattle.jmodel.specs.ClassFile.{ClassFile}
 use Rattle.jmodel.specs.Pool.{MemberName, member_name}
@@ -21,15 +20,15 @@ use Rattle.objects.specs.TypeOrder.{context_class}
 use Rattle.objects.specs.LibraryMethods.{is_library_function, is_library_constructor}
 use Rattle.objects.specs.Resolution.{special_method}
 use Rattle.objects.specs.Layout.{class_read}
-use Rattle.objects.specs.Decoding.{Symbols, op_of, number_of, method_number, function_op, is_get_context, static_call_op, parameter_places, special_call_op, interface_call_op, context_call, virtual_call_op, width_in}
+use Rattle.objects.specs.Decoding.{Symbols, op_of, number_of, method_number, function_op, is_get_context, static_call_op, parameter_places, special_call_op, interface_call_op, context_call, virtual_call_op}
 use Rattle.objects.specs.Linking.{original_symbols}
 use Rattle.objects.specs.LinkingLaw.{AreRead}
 use Rattle.objects.specs.Rewriting.{array_under}
 use Rattle.objects.proofs.Links.{IsLinkedTo}
 use Rattle.dup_methods.specs.Originals.{Original}
-use Rattle.dup_methods.specs.Limits.{places_in, called_places, is_full, calls_full}
+use Rattle.dup_methods.specs.Limits.{places_in, is_full, calls_full}
 use Rattle.dup_methods.specs.Duplicates.{called}
-use Rattle.dup_methods.proofs.Apart.{NoneOf, leaf, either, mapped}
+use Rattle.dup_methods.proofs.Apart.{leaf, either, mapped}
 use Rattle.dup_methods.proofs.Invokes.{is_static, is_special, is_virtual, is_invoke, Invokes, invokes_is, static_is, special_is, virtual_is, interface_is}
 use Rattle.dup_methods.proofs.Jumps.{IsWideOp}
 use Rattle.dup_methods.proofs.RowsProof.{wide_small}
@@ -156,7 +155,7 @@ module _ (cs : List ClassFile) (P : Program) (read : AreRead cs) (l : IsLinkedTo
     all_lawful n (i ∷ is) os e r f few el = go (λ qs t m p. all_lawful (n + 1) is qs t r.1 m p el) (op_of s all i) refl (each (op_of s all) is) refl e
       where
         go : ((qs : List Op) → each (op_of s all) is ≡ Some qs → AreFrom (n + 1) qs → list_any (calls_full O.program) qs ≡ false → AreLawful O (n + 1) is)
-          → (o : Option Op) → op_of s all i ≡ o → (x : Option (List Op)) → each (op_of s all) is ≡ x → in_front o x ≡ Some os → AreLawful O n (i ∷ is)
+            → (o : Option Op) → op_of s all i ≡ o → (x : Option (List Op)) → each (op_of s all) is ≡ x → in_front o x ≡ Some os → AreLawful O n (i ∷ is)
         go again None q x t h = absurd cc
         go again (Some o) q None t h = absurd cc
         go again (Some o) q (Some qs) t h =

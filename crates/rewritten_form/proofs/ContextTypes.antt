@@ -1,12 +1,12 @@
 -- Descriptors with the context as last parameter are descriptors of methods, and so are those of accessors.
-use Rattle.std.proofs.Common.{◌≡◌, ◌≢◌, ℕ, zero, suc, ◌+◌, ◌≤◌, ◌<◌, Bool, true, false, not, ◌||◌, List, [], ◌∷◌, ◌++◌, length, take, drop, replicate, Option, Some, None, refl, sym, ap, ◌∙◌, subst, arith, append_assoc, length-append, eq-eqb}
-use Rattle.std.specs.Prelude.{codes, ◌==◌, IfSome, if◌then◌else◌}
-use Rattle.std.specs.List.{flat_map, AllByRecursion, list_any, list_all}
+use Rattle.std.proofs.Common.{◌≡◌, ◌≢◌, ℕ, zero, suc, ◌+◌, ◌≤◌, Bool, true, false, not, List, [], ◌∷◌, ◌++◌, length, take, drop, replicate, Option, Some, None, refl, sym, ap, ◌∙◌, arith, append_assoc, length-append, eq-eqb}
+use Rattle.std.specs.Prelude.{codes, ◌==◌}
+use Rattle.std.specs.List.{flat_map, AllByRecursion, list_all}
 use Rattle.std.proofs.lemmas.List.{take_at, drop_at}
 use Rattle.std.proofs.lemmas.List.Concat.{flat_map-cons, flat_map-append}
 use Rattle.jmodel.specs.declared.class_file.FieldType.{FieldType}
 use Rattle.jmodel.specs.declared.class_file.FieldType.TheVariants as types
-use Rattle.jmodel.specs.Descriptor.{field_descriptor, result_descriptor, method_descriptor, is_array_name, places, places_of, Signature, IsSignature, IsElement, IsArrayName, IsClassName, IsReferenceName, IsFieldType, IsMethodDescriptor, DescribesField, DescribesMethod}
+use Rattle.jmodel.specs.Descriptor.{field_descriptor, result_descriptor, method_descriptor, is_array_name, places, places_of, Signature, IsElement, IsArrayName, IsClassName, IsReferenceName, IsFieldType, IsMethodDescriptor, DescribesField, DescribesMethod}
 use Rattle.objects.specs.Program.{Field}
 use Rattle.objects.specs.TypeOrder.{context_class}
 use Rattle.objects.specs.Rewriting.{context_type, before_end, with_context}

@@ -1,34 +1,29 @@
 -- The code of a duplicate keeps the rules of code.
-use Rattle.std.proofs.Common.{◌≡◌, ℕ, suc, ◌+◌, ◌<◌, ◌≤◌, Bool, true, false, ◌||◌, List, [], ◌∷◌, ◌++◌, length, map, Option, Some, None, Result, Ok, Err, refl, subst, sym, ap, ◌∙◌, arith, inl, inr, length-append}
-use Rattle.std.specs.Prelude.{codes, nat_lt, slice_get, bytes_eq}
+use Rattle.std.proofs.Common.{◌≡◌, ℕ, ◌+◌, ◌<◌, ◌≤◌, Bool, true, false, ◌||◌, List, [], ◌∷◌, length, map, Option, Some, None, Result, Ok, Err, refl, subst, sym, ap, ◌∙◌, arith, inr, length-append}
+use Rattle.std.specs.Prelude.{codes, nat_lt, slice_get}
 use Rattle.std.specs.List.{AllByRecursion, list_any}
 use Rattle.std.proofs.lemmas.Bool.Decides.{nat_tests}
 use Rattle.std.proofs.lemmas.List.{length-map}
 use Rattle.jmodel.specs.declared.class_file.Handler.{Handler}
 use Rattle.jmodel.specs.declared.instruction.Instr.{Instr}
 use Rattle.jmodel.specs.declared.refusal.Refusal.{Refusal}
-use Rattle.jmodel.specs.declared.typing.VType.{VType}
-use Rattle.jmodel.specs.declared.typing.VType.TheVariants as type
 use Rattle.jmodel.specs.ClassFile.{Pool, Code, code_spelling}
-use Rattle.jmodel.specs.Pool.{class_name, utf8, MemberName}
+use Rattle.jmodel.specs.Pool.{MemberName}
 use Rattle.jmodel.specs.ClassRules.{IsCode, IsHandler}
 use Rattle.jmodel.specs.Name.{printed}
-use Rattle.jmodel.specs.PoolAdding.{add_text, add_class}
+use Rattle.jmodel.specs.PoolAdding.{add_class}
 use Rattle.jmodel.specs.Reading.{◌>>=◌}
-use Rattle.jmodel.specs.Relocation.{Block, all_instrs, behind, end_of, relocate, moved, moved_handlers, place_of, EachInstr, IsShaped, AreBlocks}
+use Rattle.jmodel.specs.Relocation.{Block, all_instrs, behind, end_of, relocate, moved, place_of, EachInstr, IsShaped, AreBlocks}
 use Rattle.bytecode.specs.Relocated.{HaveInstrs}
 use Rattle.bytecode.proofs.BlockLaws.{behind_append, behind_block}
 use Rattle.bytecode.proofs.SizeLaws.{behind_over}
 use Rattle.bytecode.proofs.LaidLaws.{done}
 use Rattle.bytecode.proofs.RelocationLaws.{whole_long}
-use Rattle.objects.specs.declared.op.WordType.{WordType}
-use Rattle.objects.specs.declared.op.WordType.TheVariants as word
 use Rattle.objects.specs.declared.op.Op.{Op}
 use Rattle.objects.specs.declared.op.Op.TheVariants as op
 use Rattle.objects.specs.Program.{Field, Method, field_at}
 use Rattle.objects.specs.Typing.{Types, types_at}
 use Rattle.objects.specs.TypeOrder.{conflict_class}
-use Rattle.objects.specs.Rewriting.{places_of, array_under}
 use Rattle.const_pool.proofs.Takes.{bind_ok, guard_ok, ok_is}
 use Rattle.member_code.specs.Growing.{grow_from}
 use Rattle.member_code.specs.Coding.{too_many, of_method, laid_code, laid_bytes}
@@ -40,7 +35,6 @@ use Rattle.dup_methods.specs.Limits.{FitsCount, calls_full, counts_full, is_full
 use Rattle.dup_methods.specs.Duplicates.{called, stub, numbered_block, refs_of, duplicate_bytes}
 use Rattle.dup_methods.proofs.BlockFacts.{IsKept, IsAccessorCall, IsDuplicateCall, IsInterfaceBlock, IsBlock, IsNumbered, adds_numbered}
 use Rattle.dup_methods.proofs.Fitting.{counts_fit}
-use Rattle.rewritten_form.proofs.Lists.{all_append}
 use Rattle.rewritten_form.proofs.PlacesOfBlocks.{behind_some, all_moved}
 
 -- ---- limits that are kept

@@ -1,14 +1,12 @@
 -- Duplicates are methods.
-use Rattle.std.proofs.Common.{◌≡◌, ℕ, suc, ◌+◌, ◌<◌, ◌≤◌, Bool, true, false, not, List, [], ◌∷◌, ◌++◌, length, Option, Some, None, Result, Ok, refl, subst, sym, ap, ◌∙◌, arith}
-use Rattle.std.specs.Prelude.{codes, bit_and, ◌==◌, if◌then◌else◌}
+use Rattle.std.proofs.Common.{◌≡◌, ℕ, ◌+◌, ◌<◌, ◌≤◌, Bool, true, false, List, [], length, Option, Some, None, Ok, refl, subst, ap, ◌∙◌, arith}
+use Rattle.std.specs.Prelude.{codes, if◌then◌else◌}
 use Rattle.std.specs.List.{AllByRecursion}
-use Rattle.jmodel.specs.declared.instruction.Instr.{Instr}
-use Rattle.jmodel.specs.ClassFile.{Member, Pool, ClassFile, Code, code_spelling}
+use Rattle.jmodel.specs.ClassFile.{Member, Pool}
 use Rattle.jmodel.specs.Pool.{utf8}
 use Rattle.jmodel.specs.ClassRules.{IsPool, IsMethod}
 use Rattle.jmodel.specs.Coded.{Coded, decoded}
 use Rattle.jmodel.specs.Descriptor.{IsMethodDescriptor}
-use Rattle.jmodel.specs.PoolAdding.{add_text}
 use Rattle.jmodel.specs.Reading.{◌>>=◌}
 use Rattle.objects.specs.Program.{Method}
 use Rattle.objects.specs.Linking.{has_no_code, decoded_member}
@@ -16,17 +14,16 @@ use Rattle.objects.specs.Rewriting.{with_context, duplicate_name}
 use Rattle.const_pool.proofs.Takes.{bind_ok, ok_is}
 use Rattle.member_code.specs.Names.{duplicate_named}
 use Rattle.member_code.specs.Coding.{typed_name, room_for, added_method}
-use Rattle.member_code.proofs.Grown.{Grown, grown_refl, grown_trans}
+use Rattle.member_code.proofs.Grown.{Grown, grown_trans}
 use Rattle.member_code.proofs.Puts.{Puts, Adding, IsTypedAt, adds_typed, adds_text}
 use Rattle.object_rewriter.specs.Asked.{HasBytes}
 use Rattle.dup_methods.specs.Originals.{Original}
-use Rattle.dup_methods.specs.Limits.{AddsLittle, few_arguments, few_places}
-use Rattle.dup_methods.specs.Duplicates.{stub, refs_of, texts_of, duplicate_flags, duplicate_bytes, made_duplicate, coded_duplicate, abstract_duplicate, duplicate_with, duplicate_of}
+use Rattle.dup_methods.specs.Limits.{AddsLittle, few_arguments, few_places, added_locals}
+use Rattle.dup_methods.specs.Duplicates.{texts_of, duplicate_flags, duplicate_bytes, made_duplicate, coded_duplicate, abstract_duplicate, duplicate_with, duplicate_of}
 use Rattle.dup_methods.proofs.Fitting.{all_near, all_fit}
 use Rattle.dup_methods.proofs.Stands.{blocks_laid}
 use Rattle.rewritten_form.proofs.Spelled.{spelled, decoded_rules, some_instr}
 use Rattle.rewritten_form.proofs.CodeForms.{duplicate_coded, duplicate_two, added_form, bare_form}
-use Rattle.rewritten_form.proofs.CopyPools.{instrs_in}
 use Rattle.rewritten_form.proofs.CopyCode.{few_kept, places_kept, refs_put, have_instrs, as_many, laid_rules, copy_laid}
 
 -- a duplicate's texts, and that it is a method
@@ -49,6 +46,10 @@ texts_put k pool r s e =
     subst (Puts (AreTexts k) pool) (ok_is ((a.0.0, b.0.0), b.0.1) r b.2)
     (record { grown = grown_trans pool a.0.1 b.0.1 p.grown q.grown; short = q.short; facts = λ Z g. (p.facts Z (grown_trans a.0.1 b.0.1 Z q.grown g), q.facts Z g) })
 
+-- as many as there are some of
+as_some : {A B : Type 0} (xs : List A) (ys : List B) → 0 < length xs → length ys ≡ length xs → 0 < length ys
+as_some xs ys h e = omega (arith, h, e)
+
 module _ (O : Original) (held : HasBytes O.member) (little : AllByRecursion AddsLittle O.method.ops) (described : O.method.places ≤ 254 → IsMethodDescriptor (with_context O.method.name.descriptor)) where
   -- one that has code
   coded_put : (coded : Coded) → decoded O.class O.member ≡ Ok coded → has_no_code O.member ≡ false → (pool : Pool) (r : Member × Pool) → length pool < 65535 → Grown O.class.pool pool → coded_duplicate O coded pool ≡ Ok r → Puts (IsCopyAt O) pool r
@@ -58,6 +59,8 @@ module _ (O : Original) (held : HasBytes O.member) (little : AllByRecursion Adds
       let v = bind_ok (few_places O.method coded.code) (λ places. made_duplicate O coded pool) r u.2 in
       let few = few_kept O coded.instrs u.1 in
       let roomy = places_kept O coded.code v.1 in
+      let stack : coded.code.max_stack + 1 < 65536 = omega (arith, roomy.stack) in
+      let locals : coded.code.max_locals + added_locals O.method < 65536 = omega (arith, roomy.locals) in
       let a = bind_ok _ _ r v.2 in
       let b = bind_ok _ _ r a.2 in
       let d = bind_ok (duplicate_bytes O.method coded.code a.0.0.0 a.0.0.1) (λ bytes. Ok (added_method (duplicate_flags O.member.flags) b.0.0.0.0 b.0.0.0.1 b.0.0.1 bytes, b.0.1)) r b.2 in
@@ -78,14 +81,14 @@ module _ (O : Original) (held : HasBytes O.member) (little : AllByRecursion Adds
             let G : Grown O.class.pool Z = grown_trans O.class.pool pool Z g0 (grown_trans pool a.0.1 Z p.grown (grown_trans a.0.1 b.0.1 Z q.grown g)) in
             let laid = blocks_laid O few.places fits coded.code.handlers roomy.handlers coded.code.code coded.instrs few.counts spells Z a.0.0.0 refs.blocks a.0.0.1 in
             let code = laid_rules O.class.pool Z G a.0.0.0 coded.code.handlers a.0.0.1 (length coded.code.code) (coded.code.max_stack + 1) _ laid (have_instrs O 0 coded.instrs Z a.0.0.0 refs.blocks)
-            (omega (arith, some, as_many O 0 coded.instrs Z a.0.0.0 refs.blocks)) rules.handlers roomy.handlers refs.conflict (omega (arith, roomy.stack)) (omega (arith, roomy.locals)) L.laid L.entries L.is in
+            (as_some coded.instrs a.0.0.0 some (as_many O 0 coded.instrs Z a.0.0.0 refs.blocks)) rules.handlers roomy.handlers refs.conflict stack locals L.laid L.entries L.is in
             record {
               named = texts.0.0;
               typed = texts.0.1;
               form = λ pool_rules.
                   added_form Z (duplicate_flags O.member.flags) (duplicate_name O.method.name.name) (with_context O.method.name.descriptor) (added_method (duplicate_flags O.member.flags) b.0.0.0.0 b.0.0.0.1 b.0.0.1 d.0) pool_rules
-                      (record { n = b.0.0.0.0; t = b.0.0.0.1; c = b.0.0.1; code = _; is = ap (added_method (duplicate_flags O.member.flags) b.0.0.0.0 b.0.0.0.1 b.0.0.1) L.bytes_are; named = texts.0.0; typed = texts.0.1; coded = texts.1; rules = code; alone = refl })
-                      (duplicate_two O.member.flags) (duplicate_coded O.member.flags ∙ flags) (described few.places);
+                  (record { n = b.0.0.0.0; t = b.0.0.0.1; c = b.0.0.1; code = _; is = ap (added_method (duplicate_flags O.member.flags) b.0.0.0.0 b.0.0.0.1 b.0.0.1) L.bytes_are; named = texts.0.0; typed = texts.0.1; coded = texts.1; rules = code; alone = refl })
+                  (duplicate_two O.member.flags) (duplicate_coded O.member.flags ∙ flags) (described few.places);
             });
       })
 

@@ -1,32 +1,30 @@
 -- The pool keeps the rules when duplicates and wrappers are added.
-use Rattle.std.proofs.Common.{◌≡◌, ℕ, ℤ, pos, suc, ◌+◌, ◌≤◌, Bool, true, false, ◌||◌, List, [], ◌∷◌, ◌++◌, length, Option, Some, None, Result, Ok, refl, subst, arith}
+use Rattle.std.proofs.Common.{◌≡◌, ℕ, ℤ, pos, ◌+◌, ◌≤◌, Bool, true, false, ◌||◌, List, [], ◌∷◌, ◌++◌, length, Option, Some, None, Ok, refl, arith}
 use Rattle.std.specs.Prelude.{codes, nat_lt, bytes_eq, slice_get, FitsSigned, if◌then◌else◌}
 use Rattle.std.specs.Int.{w32}
 use Rattle.std.proofs.lemmas.Bool.Decides.{nat_tests}
 use Rattle.jmodel.specs.declared.name.MethodName.{MethodName}
 use Rattle.jmodel.specs.declared.instruction.Instr.{Instr}
-use Rattle.jmodel.specs.declared.refusal.Refusal.{Refusal}
 use Rattle.jmodel.specs.declared.typing.VType.{VType}
 use Rattle.jmodel.specs.declared.typing.VType.TheVariants as type
-use Rattle.jmodel.specs.ClassFile.{Pool, Member, ClassFile}
+use Rattle.jmodel.specs.ClassFile.{Member}
 use Rattle.jmodel.specs.ClassRules.{IsPool}
 use Rattle.jmodel.specs.Coded.{Coded}
 use Rattle.jmodel.specs.Pool.{MemberName}
-use Rattle.jmodel.specs.PoolAdding.{add_text, add_class, add_method, add_interface_method}
+use Rattle.jmodel.specs.PoolAdding.{add_class, add_method, add_interface_method}
 use Rattle.jmodel.specs.Reading.{◌>>=◌}
-use Rattle.jmodel.specs.Relocation.{Block}
 use Rattle.objects.specs.declared.op.Sort.TheVariants as sort
 use Rattle.objects.specs.declared.op.WordType.{WordType}
 use Rattle.objects.specs.declared.op.WordType.TheVariants as word
 use Rattle.objects.specs.declared.op.Op.{Op}
 use Rattle.objects.specs.declared.op.Op.TheVariants as op
-use Rattle.objects.specs.Program.{Field, Method, Program, field_at}
+use Rattle.objects.specs.Program.{Field, Method, field_at}
 use Rattle.objects.specs.Typing.{Types, types_at}
 use Rattle.objects.specs.TypeOrder.{context_class, conflict_class, object_class, element_class}
 use Rattle.objects.specs.Rewriting.{places_of, array_under, helped, with_context, duplicate_name}
 use Rattle.objects.specs.Linking.{decoded_member}
 use Rattle.const_pool.proofs.Takes.{bind_ok, guard_ok}
-use Rattle.member_code.specs.Growing.{Growth, grow_from}
+use Rattle.member_code.specs.Growing.{grow_from}
 use Rattle.member_code.specs.Names.{duplicate_named}
 use Rattle.member_code.specs.Instrs.{plain, naming, load, call_interface, check_cast}
 use Rattle.member_code.specs.Coding.{typed_name, room_for, block, added_method}
@@ -34,11 +32,9 @@ use Rattle.dup_methods.specs.Originals.{Original}
 use Rattle.dup_methods.specs.Names.{getter_named, setter_named, load_named, store_named, as_name}
 use Rattle.dup_methods.specs.Limits.{count_of, few_arguments, few_places}
 use Rattle.dup_methods.specs.Duplicates.{call_of, interface_call_of, accessor_call, duplicate_call, interface_call, class_cast, after_load, element_load, called, block_of, numbered_block, refs_of, texts_of, duplicate_flags, duplicate_bytes, made_duplicate, coded_duplicate, abstract_duplicate, duplicate_with, duplicate_of}
-use Rattle.retry_wrapper.specs.declared.wrappers.Opening.{Opening}
-use Rattle.retry_wrapper.specs.declared.wrappers.Ending.{Ending}
 use Rattle.retry_wrapper.specs.Wrappers.{few_wrappers, get_call, counts_of, opening_of, ending_of, wrapper_bytes, with_code, wrapper_of}
 use Rattle.retry_wrapper.specs.Wrappers.{few_arguments as few_in_wrapper}
-use Rattle.rewritten_form.proofs.Adding.{IsText, IsClassText, IsMethodText, Keeping, pool_is, text_pool, integer_pool, class_pool, method_pool, interface_method_pool, AllGood, all_pool}
+use Rattle.rewritten_form.proofs.Adding.{IsClassText, IsMethodText, Keeping, pool_is, text_pool, integer_pool, class_pool, method_pool, interface_method_pool, AllGood, all_pool}
 use Rattle.rewritten_form.proofs.Texts.{text_good, conflict_lawful, init_method, commit_method, rollback_method, instance_method, load_method, store_method, number_fits}
 use Rattle.rewritten_form.proofs.FieldPools.{IsLawfulField, typed_pool}
 

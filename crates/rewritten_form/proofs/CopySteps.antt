@@ -1,18 +1,16 @@
 -- A class with duplicates, or with wrappers, keeps the rules.
-use Rattle.std.proofs.Common.{◌≡◌, ℕ, ℤ, zero, suc, ◌+◌, ◌-◌, ◌<◌, ◌≤◌, Bool, true, false, List, [], ◌∷◌, ◌++◌, length, map, set, Option, Some, None, Result, Ok, refl, sym, ap, ◌∙◌, subst, arith}
-use Rattle.std.specs.Prelude.{codes, slice_get, FitsSigned, zip, ◌^◌}
+use Rattle.std.proofs.Common.{◌≡◌, ℕ, ℤ, zero, suc, ◌+◌, ◌-◌, ◌<◌, ◌≤◌, Bool, List, [], ◌∷◌, length, map, set, Option, Some, None, Ok, refl, sym, ap, ◌∙◌, subst, arith}
+use Rattle.std.specs.Prelude.{slice_get, FitsSigned}
 use Rattle.std.specs.Int.{w32}
 use Rattle.std.specs.List.{AllByRecursion}
 use Rattle.std.proofs.lemmas.List.{length-set}
-use Rattle.jmodel.specs.declared.refusal.Refusal.{Refusal}
 use Rattle.jmodel.specs.ClassFile.{Member, Pool, ClassFile}
 use Rattle.jmodel.specs.Pool.{utf8}
 use Rattle.jmodel.specs.ClassRules.{IsPool, IsMethod, IsClassFile}
-use Rattle.jmodel.specs.Coded.{Coded, decoded, retries_of}
+use Rattle.jmodel.specs.Coded.{Coded, retries_of}
 use Rattle.jmodel.specs.Reading.{◌>>=◌}
-use Rattle.jmodel.specs.Descriptor.{IsMethodDescriptor}
 use Rattle.objects.specs.Program.{Method, Program}
-use Rattle.objects.specs.Linking.{has_no_code, decoded_member}
+use Rattle.objects.specs.Linking.{decoded_member}
 use Rattle.objects.specs.Rewriting.{with_context, duplicate_name}
 use Rattle.const_pool.proofs.Takes.{bind_ok, ok_is}
 use Rattle.member_code.specs.Growing.{Growth, grow_from}
@@ -31,9 +29,8 @@ use Rattle.rewritten_form.proofs.Adding.{Keeping, AllGood, all_pool}
 use Rattle.rewritten_form.proofs.CopyCode.{few_kept}
 use Rattle.rewritten_form.proofs.CopyPools.{IsLawfulMethod, AreLawful, IsLawfulCopy, instrs_in, copy_pool, wrapper_pool}
 use Rattle.rewritten_form.proofs.CopyForms.{IsCopyAt, copy_put}
-use Rattle.rewritten_form.proofs.WrapperForms.{IsWrapped, wrapper_put}
-use Rattle.rewritten_form.proofs.Keys.{Key, IsKeyed, AreKeyed, IsNone, AreUnlike, keys_grown, distinct, unlike, key_of}
-use Rattle.rewritten_form.proofs.FieldSteps.{IsStep}
+use Rattle.rewritten_form.proofs.WrapperForms.{wrapper_put}
+use Rattle.rewritten_form.proofs.Keys.{Key, AreKeyed, IsNone, AreUnlike, keys_grown, distinct, unlike, key_of}
 use Rattle.rewritten_form.proofs.ClassSteps.{methods_keyed, made_rules, own_fields, methods_still}
 use Rattle.rewritten_form.proofs.MethodSteps.{room_some, HasMore, more_rules}
 

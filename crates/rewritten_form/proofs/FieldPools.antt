@@ -1,14 +1,13 @@
 -- The pool keeps the rules when the members of fields are added.
-use Rattle.std.proofs.Common.{◌≡◌, ℕ, ℤ, suc, ◌+◌, ◌-◌, Bool, true, false, List, [], ◌∷◌, ◌++◌, Option, Some, None, Ok, refl, sym, ap, ◌∙◌, subst}
+use Rattle.std.proofs.Common.{◌≡◌, ℕ, ℤ, suc, ◌+◌, ◌-◌, Bool, true, false, List, [], ◌∷◌, ◌++◌, Option, Some, None, Ok, refl}
 use Rattle.std.specs.Prelude.{codes, FitsSigned}
 use Rattle.std.specs.Int.{w64, cast_signed}
 use Rattle.std.specs.List.{AllByRecursion}
 use Rattle.jmodel.specs.declared.class_file.FieldType.{FieldType}
 use Rattle.jmodel.specs.declared.name.MethodName.{MethodName}
 use Rattle.jmodel.specs.declared.instruction.Instr.{Instr}
-use Rattle.jmodel.specs.ClassFile.{Pool, Attribute, Member}
-use Rattle.jmodel.specs.ClassRules.{IsPool}
-use Rattle.jmodel.specs.Descriptor.{IsClassName, DescribesField, IsMethodDescriptor}
+use Rattle.jmodel.specs.ClassFile.{Pool}
+use Rattle.jmodel.specs.Descriptor.{IsClassName, DescribesField}
 use Rattle.jmodel.specs.PoolAdding.{add_class, add_field}
 use Rattle.jmodel.specs.Reading.{◌>>=◌}
 use Rattle.objects.specs.Program.{Field}
@@ -22,7 +21,6 @@ use Rattle.member_code.specs.Coding.{high, low, typed_name, coded_method, straig
 use Rattle.field_members.specs.Names.{address_name, base_name, base_type, getter_named, setter_named}
 use Rattle.field_members.specs.Fields.{added_field, constant_value, address_of, static_base, bases, added_fields}
 use Rattle.field_members.specs.declared.accessors.Place.{Place}
-use Rattle.field_members.specs.declared.accessors.Accessors.{Accessors}
 use Rattle.field_members.specs.Accessors.{read_call, write_call, receiver_places, base_if, place_of, look_code, read_code, is_cast, cast_if, look_of, read_of, getter_instrs, getter_of, setter_code, setter_instrs, setter_of, accessors_of, all_accessors}
 use Rattle.rewritten_form.proofs.Adding.{IsText, IsClassText, IsFieldText, IsMethodText, Keeping, pool_is, text_pool, long_pool, class_pool, field_pool, method_pool, AllGood, all_pool}
 use Rattle.rewritten_form.proofs.Texts.{text_good, text_append, long_field, object_field, before_method, read_method, write_method, place_fits}

@@ -1,6 +1,6 @@
 -- A class with the fields that are added keeps the rules.
-use Rattle.std.proofs.Common.{◌≡◌, ◌≢◌, ℕ, suc, ◌+◌, ◌<◌, Bool, true, false, List, [], ◌∷◌, ◌++◌, length, map, Some, Ok, refl, sym, ap, ◌∙◌, subst, arith}
-use Rattle.std.specs.Prelude.{codes, ◌^◌}
+use Rattle.std.proofs.Common.{◌≡◌, ◌≢◌, ℕ, suc, ◌+◌, Bool, true, false, List, [], ◌∷◌, ◌++◌, length, map, Some, Ok, refl, sym, ap, ◌∙◌, subst, arith}
+use Rattle.std.specs.Prelude.{codes}
 use Rattle.std.specs.Int.{w64, cast_signed}
 use Rattle.std.specs.List.{AllByRecursion}
 use Rattle.std.proofs.lemmas.List.{append_cancel_right}
@@ -9,7 +9,6 @@ use Rattle.jmodel.specs.Pool.{utf8}
 use Rattle.jmodel.specs.ClassRules.{IsPool, AreAttributes, IsField, IsClassFile}
 use Rattle.jmodel.specs.Descriptor.{IsFieldDescriptor}
 use Rattle.jmodel.specs.DescriptorReading.{element_rest, type_rest, is_field_descriptor}
-use Rattle.jmodel.specs.Layout.{text_or_none}
 use Rattle.jmodel.specs.Linking.{has_part, is_reserved, are_distinct, field_name_of}
 use Rattle.objects.specs.Program.{Field}
 use Rattle.const_pool.proofs.Signatures.{is_field}
@@ -20,9 +19,9 @@ use Rattle.member_code.proofs.Puts.{Puts, Adding, AllPut, adds_all, adds_text, a
 use Rattle.member_code.proofs.Straight.{no_attributes}
 use Rattle.field_members.specs.Names.{address_name, base_name, base_type}
 use Rattle.field_members.specs.Fields.{added_field, constant_value, address_of, static_base, needs_base, bases, added_fields, and_fields, with_fields}
-use Rattle.rewritten_form.proofs.Lists.{all_append, or_first, or_later}
-use Rattle.rewritten_form.proofs.StillForms.{two_bytes, some_text, text_fits, member_still}
-use Rattle.rewritten_form.proofs.Keys.{Key, IsKeyed, AreKeyed, IsUnnamed, AreOtherNames, IsNamedFree, IsNamedReserved, keyed_append, keys_grown, key_of, distinct, names_unlike, names_append, named_apart, names_few, names_free, tested_names, shows_address}
+use Rattle.rewritten_form.proofs.Lists.{all_append, or_later}
+use Rattle.rewritten_form.proofs.StillForms.{two_bytes, some_text, text_fits}
+use Rattle.rewritten_form.proofs.Keys.{Key, AreKeyed, IsUnnamed, AreOtherNames, IsNamedFree, IsNamedReserved, keyed_append, keys_grown, key_of, distinct, names_unlike, names_append, named_apart, names_few, names_free, tested_names, shows_address}
 use Rattle.rewritten_form.proofs.FieldPools.{IsLawfulField, fields_pool}
 use Rattle.rewritten_form.proofs.ClassSteps.{members_keyed, made_rules, own_methods, fields_still}
 

@@ -1,6 +1,6 @@
 -- The rewriting of a folder keeps the rules of class files, class after class.
-use Rattle.std.proofs.Common.{◌≡◌, ℕ, suc, ◌+◌, Bool, true, false, cond, List, [], ◌∷◌, ◌++◌, length, Option, Some, None, Result, Ok, Err, refl, sym, ap, ◌∙◌, subst, arith}
-use Rattle.std.specs.Prelude.{filter, take, drop, slice_get}
+use Rattle.std.proofs.Common.{◌≡◌, ℕ, ◌+◌, Bool, true, false, List, [], ◌∷◌, ◌++◌, length, Result, Ok, Err, refl, sym, ap, ◌∙◌, subst}
+use Rattle.std.specs.Prelude.{filter, take, drop}
 use Rattle.std.specs.List.{AllByRecursion, AllZip, flat_map}
 use Rattle.std.proofs.lemmas.List.{length-map}
 use Rattle.std.proofs.lemmas.List.Concat.{flat_map-cons}
@@ -25,7 +25,7 @@ use Rattle.object_rewriter.specs.Part.{wrapper_count, own_methods, part_of}
 use Rattle.object_rewriter.specs.Rewritten.{rewritten_part}
 use Rattle.object_rewriter.specs.RewrittenClasses.{of_class, rewritten_from, rewritten_classes, rewritten_folder}
 use Rattle.object_rewriter.proofs.Lists.{filter_keeps, filter_drops, all_zipped, zipped_parts, taken_off}
-use Rattle.object_rewriter.proofs.Owned.{is_taken_of, taken_of, AreAsMany, methods_are}
+use Rattle.object_rewriter.proofs.Owned.{taken_of, AreAsMany, methods_are}
 use Rattle.rewritten_form.proofs.Lists.{all_append}
 use Rattle.rewritten_form.proofs.CodeNames.{HasTexts}
 use Rattle.rewritten_form.proofs.HelperForm.{helper_form}

@@ -1,5 +1,5 @@
 -- The names that the code of a taken method gives to types are good.
-use Rattle.std.proofs.Common.{◌≡◌, ℕ, ℤ, suc, ◌+◌, ◌≤◌, ◌<◌, pos, negsuc, Bool, true, false, not, ◌&&◌, ◌||◌, List, [], ◌∷◌, ◌++◌, Option, Some, None, Ok, refl, sym, ap, ◌∙◌, subst, arith, ◌⊎◌, inl, inr}
+use Rattle.std.proofs.Common.{◌≡◌, ℕ, ℤ, suc, ◌+◌, ◌≤◌, ◌<◌, pos, negsuc, Bool, true, false, ◌||◌, List, [], ◌∷◌, ◌++◌, Option, Some, None, refl, sym, ap, ◌∙◌, subst, arith, ◌⊎◌, inl, inr}
 use Rattle.std.specs.Prelude.{codes, slice_get, bytes_eq, option_map, option_and_then, nat_lt, position, ◌==◌, if◌then◌else◌}
 use Rattle.std.specs.List.{AllByRecursion}
 use Rattle.std.proofs.lemmas.Bool.Decides.{nat_tests, Decides-eqb}
@@ -13,7 +13,6 @@ use Rattle.jmodel.specs.ClassFile.{ClassFile}
 use Rattle.jmodel.specs.ClassRules.{IsClassFile}
 use Rattle.jmodel.specs.Classes.{Declared}
 use Rattle.jmodel.specs.ClassesTaken.{index_of}
-use Rattle.jmodel.specs.Coded.{Coded}
 use Rattle.jmodel.specs.Decoding.{each, in_front, table_cases}
 use Rattle.jmodel.specs.DescriptorReading.{brackets}
 use Rattle.jmodel.specs.Instruction.{form_of, IsInstr}
@@ -23,14 +22,14 @@ use Rattle.objects.specs.declared.op.Op.TheVariants as op
 use Rattle.objects.specs.declared.op.Unary.TheVariants.{Absolute}
 use Rattle.objects.specs.declared.op.Binary.TheVariants.{Minimum, Maximum}
 use Rattle.jmodel.specs.declared.value.Value.TheVariants as value
-use Rattle.objects.specs.Program.{Row, Program, row_at}
-use Rattle.objects.specs.TypeOrder.{context_class, is_array, without_last}
+use Rattle.objects.specs.Program.{Row, Program}
+use Rattle.objects.specs.TypeOrder.{context_class, is_array}
 use Rattle.objects.specs.Constructs.{named_class, is_bad_new}
 use Rattle.objects.specs.LibraryMethods.{is_library_constructor, is_library_function}
 use Rattle.objects.specs.Resolution.{holds_of, special_method}
 use Rattle.objects.specs.Layout.{class_read, descriptor_read, rows, type_number, array_over}
 use Rattle.objects.specs.Decoding.{Symbols, is_among, field_number, number_of, method_number, simple_op, local_op, primitive_array, new_array, number_op, pushed_op, text_op, ldc_op, added_address, is_base, field_op, width_in, is_get_context, static_call_op, parameter_places, special_call_op, interface_call_op, context_call, virtual_call_op, call_op, class_op, pool_op, meaning, op_of}
-use Rattle.objects.specs.Linking.{taken_methods, original_symbols}
+use Rattle.objects.specs.Linking.{original_symbols}
 use Rattle.objects.specs.LinkingLaw.{AreRead}
 use Rattle.objects.proofs.AsRead.{is_file}
 use Rattle.objects.proofs.CleanCode.{IsClean}

@@ -1,5 +1,5 @@
 -- The names in the types of fields and methods of a linked program are good.
-use Rattle.std.proofs.Common.{◌≡◌, ℕ, suc, ◌+◌, Bool, true, false, not, List, [], ◌∷◌, ◌++◌, Option, Some, None, refl, sym, ap, ◌∙◌, subst}
+use Rattle.std.proofs.Common.{◌≡◌, ℕ, Bool, true, false, not, List, [], ◌∷◌, ◌++◌, Option, Some, None, refl, sym, ap, ◌∙◌, subst}
 use Rattle.std.specs.Prelude.{codes, bytes_eq, option_map, if◌then◌else◌, IfSome}
 use Rattle.std.specs.List.{AllByRecursion, flat_map}
 use Rattle.std.proofs.lemmas.List.Concat.{flat_map-cons}
@@ -11,17 +11,17 @@ use Rattle.jmodel.specs.declared.typing.VType.TheVariants.{Ref}
 use Rattle.jmodel.specs.ClassFile.{Member, ClassFile}
 use Rattle.jmodel.specs.ClassRules.{IsClassFile}
 use Rattle.jmodel.specs.Classes.{Declared}
-use Rattle.jmodel.specs.Descriptor.{field_descriptor, result_descriptor, method_descriptor, Signature, IsFieldType, DescribesMethod}
+use Rattle.jmodel.specs.Descriptor.{field_descriptor, result_descriptor, method_descriptor, IsFieldType, DescribesMethod}
 use Rattle.jmodel.specs.Layout.{text_or_none, is_static}
 use Rattle.jmodel.specs.Pool.{utf8}
 use Rattle.jmodel.specs.Superclasses.{own_name}
 use Rattle.objects.specs.declared.op.WordType.{WordType}
 use Rattle.objects.specs.declared.op.WordType.TheVariants as word
-use Rattle.objects.specs.Program.{Field, Method, Program, field_at, method_at}
-use Rattle.objects.specs.TypeOrder.{object_class, is_array, stack_types, place_types}
+use Rattle.objects.specs.Program.{Field, Method, Program, field_at}
+use Rattle.objects.specs.TypeOrder.{object_class, stack_types, place_types}
 use Rattle.objects.specs.Typing.{result_types, results}
 use Rattle.objects.specs.Layout.{class_read, name_read, declared_as}
-use Rattle.objects.specs.Linking.{receiver_types, parameter_types, result_type, taken_methods}
+use Rattle.objects.specs.Linking.{receiver_types, parameter_types}
 use Rattle.objects.specs.LinkingLaw.{AreRead}
 use Rattle.objects.specs.Rewriting.{as_result}
 use Rattle.objects.proofs.AsRead.{is_file}
@@ -38,7 +38,7 @@ use Rattle.rewritten_form.proofs.FieldPools.{IsLawfulField}
 use Rattle.rewritten_form.proofs.ReadNames.{same_array, name_lawful, reference_text, text_front}
 use Rattle.rewritten_form.proofs.SourceTexts.{own_named, text_lawful, fields_lawful}
 use Rattle.rewritten_form.proofs.GoodNames.{is_good, plain_good, text_is_good}
-use Rattle.rewritten_form.proofs.GoodTypes.{IsGood, IsGoodName}
+use Rattle.rewritten_form.proofs.GoodTypes.{IsGood}
 use Rattle.rewritten_form.proofs.GoodRows.{class_read_lawful}
 
 text_behind : (xs ys : List ℕ) → IsText (xs ++ ys) → IsText ys

@@ -1,5 +1,5 @@
 -- Names of arrays that may stand in a class file, by a test.
-use Rattle.std.proofs.Common.{◌≡◌, ◌≢◌, ℕ, zero, suc, ◌+◌, ◌<◌, ◌≤◌, Bool, true, false, not, ◌&&◌, ◌||◌, List, [], ◌∷◌, ◌++◌, replicate, refl, sym, ap, ◌∙◌, subst, arith}
+use Rattle.std.proofs.Common.{◌≡◌, ◌≢◌, ℕ, zero, suc, ◌<◌, ◌≤◌, Bool, true, false, not, ◌&&◌, ◌||◌, List, [], ◌∷◌, ◌++◌, replicate, refl, sym, ap, ◌∙◌, subst, arith}
 use Rattle.std.specs.Prelude.{codes, nat_lt, bytes_eq, ◌==◌, if◌then◌else◌}
 use Rattle.std.specs.List.{AllByRecursion, list_all, list_any}
 use Rattle.std.proofs.lemmas.Bool.Decides.{nat_tests}
@@ -8,8 +8,8 @@ use Rattle.jmodel.specs.declared.class_file.FieldType.{FieldType}
 use Rattle.jmodel.specs.declared.class_file.FieldType.TheVariants as types
 use Rattle.jmodel.specs.Descriptor.{field_descriptor, is_array_name, IsClassName, IsElement, IsArrayName}
 use Rattle.jmodel.specs.ClassRules.{IsTextByte}
-use Rattle.objects.specs.TypeOrder.{object_class, is_array, is_class_name, without_last, named_by, element_class, is_ended}
-use Rattle.objects.proofs.Items.{IsAt, item, any_item}
+use Rattle.objects.specs.TypeOrder.{is_array, is_class_name, without_last, named_by, element_class, is_ended}
+use Rattle.objects.proofs.Items.{item, any_item}
 use Rattle.objects.proofs.Order.{plain_name}
 use Rattle.objects.proofs.Elements.{inner_name}
 use Rattle.member_code.proofs.Added.{two_true}

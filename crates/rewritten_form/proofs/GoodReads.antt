@@ -1,5 +1,5 @@
 -- Typing, and the folder, read a good name of an array as a good one.
-use Rattle.std.proofs.Common.{◌≡◌, ℕ, suc, ◌+◌, ◌<◌, Bool, true, false, ◌&&◌, List, [], ◌∷◌, ◌++◌, refl, sym, ap, ◌∙◌, subst, arith}
+use Rattle.std.proofs.Common.{◌≡◌, ℕ, suc, Bool, true, false, ◌&&◌, List, [], ◌∷◌, ◌++◌, refl, sym, ap, subst, arith}
 use Rattle.std.specs.Prelude.{codes, if◌then◌else◌, ◌==◌}
 use Rattle.std.proofs.lemmas.Bool.Decides.{nat_tests}
 use Rattle.jmodel.specs.ClassFile.{ClassFile}
@@ -10,7 +10,7 @@ use Rattle.objects.specs.Layout.{class_read, descriptor_read}
 use Rattle.objects.specs.LinkingLaw.{AreRead}
 use Rattle.objects.proofs.Links.{IsLinkedTo}
 use Rattle.member_code.proofs.Added.{two_true}
-use Rattle.rewritten_form.proofs.GoodNames.{IsLawful, is_lawful, is_letter, lawful_by, core_good, depth, is_good, IsGoodArray, plain_good, good_array, array_good, class_core}
+use Rattle.rewritten_form.proofs.GoodNames.{IsLawful, is_lawful, is_letter, lawful_by, core_good, depth, is_good, plain_good, good_array, array_good, class_core}
 use Rattle.rewritten_form.proofs.GoodRows.{class_typed_plain, class_typed_lawful, class_read_lawful}
 
 -- a descriptor as good as another, under as many brackets

@@ -1,21 +1,20 @@
 -- The classes of a linked program have lawful names, and typing reads lawful names as such.
-use Rattle.std.proofs.Common.{◌≡◌, ℕ, zero, suc, ◌+◌, Bool, true, false, ◌&&◌, ◌||◌, List, [], ◌∷◌, ◌++◌, map, Option, Some, None, refl, sym, ap, ◌∙◌, subst, ◌⊎◌, inl, inr, ⊎_elim}
-use Rattle.std.specs.Prelude.{codes, slice_get, find, bytes_eq, not, if◌then◌else◌, ◌==◌}
-use Rattle.std.specs.List.{AllByRecursion, list_all, list_any}
+use Rattle.std.proofs.Common.{◌≡◌, ℕ, zero, suc, Bool, true, false, ◌&&◌, ◌||◌, List, [], ◌∷◌, map, Option, Some, None, refl, sym, ap, ◌∙◌, subst, ◌⊎◌, inl, inr, ⊎_elim}
+use Rattle.std.specs.Prelude.{find, bytes_eq, not, if◌then◌else◌}
+use Rattle.std.specs.List.{AllByRecursion, list_all}
 use Rattle.std.proofs.lemmas.Slice.Eq.{bytes_eq-Decides}
 use Rattle.jmodel.specs.ClassFile.{ClassFile}
-use Rattle.jmodel.specs.Descriptor.{is_array_name, IsClassName}
 use Rattle.jmodel.specs.Superclasses.{own_name, class_named, lineage}
 use Rattle.objects.specs.Program.{Words, Row, Program, row_at}
-use Rattle.objects.specs.TypeOrder.{object_class, context_class, conflict_classes, from_class, classes_from, is_array, without_last, read_in}
-use Rattle.objects.specs.TypeOrder.{class_read as class_typed, element_read as element_typed, name_read as name_typed}
+use Rattle.objects.specs.TypeOrder.{object_class, context_class, conflict_classes, from_class, is_array, read_in}
+use Rattle.objects.specs.TypeOrder.{class_read as class_typed}
 use Rattle.objects.specs.LibraryClasses.{library_rows}
 use Rattle.objects.specs.LibraryMethods.{is_library, library}
 use Rattle.objects.specs.Resolution.{is_interface, holds_of}
-use Rattle.objects.specs.Layout.{class_read, descriptor_read, library_lineage, lineage_of, names_upward, above_last, nameless, words_upward, class_instances, class_row, array_row, primitive_arrays, made_arrays, rows}
+use Rattle.objects.specs.Layout.{class_read, descriptor_read, library_lineage, lineage_of, names_upward, above_last, nameless, words_upward, class_instances, class_row, primitive_arrays, made_arrays, rows}
 use Rattle.objects.specs.LinkingLaw.{AreRead}
 use Rattle.objects.specs.Source.{AreTypes}
-use Rattle.objects.proofs.Items.{IsAt, item, all_items, of_map, found, any_item}
+use Rattle.objects.proofs.Items.{IsAt, item, all_items, of_map, found}
 use Rattle.objects.proofs.AsRead.{is_file, named_as}
 use Rattle.objects.proofs.Links.{IsLinkedTo}
 use Rattle.objects.proofs.Order.{Among, either, Above, by_found, free_is}
@@ -25,10 +24,9 @@ use Rattle.objects.proofs.MadeArrays.{IsMade, all_made}
 use Rattle.objects.proofs.SourceProof.{faultless}
 use Rattle.member_code.proofs.Added.{two_true}
 use Rattle.rewritten_form.proofs.Lists.{all_append}
-use Rattle.rewritten_form.proofs.ReadNames.{same_array, object_named, class_either}
-use Rattle.rewritten_form.proofs.Texts.{object_lawful}
+use Rattle.rewritten_form.proofs.ReadNames.{same_array}
 use Rattle.rewritten_form.proofs.SourceTexts.{own_named, own_lawful}
-use Rattle.rewritten_form.proofs.GoodNames.{IsLawful, is_lawful, lawful_by, core_good, depth, is_good, IsGoodArray, plain_good, good_array, array_good, class_core}
+use Rattle.rewritten_form.proofs.GoodNames.{IsLawful, is_lawful, lawful_by}
 
 -- what follows for each where a test passes each
 all_tested : {A : Type 0} (p : A → Bool) (Q : A → Type 0) → ((x : A) → p x ≡ true → Q x) → (xs : List A) → list_all p xs ≡ true → AllByRecursion Q xs

@@ -5,7 +5,7 @@ use Rattle.std.specs.List.{AllByRecursion, list_any}
 use Rattle.jmodel.specs.declared.typing.VType.{VType}
 use Rattle.jmodel.specs.declared.typing.VType.TheVariants.{Int, Long, Second, Null, Ref, Uninit, UninitThis, Top}
 use Rattle.objects.specs.Program.{Program}
-use Rattle.objects.specs.TypeOrder.{is_within, IsWithin, AreWithin, IsLocalsAfter, IsStackUnder}
+use Rattle.objects.specs.TypeOrder.{IsWithin, AreWithin, IsLocalsAfter, IsStackUnder}
 use Rattle.objects.specs.Typing.{freed, freed_by, become, is_uninit}
 use Rattle.objects.proofs.Places.{get_map}
 use Rattle.objects.proofs.MovedTypes.{map_set, map_none}

@@ -1,11 +1,8 @@
 -- What is wider than a good name is good, where the classes above a lawful one are lawful.
-use Rattle.std.proofs.Common.{◌≡◌, ℕ, suc, ◌+◌, ◌<◌, ◌≤◌, Bool, true, false, ◌&&◌, List, [], ◌∷◌, ◌++◌, drop, refl, sym, ap, ◌∙◌, subst, arith}
-use Rattle.std.specs.Prelude.{codes, bytes_eq, ◌==◌, if◌then◌else◌}
-use Rattle.std.proofs.lemmas.Slice.Eq.{bytes_eq-Decides}
-use Rattle.std.proofs.lemmas.Bool.Decides.{nat_tests}
+use Rattle.std.proofs.Common.{◌≡◌, ℕ, suc, ◌≤◌, Bool, true, false, ◌&&◌, List, [], ◌∷◌, drop, refl, sym, ap, ◌∙◌, subst, arith}
 use Rattle.jmodel.specs.declared.typing.VType.TheVariants.{Ref}
 use Rattle.objects.specs.Program.{Program}
-use Rattle.objects.specs.TypeOrder.{object_class, IsWithin, is_array, is_element_within, is_ended, without_last}
+use Rattle.objects.specs.TypeOrder.{IsWithin, is_array, is_element_within, is_ended, without_last}
 use Rattle.objects.specs.Source.{AreTypes}
 use Rattle.objects.proofs.Order.{Above, array_above}
 use Rattle.objects.proofs.Elements.{never, Shape, deeper, under_object, class, same, shape, Within, arrays, object, classes, within}
@@ -16,7 +13,6 @@ module _ (P : Program) (C : AreTypes P) (lawful : (m n : List ℕ) → Above P C
   record IsUp (x y : List ℕ) : Type 0 where
     core : core_good y ≡ true
     few : depth y ≤ depth x
-
 
   -- of descriptors of elements
   core_up : (x y : List ℕ) → is_element_within P x y ≡ true → core_good x ≡ true → IsUp x y

@@ -1,19 +1,17 @@
 -- The helper of arrays keeps the rules of class files.
-use Rattle.std.proofs.Common.{◌≡◌, ℕ, ◌+◌, ◌<◌, List, [], ◌∷◌, ◌++◌, length, map, Option, Some, None, Ok, refl, sym, ap, ◌∙◌, subst, arith}
-use Rattle.std.specs.Prelude.{codes, ◌^◌, IsSome}
+use Rattle.std.proofs.Common.{◌≡◌, ℕ, ◌+◌, List, [], ◌∷◌, length, Option, Some, None, Ok, refl, sym, ap, ◌∙◌, subst, arith}
+use Rattle.std.specs.Prelude.{IsSome}
 use Rattle.std.specs.List.{AllByRecursion, flat_map}
 use Rattle.std.proofs.lemmas.List.Concat.{flat_map-cons}
-use Rattle.jmodel.specs.declared.name.MethodName.{MethodName}
 use Rattle.jmodel.specs.ClassFile.{Pool, Member, ClassFile}
 use Rattle.jmodel.specs.Pool.{utf8, class_name}
 use Rattle.jmodel.specs.Descriptor.{IsClassName}
 use Rattle.jmodel.specs.ClassRules.{IsPool, IsMethod, IsClassFile}
-use Rattle.jmodel.specs.PoolAdding.{add_class}
 use Rattle.objects.specs.declared.op.WordType.{WordType}
 use Rattle.objects.specs.TypeOrder.{object_class}
 use Rattle.objects.specs.Rewriting.{places_of, helper_class}
 use Rattle.const_pool.proofs.Takes.{bind_ok, ok_is}
-use Rattle.member_code.proofs.Grown.{Grown, grown_refl, grown_trans}
+use Rattle.member_code.proofs.Grown.{grown_refl, grown_trans}
 use Rattle.member_code.proofs.Puts.{AllPut, adds_all, adds_class}
 use Rattle.member_code.proofs.Straight.{no_attributes}
 use Rattle.member_code.proofs.ValuePlaces.{few_places}
@@ -124,7 +122,7 @@ helper_form h e =
     let c = bind_ok _ _ x.0 b.2 in
     let done = ok_is _ x.0 c.2 in
     let is : file_of (a.0.0, b.0.0, flat_map both_of c.0.0) c.0.1 ≡ h = ap (λ (y : (ℕ × ℕ × List Member) × Pool). file_of y.0 y.1) done ∙ ok_is _ h x.2 in
-    let p = adds_class helper_class [] a.0 (omega arith) a.1 in
+    let p = adds_class helper_class [] a.0 empty_pool.few a.1 in
     let q = adds_class object_class a.0.1 b.0 p.short b.1 in
     let u = adds_all (λ i t. AreElements t) (λ i t. element_methods t) (λ i t. elements_put t) 0 element_types b.0.1 c.0 q.short c.1 in
     let Z : Pool = c.0.1 in

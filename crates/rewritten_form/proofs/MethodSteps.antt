@@ -1,6 +1,6 @@
 -- A class with accessors, with duplicates, or with a wrapper keeps the rules.
-use Rattle.std.proofs.Common.{◌≡◌, ◌≢◌, ℕ, zero, suc, ◌+◌, ◌-◌, ◌*◌, ◌<◌, ◌≤◌, Bool, true, false, ◌||◌, List, [], ◌∷◌, ◌++◌, length, map, set, Option, Some, None, Result, Ok, refl, sym, ap, ◌∙◌, subst, arith, nat_eq, length-append, ne_eqb}
-use Rattle.std.specs.Prelude.{codes, ◌^◌, bytes_eq, slice_get, if◌then◌else◌}
+use Rattle.std.proofs.Common.{◌≡◌, ◌≢◌, ℕ, zero, suc, ◌+◌, ◌-◌, ◌*◌, ◌<◌, ◌≤◌, Bool, true, false, ◌||◌, List, [], ◌∷◌, ◌++◌, length, Option, Some, None, Ok, refl, sym, ap, ◌∙◌, subst, arith, length-append}
+use Rattle.std.specs.Prelude.{codes, bytes_eq}
 use Rattle.std.specs.List.{AllByRecursion, flat_map}
 use Rattle.std.proofs.lemmas.List.Concat.{flat_map-cons}
 use Rattle.std.proofs.lemmas.List.{append_cancel_right}
@@ -8,30 +8,30 @@ use Rattle.jmodel.specs.declared.name.MethodName.{MethodName}
 use Rattle.jmodel.specs.declared.instruction.Instr.{Instr}
 use Rattle.jmodel.specs.ClassFile.{Member, Pool, ClassFile}
 use Rattle.jmodel.specs.Pool.{utf8}
-use Rattle.jmodel.specs.ClassRules.{IsPool, IsMethod, AreDistinct, IsClassFile}
+use Rattle.jmodel.specs.ClassRules.{IsPool, IsMethod, IsClassFile}
 use Rattle.jmodel.specs.Descriptor.{IsMethodDescriptor}
-use Rattle.jmodel.specs.Linking.{has_part, is_reserved}
+use Rattle.jmodel.specs.Linking.{has_part}
 use Rattle.jmodel.specs.Reading.{◌>>=◌}
-use Rattle.objects.specs.Program.{Field, Method}
+use Rattle.objects.specs.Program.{Field}
 use Rattle.objects.specs.Step.{sort_of}
-use Rattle.objects.specs.Rewriting.{places_of, with_context, duplicate_name}
-use Rattle.const_pool.proofs.Takes.{bind_ok, guard_ok, ok_is}
+use Rattle.objects.specs.Rewriting.{places_of}
+use Rattle.const_pool.proofs.Takes.{bind_ok, ok_is}
 use Rattle.member_code.specs.Growing.{Growth, grow_from}
 use Rattle.member_code.specs.Instrs.{give}
 use Rattle.member_code.specs.Coding.{room_for, added_method, straight_method}
-use Rattle.member_code.proofs.Grown.{Grown, grown_refl, grown_trans}
-use Rattle.member_code.proofs.Puts.{Puts, AllPut, adds_all, IsStraightAt}
+use Rattle.member_code.proofs.Grown.{Grown, grown_refl}
+use Rattle.member_code.proofs.Puts.{AllPut, adds_all, IsStraightAt}
 use Rattle.member_code.proofs.Single.{IsLaid}
 use Rattle.member_code.proofs.Straight.{run_rules}
 use Rattle.member_code.proofs.ValuePlaces.{few_places}
 use Rattle.field_members.specs.Names.{getter_named, setter_named}
 use Rattle.field_members.specs.declared.accessors.Accessors.{Accessors}
 use Rattle.field_members.specs.Accessors.{receiver_places, getter_instrs, getter_of, setter_instrs, setter_of, accessors_of, both_of, room_in, all_accessors, and_methods, with_accessors}
-use Rattle.field_members.proofs.Gets.{GetterAt, SetterAt, IsGetter, IsSetter, AreAccessors, accessors_put}
+use Rattle.field_members.proofs.Gets.{IsGetter, IsSetter, AreAccessors, accessors_put}
 use Rattle.field_members.proofs.Laid.{getter_laid, setter_laid}
 use Rattle.rewritten_form.proofs.Lists.{all_append, or_first, or_later}
 use Rattle.rewritten_form.proofs.CodeForms.{added_form}
-use Rattle.rewritten_form.proofs.Keys.{Key, IsKeyed, AreKeyed, IsNone, AreUnlike, IsUnnamed, AreOtherNames, IsNamedFree, IsNamedReserved, keyed_append, keys_grown, distinct, unlike_append, kinds_apart, names_unlike, names_apart, shows_getter, shows_setter}
+use Rattle.rewritten_form.proofs.Keys.{Key, AreKeyed, IsNone, AreUnlike, IsUnnamed, AreOtherNames, IsNamedFree, IsNamedReserved, keyed_append, keys_grown, distinct, unlike_append, kinds_apart, names_unlike, names_apart, shows_getter, shows_setter}
 use Rattle.rewritten_form.proofs.FieldPools.{IsLawfulField, all_accessors_pool}
 use Rattle.rewritten_form.proofs.FieldSteps.{AreApart, ends_in, IsStep}
 use Rattle.rewritten_form.proofs.ClassSteps.{made_rules, own_fields, methods_still}

@@ -1,12 +1,10 @@
 -- Names of types as typing reads them may stand in a class file.
-use Rattle.std.proofs.Common.{◌≡◌, ◌≢◌, ℕ, zero, suc, ◌<◌, Bool, true, false, ◌||◌, List, [], ◌∷◌, ◌++◌, replicate, refl, sym, ap, ◌∙◌, subst, arith}
+use Rattle.std.proofs.Common.{◌≡◌, ℕ, zero, suc, Bool, true, false, ◌||◌, List, [], ◌∷◌, ◌++◌, replicate, refl, sym, ap, ◌∙◌}
 use Rattle.std.specs.Prelude.{codes, ◌==◌, bytes_eq, not, if◌then◌else◌}
-use Rattle.std.specs.List.{AllByRecursion}
 use Rattle.jmodel.specs.declared.class_file.FieldType.{FieldType}
 use Rattle.jmodel.specs.declared.class_file.FieldType.TheVariants as types
 use Rattle.jmodel.specs.ClassFile.{ClassFile}
-use Rattle.jmodel.specs.ClassRules.{IsTextByte, IsNameOf}
-use Rattle.jmodel.specs.Descriptor.{field_descriptor, is_array_name, IsClassName, IsElement, IsArrayName, IsReferenceName, IsFieldType}
+use Rattle.jmodel.specs.Descriptor.{field_descriptor, is_array_name, IsClassName, IsElement, IsArrayName, IsReferenceName}
 use Rattle.jmodel.specs.Superclasses.{class_named}
 use Rattle.objects.specs.TypeOrder.{object_class, context_class, is_array, without_last}
 use Rattle.objects.specs.LibraryMethods.{is_library}

@@ -1,19 +1,17 @@
 -- The rewriting of a class keeps the rules of class files.
-use Rattle.std.proofs.Common.{◌≡◌, ◌≢◌, ℕ, suc, ◌+◌, ◌≤◌, Bool, true, false, not, ◌&&◌, List, [], ◌∷◌, ◌++◌, length, map, cond, Option, Some, None, Result, Ok, refl, sym, ap, ◌∙◌, subst, arith}
+use Rattle.std.proofs.Common.{◌≡◌, ◌≢◌, ℕ, Bool, true, false, not, List, [], ◌∷◌, ◌++◌, map, cond, Option, Some, None, Ok, refl, sym, ap, ◌∙◌, subst}
 use Rattle.std.specs.Prelude.{codes, pos, bytes_eq, filter, zip, slice_get, option_map, if◌then◌else◌}
 use Rattle.std.specs.List.{AllByRecursion, AllZip}
 use Rattle.std.proofs.lemmas.Slice.Eq.{bytes_eq-Decides}
 use Rattle.jmodel.specs.declared.name.MethodName.{MethodName}
 use Rattle.jmodel.specs.declared.refusal.Refusal.TheVariants.{Construct}
 use Rattle.jmodel.specs.ClassFile.{Member, ClassFile}
-use Rattle.jmodel.specs.Pool.{utf8}
 use Rattle.jmodel.specs.ClassRules.{IsClassFile}
 use Rattle.jmodel.specs.Classes.{Declared, declared_in, full_name}
-use Rattle.jmodel.specs.Coded.{Coded, decoded, retries_of}
-use Rattle.jmodel.specs.Decoding.{each}
+use Rattle.jmodel.specs.Coded.{Coded, decoded}
 use Rattle.jmodel.specs.Instruction.{IsInstr, IsInstrOver}
 use Rattle.jmodel.specs.declared.instruction.Instr.{Instr}
-use Rattle.jmodel.specs.Linking.{are_distinct, field_name_of, is_reserved}
+use Rattle.jmodel.specs.Linking.{are_distinct, field_name_of}
 use Rattle.jmodel.specs.Reading.{◌>>=◌}
 use Rattle.jmodel.specs.Superclasses.{own_name}
 use Rattle.objects.specs.declared.op.Op.{Op}
@@ -22,7 +20,7 @@ use Rattle.objects.specs.Program.{Field, Method, Program, method_at}
 use Rattle.objects.specs.Typing.{Table}
 use Rattle.objects.specs.ClassesFaults.{has_interface_init, has_twin_fields, member_fault}
 use Rattle.objects.specs.Constructs.{first_kind}
-use Rattle.objects.specs.Decoding.{op_of, ops_of, catch_of}
+use Rattle.objects.specs.Decoding.{ops_of}
 use Rattle.objects.specs.Linking.{has_no_code, Body, no_body, with_catches, body_of, decoded_member, taken_methods, original_symbols}
 use Rattle.objects.specs.LinkingLaw.{AreRead}
 use Rattle.objects.proofs.AsRead.{is_file, unreserved}
@@ -36,18 +34,17 @@ use Rattle.rewritten_names.proofs.Apart.{AreApart as AreApartIn}
 use Rattle.const_pool.proofs.Takes.{bind_ok}
 use Rattle.field_members.specs.Fields.{with_fields}
 use Rattle.field_members.specs.Accessors.{with_accessors}
-use Rattle.dup_methods.specs.Originals.{Original}
-use Rattle.dup_methods.specs.Limits.{AddsLittle, few_arguments}
+use Rattle.dup_methods.specs.Limits.{AddsLittle}
 use Rattle.dup_methods.proofs.Little.{little_is}
 use Rattle.object_rewriter.specs.Asked.{HasBytes, AreFiled}
-use Rattle.object_rewriter.specs.Part.{own_fields, own_methods, part_of, share_of}
-use Rattle.object_rewriter.specs.Rewritten.{original_of, originals, with_duplicates, wrapped_from, rewritten_share, rewritten_part}
+use Rattle.object_rewriter.specs.Part.{own_fields, own_methods, part_of}
+use Rattle.object_rewriter.specs.Rewritten.{original_of, originals, with_duplicates, wrapped_from, rewritten_part}
 use Rattle.object_rewriter.proofs.Owned.{is_taken_of, taken_of}
-use Rattle.member_code.proofs.Grown.{Grown, grown_trans}
-use Rattle.rewritten_form.proofs.Lists.{all_as, all_append, all_where, all_at}
+use Rattle.member_code.proofs.Grown.{grown_trans}
+use Rattle.rewritten_form.proofs.Lists.{all_where}
 use Rattle.rewritten_form.proofs.Spelled.{spelled}
 use Rattle.rewritten_form.proofs.Attempts.{attempts_fit}
-use Rattle.rewritten_form.proofs.Keys.{Key, AreKeyed, AreUnlike, IsNamedFree, IsTypedFree, keyed_append, keys_grown, key_of, unlike, unlike_append, names_free, types_free, kinds_apart, names_apart, IsNamedReserved}
+use Rattle.rewritten_form.proofs.Keys.{Key, AreKeyed, AreUnlike, IsNamedFree, keyed_append, keys_grown, key_of, unlike, names_free, types_free}
 use Rattle.rewritten_form.proofs.FieldPools.{IsLawfulField}
 use Rattle.rewritten_form.proofs.FieldSteps.{IsOrdinary, AreApart, fields_step}
 use Rattle.rewritten_form.proofs.ClassSteps.{methods_keyed}

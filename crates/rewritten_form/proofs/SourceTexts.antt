@@ -1,6 +1,6 @@
 -- The fields and the methods of a linked program have texts that may stand in a class file, and so have the names in its code.
-use Rattle.std.proofs.Common.{◌≡◌, ◌≢◌, ℕ, zero, suc, ◌+◌, ◌≤◌, ◌<◌, Bool, true, false, ◌||◌, ◌&&◌, List, [], ◌∷◌, ◌++◌, length, Option, Some, None, refl, sym, ap, ◌∙◌, subst, arith, inl, inr, length-append}
-use Rattle.std.specs.Prelude.{codes, slice_get, bytes_eq, option_and_then, option_map, not, IsSome, IsSomeAnd, if◌then◌else◌, position}
+use Rattle.std.proofs.Common.{◌≡◌, ℕ, suc, ◌≤◌, Bool, true, false, ◌&&◌, List, [], ◌∷◌, ◌++◌, length, Option, Some, None, refl, sym, ap, ◌∙◌, subst, arith, inl, inr, length-append}
+use Rattle.std.specs.Prelude.{codes, bytes_eq, option_and_then, IsSomeAnd, if◌then◌else◌}
 use Rattle.std.specs.List.{AllByRecursion, flat_map, list_any}
 use Rattle.std.proofs.lemmas.List.Concat.{flat_map-cons}
 use Rattle.jmodel.specs.declared.class_file.Constant.{Constant}
@@ -10,19 +10,18 @@ use Rattle.jmodel.specs.declared.class_file.FieldType.TheVariants as types
 use Rattle.jmodel.specs.declared.name.MethodName.{MethodName}
 use Rattle.jmodel.specs.ClassFile.{Member, Pool, ClassFile}
 use Rattle.jmodel.specs.Pool.{entry, utf8, class_name, pair, pair_in, both, named, member_in, member_name, MemberName}
-use Rattle.jmodel.specs.ClassRules.{IsPool, IsMember, IsField, IsMethod, IsClassFile}
+use Rattle.jmodel.specs.ClassRules.{IsPool, IsField, IsMethod, IsClassFile}
 use Rattle.jmodel.specs.Classes.{Declared, declared_in, methods_in, full_name}
-use Rattle.jmodel.specs.Descriptor.{field_descriptor, is_array_name, places, places_of, Signature, IsClassName, IsFieldType, IsReferenceName, IsFieldDescriptor, IsMethodDescriptor, DescribesField, DescribesMethod}
-use Rattle.jmodel.specs.DescriptorReading.{type_of, signature_of}
+use Rattle.jmodel.specs.Descriptor.{field_descriptor, places, places_of, IsClassName, IsFieldType, IsFieldDescriptor, IsMethodDescriptor, DescribesField}
+use Rattle.jmodel.specs.DescriptorReading.{type_of}
 use Rattle.jmodel.specs.Layout.{text_or_none, is_static}
 use Rattle.jmodel.specs.Superclasses.{own_name, super_name, lineage}
-use Rattle.objects.specs.declared.op.WordType.TheVariants as word
 use Rattle.objects.specs.Program.{Field, Method, Program, method_at}
-use Rattle.objects.specs.TypeOrder.{object_class, place_types}
+use Rattle.objects.specs.TypeOrder.{place_types}
 use Rattle.objects.specs.Resolution.{is_interface, holds_of, resolved_method, special_method, selected_from, is_selected_by, has_name}
 use Rattle.objects.specs.Constructs.{is_floating, has_floats}
-use Rattle.objects.specs.Decoding.{Symbols, number_of, method_number}
-use Rattle.objects.specs.Layout.{declared_as, name_read, referred, field_type, words_upward, field_record, if_not, fields_behind, class_fields, fields_from}
+use Rattle.objects.specs.Decoding.{number_of, method_number}
+use Rattle.objects.specs.Layout.{declared_as, field_type, words_upward, field_record, if_not, fields_behind, class_fields, fields_from}
 use Rattle.objects.specs.Linking.{receiver_types, parameter_types, taken_methods, original_symbols}
 use Rattle.objects.specs.LinkingLaw.{AreRead}
 use Rattle.objects.specs.Rewriting.{context_type, with_context, duplicate_name}
@@ -32,10 +31,9 @@ use Rattle.objects.proofs.Links.{IsLinkedTo, IsFrom, method_from}
 use Rattle.objects.proofs.AsRead.{is_file}
 use Rattle.objects.proofs.DeclaredMembers.{HasName, of_methods, name_of_member}
 use Rattle.objects.proofs.TakenMembers.{in_methods}
-use Rattle.objects.proofs.ResolvedMembers.{method_resolves, special_cases, HasMember, numbered, lineage_in}
+use Rattle.objects.proofs.ResolvedMembers.{method_resolves, special_cases, numbered, lineage_in}
 use Rattle.const_pool.proofs.Signatures.{signature_found}
 use Rattle.const_pool.proofs.Types.{of_type}
-use Rattle.member_code.proofs.Grown.{the_some, the_and}
 use Rattle.field_members.specs.Names.{receiver_type, getter_named, setter_named}
 use Rattle.field_members.specs.Accessors.{is_cast}
 use Rattle.rewritten_form.proofs.Lists.{all_append, or_false}
@@ -43,7 +41,7 @@ use Rattle.rewritten_form.proofs.Adding.{IsText, IsClassText, IsMethodText}
 use Rattle.rewritten_form.proofs.Texts.{text_good, text_append, context_text, pool_text, pool_class}
 use Rattle.rewritten_form.proofs.FieldPools.{IsLawfulField}
 use Rattle.rewritten_form.proofs.CopyPools.{IsLawfulMethod, IsCopyText}
-use Rattle.rewritten_form.proofs.ContextTypes.{context_named, context_describes, getter_describes, setter_describes}
+use Rattle.rewritten_form.proofs.ContextTypes.{context_describes, getter_describes, setter_describes}
 use Rattle.rewritten_form.proofs.ReadNames.{class_lawful, name_lawful, reference_text}
 
 -- ---- texts of a class file

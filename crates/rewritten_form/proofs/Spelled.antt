@@ -1,5 +1,5 @@
 -- The code of methods, whose bytes are bytes: the rules that it and its instructions keep.
-use Rattle.std.proofs.Common.{◌≡◌, ℕ, zero, suc, ◌<◌, List, [], ◌∷◌, ◌++◌, length, Option, Some, None, Result, Ok, Err, Bool, true, false, refl, sym, ap, ◌∙◌, subst, arith}
+use Rattle.std.proofs.Common.{◌≡◌, ℕ, zero, suc, ◌<◌, List, [], ◌∷◌, ◌++◌, length, Some, Ok, Bool, true, false, refl, ap, subst, arith}
 use Rattle.std.specs.Prelude.{if◌then◌else◌, find, option_and_then, codes}
 use Rattle.std.specs.List.{AllByRecursion, flat_map}
 use Rattle.jmodel.specs.declared.instruction.Instr.{Instr}

@@ -1,28 +1,23 @@
 -- With the narrowest tables of a linked program, the elements that code loads have classes that may stand in a class file.
-use Rattle.std.proofs.Common.{◌≡◌, ℕ, ◌+◌, Bool, true, false, List, [], ◌∷◌, ◌++◌, Option, Some, None, Ok, refl, sym, ap, ◌∙◌, subst}
+use Rattle.std.proofs.Common.{◌≡◌, ℕ, Bool, true, false, List, [], ◌∷◌, ◌++◌, Option, Some, None, Ok, refl, sym, ap, ◌∙◌, subst}
 use Rattle.std.specs.Prelude.{slice_get}
 use Rattle.std.specs.List.{AllByRecursion, AllZip}
 use Rattle.jmodel.specs.declared.typing.VType.{VType}
-use Rattle.jmodel.specs.declared.typing.VType.TheVariants.{Int, Null, Ref}
-use Rattle.jmodel.specs.declared.instruction.Instr.{Instr}
+use Rattle.jmodel.specs.declared.typing.VType.TheVariants.{Int, Ref}
 use Rattle.jmodel.specs.ClassFile.{ClassFile}
 use Rattle.jmodel.specs.Classes.{Declared}
 use Rattle.jmodel.specs.Coded.{Coded}
-use Rattle.jmodel.specs.Instruction.{IsInstr}
-use Rattle.objects.specs.declared.op.WordType.{WordType}
 use Rattle.objects.specs.declared.op.WordType.TheVariants as word
-use Rattle.objects.specs.declared.op.Op.{Op}
 use Rattle.objects.specs.declared.op.Op.TheVariants as op
 use Rattle.objects.specs.Program.{Method, Program, method_at, has_code}
-use Rattle.objects.specs.TypeOrder.{is_array, element_class}
-use Rattle.objects.specs.Typing.{Types, Table, types_at, Flow, Wrong, flow, on_int, on_array, if_so, KeepsFlow, KeepsAt, IsTypedAt, leaves, element_types, fits_elements}
-use Rattle.objects.specs.Linking.{linking, taken_methods, original_symbols, decoded_member}
+use Rattle.objects.specs.TypeOrder.{is_array}
+use Rattle.objects.specs.Typing.{Types, Table, types_at, flow, on_int, on_array, if_so, KeepsFlow, KeepsAt, leaves, element_types, fits_elements}
+use Rattle.objects.specs.Linking.{linking, decoded_member}
 use Rattle.objects.specs.LinkingLaw.{AreRead}
 use Rattle.objects.specs.Source.{IsSource, IsSourceMethod}
 use Rattle.objects.specs.Rewriting.{array_under}
 use Rattle.objects.proofs.CleanCode.{IsClean, clean_code, taken_clean}
 use Rattle.objects.proofs.Items.{IsAt, item, all_items}
-use Rattle.objects.proofs.Fields.{each_at}
 use Rattle.objects.proofs.Links.{IsLinkedTo, IsFrom, links, method_from}
 use Rattle.objects.proofs.SourceProof.{source_law}
 use Rattle.program_typing.specs.Tables.{IsTableFor, IsTableOf, AreTables}
@@ -31,7 +26,7 @@ use Rattle.rewritten_form.proofs.CopyPools.{IsElementText}
 use Rattle.rewritten_form.proofs.CodeNames.{HasTexts}
 use Rattle.rewritten_form.proofs.Spelled.{spelled}
 use Rattle.rewritten_form.proofs.Rewritten.{each_instr, coded_is, ops_by, no_ops, member_of}
-use Rattle.rewritten_form.proofs.GoodNames.{is_good, element_lawful}
+use Rattle.rewritten_form.proofs.GoodNames.{element_lawful}
 use Rattle.rewritten_form.proofs.GoodTypes.{IsGood}
 use Rattle.rewritten_form.proofs.GoodUp.{good_up}
 use Rattle.rewritten_form.proofs.GoodRows.{above_lawful}

@@ -1,5 +1,5 @@
 -- The texts that rewriting names are lawful: its own, and those of a lawful class.
-use Rattle.std.proofs.Common.{◌≡◌, ℕ, zero, suc, ◌<◌, ◌≤◌, Bool, true, false, ◌&&◌, List, [], ◌∷◌, ◌++◌, take, drop, Option, Some, None, refl, subst, arith}
+use Rattle.std.proofs.Common.{◌≡◌, ℕ, zero, suc, ◌≤◌, Bool, true, false, ◌&&◌, List, [], ◌∷◌, ◌++◌, take, drop, Option, Some, None, refl, subst, arith}
 use Rattle.std.specs.Prelude.{codes, pos, nat_lt, slice_get, option_and_then, FitsSigned}
 use Rattle.std.specs.Int.{w32, w64, cast_signed}
 use Rattle.std.specs.List.{AllByRecursion, list_all}

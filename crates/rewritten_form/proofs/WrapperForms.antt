@@ -1,5 +1,5 @@
 -- The wrapper of a method is a method.
-use Rattle.std.proofs.Common.{◌≡◌, ℕ, ℤ, ◌+◌, ◌<◌, ◌≤◌, max, Bool, true, false, ◌||◌, List, [], ◌∷◌, ◌++◌, length, map, Option, Some, None, Result, Ok, Err, refl, subst, sym, ap, ◌∙◌, arith, inl, inr}
+use Rattle.std.proofs.Common.{◌≡◌, ℕ, ℤ, ◌+◌, ◌<◌, ◌≤◌, max, Bool, true, false, ◌||◌, List, [], ◌∷◌, length, Option, Some, None, Result, Ok, Err, refl, subst, sym, ap, ◌∙◌, arith, inl, inr}
 use Rattle.std.specs.Prelude.{nat_lt, codes, option_map}
 use Rattle.std.specs.List.{AllByRecursion}
 use Rattle.std.proofs.lemmas.Bool.Decides.{nat_tests}
@@ -10,8 +10,7 @@ use Rattle.jmodel.specs.declared.typing.VType.TheVariants as type
 use Rattle.jmodel.specs.ClassFile.{Member, Pool, Code, code_spelling}
 use Rattle.jmodel.specs.ClassRules.{IsCode, IsHandler, IsMethod}
 use Rattle.jmodel.specs.Name.{printed}
-use Rattle.jmodel.specs.Reading.{◌>>=◌}
-use Rattle.jmodel.specs.Relocation.{Block, all_instrs, behind, end_of, relocate, moved, place_of}
+use Rattle.jmodel.specs.Relocation.{all_instrs, behind, relocate}
 use Rattle.bytecode.proofs.BlockLaws.{behind_append, behind_block}
 use Rattle.bytecode.proofs.SizeLaws.{behind_over}
 use Rattle.bytecode.proofs.LaidLaws.{done}
@@ -25,7 +24,7 @@ use Rattle.member_code.proofs.Grown.{Grown, grown_refl}
 use Rattle.member_code.proofs.Straight.{no_attributes}
 use Rattle.retry_wrapper.specs.declared.wrappers.Opening.{Opening}
 use Rattle.retry_wrapper.specs.declared.wrappers.Ending.{Ending}
-use Rattle.retry_wrapper.specs.Wrappers.{few_arguments, entry_instrs, begin_instrs, body_instrs, end_instrs, conflict_instrs, exception_instrs, wrapper_blocks, wrapper_handlers, wrapper_bytes, with_code, wrapper_of}
+use Rattle.retry_wrapper.specs.Wrappers.{few_arguments, entry_instrs, begin_instrs, body_instrs, end_instrs, conflict_instrs, exception_instrs, wrapper_blocks, wrapper_handlers, wrapper_bytes, wrapper_of}
 use Rattle.retry_wrapper.proofs.Gets.{IsOpening, IsEnding, IsWrapper, wrapper_made}
 use Rattle.retry_wrapper.proofs.Loop.{blocks_fit, have_instrs}
 use Rattle.rewritten_form.proofs.PlacesOfBlocks.{behind_some, all_moved}
