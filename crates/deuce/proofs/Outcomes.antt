@@ -8,7 +8,7 @@ use Rattle.deuce_io.specs.Seen.{Seen}
 use Rattle.jmodel.specs.declared.refusal.Refusal.{Refusal}
 use Rattle.jmodel.specs.declared.value.Answer.{Answer}
 use Rattle.jmodel.specs.ClassFile.{ClassFile}
-use Rattle.deuce.specs.Command.{seen_words, run_words, rewrite_words, NamesFolder}
+use Rattle.deuce.specs.Command.{seen_words, rewrite_words, NamesFolder}
 use Rattle.deuce.specs.declared.inputs.ClassInput.{ClassInput}
 use Rattle.deuce.specs.declared.inputs.InputEnd.{InputEnd}
 use Rattle.deuce.specs.declared.inputs.InputEnd.TheVariants as ends

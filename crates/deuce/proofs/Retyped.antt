@@ -1,8 +1,7 @@
 -- The rewriting of a typed program, by whichever narrowest typings, is typed too.
-use Rattle.std.proofs.Common.{◌≡◌, ◌+◌, ℕ, zero, suc, List, [], ◌∷◌, Option, Some, None, Bool, true, false, refl, sym, ap, ◌∙◌, subst, arith}
+use Rattle.std.proofs.Common.{◌≡◌, ◌+◌, ℕ, zero, suc, List, [], ◌∷◌, Option, Some, None, Bool, true, false, refl, sym, ap, subst, arith}
 use Rattle.std.specs.Prelude.{slice_get, if◌then◌else◌}
-use Rattle.std.specs.List.{AllByRecursion, AllZip}
-use Rattle.jmodel.specs.declared.typing.VType.{VType}
+use Rattle.std.specs.List.{AllZip}
 use Rattle.jmodel.specs.declared.typing.VType.TheVariants.{UninitThis}
 use Rattle.objects.specs.declared.op.Op.{Op}
 use Rattle.objects.specs.declared.op.Op.TheVariants.{PutField}
@@ -14,7 +13,7 @@ use Rattle.objects.specs.Rewriting.{places_of, rewritten}
 use Rattle.objects.proofs.DuplicateTypes.{duplicate_typable}
 use Rattle.objects.proofs.NarrowestTypes.{narrowest_known}
 use Rattle.objects.proofs.RewritingTypes.{rewriting_typable}
-use Rattle.program_typing.specs.Early.{is_this, is_early_over, is_early, early_from, early_store}
+use Rattle.program_typing.specs.Early.{is_this, is_early_over, is_early, early_from}
 use Rattle.program_typing.specs.Tables.{IsNarrowTyping, IsTableOf, AreTables}
 use Rattle.program_typing.specs.Typed.{IsLate, IsTyped}
 use Rattle.object_run.proofs.Readying.{typed_program}

@@ -1,5 +1,5 @@
 -- The rewriting of class files, written.
-use Rattle.std.proofs.Common.{◌≡◌, ◌<◌, ◌+◌, ◌∙◌, ℕ, List, [], ◌∷◌, ◌++◌, length, Some, Ok, sym, ap, subst, arith}
+use Rattle.std.proofs.Common.{◌≡◌, ◌<◌, ◌∙◌, ℕ, List, [], ◌∷◌, ◌++◌, length, Some, sym, ap, subst, arith}
 use Rattle.std.specs.Prelude.{filter, IsSome}
 use Rattle.std.specs.List.{AllByRecursion, AllZip}
 use Rattle.std.proofs.lemmas.List.{length-append}
@@ -9,7 +9,7 @@ use Rattle.jmodel.specs.Superclasses.{own_name, class_named}
 use Rattle.jmodel.specs.Classes.{in_order}
 use Rattle.objects.specs.Journal.{is_marked}
 use Rattle.objects.specs.LinkingLaw.{IsLinkedFolder}
-use Rattle.objects.specs.Program.{Method, Program}
+use Rattle.objects.specs.Program.{Program}
 use Rattle.program_typing.specs.Typed.{IsTyped}
 use Rattle.object_rewriter.specs.Asked.{AreFiled}
 use Rattle.rewritten_form.specs.FormLaw.{FormLaw}

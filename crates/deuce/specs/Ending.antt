@@ -102,8 +102,7 @@ pub record IsRewritingOf (files files' : Option Files) (dir out : List ℕ) (cla
   pub count : classes ≡ length paths
   pub put : files' ≡ option_map (with_files (placed_with out paths news helper)) files
 
--- The new files of a rewriting were put one after another, in the order of their paths and the helper last, up to the one at this path, of which nothing
--- is known.
+-- The new files of a rewriting were put in the order of their paths, the helper last, up to the one at this path, of which nothing is known.
 pub record StopsAt (files files' : Option Files) (dir out path : List ℕ) : Type 0 where
   pub paths : List (List ℕ)
   pub news : List (List ℕ)
@@ -130,7 +129,7 @@ pub record HasReservedPath (files : Option Files) (dir : List ℕ) (r : Refusal)
   pub good : IsGoodFile files dir helper_path class
   pub refusal : r ≡ ReservedName (own_name class)
 
--- Why good class files are refused: the linking of their classes ends with this fault; or one of them has the helper's path; or none has it, and their
+-- Why good class files are refused. The linking of their classes ends with this fault; or one of them has the helper's path. Or none has it, and their
 -- program makes a store that is too early, or their rewriting passes a limit.
 abbrev pub HasBadClasses : Option Files → List ℕ → Refusal → Type 0
 HasBadClasses files dir r = HasClasses files dir (HasFault r) ⊎ (HasReservedPath files dir r ⊎ (LacksHelper files dir × HasClasses files dir (IsBadRewriting r)))
@@ -255,8 +254,8 @@ pub record IsHelperAmong (inputs : List ClassInput) (class : ClassFile) : Type 0
   pub at_helper : string_bytes input.relative ≡ helper_path
   pub good : IsFileOf input.bytes class
 
--- Why class files with these classes, of which the file of one has the helper's path, are refused: the linking of the classes ends with this fault; or
--- they have none, and that class is told.
+-- Why class files are refused, of which the file of one class has the helper's path. The linking of their classes ends with this fault; or they have
+-- none, and that class is told.
 abbrev pub IsReservedAs : List ClassFile → ClassFile → Refusal → Type 0
 IsReservedAs files class r = HasFault r files ⊎ (AreLinked files × (r ≡ ReservedName (own_name class)))
 

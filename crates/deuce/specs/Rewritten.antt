@@ -45,8 +45,8 @@ pub record IsNewHelper (instrumented : List ClassFile) (new : List ℕ) : Type 0
 abbrev pub AreTypable : Program → Type 0
 AreTypable P = (m : ℕ) (k : Method) → method_at P m ≡ Some k → has_code (Some k) ≡ true → IsTypable P k
 
--- New bytes, some for each class file, and those of the helper spell the rewriting of class files, each within its limit, that can be run: classes that,
--- by whichever narrowest typings, mean the rewritten program, each of whose methods that has code has a typing too.
+-- New bytes, some for each class file and those of the helper, spell the rewriting of class files that can be run, each within its limit. By whichever
+-- narrowest typings, it means the rewritten program, each of whose methods that has code has a typing too.
 pub record IsRewriting (class_files news : List (List ℕ)) (helper : List ℕ) (taken marked : ℕ) : Type 0 where
   pub files : List ClassFile
   pub are_files : AllZip IsFileOf class_files files

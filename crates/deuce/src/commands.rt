@@ -71,13 +71,7 @@ pub fn rewrite_command<F: Folder>(
         Ok(written) => written,
         Err(end) => return refused(end),
     };
-    let news = new_files(
-        alloc,
-        out,
-        inputs.as_slice(),
-        written.files,
-        written.helper,
-    )?;
+    let news = new_files(alloc, out, inputs.as_slice(), written.files, written.helper)?;
     match put_each(folder, news) {
         Ok(()) => Ok(Outcome::Rewritten {
             classes: inputs.len(),

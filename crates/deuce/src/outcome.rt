@@ -27,7 +27,7 @@ pub enum Outcome {
         path: String,
         refusal: Refusal,
     },
-    /// A folder lies too deep, or there are too many class files; or their classes have this fault, one has the path of the helper of arrays, a
+    /// A folder lies too deep, or there are too many class files. Or their classes have this fault, one has the path of the helper of arrays, a
     /// constructor stores too early, or their rewriting passes this limit.
     BadProgram(Refusal),
     /// A method of the classes has no typing.

@@ -15,8 +15,8 @@ use std::alloc::Global;
 /// The path of the helper of arrays, from a folder of rewritten class files.
 pub const HELPER_PATH: &str = "org/deuce/transaction/ArrayHelper.class";
 
-/// Why class files that were read, with these classes, are refused before they are typed, where one of them has the helper's path: for the first fault
-/// of the classes; or, where they have none, as ReservedName with the name of that file's class.
+/// Why class files that were read, with these classes, are refused before they are typed, where one of them has the helper's path. They are refused
+/// for the first fault of the classes; where these have none, as ReservedName with the name of that file's class.
 pub fn reserved(
     alloc: Global,
     inputs: &[ClassInput],
@@ -58,10 +58,7 @@ fn refusal_of(alloc: Global, files: &[ClassFile], class: &ClassFile) -> Result<R
     ensures { IfOk result (IsReservedAs files.now class.now) }
 {
     match link_files(alloc, files) {
-        Ok(()) => Ok(Refusal::ReservedName(Bytes::from_slice(
-            alloc,
-            own_name(class),
-        )?)),
+        Ok(()) => Ok(Refusal::ReservedName(Bytes::from_slice(alloc, own_name(class))?)),
         Err(RunEnd::Refused(refusal)) => Ok(refusal),
         Err(_) => Err(NoMemory),
     }

@@ -67,8 +67,8 @@ pub fn deuce<R: Threads + Sync, F: Folder, O: Sink>(
         (error_text (codes "3") (path and refusal_text refusal)) }
 
     // A folder lies 17 levels down, or there are more class files than 256, as this says; or they
-    // are good, and their classes have this fault; or one of them stands where rewriting puts the
-    // helper of arrays; or a constructor stores too early, or their rewriting passes this limit.
+    // are good, and their classes have this fault. Or one of them stands where rewriting puts the
+    // helper of arrays, a constructor stores too early, or their rewriting passes this limit.
     ensures bad_program { result ≡ 4 → (refusal : Refusal)
         × IsBadProgramOfWords words.now (F.seen folder.old).files refusal
         × Appends (O.written out.old) (O.written out.new)

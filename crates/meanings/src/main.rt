@@ -96,11 +96,7 @@ fn class_at<F: Folder>(
 }
 
 /// The classes of the class files under a folder.
-fn classes_in<F: Folder>(
-    alloc: Global,
-    folder: &mut F,
-    dir: &str,
-) -> Result<Vec<ClassFile>, IoEnd>
+fn classes_in<F: Folder>(alloc: Global, folder: &mut F, dir: &str) -> Result<Vec<ClassFile>, IoEnd>
     ensures form { IfOk result (λ v. AllByRecursion IsClassFile v.items) }
     ensures filed { IfOk result (λ v. AllByRecursion AreFiled v.items) }
 {

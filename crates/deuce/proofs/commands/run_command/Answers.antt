@@ -55,7 +55,7 @@ returns-in-Ok-run_files-clause-outcome g c = λ words w. (
     journal_of (g.F.Folder.seen c.args.folder.now).files c.args.dir.now c.args.script.now c.in-Ok.inputs c.in-Ok-classes_of.files.items c.in-Ok-run_files.text c.in-Ok.ensures.inputs
         (rw c.as_slice.ensures.value at c.in-Ok-classes_of.ensures.classes)
         (lacks_helper (g.F.Folder.seen c.args.folder.now).files c.args.dir.now c.in-Ok.inputs.classes.items c.in-Ok.ensures.inputs.of_classes
-    (are_elsewhere c.in-Ok.inputs.classes.items c.in-Ok-classes_of.files.items c.in_ok-refusal.field-0 (rw (c.as_slice-2.ensures.value, c.as_slice-3.ensures.value) at c.in_ok-refusal.ensures) c.in_default.not-Some)) (rw (c.as_slice-4.ensures.value, c.as_slice-5.ensures) at c.in-Ok-run_files.ensures.run),
+        (are_elsewhere c.in-Ok.inputs.classes.items c.in-Ok-classes_of.files.items c.in_ok-refusal.field-0 (rw (c.as_slice-2.ensures.value, c.as_slice-3.ensures.value) at c.in_ok-refusal.ensures) c.in_default.not-Some)) (rw (c.as_slice-4.ensures.value, c.as_slice-5.ensures) at c.in-Ok-run_files.ensures.run),
   ),
 )
 

@@ -1,4 +1,4 @@
-use Rattle.std.proofs.Common.{sym, true, false, ◌≡◌, subst}
+use Rattle.std.proofs.Common.{subst}
 use Rattle.std.specs.List.{AllByRecursion}
 use Rattle.std.proofs.lemmas.List.{take_all}
 use Rattle.deuce.proofs.HelperPath.{IsElsewhere, not_there, at_helper, one_elsewhere}
