@@ -170,6 +170,12 @@ CASES = {
 }
 
 
+BANKS = {
+    "a bank of 1,000 accounts, 99,999 transfers, 16 lanes": ["bank", "7", "1000", "99999", "16"],
+    "the same, 9,999 transfers": ["bank", "7", "1000", "9999", "16"],
+}
+
+
 def measured(words):
     """The seconds by the clock, those of processors, and the memory in MB, of one run."""
     before = time.monotonic()
@@ -185,6 +191,10 @@ def make_inputs(folder, sources, script_text):
             it.write(script_text())
 
 
+def print_row(name, clock, processors, memory):
+    print(f"| {name} | {statistics.median(clock):.2f} | {statistics.median(processors):.2f} | {max(memory):.0f} |", flush=True)
+
+
 def main(wanted):
     subprocess.run([f"{TOP}/deuce"], stdout=subprocess.DEVNULL)
     print("| What | Seconds by the clock | Seconds of processors | MB |\n|---|---|---|---|")
@@ -198,7 +208,10 @@ def main(wanted):
             maker.join()
             words = ["run", f"{folder}/classes", f"{folder}/script.json"] if script_text else ["rewrite", f"{folder}/classes", f"{folder}/out"]
             clock, processors, memory = zip(*[measured(words) for _ in range(RUNS)])
-        print(f"| {name} | {statistics.median(clock):.2f} | {statistics.median(processors):.2f} | {max(memory):.0f} |", flush=True)
+        print_row(name, clock, processors, memory)
+    for name, words in BANKS.items():
+        if not wanted or any(it in name for it in wanted):
+            print_row(name, *zip(*[measured(words) for _ in range(RUNS)]))
 
 
 if __name__ == "__main__":

@@ -1,5 +1,5 @@
 //! The summary of a run of a workload.
-ghost use Rattle.std.specs.Prelude.{◌≡◌, ◌++◌, IfOk, OnOk};
+ghost use Rattle.std.specs.Prelude.{◌≡◌, ◌++◌, IfOk, OnOk, codes};
 ghost use Rattle.jmodel.specs.Output.{line, ◌and◌};
 ghost use Rattle.bankgen.specs.Summary.{head_line, summary_lines};
 
@@ -40,6 +40,14 @@ fn push_line(alloc: Global, out: &mut Bytes, name: &str, value: &str) -> Result<
     out.extend_from_slice(text.as_bytes())
 }
 
+fn push_total(out: &mut Bytes, answer: &[u8]) -> Result<(), AllocError>
+    ensures { OnOk result (out.new ≡ out.old ++ line (codes "total" and answer.now)) }
+{
+    out.extend_from_slice(b"total ")?;
+    out.extend_from_slice(answer)?;
+    out.push(b'\n')
+}
+
 /// The summary of a run by this engine, with the text of the last call's answer.
 pub fn summary(
     alloc: Global,
@@ -47,7 +55,7 @@ pub fn summary(
     engine: &str,
     placed: usize,
     unplaced: usize,
-    answer: &str,
+    answer: &[u8],
 ) -> Result<Bytes, AllocError>
     ensures { IfOk result (λ text. text ≡ summary_lines figures engine.now placed unplaced answer.now) }
 {
@@ -57,6 +65,6 @@ pub fn summary(
     push_head(alloc, &mut out, figures, engine)?;
     push_line(alloc, &mut out, "placed", placed.as_str())?;
     push_line(alloc, &mut out, "unplaced", unplaced.as_str())?;
-    push_line(alloc, &mut out, "total", answer)?;
+    push_total(&mut out, answer)?;
     Ok(out)
 }

@@ -11,20 +11,20 @@ use Rattle.jmodel.specs.ClassFile.{ClassFile}
 use Rattle.jmodel.specs.ClassRules.{Spells}
 use Rattle.objects.specs.Program.{Program}
 use Rattle.class_reader.proofs.ClassLaws.{class_again}
-use Rattle.deuce.specs.Command.{seen_words, run_words, rewrite_words, IsNoCommand, NamesFolder}
+use Rattle.deuce.specs.Command.{seen_words, run_words, rewrite_words, IsNoBank, IsNoCommand, NamesFolder}
 use Rattle.object_script.specs.Script.{script_limit}
 use Rattle.object_run.specs.Headline.{IsRunnable, CanRun}
 use Rattle.object_run.specs.Faults.{HasFault, IsBadRewriting, IsUntypable, IsBadScript, IsUnopened}
 use Rattle.object_run.proofs.Complete.{no_bad_program, all_typed, good_script, opens}
 use Rattle.deuce.specs.Rewritten.{CanRewrite}
 use Rattle.deuce.specs.declared.outcome.Outcome.{Outcome}
-use Rattle.deuce.specs.declared.outcome.Outcome.TheVariants.{Journal, Rewritten, Usage, BadClass, BadProgram, Untyped, BadScript, Unopened, Outside, NotPut}
+use Rattle.deuce.specs.declared.outcome.Outcome.TheVariants.{Journal, Summary, Rewritten, Usage, BadClass, BadProgram, Untyped, BadScript, Unopened, Outside, NotPut}
 use Rattle.deuce.specs.Folder.{helper_path, LacksHelper, class_limit, HoldsClasses, IsTooDeep, HasManyClasses, IsOverfull, IsGoodFile, HasClasses, IsBadClass}
 use Rattle.deuce.specs.Ending.{HasReservedPath, HasBadClasses, HasBadProgram, HasUntypable, HasBadScript, HasUnopened, CanRunIn, CanRewriteIn}
 use Rattle.deuce_io.specs.Seen.{Seen}
 use Rattle.deuce.specs.Outcomes.{Says, IsBadProgramOfWords, IsUntypableOfWords, IsBadClassOfWords, IsBadScriptOfWords, IsUnopenedOfWords, HasHelperOfWords, CanRunWords, CanRewriteWords, IsRefusedOrFailed, status_of}
 use Rattle.deuce.proofs.Folders.{same_paths}
-use Rattle.deuce.proofs.Asked.{one_run, apart, one_folder, run_folder, rewriting_folder}
+use Rattle.deuce.proofs.Asked.{one_run, no_bank, apart, one_folder, run_folder, rewriting_folder}
 
 -- bytes spell one class
 one_class : (bytes : List ℕ) (a b : ClassFile) → Spells bytes a → Spells bytes b → a ≡ b
@@ -112,7 +112,7 @@ module _ (told : Files) (dir : List ℕ) where
 
 -- what is said of refused class files isn't said of them
 module _ (words : List (String Global)) (told : Files) (dir : List ℕ) (free : told (inside dir helper_path) ≡ None) (Holding : List ClassFile → Type 0) (has : HasClasses (Some told) dir Holding)
-    (P : Program) (can : IsRunnable has.classes P) (named : (d : List ℕ) → NamesFolder words d → d ≡ dir) where
+    (P : Program) (can : IsRunnable has.classes P) (named : (d : List ℕ) → NamesFolder words d → d ≡ dir) (other : IsNoBank words) where
   no_bad_class : (files : Option Files) (path : List ℕ) (r : Refusal) → files ≡ Some told → IsBadClassOfWords words files path r → ⊥
   no_bad_class files path r is h = no_fault told dir Holding has path r (rw (is, named h.0 h.1) at h.2)
 
@@ -120,7 +120,8 @@ module _ (words : List (String Global)) (told : Files) (dir : List ℕ) (free : 
   no_reserved r h = let some = h.good.holds told refl in cc
 
   no_program_fault : (files : Option Files) (r : Refusal) → files ≡ Some told → IsBadProgramOfWords words files r → ⊥
-  no_program_fault files r is h = refused (rw (is, named h.0 h.1) at h.2)
+  no_program_fault files r is (inr h) = other h.0 h.1
+  no_program_fault files r is (inl h) = refused (rw (is, named h.0 h.1) at h.2)
     where
       classes : HasBadClasses (Some told) dir r → ⊥
       classes (inl bad) = no_bad_program has.classes P r can (inl (held told dir Holding has (HasFault r) bad))
@@ -132,7 +133,8 @@ module _ (words : List (String Global)) (told : Files) (dir : List ℕ) (free : 
       refused (inr bad) = classes bad
 
   none_untyped : (files : Option Files) (r : Refusal) → files ≡ Some told → IsUntypableOfWords words files r → ⊥
-  none_untyped files r is h = typed (rw (is, named h.0 h.1) at h.2)
+  none_untyped files r is (inr h) = other h.0 h.1
+  none_untyped files r is (inl h) = typed (rw (is, named h.0 h.1) at h.2)
     where
       typed : HasUntypable (Some told) dir r → ⊥
       typed bad = all_typed has.classes P r can (held told dir Holding has (IsUntypable r) bad.1)
@@ -152,6 +154,9 @@ module _ (words : List (String Global)) (told : Files) (dir script : List ℕ) (
   run_named : (d : List ℕ) → NamesFolder words d → d ≡ dir
   run_named d n = run_folder words d dir script n asked
 
+  not_bank : IsNoBank words
+  not_bank = no_bank words dir (script, inl asked)
+
   script_taken : (r : Refusal) → HasBadScript (Some told) dir script r → ⊥
   script_taken r bad =
       let fits = has.holding.is_script.fits in
@@ -160,7 +165,8 @@ module _ (words : List (String Global)) (told : Files) (dir script : List ℕ) (
       good_script has.classes can.script_bytes r has.holding of_classes
 
   good_script_of_words : (files : Option Files) (r : Refusal) → files ≡ Some told → IsBadScriptOfWords words files r → ⊥
-  good_script_of_words files r is h = let same = one_run words h.0 h.1 dir script h.2 asked in script_taken r (rw (is, same.0, same.1) at h.3)
+  good_script_of_words files r is (inr h) = not_bank h.0 h.1
+  good_script_of_words files r is (inl h) = let same = one_run words h.0 h.1 dir script h.2 asked in script_taken r (rw (is, same.0, same.1) at h.3)
 
   opened : (class : List ℕ) (x : Answer) → HasUnopened (Some told) dir script class x → ⊥
   opened class x bad =
@@ -170,20 +176,22 @@ module _ (words : List (String Global)) (told : Files) (dir script : List ℕ) (
       opens has.classes can.script_bytes class x has.holding (subst (λ (l : List ℕ). IsUnopened l class x has.classes) bytes (held_by (IsUnopened bad.script_bytes class x) bad.of_classes))
 
   opens_of_words : (files : Option Files) (class : List ℕ) (x : Answer) → files ≡ Some told → IsUnopenedOfWords words files class x → ⊥
-  opens_of_words files class x is h = let same = one_run words h.0 h.1 dir script h.2 asked in opened class x (rw (is, same.0, same.1) at h.3)
+  opens_of_words files class x is (inr h) = not_bank h.0 h.1
+  opens_of_words files class x is (inl h) = let same = one_run words h.0 h.1 dir script h.2 asked in opened class x (rw (is, same.0, same.1) at h.3)
 
   -- no status of a refusal
   run_completes : (old new : Seen) (o : Outcome) (status : ℕ) → old.files ≡ Some told → Says words old new o → status ≡ status_of o
       → (status ≡ 0) ⊎ ((status ≡ 8) ⊎ ((status ≡ 9) ⊎ (status ≡ 10)))
   run_completes old new (Journal text) status is h s = inl s
+  run_completes old new (Summary text) status is h s = inl s
   run_completes old new (Rewritten n taken marked) status is h s = inl s
-  run_completes old new Usage status is h s = absurd (h.0 dir script asked)
+  run_completes old new Usage status is h s = absurd (h.0.0 dir script asked)
   run_completes old new (BadClass path r) status is h s =
-      absurd (no_bad_class words told dir can.free (CanRunOn can.script_bytes) has has.holding.program has.holding.runnable run_named old.files (string_bytes path) r is h)
+      absurd (no_bad_class words told dir can.free (CanRunOn can.script_bytes) has has.holding.program has.holding.runnable run_named not_bank old.files (string_bytes path) r is h)
   run_completes old new (BadProgram r) status is h s =
-      absurd (no_program_fault words told dir can.free (CanRunOn can.script_bytes) has has.holding.program has.holding.runnable run_named old.files r is h)
+      absurd (no_program_fault words told dir can.free (CanRunOn can.script_bytes) has has.holding.program has.holding.runnable run_named not_bank old.files r is h)
   run_completes old new (Untyped r) status is h s =
-      absurd (none_untyped words told dir can.free (CanRunOn can.script_bytes) has has.holding.program has.holding.runnable run_named old.files r is h)
+      absurd (none_untyped words told dir can.free (CanRunOn can.script_bytes) has has.holding.program has.holding.runnable run_named not_bank old.files r is h)
   run_completes old new (BadScript r) status is h s = absurd (good_script_of_words old.files r is h)
   run_completes old new (Unopened class x) status is h s = absurd (opens_of_words old.files class x is h)
   run_completes old new (Outside path) status is h s = inr (inl s)
@@ -203,16 +211,19 @@ module _ (words : List (String Global)) (told : Files) (dir out : List ℕ) (ask
   rewriting_completes : (old new : Seen) (o : Outcome) (status : ℕ) → old.files ≡ Some told → Says words old new o → status ≡ status_of o
       → (status ≡ 0) ⊎ ((status ≡ 8) ⊎ ((status ≡ 9) ⊎ ((status ≡ 10) ⊎ (status ≡ 11))))
   rewriting_completes old new (Journal text) status is h s = inl s
+  rewriting_completes old new (Summary text) status is h s = inl s
   rewriting_completes old new (Rewritten n taken marked) status is h s = inl s
-  rewriting_completes old new Usage status is h s = absurd (h.1 dir out asked)
+  rewriting_completes old new Usage status is h s = absurd (h.0.1 dir out asked)
   rewriting_completes old new (BadClass path r) status is h s =
-      absurd (no_bad_class words told dir can.free CanRewrite can.of_classes can.of_classes.holding.0 can.of_classes.holding.1 rewriting_named old.files (string_bytes path) r is h)
+      absurd (no_bad_class words told dir can.free CanRewrite can.of_classes can.of_classes.holding.0 can.of_classes.holding.1 rewriting_named (no_bank words dir (out, inr asked)) old.files (string_bytes path) r is h)
   rewriting_completes old new (BadProgram r) status is h s =
-      absurd (no_program_fault words told dir can.free CanRewrite can.of_classes can.of_classes.holding.0 can.of_classes.holding.1 rewriting_named old.files r is h)
+      absurd (no_program_fault words told dir can.free CanRewrite can.of_classes can.of_classes.holding.0 can.of_classes.holding.1 rewriting_named (no_bank words dir (out, inr asked)) old.files r is h)
   rewriting_completes old new (Untyped r) status is h s =
-      absurd (none_untyped words told dir can.free CanRewrite can.of_classes can.of_classes.holding.0 can.of_classes.holding.1 rewriting_named old.files r is h)
-  rewriting_completes old new (BadScript r) status is h s = absurd (apart words h.0 h.1 dir out h.2 asked)
-  rewriting_completes old new (Unopened class x) status is h s = absurd (apart words h.0 h.1 dir out h.2 asked)
+      absurd (none_untyped words told dir can.free CanRewrite can.of_classes can.of_classes.holding.0 can.of_classes.holding.1 rewriting_named (no_bank words dir (out, inr asked)) old.files r is h)
+  rewriting_completes old new (BadScript r) status is (inl h) s = absurd (apart words h.0 h.1 dir out h.2 asked)
+  rewriting_completes old new (BadScript r) status is (inr h) s = absurd (no_bank words dir (out, inr asked) h.0 h.1)
+  rewriting_completes old new (Unopened class x) status is (inl h) s = absurd (apart words h.0 h.1 dir out h.2 asked)
+  rewriting_completes old new (Unopened class x) status is (inr h) s = absurd (no_bank words dir (out, inr asked) h.0 h.1)
   rewriting_completes old new (Outside path) status is h s = inr (inl s)
   rewriting_completes old new (NotPut path) status is h s = inr (inr (inr (inr s)))
 
@@ -229,18 +240,22 @@ not_free words files d names free has = go (subst (λ (e : List ℕ). LacksHelpe
     go none = let some = has.4 in cc
 
 no_usage : (words : List (String Global)) (files : Option Files) → IsNoCommand words → HasHelperOfWords words files → ⊥
-no_usage words files none (dir, told, (other, inl w), is, some) = none.0 dir other w
-no_usage words files none (dir, told, (other, inr w), is, some) = none.1 dir other w
+no_usage words files none (dir, told, (other, inl w), is, some) = none.0.0 dir other w
+no_usage words files none (dir, told, (other, inr w), is, some) = none.0.1 dir other w
 
 -- nothing is run or rewritten
 pub helper_refused : (words : List (String Global)) (old new : Seen) (o : Outcome) (status : ℕ) → Says words old new o → status ≡ status_of o → HasHelperOfWords words old.files → IsRefusedOrFailed status
 helper_refused words old new (Journal text) status h s has = absurd (not_free words old.files h.0 (h.1, inl h.2) h.3.free has)
+helper_refused words old new (Summary text) status h s has = absurd (no_bank words has.0 has.2 h.0 h.1)
 helper_refused words old new (Rewritten n taken marked) status h s has = absurd (not_free words old.files h.0 (h.1, inr h.2) h.3.rewriting.free has)
 helper_refused words old new Usage status h s has = absurd (no_usage words old.files h has)
 helper_refused words old new (BadClass path r) status h s has = inl s
 helper_refused words old new (BadProgram r) status h s has = inr (inl s)
-helper_refused words old new (Untyped r) status h s has = absurd (not_free words old.files h.0 h.1 h.2.0 has)
-helper_refused words old new (BadScript r) status h s has = absurd (not_free words old.files h.0 (h.1, inl h.2) h.3.free has)
-helper_refused words old new (Unopened class x) status h s has = absurd (not_free words old.files h.0 (h.1, inl h.2) h.3.free has)
+helper_refused words old new (Untyped r) status (inr h) s has = absurd (no_bank words has.0 has.2 h.0 h.1)
+helper_refused words old new (Untyped r) status (inl h) s has = absurd (not_free words old.files h.0 h.1 h.2.0 has)
+helper_refused words old new (BadScript r) status (inr h) s has = absurd (no_bank words has.0 has.2 h.0 h.1)
+helper_refused words old new (BadScript r) status (inl h) s has = absurd (not_free words old.files h.0 (h.1, inl h.2) h.3.free has)
+helper_refused words old new (Unopened class x) status (inr h) s has = absurd (no_bank words has.0 has.2 h.0 h.1)
+helper_refused words old new (Unopened class x) status (inl h) s has = absurd (not_free words old.files h.0 (h.1, inl h.2) h.3.free has)
 helper_refused words old new (Outside path) status h s has = inr (inr (inl s))
 helper_refused words old new (NotPut path) status h s has = absurd (not_free words old.files h.0 (h.1, inr h.2) h.3.stopped.rewriting.free has)

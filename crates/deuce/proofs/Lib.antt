@@ -11,6 +11,9 @@ pub mod Asked
 pub mod Outcomes
 pub mod Printed
 pub mod Complete
+pub mod Banks
+pub mod Workloads
+pub mod Worded
 pub mod Retyped
 pub mod Written
 pub mod Marked

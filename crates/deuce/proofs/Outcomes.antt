@@ -46,7 +46,7 @@ module _ (words : List (String Global)) (old new : Seen) (dir : List ℕ) (kept 
   kept_for_helper None r h is = absurd (cc)
   kept_for_helper (Some s) r h is =
       let same : s ≡ r = cc in
-      (kept, (dir, names, inr (reserved_of old.files dir inputs cs h.0 r a good h.1 (subst (IsReservedAs cs h.0) same h.2))))
+      (kept, inl (dir, names, inr (reserved_of old.files dir inputs cs h.0 r a good h.1 (subst (IsReservedAs cs h.0) same h.2))))
 
   module _ (free : LacksHelper old.files dir) where
     -- of a run on them
@@ -54,18 +54,18 @@ module _ (words : List (String Global)) (old new : Seen) (dir : List ℕ) (kept 
         → ((r : Refusal) → IsBadScript bytes r cs → HasClasses old.files dir (IsBadScript bytes r) → Says words old new (outcomes.BadScript r))
         → ((name : List ℕ) (x : Answer) → IsUnopened bytes name x cs → HasClasses old.files dir (IsUnopened bytes name x) → Says words old new (outcomes.Unopened name x))
         → EndsRun cs bytes end → IsRefusedAs end o → IsOutcome words old new o
-    refused bytes (run_ends.Refused r) o bad shut (inl h) is = rw is (kept, (dir, names, inr (inl (has_classes old.files dir inputs cs (HasFault r) a good h))))
-    refused bytes (run_ends.Refused r) o bad shut (inr h) is = rw is (kept, (dir, names, inr (inr (inr (free, has_classes old.files dir inputs cs (IsBadRewriting r) a good h)))))
-    refused bytes (run_ends.Untyped r) o bad shut h is = rw is (kept, (dir, names, (free, has_classes old.files dir inputs cs (IsUntypable r) a good h)))
+    refused bytes (run_ends.Refused r) o bad shut (inl h) is = rw is (kept, inl (dir, names, inr (inl (has_classes old.files dir inputs cs (HasFault r) a good h))))
+    refused bytes (run_ends.Refused r) o bad shut (inr h) is = rw is (kept, inl (dir, names, inr (inr (inr (free, has_classes old.files dir inputs cs (IsBadRewriting r) a good h)))))
+    refused bytes (run_ends.Untyped r) o bad shut h is = rw is (kept, inl (dir, names, (free, has_classes old.files dir inputs cs (IsUntypable r) a good h)))
     refused bytes (run_ends.BadScript r) o bad shut h is = rw is (kept, bad r h (has_classes old.files dir inputs cs (IsBadScript bytes r) a good h))
     refused bytes (run_ends.Unopened name x) o bad shut h is = rw is (kept, shut name x h (has_classes old.files dir inputs cs (IsUnopened bytes name x) a good h))
     refused bytes run_ends.NoMemory o bad shut h is = absurd is
 
     -- of a rewriting of them
     pub not_rewritten : (end : RunEnd) (o : Outcome) → EndsPreparing cs end → IsRefusedAs end o → IsOutcome words old new o
-    not_rewritten (run_ends.Refused r) o (inl h) is = rw is (kept, (dir, names, inr (inl (has_classes old.files dir inputs cs (HasFault r) a good h))))
-    not_rewritten (run_ends.Refused r) o (inr h) is = rw is (kept, (dir, names, inr (inr (inr (free, has_classes old.files dir inputs cs (IsBadRewriting r) a good h)))))
-    not_rewritten (run_ends.Untyped r) o h is = rw is (kept, (dir, names, (free, has_classes old.files dir inputs cs (IsUntypable r) a good h)))
+    not_rewritten (run_ends.Refused r) o (inl h) is = rw is (kept, inl (dir, names, inr (inl (has_classes old.files dir inputs cs (HasFault r) a good h))))
+    not_rewritten (run_ends.Refused r) o (inr h) is = rw is (kept, inl (dir, names, inr (inr (inr (free, has_classes old.files dir inputs cs (IsBadRewriting r) a good h)))))
+    not_rewritten (run_ends.Untyped r) o h is = rw is (kept, inl (dir, names, (free, has_classes old.files dir inputs cs (IsUntypable r) a good h)))
     not_rewritten (run_ends.BadScript r) o h is = absurd h
     not_rewritten (run_ends.Unopened name x) o h is = absurd h
     not_rewritten run_ends.NoMemory o h is = absurd is

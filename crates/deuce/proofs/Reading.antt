@@ -162,7 +162,7 @@ journal_of files dir script inputs cs text a good free run =
       contents = contents_of inputs.classes.items;
       class_files = read_whole files dir inputs.classes.items cs a.of_classes good;
       script_bytes = inputs.script;
-      script_holds = holds files script (script_limit + 1) script_limit inputs.script refl a.script_bytes run.is_script.fits;
+      script_holds = holds files script (script_limit + 1) script_limit inputs.script refl a.script_bytes run.are_calls.is_script.fits;
       run = record { files = cs; are_files = are_files inputs.classes.items cs good; run = run };
     }
 

@@ -1,6 +1,8 @@
 -- The forms of the words of the command line.
-use Rattle.std.specs.Prelude.{◌≡◌, ◌⊎◌, ℕ, List, [], ◌∷◌, codes, map, string_bytes, String}
+use Rattle.std.specs.Prelude.{◌≡◌, ◌⊎◌, ℕ, ◌<◌, ◌^◌, List, [], ◌∷◌, codes, map, string_bytes, String}
 use Rattle.std.specs.declared.alloc.Global.{Global}
+use Rattle.std.specs.Fmt.{decimal}
+use Rattle.bankgen.specs.declared.figures.Figures.{Figures}
 use Rattle.deuce.specs.declared.words.Command.{Command}
 use Rattle.deuce.specs.declared.words.Command.TheVariants.{Run, Rewrite}
 
@@ -16,6 +18,21 @@ run_words dir script = codes "run" ∷ dir ∷ script ∷ []
 abbrev pub rewrite_words : List ℕ → List ℕ → List (List ℕ)
 rewrite_words dir out = codes "rewrite" ∷ dir ∷ out ∷ []
 
+-- the words of the form `bank SEED ACCOUNTS CALLS LANES`
+abbrev pub bank_words : Figures → List (List ℕ)
+bank_words f = codes "bank" ∷ decimal f.seed ∷ decimal f.accounts ∷ decimal f.calls ∷ decimal f.lanes ∷ []
+
+-- numbers of words: a seed of 32 bits, and others of at most ten digits
+pub record AreFigures (f : Figures) : Type 0 where
+  pub seed : f.seed < 2 ^ 32
+  pub accounts : f.accounts < 10 ^ 10
+  pub calls : f.calls < 10 ^ 10
+  pub lanes : f.lanes < 10 ^ 10
+
+-- the words ask for a bank of these numbers
+abbrev pub AsksBank : List (String Global) → Figures → Type 0
+AsksBank words f = AreFigures f × (seen_words words ≡ bank_words f)
+
 -- the words ask for this
 abbrev pub AreWords : List (String Global) → Command → Type 0
 AreWords words (Run dir script) = seen_words words ≡ run_words dir.now script.now
@@ -29,9 +46,33 @@ IsNoRun words = (dir script : List ℕ) → seen_words words ≡ run_words dir s
 abbrev pub IsNoRewriting : List (String Global) → Type 0
 IsNoRewriting words = (dir out : List ℕ) → seen_words words ≡ rewrite_words dir out → ⊥
 
+-- four words are these numbers
+abbrev pub AreFiguresOf : (seed accounts calls lanes : List ℕ) → Figures → Type 0
+AreFiguresOf seed accounts calls lanes f =
+    AreFigures f × (seed ≡ decimal f.seed) × (accounts ≡ decimal f.accounts) × (calls ≡ decimal f.calls) × (lanes ≡ decimal f.lanes)
+
+-- four words aren't the numbers of a bank
+abbrev pub AreNoFigures : (seed accounts calls lanes : List ℕ) → Type 0
+AreNoFigures seed accounts calls lanes = (f : Figures) → AreFiguresOf seed accounts calls lanes f → ⊥
+
+-- a word is this seed
+abbrev pub IsSeed : List ℕ → ℕ → Type 0
+IsSeed word n = (n < 2 ^ 32) × (word ≡ decimal n)
+
+abbrev pub IsNoSeed : List ℕ → Type 0
+IsNoSeed word = (n : ℕ) → IsSeed word n → ⊥
+
+-- the words don't ask for a bank
+abbrev pub IsNoBank : List (String Global) → Type 0
+IsNoBank words = (f : Figures) → AsksBank words f → ⊥
+
+-- the words ask for nothing over a folder
+abbrev pub AsksNoFolder : List (String Global) → Type 0
+AsksNoFolder words = IsNoRun words × IsNoRewriting words
+
 -- the words are of no form
 abbrev pub IsNoCommand : List (String Global) → Type 0
-IsNoCommand words = IsNoRun words × IsNoRewriting words
+IsNoCommand words = AsksNoFolder words × IsNoBank words
 
 -- the words name a folder of class files
 abbrev pub NamesFolder : List (String Global) → List ℕ → Type 0

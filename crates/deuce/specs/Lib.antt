@@ -1,3 +1,4 @@
+pub mod Bank
 pub mod Command
 pub mod Ending
 pub mod Folder

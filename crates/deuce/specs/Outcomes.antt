@@ -7,7 +7,9 @@ use Rattle.deuce_io.specs.Seen.{Seen}
 use Rattle.jmodel.specs.declared.refusal.Refusal.{Refusal}
 use Rattle.jmodel.specs.declared.value.Answer.{Answer}
 use Rattle.jmodel.specs.Output.{◌and◌, answer_text, refusal_text, error_text}
-use Rattle.deuce.specs.Command.{seen_words, run_words, rewrite_words, IsNoCommand, NamesFolder}
+use Rattle.deuce.specs.Command.{seen_words, run_words, rewrite_words, AsksBank, IsNoCommand, NamesFolder}
+use Rattle.deuce.specs.Bank.{IsSummaryOf, IsOutside, IsBadBank, IsUntypableBank, IsBadBankScript, IsUnopenedBank, CanRunBank}
+use Rattle.bankgen.specs.declared.figures.Figures.{Figures}
 use Rattle.deuce.specs.Rewritten.{counts_text}
 use Rattle.deuce.specs.Folder.{IsBadClass, helper_path}
 use Rattle.deuce.specs.Ending.{IsCallOfFolder, IsCallOfRun, Failed, FailedPut, IsJournalOf, IsRewritingOf, StopsAt, HasBadProgram, HasUntypable, HasBadScript, HasUnopened, CanRunIn, CanRewriteIn}
@@ -18,11 +20,12 @@ use Rattle.deuce.specs.declared.putting.PutEnd.TheVariants as put_ends
 use Rattle.object_run.specs.declared.outcome.RunEnd.{RunEnd}
 use Rattle.object_run.specs.declared.outcome.RunEnd.TheVariants as run_ends
 use Rattle.deuce.specs.declared.outcome.Outcome.{Outcome}
-use Rattle.deuce.specs.declared.outcome.Outcome.TheVariants.{Journal, Rewritten, Usage, BadClass, BadProgram, Untyped, BadScript, Unopened, Outside, NotPut}
+use Rattle.deuce.specs.declared.outcome.Outcome.TheVariants.{Journal, Summary, Rewritten, Usage, BadClass, BadProgram, Untyped, BadScript, Unopened, Outside, NotPut}
 
 -- the text that an outcome is printed as
 abbrev pub IsTextOf : Outcome → List ℕ → Type 0
 IsTextOf (Journal text) printed = printed ≡ text
+IsTextOf (Summary text) printed = printed ≡ text
 IsTextOf (Rewritten classes taken marked) printed = printed ≡ counts_text classes taken marked
 IsTextOf Usage printed = printed ≡ error_text (codes "2") (codes "usage")
 IsTextOf (BadClass path refusal) printed = printed ≡ error_text (codes "3") (string_bytes path and refusal_text refusal)
@@ -36,6 +39,7 @@ IsTextOf (NotPut path) printed = printed ≡ error_text (codes "11") (string_byt
 -- the status of an outcome that is printed whole
 abbrev pub status_of : Outcome → ℕ
 status_of (Journal text) = 0
+status_of (Summary text) = 0
 status_of (Rewritten classes taken marked) = 0
 status_of Usage = 2
 status_of (BadClass path refusal) = 3
@@ -70,25 +74,35 @@ IsNotPutAs put_ends.NoMemory o = ⊥
 abbrev pub IsBadClassOfWords : List (String Global) → Option Files → List ℕ → Refusal → Type 0
 IsBadClassOfWords words files path r = (dir : List ℕ) × NamesFolder words dir × IsBadClass files dir path r
 
--- The folder that the words name is refused: it passes a limit of folders, or its class files are good, and they are refused so.
+-- The words ask for a bank, of whose numbers this holds.
+abbrev pub OfBankOfWords : List (String Global) → (Figures → Type 0) → Type 0
+OfBankOfWords words Holding = (f : Figures) × AsksBank words f × Holding f
+
+-- The folder that the words name is refused: it passes a limit of folders, or its class files are good, and they are refused so. Or a bank is.
 abbrev pub IsBadProgramOfWords : List (String Global) → Option Files → Refusal → Type 0
-IsBadProgramOfWords words files r = (dir : List ℕ) × NamesFolder words dir × HasBadProgram files dir r
+IsBadProgramOfWords words files r = ((dir : List ℕ) × NamesFolder words dir × HasBadProgram files dir r) ⊎ OfBankOfWords words (λ f. IsBadBank f r)
 
--- The class files of the folder that the words name are good, and a method of their classes has no typing, as the refusal says.
+-- The class files of the folder that the words name are good, and a method of their classes, or of a bank's, has no typing, as the refusal says.
 abbrev pub IsUntypableOfWords : List (String Global) → Option Files → Refusal → Type 0
-IsUntypableOfWords words files r = (dir : List ℕ) × NamesFolder words dir × HasUntypable files dir r
+IsUntypableOfWords words files r = ((dir : List ℕ) × NamesFolder words dir × HasUntypable files dir r) ⊎ OfBankOfWords words (λ f. IsUntypableBank f r)
 
--- The words ask for a run, and its script has this fault.
+-- The words ask for a run, and its script has this fault, or for a bank, whose script has it.
 abbrev pub IsBadScriptOfWords : List (String Global) → Option Files → Refusal → Type 0
-IsBadScriptOfWords words files r = (dir : List ℕ) × (script : List ℕ) × (seen_words words ≡ run_words dir script) × HasBadScript files dir script r
+IsBadScriptOfWords words files r =
+    ((dir : List ℕ) × (script : List ℕ) × (seen_words words ≡ run_words dir script) × HasBadScript files dir script r) ⊎ OfBankOfWords words (λ f. IsBadBankScript f r)
 
--- The words ask for a run, and a static initialiser of its classes, of the class of this name, doesn't return.
+-- The words ask for a run or a bank, and a static initialiser of its classes, of the class of this name, doesn't return.
 abbrev pub IsUnopenedOfWords : List (String Global) → Option Files → List ℕ → Answer → Type 0
-IsUnopenedOfWords words files class x = (dir : List ℕ) × (script : List ℕ) × (seen_words words ≡ run_words dir script) × HasUnopened files dir script class x
+IsUnopenedOfWords words files class x =
+    ((dir : List ℕ) × (script : List ℕ) × (seen_words words ≡ run_words dir script) × HasUnopened files dir script class x) ⊎ OfBankOfWords words (λ f. IsUnopenedBank f class x)
 
 -- The text is that of the run that the words ask for.
 abbrev pub IsJournalOfWords : List (String Global) → Option Files → List ℕ → Type 0
 IsJournalOfWords words files text = (dir : List ℕ) × (script : List ℕ) × (seen_words words ≡ run_words dir script) × IsJournalOf files dir script text
+
+-- The text is the summary of the bank that the words ask for.
+abbrev pub IsSummaryOfWords : List (String Global) → List ℕ → Type 0
+IsSummaryOfWords words text = OfBankOfWords words (λ f. IsSummaryOf f text)
 
 -- The rewriting that the words ask for was put, and these are its counts.
 abbrev pub IsRewritingOfWords : List (String Global) → Option Files → Option Files → ℕ → ℕ → ℕ → Type 0
@@ -98,6 +112,14 @@ IsRewritingOfWords words files files' classes taken marked =
 -- The words ask for a run, and the folder tells files with which that can be made.
 abbrev pub CanRunWords : List (String Global) → Option Files → Type 0
 CanRunWords words files = (dir : List ℕ) × (script : List ℕ) × (told : Files) × (seen_words words ≡ run_words dir script) × (files ≡ Some told) × CanRunIn told dir script
+
+-- The words ask for a bank that can be run.
+abbrev pub CanRunBankOfWords : List (String Global) → Type 0
+CanRunBankOfWords words = OfBankOfWords words CanRunBank
+
+-- The words ask for a bank, of whose numbers one is outside its limits.
+abbrev pub IsOutsideOfWords : List (String Global) → Type 0
+IsOutsideOfWords words = OfBankOfWords words (λ f. (r : Refusal) × IsOutside f r)
 
 -- The words ask for a rewriting, and the folder tells class files that can be rewritten.
 abbrev pub CanRewriteWords : List (String Global) → Option Files → Type 0
@@ -135,6 +157,14 @@ IsRefusal status = (status ≡ 2) ⊎ ((status ≡ 3) ⊎ ((status ≡ 4) ⊎ ((
 abbrev pub IsRunOrFailed : ℕ → Type 0
 IsRunOrFailed status = (status ≡ 0) ⊎ ((status ≡ 8) ⊎ ((status ≡ 9) ⊎ (status ≡ 10)))
 
+-- the statuses of a bank that can be run: done, or the sink failed, or memory ran out
+abbrev pub IsBankRunOrFailed : ℕ → Type 0
+IsBankRunOrFailed status = (status ≡ 0) ⊎ ((status ≡ 9) ⊎ (status ≡ 10))
+
+-- the statuses of a bank one of whose numbers is outside its limits: refused, or the sink failed, or memory ran out
+abbrev pub IsOutsideOrFailed : ℕ → Type 0
+IsOutsideOrFailed status = (status ≡ 4) ⊎ ((status ≡ 9) ⊎ (status ≡ 10))
+
 -- the statuses of a rewriting that can be made: those, or a put failed
 abbrev pub IsRewrittenOrFailed : ℕ → Type 0
 IsRewrittenOrFailed status = (status ≡ 0) ⊎ ((status ≡ 8) ⊎ ((status ≡ 9) ⊎ ((status ≡ 10) ⊎ (status ≡ 11))))
@@ -157,6 +187,7 @@ Keeps o old new = new.files ≡ old.files
 -- what an outcome says of the words, and of what the folder told before and tells now
 abbrev pub Says : List (String Global) → Seen → Seen → Outcome → Type 0
 Says words old new (Journal text) = IsJournalOfWords words old.files text
+Says words old new (Summary text) = IsSummaryOfWords words text
 Says words old new (Rewritten classes taken marked) = IsRewritingOfWords words old.files new.files classes taken marked
 Says words old new Usage = IsNoCommand words
 Says words old new (BadClass path refusal) = IsBadClassOfWords words old.files (string_bytes path) refusal

@@ -95,7 +95,7 @@ fn unread(end: InputEnd) -> Result<Outcome, NoMemory>
 }
 
 /// The outcome of a run or a rewriting that ended so.
-fn refused(end: RunEnd) -> Result<Outcome, NoMemory>
+pub(crate) fn refused(end: RunEnd) -> Result<Outcome, NoMemory>
     ensures { IfOk result (IsRefusedAs end) }
 {
     match end {

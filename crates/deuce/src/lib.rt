@@ -1,7 +1,9 @@
-//! What Deuce STM does for the words of its command line: runs a script on the class files of a folder, or puts their rewriting.
+//! What Deuce STM does for the words of its command line: runs a script on the class files of a folder, or puts their
+//! rewriting; or runs the script of a bank on its classes.
 //! [`top::deuce`] is the top call, over any folder and sink.
 #![tactic(auto)]
 
+mod bank;
 pub mod classes;
 mod commands;
 mod inputs;

@@ -14,6 +14,8 @@ use std::alloc::{AllocError, Global};
 pub enum Outcome {
     /// With a journal, of which this is the text.
     Journal(Bytes),
+    /// With a summary of a bank's run, of which this is the text.
+    Summary(Bytes),
     /// With new class files, so many, which were put: so many methods of their classes are taken, and so many of these are marked.
     Rewritten {
         classes: usize,
@@ -28,7 +30,7 @@ pub enum Outcome {
         refusal: Refusal,
     },
     /// A folder lies too deep, or there are too many class files. Or their classes have this fault, one has the path of the helper of arrays, a
-    /// constructor stores too early, or their rewriting passes this limit.
+    /// constructor stores too early, or their rewriting passes this limit. Or a number of a bank is outside its limits.
     BadProgram(Refusal),
     /// A method of the classes has no typing.
     Untyped(Refusal),
@@ -101,7 +103,7 @@ pub fn text_of(alloc: Global, outcome: Outcome) -> Result<Bytes, AllocError>
     ensures { IfOk result (IsTextOf outcome) }
 {
     match outcome {
-        Outcome::Journal(text) => Ok(text),
+        Outcome::Journal(text) | Outcome::Summary(text) => Ok(text),
         Outcome::Rewritten {
             classes,
             taken,
@@ -127,7 +129,7 @@ impl Outcome {
         ensures { result ≡ status_of self.now }
     {
         match self {
-            Outcome::Journal(_) | Outcome::Rewritten { .. } => 0,
+            Outcome::Journal(_) | Outcome::Summary(_) | Outcome::Rewritten { .. } => 0,
             Outcome::Usage => 2,
             Outcome::BadClass { .. } => 3,
             Outcome::BadProgram(_) => 4,

@@ -4,15 +4,19 @@ ghost use Rattle.deuce_io.specs.Fault.{Rose};
 ghost use Rattle.jmodel.specs.declared.refusal.Refusal.{Refusal};
 ghost use Rattle.jmodel.specs.declared.value.Answer.{Answer};
 ghost use Rattle.jmodel.specs.Output.{◌and◌, answer_text, refusal_text, error_text};
-ghost use Rattle.deuce.specs.Command.{seen_words, run_words, rewrite_words, IsNoRewriting, IsNoCommand};
+ghost use Rattle.deuce.specs.Command.{seen_words, run_words, rewrite_words, AsksBank, AsksNoFolder, IsNoRewriting, IsNoCommand};
+ghost use Rattle.bankgen.specs.declared.figures.Figures.{Figures};
+ghost use Rattle.deuce_io.specs.Seen.{Seen};
+ghost use Rattle.deuce.specs.Bank.{IsSummaryOf};
 ghost use Rattle.deuce.specs.Ending.{IsJournalOf, IsRewritingOf};
-ghost use Rattle.deuce.specs.Outcomes.{IsOutcome, IsBadClassOfWords, IsBadProgramOfWords, IsUntypableOfWords, IsBadScriptOfWords, IsUnopenedOfWords, HasHelperOfWords, CanRunWords, CanRewriteWords, FailedOutside, FailedPutOfWords, ArePut, IsRefusal, IsRefusedOrFailed, IsStatus, IsRunOrFailed, IsRewrittenOrFailed, Appends, IsCut};
+ghost use Rattle.deuce.specs.Outcomes.{IsOutcome, IsBadClassOfWords, IsBadProgramOfWords, IsUntypableOfWords, IsBadScriptOfWords, IsUnopenedOfWords, HasHelperOfWords, CanRunWords, CanRunBankOfWords, CanRewriteWords, IsOutsideOfWords, FailedOutside, FailedPutOfWords, ArePut, IsRefusal, IsRefusedOrFailed, IsStatus, IsRunOrFailed, IsBankRunOrFailed, IsOutsideOrFailed, IsRewrittenOrFailed, Appends, IsCut};
 ghost use Rattle.deuce.specs.Rewritten.{counts_text};
 
+use crate::bank::bank_command;
 use crate::commands::{rewrite_command, run_command};
 use crate::outcome::{Outcome, text_of};
 use crate::print::print;
-use crate::words::{Command, command_of};
+use crate::words::{Command, command_of, figures_of};
 use deuce_io::{Folder, IoEnd, Sink};
 use jmodel::NoMemory;
 use std::alloc::Global;
@@ -22,10 +26,10 @@ use std::thread::Threads;
 ///
 /// | Status | Comes |
 /// |---|---|
-/// | 0 | the journal of the run was written whole; or each rewritten class file and the helper of arrays were put, and the counts were written whole |
+/// | 0 | the journal of the run, or the summary of the bank, was written whole; or each rewritten class file and the helper of arrays were put, and the counts were written whole |
 /// | 2 | the words are none of the forms |
 /// | 3 | a file is no class file; the path of the first and its first fault are printed |
-/// | 4 | a folder lies 17 levels down, there are more than 256 class files, their classes have a fault, one has the path of the helper of arrays, a constructor stores to a field before another has run over its object, or their rewriting passes a limit; that is printed |
+/// | 4 | a folder lies 17 levels down, there are more than 256 class files, their classes have a fault, one has the path of the helper of arrays, a constructor stores to a field before another has run over its object, or their rewriting passes a limit, or a number of a bank is outside its limits; that is printed |
 /// | 5 | a method of the classes has no typing; the first is printed |
 /// | 6 | the script is none for the classes; the first rule that it breaks is printed |
 /// | 7 | a static initialiser doesn't return; its class and the answer are printed |
@@ -52,6 +56,10 @@ pub fn deuce<R: Threads + Sync, F: Folder, O: Sink>(
         → (text : List ℕ) × IsJournalOf (F.seen folder.old).files dir script text
         × Appends (O.written out.old) (O.written out.new) text }
 
+    // `bank SEED ACCOUNTS CALLS LANES`: what was written, by the numbers alone.
+    ensures summary { result ≡ 0 → (f : Figures) → AsksBank words.now f
+        → (text : List ℕ) × IsSummaryOf f text × Appends (O.written out.old) (O.written out.new) text }
+
     // `rewrite DIR OUT`: what was put, where the folder tells its files, and the counts that were
     // written.
     ensures rewriting { result ≡ 0
@@ -69,10 +77,15 @@ pub fn deuce<R: Threads + Sync, F: Folder, O: Sink>(
     // A folder lies 17 levels down, or there are more class files than 256, as this says; or they
     // are good, and their classes have this fault. Or one of them stands where rewriting puts the
     // helper of arrays, a constructor stores too early, or their rewriting passes this limit.
+    // Or a number of a bank is outside its limits, as this says. For a bank the causes of 4 to 7 are
+    // those of a run of its script on its classes.
     ensures bad_program { result ≡ 4 → (refusal : Refusal)
         × IsBadProgramOfWords words.now (F.seen folder.old).files refusal
         × Appends (O.written out.old) (O.written out.new)
         (error_text (codes "4") (refusal_text refusal)) }
+
+    // Where a number of a bank is outside its limits, that is said, and nothing is run.
+    ensures outside_limits { IsOutsideOfWords words.now → IsOutsideOrFailed result }
 
     // The class files are good and their classes without a fault, none has the helper's path, and
     // this method of theirs is the first that has code and no typing.
@@ -121,6 +134,7 @@ pub fn deuce<R: Threads + Sync, F: Folder, O: Sink>(
     // What can be run is run, and what can be rewritten is rewritten, unless the folder or the sink
     // fails or memory runs out.
     ensures complete { CanRunWords words.now (F.seen folder.old).files → IsRunOrFailed result }
+    ensures complete_bank { CanRunBankOfWords words.now → IsBankRunOrFailed result }
     ensures complete_rewriting { CanRewriteWords words.now (F.seen folder.old).files
         → IsRewrittenOrFailed result }
 
@@ -162,6 +176,21 @@ fn outcome_of<R: Threads + Sync, F: Folder>(
     match command_of(words) {
         Some(Command::Run { dir, script }) => run_command(rt, alloc, folder, dir, script),
         Some(Command::Rewrite { dir, out }) => rewrite_command(alloc, folder, dir, out),
+        None => bank_or_usage(rt, alloc, words),
+    }
+}
+
+/// How the command ends that words ask for that name no folder: that of a bank, or none.
+fn bank_or_usage<R: Threads + Sync>(
+    rt: &R,
+    alloc: Global,
+    words: &[String],
+) -> Result<Outcome, NoMemory>
+    requires { AsksNoFolder words.now }
+    ensures { IfOk result (λ o. (old new : Seen) → new.files ≡ old.files → IsOutcome words.now old new o) }
+{
+    match figures_of(alloc, words)? {
+        Some(figures) => bank_command(rt, alloc, figures),
         None => Ok(Outcome::Usage),
     }
 }

@@ -1,8 +1,14 @@
 //! The words of the command line.
-ghost use Rattle.std.specs.Prelude.{MatchOption};
-ghost use Rattle.deuce.specs.Command.{AreWords, IsNoCommand};
+ghost use Rattle.std.specs.Prelude.{◌≡◌, ◌≤◌, ◌<◌, ◌^◌, MatchOption, IfOk};
+ghost use Rattle.deuce.specs.Command.{AreWords, AsksNoFolder, AsksBank, IsNoBank, AreFiguresOf, AreNoFigures, IsSeed, IsNoSeed};
 
-/// What the words ask for. The paths are words of the command line.
+use bankgen::{Figures, number_in};
+use std::alloc::{AllocError, Global};
+
+/// How many seeds there are.
+const SEEDS: u64 = 4_294_967_296;
+
+/// What the words ask for over a folder. The paths are words of the command line.
 #[derive(Clone, Copy)]
 pub enum Command<'a> {
     /// Runs the script at the second path on the classes of the folder at the first.
@@ -11,9 +17,9 @@ pub enum Command<'a> {
     Rewrite { dir: &'a str, out: &'a str },
 }
 
-/// What the words after the program's name ask for: `run DIR SCRIPT` or `rewrite DIR OUT`, and nothing else.
+/// What the words after the program's name ask for over a folder: `run DIR SCRIPT` or `rewrite DIR OUT`, and nothing else.
 pub fn command_of(words: &[String]) -> Option<Command<'_>>
-    ensures { MatchOption result (IsNoCommand words.now) (AreWords words.now) }
+    ensures { MatchOption result (AsksNoFolder words.now) (AreWords words.now) }
 {
     match words {
         [name, dir, script] if name.as_str() == "run" => Some(Command::Run {
@@ -25,5 +31,72 @@ pub fn command_of(words: &[String]) -> Option<Command<'_>>
             out: out.as_str(),
         }),
         _ => None,
+    }
+}
+
+/// The numbers of the bank that the words ask for: `bank SEED ACCOUNTS CALLS LANES`, and nothing else.
+pub fn figures_of(alloc: Global, words: &[String]) -> Result<Option<Figures>, AllocError>
+    ensures { IfOk result (λ o. MatchOption o (IsNoBank words.now) (AsksBank words.now)) }
+{
+    match words {
+        [name, seed, accounts, calls, lanes] if name.as_str() == "bank" => figures_in(
+            alloc,
+            seed.as_str(),
+            accounts.as_str(),
+            calls.as_str(),
+            lanes.as_str(),
+        ),
+        _ => Ok(None),
+    }
+}
+
+/// The numbers that four words are, of which the seed has 32 bits.
+fn figures_in(
+    alloc: Global,
+    seed: &str,
+    accounts: &str,
+    calls: &str,
+    lanes: &str,
+) -> Result<Option<Figures>, AllocError>
+    ensures { IfOk result (λ o. MatchOption o (AreNoFigures seed.now accounts.now calls.now lanes.now) (AreFiguresOf seed.now accounts.now calls.now lanes.now)) }
+{
+    let Some(seed) = seed_in(alloc, seed)? else {
+        return Ok(None);
+    };
+    let Some(accounts) = number_in(alloc, accounts)? else {
+        return Ok(None);
+    };
+    let Some(calls) = number_in(alloc, calls)? else {
+        return Ok(None);
+    };
+    let Some(lanes) = number_in(alloc, lanes)? else {
+        return Ok(None);
+    };
+    Ok(Some(Figures {
+        seed,
+        accounts,
+        calls,
+        lanes,
+    }))
+}
+
+/// The seed that a word is, a number of 32 bits.
+fn seed_in(alloc: Global, word: &str) -> Result<Option<u32>, AllocError>
+    ensures { IfOk result (λ o. MatchOption o (IsNoSeed word.now) (IsSeed word.now)) }
+{
+    match number_in(alloc, word)? {
+        Some(number) => Ok(seed_of(number)),
+        None => Ok(None),
+    }
+}
+
+/// A number of 32 bits, or None where it has more.
+fn seed_of(number: u64) -> Option<u32>
+    ensures { MatchOption result (2 ^ 32 ≤ number) (λ n. (n ≡ number) × (n < 2 ^ 32)) }
+{
+    if number < SEEDS {
+        Some(number as u32)
+    } else {
+        None
     }
 }

@@ -1,18 +1,19 @@
 -- What the parts of a run make together.
 use Rattle.std.proofs.Common.{◌≡◌, ◌<◌, ℕ, zero, suc, List, [], ◌∷◌, map, length, Option, Some, Ok, inl, inr, refl, sym, ap, ◌∙◌, subst, arith}
-use Rattle.std.specs.Prelude.{slice_get}
+use Rattle.std.specs.Prelude.{slice_get, nat_eq, if◌then◌else◌}
 use Rattle.std.specs.List.{AllByRecursion}
+use Rattle.std.proofs.lemmas.List.{length-map}
 use Rattle.jmodel.specs.ClassFile.{ClassFile}
 use Rattle.jmodel.specs.Classes.{in_order}
 use Rattle.jmodel.specs.declared.value.Answer.{Answer}
 use Rattle.jmodel.specs.History.{Told}
 use Rattle.jmodel.specs.Schedule.{ScriptPhase}
-use Rattle.jmodel.specs.Output.{Line, journal_text}
+use Rattle.jmodel.specs.Output.{Line, journal_text, answer_text}
 use Rattle.objects.specs.Program.{Method, Program}
 use Rattle.objects.specs.Layout.{opening_state}
 use Rattle.objects.specs.Linking.{linking, initialisers_in}
 use Rattle.objects.specs.LinkingLaw.{AreRead}
-use Rattle.objects.specs.Journal.{IsRootCall}
+use Rattle.objects.specs.Journal.{IsRootCall, IsJournal}
 use Rattle.objects.specs.Opening.{Opening, Fails}
 use Rattle.objects.specs.State.{State}
 use Rattle.objects.proofs.Links.{links}
@@ -28,7 +29,8 @@ use Rattle.object_driver.specs.declared.setting_up.SetUpEnd.{SetUpEnd}
 use Rattle.object_driver.specs.declared.setting_up.SetUpEnd.TheVariants as set_ends
 use Rattle.object_run.specs.declared.outcome.RunEnd.{RunEnd}
 use Rattle.object_run.specs.declared.outcome.RunEnd.TheVariants as run_ends
-use Rattle.object_run.specs.Headline.{line_of, name_in, AreCalls, IsRunOf, IsRunnable}
+use Rattle.object_run.specs.Headline.{line_of, name_in, answer_in, AreCountsOf, IsRunOf, IsRunnable}
+use Rattle.object_run.specs.Kept.{AreOfRun, answer_kept}
 use Rattle.object_run.specs.Lines.{line_in}
 use Rattle.object_run.specs.Faults.{IsShut, IsNumbered, IsUnopenedAs, EndsOpening, EndsScript, EndsRun}
 use Rattle.object_run.proofs.Roots.{all_roots}
@@ -40,31 +42,74 @@ lines_same : (P : Program) (ts : List Told) → map (line_in P) (map record_of t
 lines_same P [] = refl
 lines_same P (t ∷ ts) = ap (λ (ls : List Line). line_of P (made_of t) ∷ ls) (lines_same P ts)
 
--- the printed journal of a run is that of the calls of the original methods
-pub are_calls : (P : Program) (size budget : ℕ) (phases : List ScriptPhase) (memory : Memory) (journal : Journal) (σ : State) (text : List ℕ) → HasRun P size budget phases memory journal → Holds P size memory σ
-    → text ≡ journal_text (map (line_in P) journal.placed.items) (map (line_in P) journal.unplaced.items) → AreCalls P size budget σ phases text
-are_calls P size budget phases memory journal σ text run stands is = record {
-  placed = map made_of run.placed;
-  unplaced = map made_of run.unplaced;
-  is_journal = run.is_journal σ stands;
-  is_text = is ∙ ap (λ (rs : List Record). journal_text (map (line_in P) rs) (map (line_in P) journal.unplaced.items)) run.placed_are
-      ∙ ap (λ (rs : List Record). journal_text (map (line_in P) (map record_of run.placed)) (map (line_in P) rs)) run.unplaced_are
-      ∙ ap (λ (ls : List Line). journal_text ls (map (line_in P) (map record_of run.unplaced))) (lines_same P run.placed)
-      ∙ ap (journal_text (map (line_of P) (map made_of run.placed))) (lines_same P run.unplaced);
+-- what is kept of the calls of a run is told as the calls are
+pub told : (P : Program) (placed unplaced : List Told) (first second : List Record) → first ≡ map record_of placed → second ≡ map record_of unplaced
+    → journal_text (map (line_in P) first) (map (line_in P) second) ≡ journal_text (map (line_of P) (map made_of placed)) (map (line_of P) (map made_of unplaced))
+told P placed unplaced first second one two =
+    ap (λ (rs : List Record). journal_text (map (line_in P) rs) (map (line_in P) second)) one
+    ∙ ap (λ (rs : List Record). journal_text (map (line_in P) (map record_of placed)) (map (line_in P) rs)) two
+    ∙ ap (λ (ls : List Line). journal_text ls (map (line_in P) (map record_of unplaced))) (lines_same P placed)
+    ∙ ap (journal_text (map (line_of P) (map made_of placed))) (lines_same P unplaced)
+
+-- the text of what is kept of a run is its journal
+pub is_run_of : (files : List ClassFile) (bytes : List ℕ) (P : Program) (kept : Journal) (text : List ℕ) → AreOfRun files bytes P kept
+    → text ≡ journal_text (map (line_in P) kept.placed.items) (map (line_in P) kept.unplaced.items) → IsRunOf files bytes text
+is_run_of files bytes P kept text are is = record {
+  program = P;
+  placed = map made_of are.placed;
+  unplaced = map made_of are.unplaced;
+  are_calls = are.are_calls;
+  is_text = is ∙ told P are.placed are.unplaced kept.placed.items kept.unplaced.items are.placed_are are.unplaced_are;
 }
 
-pub is_run : (bytes : List ℕ) (files : List ClassFile) (P : Program) (s : Script) (seen : List ScriptPhase) (text : List ℕ) → IsRunnable files P
-    → IsScript (in_order files) P bytes s → seen ≡ s.phases → (τ : State)
-    → Opening P s.region s.budget (opening_state (in_order files)) (initialisers_in (in_order files) P) τ → AreCalls P s.region s.budget τ seen text → IsRunOf files bytes text
-is_run bytes files P s seen text is is_script same τ opens are = record {
+-- the answer of a phase is that which is kept of it
+answer_same : (phase : ℕ) (ts : List Told) → answer_kept phase (map record_of ts) ≡ answer_in phase (map made_of ts)
+answer_same phase [] = refl
+answer_same phase (t ∷ ts) = ap (λ (x : Answer). if nat_eq t.call.phase phase then t.answer else x) (answer_same phase ts)
+
+many : {A B C : Type 0} (f : A → B) (g : A → C) (xs : List A) (ys : List B) → ys ≡ map f xs → length ys ≡ length (map g xs)
+many f g xs ys is = ap length is ∙ length-map xs f ∙ sym (length-map xs g)
+
+-- the counts of what is kept of a run are its counts
+pub are_counts : (files : List ClassFile) (bytes : List ℕ) (P : Program) (kept : Journal) (phase count shortages : ℕ) (answer : List ℕ) → AreOfRun files bytes P kept
+    → count ≡ length kept.placed.items → shortages ≡ length kept.unplaced.items → answer ≡ answer_text (answer_kept phase kept.placed.items)
+    → AreCountsOf files bytes phase count shortages answer
+are_counts files bytes P kept phase count shortages answer are one two is = record {
   program = P;
-  runnable = is;
-  script = s;
-  is_script = is_script;
-  opening = τ;
-  opens = opens;
-  are_calls = subst (λ (ks : List ScriptPhase). AreCalls P s.region s.budget τ ks text) same are;
+  placed = map made_of are.placed;
+  unplaced = map made_of are.unplaced;
+  are_calls = are.are_calls;
+  count_is = one ∙ many record_of made_of are.placed kept.placed.items are.placed_are;
+  shortages_are = two ∙ many record_of made_of are.unplaced kept.unplaced.items are.unplaced_are;
+  answer_is = is ∙ ap (λ (rs : List Record). answer_text (answer_kept phase rs)) are.placed_are ∙ ap answer_text (answer_same phase are.placed);
 }
+
+-- a run of a script's calls on class files that can be run
+pub of_run : (bytes : List ℕ) (files : List ClassFile) (P : Program) (s : Script) (seen : List ScriptPhase) (size budget : ℕ) (memory : Memory) (kept : Journal) → IsRunnable files P
+    → IsScript (in_order files) P bytes s → seen ≡ s.phases → size ≡ s.region → budget ≡ s.budget → (τ : State)
+    → Opening P size budget (opening_state (in_order files)) (initialisers_in (in_order files) P) τ → HasRun P size budget seen memory kept → Holds P size memory τ
+    → AreOfRun files bytes P kept
+of_run bytes files P s seen size budget memory kept is is_script same room turns τ opens run stands =
+    let Opens : ℕ → ℕ → Type 0 = λ n b. Opening P n b (opening_state (in_order files)) (initialisers_in (in_order files) P) τ in
+    let placed = map made_of run.placed in
+    let unplaced = map made_of run.unplaced in
+    let first : IsJournal P size budget τ seen placed unplaced = run.is_journal τ stands in
+    let second : IsJournal P s.region budget τ seen placed unplaced = subst (λ (n : ℕ). IsJournal P n budget τ seen placed unplaced) room first in
+    let third : IsJournal P s.region s.budget τ seen placed unplaced = subst (λ (b : ℕ). IsJournal P s.region b τ seen placed unplaced) turns second in
+    record {
+      placed = run.placed;
+      unplaced = run.unplaced;
+      placed_are = run.placed_are;
+      unplaced_are = run.unplaced_are;
+      are_calls = record {
+        runnable = is;
+        script = s;
+        is_script = is_script;
+        opening = τ;
+        opens = subst (Opens s.region) turns (subst (λ (n : ℕ). Opens n budget) room opens);
+        is_journal = subst (λ (ks : List ScriptPhase). IsJournal P s.region s.budget τ ks placed unplaced) same third;
+      };
+    }
 
 -- why a script isn't run on class files that can be
 pub of_script : (P : Program) (files : List ClassFile) (bytes : List ℕ) (e : RunEnd) → IsRunnable files P → EndsScript P (in_order files) bytes e → EndsRun files bytes e

@@ -1,10 +1,12 @@
 -- What a run promises: its answers are those of the original methods, called one after another.
-use Rattle.std.specs.Prelude.{◌≡◌, Ok, ℕ, List, [], map, Option, Some, None}
+use Rattle.std.specs.Prelude.{◌≡◌, Ok, ℕ, List, [], ◌∷◌, length, map, Option, Some, None, nat_eq, if◌then◌else◌}
 use Rattle.jmodel.specs.declared.name.MethodName.{MethodName}
+use Rattle.jmodel.specs.declared.value.Answer.{Answer}
+use Rattle.jmodel.specs.declared.value.Answer.TheVariants.{NoMemory}
 use Rattle.jmodel.specs.ClassFile.{ClassFile}
 use Rattle.jmodel.specs.Classes.{in_order}
-use Rattle.jmodel.specs.Output.{Line, journal_text}
-use Rattle.jmodel.specs.Schedule.{Made, ScriptPhase}
+use Rattle.jmodel.specs.Output.{Line, journal_text, answer_text}
+use Rattle.jmodel.specs.Schedule.{Made}
 use Rattle.objects.specs.Program.{Method, Program, method_at}
 use Rattle.objects.specs.State.{State}
 use Rattle.objects.specs.Layout.{opening_state}
@@ -27,13 +29,6 @@ name_in (Some k) = k.name
 -- the line of a call
 abbrev pub line_of : Program → Made → Line
 line_of P m = record { phase = m.call.phase; lane = m.call.lane; index = m.call.index; method = name_in (method_at P m.call.method); answer = m.answer }
-
--- The text is the journal of these calls of the original methods; a region has size words.
-pub record AreCalls (P : Program) (size budget : ℕ) (opening : State) (phases : List ScriptPhase) (text : List ℕ) : Type 0 where
-  pub placed : List Made
-  pub unplaced : List Made
-  pub is_journal : IsJournal P size budget opening phases placed unplaced
-  pub is_text : text ≡ journal_text (map (line_of P) placed) (map (line_of P) unplaced)
 
 -- The program that the classes of class files mean together, in the order of their names, of which no two are the same; none where they have a fault.
 abbrev pub linked_files : List ClassFile → Option Program
@@ -61,13 +56,35 @@ pub record CanRun (files : List ClassFile) (bytes : List ℕ) : Type 0 where
   pub opening : State
   pub opens : Opening program script.region script.budget (opening_state (in_order files)) (initialisers_in (in_order files) program) opening
 
--- The text is the journal of a run of a script on class files that can be run: each call of the script once, in an order that keeps the phases' and each
--- lane's, from the state that the static initialisers leave.
+-- A run of a script on class files that can be run, which mean a program: each call of the script once, placed in an order that keeps the phases' and
+-- each lane's, or out of memory. The original methods answer so in that order, from the state that the static initialisers leave.
+pub record AreCallsOfRun (files : List ClassFile) (bytes : List ℕ) (P : Program) (placed unplaced : List Made) : Type 0 where
+  pub runnable : IsRunnable files P
+  pub script : Script
+  pub is_script : IsScript (in_order files) P bytes script
+  pub opening : State
+  pub opens : Opening P script.region script.budget (opening_state (in_order files)) (initialisers_in (in_order files) P) opening
+  pub is_journal : IsJournal P script.region script.budget opening script.phases placed unplaced
+
+-- The text is the journal of the calls of a run.
 pub record IsRunOf (files : List ClassFile) (bytes text : List ℕ) : Type 0 where
   pub program : Program
-  pub runnable : IsRunnable files program
-  pub script : Script
-  pub is_script : IsScript (in_order files) program bytes script
-  pub opening : State
-  pub opens : Opening program script.region script.budget (opening_state (in_order files)) (initialisers_in (in_order files) program) opening
-  pub are_calls : AreCalls program script.region script.budget opening script.phases text
+  pub placed : List Made
+  pub unplaced : List Made
+  pub are_calls : AreCallsOfRun files bytes program placed unplaced
+  pub is_text : text ≡ journal_text (map (line_of program) placed) (map (line_of program) unplaced)
+
+-- how the first of the calls that is of this phase ended; where there is none, it ran out of memory
+abbrev pub answer_in : ℕ → List Made → Answer
+answer_in phase [] = NoMemory
+answer_in phase (m ∷ ms) = if nat_eq m.call.phase phase then m.answer else answer_in phase ms
+
+-- Of the calls of a run, so many are placed, and so many ran out of memory; the first placed one of this phase ended as the text says.
+pub record AreCountsOf (files : List ClassFile) (bytes : List ℕ) (phase count shortages : ℕ) (answer : List ℕ) : Type 0 where
+  pub program : Program
+  pub placed : List Made
+  pub unplaced : List Made
+  pub are_calls : AreCallsOfRun files bytes program placed unplaced
+  pub count_is : count ≡ length placed
+  pub shortages_are : shortages ≡ length unplaced
+  pub answer_is : answer ≡ answer_text (answer_in phase placed)

@@ -1,4 +1,5 @@
 pub mod Faults
 pub mod Headline
+pub mod Kept
 pub mod Lines
 pub mod Placing

@@ -10,5 +10,5 @@ mod text;
 
 pub use outcome::RunEnd;
 pub use preparing::{Instrumented, Prepared, instrument_files, link_files, prepare};
-pub use running::run_files;
+pub use running::{Counts, count_calls, run_files};
 pub use text::{push_answer, push_number, push_signed};

@@ -6,6 +6,7 @@ ghost use Rattle.jmodel.specs.Name.{printed};
 ghost use Rattle.objects.specs.Program.{method_at};
 ghost use Rattle.jmodel.specs.Output.{value_text, answer_text, line_text, journal_text};
 ghost use Rattle.object_run.specs.Headline.{name_in};
+ghost use Rattle.object_run.specs.Kept.{answer_kept};
 ghost use Rattle.object_run.specs.Lines.{line_in, place_of};
 
 use jmodel::{Answer, Bytes, Value};
@@ -80,6 +81,21 @@ pub fn push_answer(alloc: Global, out: &mut Bytes, answer: &Answer) -> Result<()
         Answer::Spent => out.extend_from_slice(b"spent"),
         Answer::NoMemory => out.extend_from_slice(b"nomemory"),
     }
+}
+
+/// How the first of the calls that is of this phase ended; where there is none, it ran out of memory.
+pub(crate) fn answer_in(alloc: Global, calls: &[Record], phase: u32) -> Result<Bytes, AllocError>
+    ensures { IfOk result (λ text. text ≡ answer_text (answer_kept phase calls.now)) }
+{
+    let mut out = Bytes::new(alloc);
+    for call in calls {
+        if call.phase == phase {
+            push_answer(alloc, &mut out, &call.answer)?;
+            return Ok(out);
+        }
+    }
+    out.extend_from_slice(b"nomemory")?;
+    Ok(out)
 }
 
 /// The place of a call in its script and a space, at the end.

@@ -36,7 +36,7 @@ returns-in-Err-clause-outcome g c =
     on_ok c.unread.result (IsUnreadAs c.in-Err.end) _
     (λ o is words w. unread words old new c.args.dir.now c.read_classes.ensures.files_kept (c.args.out.now, inr w)
     (IsCallOfFolder (g.F.Folder.seen c.args.folder.now).files c.args.dir.now) c.in-Err.end o (λ path failed. (c.args.dir.now, c.args.out.now, inr (w, failed)))
-    (λ r over. (c.args.dir.now, (c.args.out.now, inr w), inl over)) c.in-Err.ensures.cause is) c.unread.ensures
+    (λ r over. inl (c.args.dir.now, (c.args.out.now, inr w), inl over)) c.in-Err.ensures.cause is) c.unread.ensures
 
 pub returns-in-Err-classes_of-clause-outcome : goal.returns-in-Err-classes_of-clause-outcome
 returns-in-Err-classes_of-clause-outcome g c =

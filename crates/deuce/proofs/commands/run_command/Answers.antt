@@ -35,7 +35,7 @@ returns-in-Err-clause-outcome g c =
     on_ok c.unread.result (IsUnreadAs c.in-Err.end) _
     (λ o is words w. unread words old new c.args.dir.now c.read_inputs.ensures.files_kept (c.args.script.now, inl w)
     (IsCallOfRun (g.F.Folder.seen c.args.folder.now).files c.args.dir.now c.args.script.now) c.in-Err.end o (λ path failed. (c.args.dir.now, c.args.script.now, inl (w, failed)))
-    (λ r over. (c.args.dir.now, (c.args.script.now, inl w), inl over)) c.in-Err.ensures.cause is) c.unread.ensures
+    (λ r over. inl (c.args.dir.now, (c.args.script.now, inl w), inl over)) c.in-Err.ensures.cause is) c.unread.ensures
 
 pub returns-in-Err-classes_of-clause-outcome : goal.returns-in-Err-classes_of-clause-outcome
 returns-in-Err-classes_of-clause-outcome g c =
@@ -72,6 +72,6 @@ returns-clause-outcome g c =
     on_ok c.refused.result (IsRefusedAs c.in-Err-run_files.end) _
     (λ o is words w. refused words old new dir c.read_inputs.ensures.files_kept (c.args.script.now, inl w)
     c.in-Ok.inputs.classes.items a.of_classes c.in-Ok-classes_of.files.items (rw c.as_slice.ensures.value at c.in-Ok-classes_of.ensures.classes) free bytes c.in-Err-run_files.end o
-    (λ r bad has. (dir, c.args.script.now, w, record { free = free; script_bytes = bytes; script_front = a.script_bytes; of_classes = has }))
-    (λ name x h has. (dir, c.args.script.now, w, unopened_of files dir c.args.script.now bytes name x free a.script_bytes h.is_script.fits has))
+    (λ r bad has. inl (dir, c.args.script.now, w, record { free = free; script_bytes = bytes; script_front = a.script_bytes; of_classes = has }))
+    (λ name x h has. inl (dir, c.args.script.now, w, unopened_of files dir c.args.script.now bytes name x free a.script_bytes h.is_script.fits has))
     (rw (c.as_slice-4.ensures.value, c.as_slice-5.ensures) at c.in-Err-run_files.ensures.cause) is) c.refused.ensures

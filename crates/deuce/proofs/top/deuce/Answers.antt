@@ -1,11 +1,17 @@
 use Rattle.std.proofs.Common.{Err, ap, inr}
-use Rattle.deuce.proofs.Printed.{journal_printed, rewriting_printed, fault_printed, program_printed, untyped_printed, script_printed, unopened_printed, put_printed, refusal_keeps}
+use Rattle.deuce.proofs.Printed.{journal_printed, summary_printed, rewriting_printed, fault_printed, program_printed, untyped_printed, script_printed, unopened_printed, put_printed, refusal_keeps}
 use Rattle.deuce.proofs.Complete.{complete, complete_rewriting, helper_refused}
+use Rattle.deuce.proofs.Banks.{complete_bank, outside_limits}
 use Rattle.deuce.proofs.top.deuce.Goals as goal
 
 pub returns-in-Ok-print-clause-journal : goal.returns-in-Ok-print-clause-journal
 returns-in-Ok-print-clause-journal g c = λ zero.
     journal_printed c.args.words.now (g.F.Folder.seen c.args.folder.now) (g.F.Folder.seen c.outcome_of.new.folder) c.in-Ok-text_of.text _ _ c.status-status.result c.in-Ok.outcome
+    c.in-Ok.ensures.outcome.1 c.status-status.ensures c.in-Ok-text_of.ensures (rw c.as_slice.ensures at c.in-Ok-print.ensures.written) zero
+
+pub returns-in-Ok-print-clause-summary : goal.returns-in-Ok-print-clause-summary
+returns-in-Ok-print-clause-summary g c = λ zero.
+    summary_printed c.args.words.now (g.F.Folder.seen c.args.folder.now) (g.F.Folder.seen c.outcome_of.new.folder) c.in-Ok-text_of.text _ _ c.status-status.result c.in-Ok.outcome
     c.in-Ok.ensures.outcome.1 c.status-status.ensures c.in-Ok-text_of.ensures (rw c.as_slice.ensures at c.in-Ok-print.ensures.written) zero
 
 pub returns-in-Ok-print-clause-rewriting : goal.returns-in-Ok-print-clause-rewriting
@@ -48,6 +54,12 @@ returns-in-Ok-print-clause-complete g c = complete c.args.words.now (g.F.Folder.
 
 pub returns-in-Ok-print-clause-complete_rewriting : goal.returns-in-Ok-print-clause-complete_rewriting
 returns-in-Ok-print-clause-complete_rewriting g c = complete_rewriting c.args.words.now (g.F.Folder.seen c.args.folder.now) (g.F.Folder.seen c.outcome_of.new.folder) c.in-Ok.outcome c.status-status.result c.in-Ok.ensures.outcome.1 c.status-status.ensures
+
+pub returns-in-Ok-print-clause-complete_bank : goal.returns-in-Ok-print-clause-complete_bank
+returns-in-Ok-print-clause-complete_bank g c = complete_bank c.args.words.now (g.F.Folder.seen c.args.folder.now) (g.F.Folder.seen c.outcome_of.new.folder) c.in-Ok.outcome c.status-status.result c.in-Ok.ensures.outcome.1 c.status-status.ensures
+
+pub returns-in-Ok-print-clause-outside_limits : goal.returns-in-Ok-print-clause-outside_limits
+returns-in-Ok-print-clause-outside_limits g c = outside_limits c.args.words.now (g.F.Folder.seen c.args.folder.now) (g.F.Folder.seen c.outcome_of.new.folder) c.in-Ok.outcome c.status-status.result c.in-Ok.ensures.outcome.1 c.status-status.ensures
 
 pub returns-in-Ok-print-clause-helper_path : goal.returns-in-Ok-print-clause-helper_path
 returns-in-Ok-print-clause-helper_path g c = helper_refused c.args.words.now (g.F.Folder.seen c.args.folder.now) (g.F.Folder.seen c.outcome_of.new.folder) c.in-Ok.outcome c.status-status.result c.in-Ok.ensures.outcome.1 c.status-status.ensures

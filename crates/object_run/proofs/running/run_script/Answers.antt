@@ -1,21 +1,17 @@
-use Rattle.std.proofs.Common.{◌≡◌, ◌∙◌, ap, sym, subst, ℕ, List}
+use Rattle.std.proofs.Common.{◌≡◌, ◌∙◌, ap, sym, subst, List}
 use Rattle.std.specs.Prelude.{map}
 use Rattle.objects.specs.Layout.{opening_state}
 use Rattle.jmodel.specs.ClassFile.{ClassFile}
 use Rattle.objects.specs.Opening.{Opening}
 use Rattle.objects.specs.Linking.{initialisers_in}
 use Rattle.objects.proofs.Links.{links}
-use Rattle.jmodel.specs.Output.{journal_text}
 use Rattle.jmodel.specs.Schedule.{ScriptPhase}
-use Rattle.object_session.specs.declared.record.Record.{Record}
 use Rattle.object_script.specs.Script.{Script, IsScript}
 use Rattle.object_driver.specs.Runs.{AreScripted}
-use Rattle.object_run.specs.Headline.{AreCalls}
-use Rattle.object_run.specs.Lines.{line_in}
 use Rattle.object_run.proofs.Scripted.{scripted, few_attempts, region_fits, lanes_fit}
 use Rattle.object_run.specs.Faults.{EndsScript}
 use Rattle.object_run.proofs.Lists.{err_is}
-use Rattle.object_run.proofs.Together.{are_calls, is_run, of_opening}
+use Rattle.object_run.proofs.Together.{of_run, of_opening}
 use Rattle.object_run.proofs.running.run_script.Goals as goal
 
 pub run_phases-requires-clause-scripted : goal.run_phases-requires-clause-scripted
@@ -67,18 +63,8 @@ returns-clause-run g c = λ files order is.
     let phases : c.as_slice.result.now ≡ wanted.phases = c.as_slice.ensures.value ∙ ap (λ (s : Script). s.phases) c.wanted.view_is in
     let size : c.wanted.inside.region ≡ wanted.region = ap (λ (s : Script). s.region) c.wanted.view_is in
     let budget : c.wanted.inside.budget ≡ wanted.budget = ap (λ (s : Script). s.budget) c.wanted.view_is in
-    let seen = c.as_slice.result.now in
     let opened = c.in_ok-memory.ensures.opens in
-    let state = opened.0 in
-    let Sizes : ℕ → Type 0 = λ n. Opening P n c.wanted.inside.budget (opening_state cs) (initialisers_in cs P) state in
-    let Opens : ℕ → Type 0 = λ b. Opening P wanted.region b (opening_state cs) (initialisers_in cs P) state in
-    let Ordered : List ClassFile → Type 0 = λ ds. Opening P wanted.region wanted.budget (opening_state ds) (initialisers_in ds P) state in
+    let Ordered : List ClassFile → Type 0 = λ ds. Opening P c.wanted.inside.region c.wanted.inside.budget (opening_state ds) (initialisers_in ds P) opened.0 in
     let Scripts : List ClassFile → Type 0 = λ ds. IsScript ds P c.args.script.now wanted in
-    let text = c.in_ok-journal.field-0 in
-    is_run c.args.script.now files P wanted seen text is (subst Scripts (sym order) c.in_ok-wanted.ensures.script) phases state (subst Ordered (sym order) (subst Opens budget (subst Sizes size opened.1)))
-    (subst (λ (b : ℕ). AreCalls P wanted.region b state seen text) budget
-    (subst (λ (n : ℕ). AreCalls P n c.wanted.inside.budget state seen text) size
-    (are_calls P c.wanted.inside.region c.wanted.inside.budget seen c.in_ok-memory.memory c.in_ok-made.made state text c.in_ok-made.ensures
-    opened.2
-    (c.in_ok-journal.ensures ∙ ap (λ (rs : List Record). journal_text (map (line_in P) rs) (map (line_in P) c.as_slice-3.result.now)) c.as_slice-2.ensures.value
-    ∙ ap (λ (rs : List Record). journal_text (map (line_in P) c.in_ok-made.made.placed.items) (map (line_in P) rs)) c.as_slice-3.ensures.value))))
+    of_run c.args.script.now files P wanted c.as_slice.result.now c.wanted.inside.region c.wanted.inside.budget c.in_ok-memory.memory c.in_ok-run_phases.field-0 is (subst Scripts (sym order) c.in_ok-wanted.ensures.script)
+    phases size budget opened.0 (subst Ordered (sym order) opened.1) c.in_ok-run_phases.ensures opened.2

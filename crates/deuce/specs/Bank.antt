@@ -1,0 +1,53 @@
+-- What `bank` promises, and why it makes no run.
+use Rattle.std.specs.Prelude.{◌≡◌, ◌⊎◌, ℕ, List, length, Ok, Err, codes}
+use Rattle.jmodel.specs.declared.refusal.Refusal.{Refusal}
+use Rattle.jmodel.specs.declared.value.Answer.{Answer}
+use Rattle.jmodel.specs.ClassFile.{ClassFile}
+use Rattle.jmodel.specs.Schedule.{Made}
+use Rattle.objects.specs.Program.{Program}
+use Rattle.bankgen.specs.declared.figures.Figures.{Figures}
+use Rattle.bankgen.specs.Summary.{summary_text}
+use Rattle.bankgen.specs.Workload.{workload}
+use Rattle.object_run.specs.Headline.{AreCallsOfRun, CanRun, answer_in}
+use Rattle.object_run.specs.Faults.{IsBadProgram, IsUntypable, IsBadScript, IsUnopened}
+
+-- the classes and the script of a bank of these numbers
+abbrev pub IsWorkload : Figures → List ClassFile → List ℕ → Type 0
+IsWorkload f files script = workload f.seed f.accounts f.calls f.lanes ≡ Ok (files, script)
+
+-- one of these numbers is outside its limits, as the refusal says; it is the first
+abbrev pub IsOutside : Figures → Refusal → Type 0
+IsOutside f r = workload f.seed f.accounts f.calls f.lanes ≡ Err r
+
+-- of the classes and the script of a bank this holds
+abbrev pub OfBank : Figures → (List ClassFile → List ℕ → Type 0) → Type 0
+OfBank f Holding = (files : List ClassFile) × (script : List ℕ) × IsWorkload f files script × Holding files script
+
+-- The text is the summary of a run of a bank's script on its classes, as `run` makes runs; the total is the call of phase 1.
+pub record IsSummaryOf (f : Figures) (text : List ℕ) : Type 0 where
+  pub files : List ClassFile
+  pub script : List ℕ
+  pub made : IsWorkload f files script
+  pub program : Program
+  pub placed : List Made
+  pub unplaced : List Made
+  pub are_calls : AreCallsOfRun files script program placed unplaced
+  pub is_text : text ≡ summary_text f (codes "tl2") (length placed) (length unplaced) (answer_in 1 placed)
+
+-- why a bank is refused: one of its numbers is outside its limits, or `run` would refuse its classes so
+abbrev pub IsBadBank : Figures → Refusal → Type 0
+IsBadBank f r = IsOutside f r ⊎ OfBank f (λ files script. IsBadProgram r files)
+
+-- the same of the other causes that a run of its script on its classes may have
+abbrev pub IsUntypableBank : Figures → Refusal → Type 0
+IsUntypableBank f r = OfBank f (λ files script. IsUntypable r files)
+
+abbrev pub IsBadBankScript : Figures → Refusal → Type 0
+IsBadBankScript f r = OfBank f (λ files script. IsBadScript script r files)
+
+abbrev pub IsUnopenedBank : Figures → List ℕ → Answer → Type 0
+IsUnopenedBank f name x = OfBank f (λ files script. IsUnopened script name x files)
+
+-- the script of a bank can be run on its classes
+abbrev pub CanRunBank : Figures → Type 0
+CanRunBank f = OfBank f CanRun

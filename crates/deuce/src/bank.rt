@@ -1,0 +1,54 @@
+//! The command `bank`, which reads no folder.
+ghost use Rattle.std.specs.Prelude.{◌≡◌, List, String, IfOk};
+ghost use Rattle.std.specs.declared.alloc.Global.{Global};
+ghost use Rattle.deuce_io.specs.Seen.{Seen};
+ghost use Rattle.deuce.specs.Command.{AsksBank};
+ghost use Rattle.deuce.specs.Outcomes.{IsOutcome};
+
+use crate::commands::refused;
+use crate::outcome::Outcome;
+use bankgen::{Figures, bank, summary};
+use jmodel::{Halt, NoMemory};
+use object_run::count_calls;
+use std::alloc::Global;
+use std::thread::Threads;
+
+/// The phase of a bank's total, the only call that it has.
+const LAST_PHASE: u32 = 1;
+
+/// Runs the script of a bank of these numbers on its classes.
+pub fn bank_command<R: Threads + Sync>(
+    rt: &R,
+    alloc: Global,
+    figures: Figures,
+) -> Result<Outcome, NoMemory>
+    ensures { IfOk result (λ o. (words : List (String Global)) (old new : Seen) → new.files ≡ old.files → AsksBank words figures → IsOutcome words old new o) }
+{
+    let Figures {
+        seed,
+        accounts,
+        calls,
+        lanes,
+    } = figures;
+    let workload = match bank(alloc, seed, accounts, calls, lanes) {
+        Ok(workload) => workload,
+        Err(Halt::Refused(refusal)) => return Ok(Outcome::BadProgram(refusal)),
+        Err(Halt::NoMemory) => return Err(NoMemory),
+    };
+    let classes = workload.classes.as_slice();
+    match count_calls(rt, alloc, classes, workload.script.as_slice(), LAST_PHASE) {
+        Ok(counts) => {
+            let answer = counts.answer.as_slice();
+            let text = summary(
+                alloc,
+                figures,
+                "tl2",
+                counts.placed,
+                counts.unplaced,
+                answer,
+            )?;
+            Ok(Outcome::Summary(text))
+        }
+        Err(end) => refused(end),
+    }
+}
