@@ -1,9 +1,9 @@
 -- Values and annotations: the walk ends where reading does.
 use Rattle.std.proofs.Common.{◌≡◌, ℕ, zero, suc, Bool, true, false, cond, eqb, List, ◌∷◌, Result, Ok, Err, refl, ap, ◌∙◌}
-use Rattle.jmodel.specs.ClassFile.{Pool}
-use Rattle.jmodel.specs.Annotation.{Pair, Annotation, Shape, Single, Enum, Nested, Array}
-use Rattle.jmodel.specs.AnnotationRules.{is_single}
-use Rattle.jmodel.specs.AnnotationReading.{◌>>=◌, u1_at, u2_at, text_at, items_at, counted_at, pair_at, annotation_at, single_at, enum_at, nested_at, array_at, tagged_at, shape_at, value_at}
+use Rattle.jmodel.specs.format.ClassFile.{Pool}
+use Rattle.jmodel.specs.format.Annotation.{Pair, Annotation, Shape, Single, Enum, Nested, Array}
+use Rattle.jmodel.specs.format.AnnotationRules.{is_single}
+use Rattle.jmodel.specs.format.AnnotationReading.{◌>>=◌, u1_at, u2_at, text_at, items_at, counted_at, pair_at, annotation_at, single_at, enum_at, nested_at, array_at, tagged_at, shape_at, value_at}
 use Rattle.annotations.specs.Walk.{steps, pair_end, pairs_end, annotation_end, values_end, single_end, enum_end, tagged_end, shape_end, value_end}
 
 -- the place after what was read

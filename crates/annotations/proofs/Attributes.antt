@@ -3,9 +3,9 @@ use Rattle.std.proofs.Common.{◌≡◌, ℕ, suc, ◌+◌, ◌≤◌, ◌<◌, 
 use Rattle.std.specs.Prelude.{ℤ, filter}
 use Rattle.std.proofs.Math.Seq.{drop-cons}
 use Rattle.std.proofs.lemmas.List.{drop_all}
-use Rattle.jmodel.specs.ClassFile.{Pool, Attribute}
-use Rattle.jmodel.specs.ClassRules.{is_named, named_attributes}
-use Rattle.jmodel.specs.AnnotationReading.{◌>>=◌}
+use Rattle.jmodel.specs.format.ClassFile.{Pool, Attribute}
+use Rattle.jmodel.specs.format.ClassRules.{is_named, named_attributes}
+use Rattle.jmodel.specs.format.AnnotationReading.{◌>>=◌}
 use Rattle.annotations.specs.Walk.{attribute_end, attributes_end, next_end}
 
 module _ (pool : Pool) (value : List ℕ → ℕ → Result ℕ ℕ) where

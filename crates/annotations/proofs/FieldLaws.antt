@@ -4,11 +4,11 @@ use Rattle.std.specs.Prelude.{is_some}
 use Rattle.std.specs.Int.{w8, w16, from_be_bytes, to_be_bytes}
 use Rattle.std.proofs.lemmas.Bool.{ltb-false, le-ltb}
 use Rattle.std.proofs.lemmas.List.{take_at, drop-drop, take-append-drop, length-take, length-drop}
-use Rattle.jmodel.specs.ClassFile.{Pool, u2}
-use Rattle.jmodel.specs.Pool.{utf8}
+use Rattle.jmodel.specs.format.ClassFile.{Pool, u2}
+use Rattle.jmodel.specs.format.Pool.{utf8}
 use Rattle.const_pool.proofs.Takes.{IsBytes, IsBytes-part, IsWide, wide16, Takes}
-use Rattle.jmodel.specs.AnnotationRules.{IsText}
-use Rattle.jmodel.specs.AnnotationReading.{◌>>=◌, run_at, u1_at, u2_at, text_at}
+use Rattle.jmodel.specs.format.AnnotationRules.{IsText}
+use Rattle.jmodel.specs.format.AnnotationReading.{◌>>=◌, run_at, u1_at, u2_at, text_at}
 
 -- ---- steps that may fail
 

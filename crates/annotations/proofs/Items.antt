@@ -3,9 +3,9 @@ use Rattle.std.proofs.Common.{◌≡◌, ℕ, zero, suc, ◌+◌, ◌^◌, ◌<�
 use Rattle.std.specs.Prelude.{find, IfSome}
 use Rattle.std.specs.List.{flat_map, AllByRecursion}
 use Rattle.std.proofs.lemmas.List.Concat.{flat_map-cons}
-use Rattle.jmodel.specs.ClassFile.{u2}
+use Rattle.jmodel.specs.format.ClassFile.{u2}
 use Rattle.const_pool.proofs.Takes.{IsBytes, Takes, Takes-nothing, Takes-then, Takes-first, Takes-second}
-use Rattle.jmodel.specs.AnnotationReading.{◌>>=◌, u2_at, items_at, counted_at, items_until, counted_until}
+use Rattle.jmodel.specs.format.AnnotationReading.{◌>>=◌, u2_at, items_at, counted_at, items_until, counted_until}
 use Rattle.annotations.proofs.FieldLaws.{bind_ok, ok_is, u2_takes, u2_again}
 
 module _ (bytes : List ℕ) {A : Type 0} (spell : A → List ℕ) (Fits : A → Type 0) where

@@ -2,12 +2,12 @@
 use Rattle.std.proofs.Common.{◌≡◌, ℕ, zero, suc, Bool, true, false, cond, eqb, ◌&&◌, List, [], ◌∷◌, ◌++◌, length, Option, Some, None, Result, Ok, Err, refl, sym, ap, ◌∙◌, subst}
 use Rattle.std.specs.Prelude.{ℤ, is_none, is_some, codes}
 use Rattle.jmodel.specs.declared.mark.Atomic.{Atomic}
-use Rattle.jmodel.specs.ClassFile.{Pool, Attribute, Member}
-use Rattle.jmodel.specs.Pool.{utf8}
-use Rattle.jmodel.specs.ClassRules.{named_attributes}
-use Rattle.jmodel.specs.AnnotationRules.{is_single, is_text, integer}
-use Rattle.jmodel.specs.AnnotationReading.{◌>>=◌, u1_at, u2_at, text_at}
-use Rattle.jmodel.specs.Mark.{annotation_attributes, retries_in, answer, mark_of}
+use Rattle.jmodel.specs.format.ClassFile.{Pool, Attribute, Member}
+use Rattle.jmodel.specs.format.Pool.{utf8}
+use Rattle.jmodel.specs.format.ClassRules.{named_attributes}
+use Rattle.jmodel.specs.format.AnnotationRules.{is_single, is_text, integer}
+use Rattle.jmodel.specs.format.AnnotationReading.{◌>>=◌, u1_at, u2_at, text_at}
+use Rattle.jmodel.specs.format.Mark.{annotation_attributes, retries_in, answer, mark_of}
 use Rattle.annotations.specs.Walk.{steps, pair_end, pairs_end, annotation_end, values_end, single_end, enum_end, tagged_end, shape_end, value_end, integer_or, int_end, now_found, mark_pair_end, mark_pairs_end, mark_end, top_end, tops_end, attribute_end, attributes_end}
 use Rattle.annotations.proofs.Marks.{retries_by_parts}
 

@@ -4,16 +4,16 @@ use Rattle.std.specs.Prelude.{is_some, IsSome, IfSome, find, filter, codes}
 use Rattle.std.specs.Int.{w8, to_be_bytes}
 use Rattle.std.specs.List.{flat_map, list_any, AllByRecursion}
 use Rattle.std.proofs.lemmas.Bool.{eqb-true, eq-eqb}
-use Rattle.jmodel.specs.ClassFile.{Pool, Attribute, u2}
-use Rattle.jmodel.specs.ClassRules.{is_named}
+use Rattle.jmodel.specs.format.ClassFile.{Pool, Attribute, u2}
+use Rattle.jmodel.specs.format.ClassRules.{is_named}
 use Rattle.const_pool.proofs.Takes.{IsBytes, Takes, Takes-then, Takes-first, Takes-second}
 use Rattle.const_pool.proofs.Parts.{Takes-all, all-Takes}
 use Rattle.jmodel.specs.declared.mark.AnnotationFault.TheVariants.{Bad}
-use Rattle.jmodel.specs.Annotation.{Pair, Annotation, Shape, Single, Enum, Nested, Array, Value, pair_text, annotation_text, shape_text, value_text, annotations_text}
-use Rattle.jmodel.specs.AnnotationRules.{is_text, is_mark, is_retries, integer, int_of, IsPair, IsAnnotation, IsShape, IsValue, IsSoundMark, HasSoundMark, SpellsAnnotations}
-use Rattle.jmodel.specs.AnnotationReading.{◌>>=◌, u1_at, u2_at, text_at, counted_at, counted_until, pair_at, int_at, mark_pair_at, top_annotation_at, annotations_of, value_at}
-use Rattle.jmodel.specs.Mark.{annotation_attributes, all_annotations, marked_retries, retries_in, granted, answer}
-use Rattle.jmodel.specs.MarkLaw.{AreBytes, Spells, SpellAll, Annotates, AttributeLaw, MarkLaw}
+use Rattle.jmodel.specs.format.Annotation.{Pair, Annotation, Shape, Single, Enum, Nested, Array, Value, pair_text, annotation_text, shape_text, value_text, annotations_text}
+use Rattle.jmodel.specs.format.AnnotationRules.{is_text, is_mark, is_retries, integer, int_of, IsPair, IsAnnotation, IsShape, IsValue, IsSoundMark, HasSoundMark, SpellsAnnotations}
+use Rattle.jmodel.specs.format.AnnotationReading.{◌>>=◌, u1_at, u2_at, text_at, counted_at, counted_until, pair_at, int_at, mark_pair_at, top_annotation_at, annotations_of, value_at}
+use Rattle.jmodel.specs.format.Mark.{annotation_attributes, all_annotations, marked_retries, retries_in, granted, answer}
+use Rattle.jmodel.specs.laws.MarkLaw.{AreBytes, Spells, SpellAll, Annotates, AttributeLaw, MarkLaw}
 use Rattle.annotations.proofs.FieldLaws.{bind_ok, want_ok, ok_is, u1_takes, u1_again, u2_takes, u2_again, text_takes, text_again}
 use Rattle.annotations.proofs.Items.{Reads, Rereads, OfFirst, ReadsFirst, RereadsFirst, counted_take, counted_again, counted_until_take, counted_until_again}
 use Rattle.annotations.proofs.ValueLaws.{pair_takes, pair_again, value_takes, value_again}

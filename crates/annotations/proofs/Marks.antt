@@ -4,11 +4,11 @@ use Rattle.std.specs.Prelude.{ℤ, pos, is_none, is_some, find, option_map, opti
 use Rattle.std.specs.List.{list_any}
 use Rattle.std.specs.Option.{option_or}
 use Rattle.std.proofs.lemmas.List.Folds.{find-append}
-use Rattle.jmodel.specs.ClassFile.{Pool, Attribute}
-use Rattle.jmodel.specs.Annotation.{Pair, Annotation, Shape, Single}
-use Rattle.jmodel.specs.AnnotationRules.{is_text, is_mark, is_retries, integer, int_of, retries_of}
-use Rattle.jmodel.specs.AnnotationReading.{◌>>=◌, u1_at, u2_at, text_at, items_until, counted_until, counted_at, pair_at, int_at, mark_pair_at, top_annotation_at, annotations_of, value_at}
-use Rattle.jmodel.specs.Mark.{annotation_attributes, all_annotations, marked_retries, retries_in}
+use Rattle.jmodel.specs.format.ClassFile.{Pool, Attribute}
+use Rattle.jmodel.specs.format.Annotation.{Pair, Annotation, Shape, Single}
+use Rattle.jmodel.specs.format.AnnotationRules.{is_text, is_mark, is_retries, integer, int_of, retries_of}
+use Rattle.jmodel.specs.format.AnnotationReading.{◌>>=◌, u1_at, u2_at, text_at, items_until, counted_until, counted_at, pair_at, int_at, mark_pair_at, top_annotation_at, annotations_of, value_at}
+use Rattle.jmodel.specs.format.Mark.{annotation_attributes, all_annotations, marked_retries, retries_in}
 use Rattle.annotations.specs.Walk.{steps, pairs_end, integer_or, int_end, now_found, mark_pair_end, mark_pairs_end, mark_end, top_end, tops_end, attribute_end, attributes_end, value_end}
 use Rattle.annotations.proofs.Agree.{ends, pairs_ends, value_ends}
 use Rattle.annotations.proofs.Attributes.{attributes_end-append}

@@ -3,11 +3,11 @@ use Rattle.std.proofs.Common.{◌≡◌, ℕ, zero, suc, ◌+◌, ◌^◌, ◌<�
 use Rattle.std.specs.Int.{w8, to_be_bytes}
 use Rattle.std.specs.List.{flat_map}
 use Rattle.std.proofs.lemmas.Bool.{eqb-true}
-use Rattle.jmodel.specs.ClassFile.{Pool, u2}
+use Rattle.jmodel.specs.format.ClassFile.{Pool, u2}
 use Rattle.const_pool.proofs.Takes.{IsBytes, Takes, Takes-then, Takes-first, Takes-second}
-use Rattle.jmodel.specs.Annotation.{Pair, Annotation, Shape, Single, Enum, Nested, Array, pair_text, annotation_text, shape_text, value_text}
-use Rattle.jmodel.specs.AnnotationRules.{is_single, IsPair, IsAnnotation, IsShape, IsValue}
-use Rattle.jmodel.specs.AnnotationReading.{◌>>=◌, u1_at, u2_at, text_at, counted_at, pair_at, annotation_at, single_at, enum_at, nested_at, array_at, tagged_at, shape_at, value_at}
+use Rattle.jmodel.specs.format.Annotation.{Pair, Annotation, Shape, Single, Enum, Nested, Array, pair_text, annotation_text, shape_text, value_text}
+use Rattle.jmodel.specs.format.AnnotationRules.{is_single, IsPair, IsAnnotation, IsShape, IsValue}
+use Rattle.jmodel.specs.format.AnnotationReading.{◌>>=◌, u1_at, u2_at, text_at, counted_at, pair_at, annotation_at, single_at, enum_at, nested_at, array_at, tagged_at, shape_at, value_at}
 use Rattle.annotations.proofs.FieldLaws.{bind_ok, ok_is, u1_takes, u1_again, u2_takes, u2_again, text_takes, text_again}
 use Rattle.annotations.proofs.Items.{Reads, Rereads, counted_take, counted_again}
 

@@ -1,9 +1,9 @@
 -- Reading without the data: the place after each part, and what the first mark grants.
 use Rattle.std.specs.Prelude.{ℕ, zero, suc, ℤ, pos, List, [], ◌∷◌, length, Option, Some, None, Result, Ok, Err, ◌&&◌, ◌==◌, if◌then◌else◌, is_none, unwrap_or, codes}
-use Rattle.jmodel.specs.ClassFile.{Pool, Attribute}
-use Rattle.jmodel.specs.ClassRules.{is_named}
-use Rattle.jmodel.specs.AnnotationRules.{is_single, is_text, integer}
-use Rattle.jmodel.specs.AnnotationReading.{◌>>=◌, u1_at, u2_at, text_at}
+use Rattle.jmodel.specs.format.ClassFile.{Pool, Attribute}
+use Rattle.jmodel.specs.format.ClassRules.{is_named}
+use Rattle.jmodel.specs.format.AnnotationRules.{is_single, is_text, integer}
+use Rattle.jmodel.specs.format.AnnotationReading.{◌>>=◌, u1_at, u2_at, text_at}
 
 -- as many steps as are counted
 unfoldable pub steps : {S : Type 0} → (S → Result S ℕ) → ℕ → S → Result S ℕ

@@ -1,15 +1,15 @@
 //! Fields of annotations, whose highest byte comes first. Each gives its value and the place after it, or its offset where it
 //! isn't wholly there.
 ghost use Rattle.std.specs.Prelude.{◌≡◌, option_copied, Ok, Err, IfOk, IfErr, length};
-ghost use Rattle.jmodel.specs.ClassRules.{same_text};
-ghost use Rattle.jmodel.specs.AnnotationReading.{run_at as run, u1_at as u1, u2_at as u2, text_at as text};
-ghost use Rattle.jmodel.specs.AnnotationRules.{is_text as is_text_of};
+ghost use Rattle.jmodel.specs.format.ClassRules.{same_text};
+ghost use Rattle.jmodel.specs.format.AnnotationReading.{run_at as run, u1_at as u1, u2_at as u2, text_at as text};
+ghost use Rattle.jmodel.specs.format.AnnotationRules.{is_text as is_text_of};
 
 use const_pool::Pool;
 use jmodel::Bytes;
 
 // The bytes from a place on, so many.
-#[tactic(auto, unfolding(jmodel::specs::AnnotationReading::run_at))]
+#[tactic(auto, unfolding(jmodel::specs::format::AnnotationReading::run_at))]
 fn run_at(bytes: &[u8], at: usize, len: usize) -> Result<(&[u8], usize), usize>
     ensures ok { IfOk result (λ x. run bytes.now at len ≡ Ok (x.0.now, x.1)) }
     ensures len { IfOk result (λ x. length x.0.now ≡ len) }
@@ -23,7 +23,7 @@ fn run_at(bytes: &[u8], at: usize, len: usize) -> Result<(&[u8], usize), usize>
 }
 
 /// A byte.
-#[tactic(auto, unfolding(jmodel::specs::AnnotationReading::u1_at))]
+#[tactic(auto, unfolding(jmodel::specs::format::AnnotationReading::u1_at))]
 pub fn u1_at(bytes: &[u8], at: usize) -> Result<(u8, usize), usize>
     ensures { result ≡ u1 bytes.now at }
 {
@@ -32,7 +32,7 @@ pub fn u1_at(bytes: &[u8], at: usize) -> Result<(u8, usize), usize>
 }
 
 /// A number of two bytes.
-#[tactic(auto, unfolding(jmodel::specs::AnnotationReading::u2_at))]
+#[tactic(auto, unfolding(jmodel::specs::format::AnnotationReading::u2_at))]
 pub fn u2_at(bytes: &[u8], at: usize) -> Result<(u16, usize), usize>
     ensures { result ≡ u2 bytes.now at }
 {
@@ -41,7 +41,7 @@ pub fn u2_at(bytes: &[u8], at: usize) -> Result<(u16, usize), usize>
 }
 
 /// The index of a text. Its offset where it isn't one.
-#[tactic(auto, unfolding(jmodel::specs::AnnotationReading::text_at))]
+#[tactic(auto, unfolding(jmodel::specs::format::AnnotationReading::text_at))]
 pub fn text_at(pool: &Pool, bytes: &[u8], at: usize) -> Result<(u16, usize), usize>
     ensures { result ≡ text pool.now bytes.now at }
 {

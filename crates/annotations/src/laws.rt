@@ -1,5 +1,5 @@
 //! Laws of reading annotations, for those who build on it. Each function does nothing; its contract is the law.
-ghost use Rattle.jmodel.specs.MarkLaw.{AttributeLaw, MarkLaw};
+ghost use Rattle.jmodel.specs.laws.MarkLaw.{AttributeLaw, MarkLaw};
 
 /// An attribute is read as annotations exactly where its bytes spell them.
 pub fn attribute_law()

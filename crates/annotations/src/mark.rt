@@ -1,8 +1,8 @@
 //! The mark of a method.
 ghost use Rattle.std.specs.Prelude.{◌≡◌, pos, ◌≤ℤ◌, IfOk, IfSome};
-ghost use Rattle.jmodel.specs.ClassRules.{named_attributes};
+ghost use Rattle.jmodel.specs.format.ClassRules.{named_attributes};
 ghost use Rattle.annotations.specs.Walk.{top_end, tops_end, attribute_end, next_end, attributes_end, value_end};
-ghost use Rattle.jmodel.specs.Mark.{retries_in, granted as granted_with, mark_of};
+ghost use Rattle.jmodel.specs.format.Mark.{retries_in, granted as granted_with, mark_of};
 
 use crate::DEEPEST;
 use crate::fields::{is_text, text_at, u2_at};

@@ -1,7 +1,7 @@
 //! Values and annotations, which are passed over: each gives the place after it, or the offset of its first field that breaks the
 //! grammar or isn't wholly there. `depth` says how deep the values may nest.
 ghost use Rattle.std.specs.Prelude.{◌≡◌};
-ghost use Rattle.jmodel.specs.AnnotationRules.{is_single as single};
+ghost use Rattle.jmodel.specs.format.AnnotationRules.{is_single as single};
 ghost use Rattle.annotations.specs.Walk.{single_end, enum_end, pairs_end, annotation_end, values_end, shape_end, value_end, pair_end, steps};
 
 use crate::fields::{text_at, u1_at, u2_at};

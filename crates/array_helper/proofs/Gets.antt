@@ -3,16 +3,16 @@ use Rattle.std.proofs.Common.{◌≡◌, ℕ, ◌+◌, ◌<◌, List, [], length
 use Rattle.std.specs.Prelude.{codes}
 use Rattle.std.specs.List.{AllByRecursion}
 use Rattle.jmodel.specs.declared.instruction.Instr.{Instr}
-use Rattle.jmodel.specs.ClassFile.{Pool, Member}
-use Rattle.jmodel.specs.Instruction.{targets_of}
-use Rattle.jmodel.specs.Relocation.{IsShaped}
+use Rattle.jmodel.specs.format.ClassFile.{Pool, Member}
+use Rattle.jmodel.specs.format.Instruction.{targets_of}
+use Rattle.jmodel.specs.format.Relocation.{IsShaped}
 use Rattle.objects.specs.declared.op.Sort.TheVariants as sort
 use Rattle.objects.specs.declared.op.WordType.{WordType}
 use Rattle.objects.specs.declared.op.WordType.TheVariants as word
-use Rattle.objects.specs.Step.{sort_of}
-use Rattle.objects.specs.TypeOrder.{context_class}
-use Rattle.objects.specs.Rewriting.{places_of}
-use Rattle.objects.specs.Decoding.{read_descriptor, write_descriptor}
+use Rattle.objects.specs.semantics.Step.{sort_of}
+use Rattle.objects.specs.typing.TypeOrder.{context_class}
+use Rattle.objects.specs.rewriting.Rewriting.{word_places}
+use Rattle.objects.specs.linking.Decoding.{read_descriptor, write_descriptor}
 use Rattle.const_pool.proofs.Takes.{bind_ok, ok_is}
 use Rattle.member_code.specs.Instrs.{plain}
 use Rattle.member_code.proofs.Grown.{grown_refl, grown_trans}
@@ -29,7 +29,7 @@ pub record IsLoad (t : WordType) (Z : Pool) (m : Member) : Type 0 where
   pub after : ℕ
   pub is_before : IsMethodAt (member context_class (codes "beforeReadAccess") (codes "(Ljava/lang/Object;I)V")) Z before
   pub is_after : IsMethodAt (member context_class (codes "onReadAccess") (read_descriptor (codes "I") t)) Z after
-  pub method : IsStraightAt (3 + places_of t) 3 (load_instrs t before after) (load_named t) Z m
+  pub method : IsStraightAt (3 + word_places t) 3 (load_instrs t before after) (load_named t) Z m
 
 load_puts : (t : WordType) → Adding (IsLoad t) (load_method t)
 unfolding load_method look_call read_call
@@ -38,7 +38,7 @@ load_puts t pool r s e =
     let b = bind_ok _ _ r a.2 in
     let p = adds_method context_class (codes "beforeReadAccess") (codes "(Ljava/lang/Object;I)V") pool a.0 s a.1 in
     let q = adds_method context_class (codes "onReadAccess") (read_descriptor (codes "I") t) a.0.1 b.0 p.short b.1 in
-    let u = adds_straight (3 + places_of t) 3 (load_instrs t a.0.0 b.0.0) (load_named t) b.0.1 r q.short b.2 in
+    let u = adds_straight (3 + word_places t) 3 (load_instrs t a.0.0 b.0.0) (load_named t) b.0.1 r q.short b.2 in
     let qu = grown_trans a.0.1 b.0.1 r.1 q.grown u.grown in
     record {
       grown = grown_trans pool a.0.1 r.1 p.grown qu;
@@ -49,14 +49,14 @@ load_puts t pool r s e =
 pub record IsStore (t : WordType) (Z : Pool) (m : Member) : Type 0 where
   pub write : ℕ
   pub is_write : IsMethodAt (member context_class (codes "onWriteAccess") (write_descriptor (codes "I") t)) Z write
-  pub method : IsStraightAt (3 + places_of t) (3 + places_of t) (store_instrs t write) (store_named t) Z m
+  pub method : IsStraightAt (3 + word_places t) (3 + word_places t) (store_instrs t write) (store_named t) Z m
 
 store_puts : (t : WordType) → Adding (IsStore t) (store_method t)
 unfolding store_method write_call
 store_puts t pool r s e =
     let a = bind_ok _ _ r e in
     let p = adds_method context_class (codes "onWriteAccess") (write_descriptor (codes "I") t) pool a.0 s a.1 in
-    let u = adds_straight (3 + places_of t) (3 + places_of t) (store_instrs t a.0.0) (store_named t) a.0.1 r p.short a.2 in
+    let u = adds_straight (3 + word_places t) (3 + word_places t) (store_instrs t a.0.0) (store_named t) a.0.1 r p.short a.2 in
     record { grown = grown_trans pool a.0.1 r.1 p.grown u.grown; short = u.short; facts = λ Z g. record { write = a.0.0; is_write = p.facts Z (grown_trans a.0.1 r.1 Z u.grown g); method = u.facts Z g } }
 
 pub record AreElements (t : WordType) (Z : Pool) (m : ElementMethods) : Type 0 where
@@ -114,7 +114,7 @@ loads_laid t Z before after b a = (
 
 pub stores_laid : (t : WordType) (Z : Pool) (write : ℕ) → IsMethodAt (member context_class (codes "onWriteAccess") (write_descriptor (codes "I") t)) Z write → AllByRecursion (IsLaid Z) (store_instrs t write)
 stores_laid t Z write w = (
-  load_laid Z sort.Reference (2 + places_of t) (omega (arith, few_places t)),
+  load_laid Z sort.Reference (2 + word_places t) (omega (arith, few_places t)),
   (load_laid Z sort.Reference 0 (omega arith), (load_laid Z (sort_of t) 2 (omega arith), (load_laid Z sort.Int 1 (omega arith), (call_virtual_laid Z write _ w.1 w.0, (plain_laid Z 177 (omega arith) tt tt, tt))))),
 )
 

@@ -8,25 +8,24 @@ use Rattle.jmodel.specs.declared.class_file.FieldType.TheVariants as types
 use Rattle.jmodel.specs.declared.typing.VType.{VType}
 use Rattle.jmodel.specs.declared.typing.VType.TheVariants as type
 use Rattle.jmodel.specs.declared.instruction.Instr.{Instr}
-use Rattle.jmodel.specs.ClassFile.{Pool, Member, ClassFile}
-use Rattle.jmodel.specs.Descriptor.{Signature}
-use Rattle.jmodel.specs.DescriptorReading.{element_rest, type_rest, type_of, types_at, result_of, signature_of, is_field_descriptor}
-use Rattle.jmodel.specs.Layout.{text_or_none}
-use Rattle.jmodel.specs.Pool.{class_name}
-use Rattle.jmodel.specs.Decoding.{each}
-use Rattle.jmodel.specs.Relocation.{place_of, relocated}
-use Rattle.jmodel.specs.Superclasses.{own_name}
+use Rattle.jmodel.specs.format.ClassFile.{Pool, Member, ClassFile}
+use Rattle.jmodel.specs.format.Descriptor.{Signature}
+use Rattle.jmodel.specs.format.DescriptorReading.{element_rest, type_rest, type_of, types_at, result_of, signature_of, is_field_descriptor}
+use Rattle.jmodel.specs.format.Pool.{text_or_none, class_name}
+use Rattle.objects.specs.linking.Each.{each}
+use Rattle.jmodel.specs.format.Relocation.{place_of, relocated}
+use Rattle.objects.specs.linking.Members.{own_name}
 use Rattle.objects.specs.declared.op.Sort.TheVariants as sort
 use Rattle.objects.specs.declared.op.WordType.{WordType}
 use Rattle.objects.specs.declared.op.WordType.TheVariants as word
 use Rattle.objects.specs.declared.op.ContextCall.TheVariants.{BeforeReadElement, OnReadElement, OnWriteElement}
 use Rattle.objects.specs.declared.op.Op.{Op}
 use Rattle.objects.specs.declared.op.Op.TheVariants.{Load, Return, ReturnValue, Context}
-use Rattle.objects.specs.Program.{Method}
-use Rattle.objects.specs.Step.{sort_of}
-use Rattle.objects.specs.TypeOrder.{context_class, object_class, place_types}
-use Rattle.objects.specs.Rewriting.{context, places_of, as_result, any_of, array_type, plain_load, helper_class, element_getter_method, element_setter_method}
-use Rattle.objects.specs.Decoding.{Symbols, read_descriptor, write_descriptor, virtual_call_op}
+use Rattle.objects.specs.semantics.Program.{Method}
+use Rattle.objects.specs.semantics.Step.{sort_of}
+use Rattle.objects.specs.typing.TypeOrder.{context_class, object_class, place_types}
+use Rattle.objects.specs.rewriting.Rewriting.{context, word_places, as_result, any_of, array_type, plain_load, helper_class, element_getter_method, element_setter_method}
+use Rattle.objects.specs.linking.Decoding.{Symbols, read_descriptor, write_descriptor, virtual_call_op}
 use Rattle.const_pool.proofs.Takes.{bind_ok, ok_is}
 use Rattle.member_code.specs.Instrs.{plain}
 use Rattle.member_code.specs.Meaning.{meaning}
@@ -103,7 +102,7 @@ store_typed s word.Int = record { signature = store_signature word.Int; is = sto
 store_typed s word.Long = record { signature = store_signature word.Long; is = store_signed word.Long; takes_are = refl; result_is = refl; other = refl }
 store_typed s word.Reference = record { signature = store_signature word.Reference; is = store_signed word.Reference; takes_are = refl; result_is = refl; other = refl }
 
-store_long : (t : WordType) → 3 + places_of t ≡ length (store_takes t)
+store_long : (t : WordType) → 3 + word_places t ≡ length (store_takes t)
 store_long word.Boolean = refl
 store_long word.Byte = refl
 store_long word.Char = refl
@@ -149,7 +148,7 @@ load_ops t =
     ∷ ReturnValue (sort_of t) ∷ []
 
 abbrev store_ops : WordType → List Op
-store_ops t = Load sort.Reference (2 + places_of t) ∷ Load sort.Reference 0 ∷ Load (sort_of t) 2 ∷ Load sort.Int 1 ∷ Context (OnWriteElement t) ∷ Return ∷ []
+store_ops t = Load sort.Reference (2 + word_places t) ∷ Load sort.Reference 0 ∷ Load (sort_of t) 2 ∷ Load sort.Int 1 ∷ Context (OnWriteElement t) ∷ Return ∷ []
 
 -- ---- methods
 
@@ -159,7 +158,7 @@ module _ (s : Symbols) (own : own_name s.class ≡ helper_class) (t : WordType) 
       let M = g.method in
       let place = place_of (run (load_instrs t g.before g.after)) in
       let L = relocated (run (load_instrs t g.before g.after)) [] in
-      straight_means s m helper_class (load_named t).name (load_named t).descriptor (load_takes t) (Some (as_result (any_of t))) (3 + places_of t) (load_instrs t g.before g.after) (load_ops t) M.bytes
+      straight_means s m helper_class (load_named t).name (load_named t).descriptor (load_takes t) (Some (as_result (any_of t))) (3 + word_places t) (load_instrs t g.before g.after) (load_ops t) M.bytes
       (as_added s (load_named t) M.bytes m M.coded) (load_typed s t) M.run (loads_laid t s.class.pool g.before g.after g.is_before g.is_after) (omega arith) (omega (arith, few_places t)) (omega arith) own (
         load_means s place L sort.Reference 2,
         (
@@ -191,9 +190,9 @@ module _ (s : Symbols) (own : own_name s.class ≡ helper_class) (t : WordType) 
       let M = g.method in
       let place = place_of (run (store_instrs t g.write)) in
       let L = relocated (run (store_instrs t g.write)) [] in
-      straight_means s m helper_class (store_named t).name (store_named t).descriptor (store_takes t) None (3 + places_of t) (store_instrs t g.write) (store_ops t) M.bytes
-      (as_added s (store_named t) M.bytes m M.coded) (store_typed s t) (subst (λ (n : ℕ). IsRun (3 + places_of t) n (store_instrs t g.write) M.bytes) (store_long t) M.run) (stores_laid t s.class.pool g.write g.is_write) (omega arith) (omega (arith, few_places t)) (omega (arith, few_places t, store_long t)) own (
-        load_means s place L sort.Reference (2 + places_of t),
+      straight_means s m helper_class (store_named t).name (store_named t).descriptor (store_takes t) None (3 + word_places t) (store_instrs t g.write) (store_ops t) M.bytes
+      (as_added s (store_named t) M.bytes m M.coded) (store_typed s t) (subst (λ (n : ℕ). IsRun (3 + word_places t) n (store_instrs t g.write) M.bytes) (store_long t) M.run) (stores_laid t s.class.pool g.write g.is_write) (omega arith) (omega (arith, few_places t)) (omega (arith, few_places t, store_long t)) own (
+        load_means s place L sort.Reference (2 + word_places t),
         (
           load_means s place L sort.Reference 0,
           (

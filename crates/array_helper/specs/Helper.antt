@@ -4,16 +4,16 @@ use Rattle.std.specs.Prelude.{ℕ, ◌+◌, List, [], ◌∷◌, Result, Ok, cod
 use Rattle.std.specs.List.{flat_map}
 use Rattle.jmodel.specs.declared.instruction.Instr.{Instr}
 use Rattle.jmodel.specs.declared.refusal.Refusal.{Refusal}
-use Rattle.jmodel.specs.ClassFile.{Member, Pool, ClassFile}
-use Rattle.jmodel.specs.PoolAdding.{add_class, add_method}
-use Rattle.jmodel.specs.Reading.{◌>>=◌}
+use Rattle.jmodel.specs.format.ClassFile.{Member, Pool, ClassFile}
+use Rattle.jmodel.specs.format.PoolAdding.{add_class, add_method}
+use Rattle.jmodel.specs.format.Reading.{◌>>=◌}
 use Rattle.objects.specs.declared.op.Sort.TheVariants as sort
 use Rattle.objects.specs.declared.op.WordType.{WordType}
 use Rattle.objects.specs.declared.op.WordType.TheVariants as word
-use Rattle.objects.specs.Step.{sort_of}
-use Rattle.objects.specs.TypeOrder.{context_class, object_class}
-use Rattle.objects.specs.Rewriting.{places_of, helper_class}
-use Rattle.objects.specs.Decoding.{read_descriptor, write_descriptor}
+use Rattle.objects.specs.semantics.Step.{sort_of}
+use Rattle.objects.specs.typing.TypeOrder.{context_class, object_class}
+use Rattle.objects.specs.rewriting.Rewriting.{word_places, helper_class}
+use Rattle.objects.specs.linking.Decoding.{read_descriptor, write_descriptor}
 use Rattle.member_code.specs.Growing.{Growth, grow_from}
 use Rattle.member_code.specs.Instrs.{plain, load, give, call_virtual}
 use Rattle.member_code.specs.Coding.{straight_method}
@@ -58,17 +58,17 @@ unfoldable pub load_method : WordType → Pool → Growth Member
 load_method t pool = do
   before ← look_call pool
   after ← read_call t before.1
-  straight_method (3 + places_of t) 3 (load_instrs t before.0 after.0) (load_named t) after.1
+  straight_method (3 + word_places t) 3 (load_instrs t before.0 after.0) (load_named t) after.1
 
 -- in place of the store
 abbrev pub store_instrs : WordType → ℕ → List Instr
-store_instrs t write = load sort.Reference (2 + places_of t) ∷ load sort.Reference 0 ∷ load (sort_of t) 2 ∷ load sort.Int 1 ∷ call_virtual write ∷ plain 177 ∷ []
+store_instrs t write = load sort.Reference (2 + word_places t) ∷ load sort.Reference 0 ∷ load (sort_of t) 2 ∷ load sort.Int 1 ∷ call_virtual write ∷ plain 177 ∷ []
 
 -- kastore([E I E X)V
 unfoldable pub store_method : WordType → Pool → Growth Member
 store_method t pool = do
   write ← write_call t pool
-  straight_method (3 + places_of t) (3 + places_of t) (store_instrs t write.0) (store_named t) write.1
+  straight_method (3 + word_places t) (3 + word_places t) (store_instrs t write.0) (store_named t) write.1
 
 unfoldable pub element_methods : WordType → Pool → Growth ElementMethods
 element_methods t pool = do

@@ -1,8 +1,8 @@
 -- The methods of the helper of arrays are those of the rewriting.
 use Rattle.std.specs.Prelude.{◌≡◌, Some, Ok, false}
-use Rattle.jmodel.specs.Decoding.{each}
-use Rattle.objects.specs.Decoding.{Symbols}
-use Rattle.objects.specs.Rewriting.{helper_methods}
+use Rattle.objects.specs.linking.Each.{each}
+use Rattle.objects.specs.linking.Decoding.{Symbols}
+use Rattle.objects.specs.rewriting.Rewriting.{helper_methods}
 use Rattle.member_code.specs.Meaning.{meaning}
 use Rattle.array_helper.specs.Helper.{helper_file}
 

@@ -2,8 +2,8 @@
 use Rattle.std.specs.Prelude.{◌++◌, codes}
 use Rattle.jmodel.specs.declared.name.MethodName.{MethodName}
 use Rattle.objects.specs.declared.op.WordType.{WordType}
-use Rattle.objects.specs.WordTypes.{type_descriptor}
-use Rattle.objects.specs.Rewriting.{context_type, helper_class, helper_letter, array_type}
+use Rattle.objects.specs.semantics.WordTypes.{type_descriptor}
+use Rattle.objects.specs.rewriting.Rewriting.{context_type, helper_class, helper_letter, array_type}
 
 -- kaload([E I X)E
 abbrev pub load_named : WordType → MethodName

@@ -1,8 +1,8 @@
 //! The helper of arrays: for each type of elements a method that reads an element, and one that writes one.
 ghost use Rattle.std.specs.Prelude.{◌≡◌, IfOk, codes};
 ghost use Rattle.std.specs.List.{flat_map};
-ghost use Rattle.objects.specs.Decoding.{read_descriptor as type_of_read, write_descriptor as type_of_write};
-ghost use Rattle.jmodel.specs.Reading.{Gives};
+ghost use Rattle.objects.specs.linking.Decoding.{read_descriptor as type_of_read, write_descriptor as type_of_write};
+ghost use Rattle.jmodel.specs.format.Reading.{Gives};
 ghost use Rattle.member_code.specs.Growing.{Grows, grow_from};
 ghost use Rattle.array_helper.specs.Helper.{look_call as with_look_call, read_call as with_read_call, write_call as with_write_call, load_code as code_of_load, load_instrs as instrs_of_load, load_method as loading, store_instrs as instrs_of_store, store_method as storing, element_methods as both, both_of, every_method as methods_of_all, helper_parts as parts_of_helper, helper_file};
 

@@ -1,7 +1,7 @@
 //! The names of the helper's methods.
 ghost use Rattle.std.specs.Prelude.{◌≡◌, IfOk};
-ghost use Rattle.objects.specs.Rewriting.{helper_letter as letter_of, helper_class as name_of_helper};
-ghost use Rattle.objects.specs.WordTypes.{type_descriptor as type_of};
+ghost use Rattle.objects.specs.rewriting.Rewriting.{helper_letter as letter_of, helper_class as name_of_helper};
+ghost use Rattle.objects.specs.semantics.WordTypes.{type_descriptor as type_of};
 ghost use Rattle.array_helper.specs.Names.{load_named as named_load, store_named as named_store};
 
 use jmodel::{Bytes, MethodName};

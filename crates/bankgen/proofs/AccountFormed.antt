@@ -2,7 +2,7 @@
 use Rattle.std.proofs.Common.{◌≡◌, ◌^◌, inl, inr, refl, ap, arith}
 use Rattle.std.specs.Prelude.{codes}
 use Rattle.std.specs.List.{AllByRecursion}
-use Rattle.jmodel.specs.ClassRules.{IsConstant, IsPool, IsField, IsMethod, IsSameMember, IsClassFile}
+use Rattle.jmodel.specs.format.ClassRules.{IsConstant, IsPool, IsField, IsMethod, IsSameMember, IsClassFile}
 use Rattle.bankgen.specs.Classes.{field as field_of, code_attribute, account_pool, account_init, account_get, account_add, init_method, get_method, add_method, account}
 use Rattle.bankgen.specs.Formed.{HoldsBytes}
 use Rattle.bankgen.proofs.Rules.{below, small, text, account_named, of_int, of_nothing, takes_int, gives_int, code_of, no_attributes, one_differs, three_differ, sum_of, bytes_in}

@@ -1,6 +1,6 @@
 -- The bank's classes keep the rules of class files.
 use Rattle.std.proofs.Common.{◌≡◌, ℕ, List, sym, subst}
-use Rattle.jmodel.specs.ClassFile.{ClassFile}
+use Rattle.jmodel.specs.format.ClassFile.{ClassFile}
 use Rattle.bankgen.specs.Formed.{AreFormed}
 use Rattle.bankgen.specs.Workload.{classes}
 use Rattle.bankgen.proofs.AccountFormed as account

@@ -3,9 +3,9 @@ use Rattle.std.proofs.Common.{◌≡◌, ℕ, ◌<◌, ◌^◌, List, [], ◌∷
 use Rattle.std.specs.Prelude.{codes}
 use Rattle.std.specs.List.{AllByRecursion}
 use Rattle.jmodel.specs.declared.class_file.FieldType.TheVariants as field
-use Rattle.jmodel.specs.ClassFile.{u2}
-use Rattle.jmodel.specs.Descriptor.{IsClassName, IsArrayName, IsFieldDescriptor, IsMethodDescriptor}
-use Rattle.jmodel.specs.ClassRules.{IsConstant, IsPool, IsAttribute, IsField, IsMethod, IsSameMember, IsClassFile}
+use Rattle.jmodel.specs.format.ClassFile.{u2}
+use Rattle.jmodel.specs.format.Descriptor.{IsClassName, IsArrayName, IsFieldDescriptor, IsMethodDescriptor}
+use Rattle.jmodel.specs.format.ClassRules.{IsConstant, IsPool, IsAttribute, IsField, IsMethod, IsSameMember, IsClassFile}
 use Rattle.bankgen.specs.Classes.{field as field_of, code_attribute, atomic_attribute, bank_pool, bank_clinit, bank_transfer, bank_total, clinit_method, transfer_method, total_method, bank}
 use Rattle.bankgen.specs.Formed.{HoldsBytes}
 use Rattle.bankgen.proofs.Rules.{below, small, text, account_named, of_nothing, takes_int, gives_int, code_of, no_attributes, one_differs, three_differ, sum_of, all_bytes, byte_at_each, bytes_in}

@@ -5,9 +5,9 @@ use Rattle.std.specs.List.{AllByRecursion, list_all}
 use Rattle.std.proofs.lemmas.Bool.Decides.{nat_tests}
 use Rattle.jmodel.specs.declared.class_file.Constant.TheVariants.{Utf8}
 use Rattle.jmodel.specs.declared.class_file.FieldType.TheVariants as field
-use Rattle.jmodel.specs.ClassFile.{Attribute, Pool, Code}
-use Rattle.jmodel.specs.Descriptor.{IsClassName, IsFieldDescriptor, IsMethodDescriptor}
-use Rattle.jmodel.specs.ClassRules.{IsTwoBytes, IsTextByte, IsConstant, AreAttributes}
+use Rattle.jmodel.specs.format.ClassFile.{Attribute, Pool, Code}
+use Rattle.jmodel.specs.format.Descriptor.{IsClassName, IsFieldDescriptor, IsMethodDescriptor}
+use Rattle.jmodel.specs.format.ClassRules.{IsTwoBytes, IsTextByte, IsConstant, AreAttributes}
 
 -- ---- numbers and texts
 

@@ -1,7 +1,7 @@
 -- What the indexes mean that the code of Account and of Bank names, and which methods are marked.
 use Rattle.std.specs.Prelude.{◌≡◌, ℕ, pos, List, Option, Some, Ok, codes}
-use Rattle.jmodel.specs.Pool.{MemberName, class_name, field_name, method_name}
-use Rattle.jmodel.specs.Mark.{mark_of}
+use Rattle.jmodel.specs.format.Pool.{MemberName, class_name, field_name, method_name}
+use Rattle.jmodel.specs.format.Mark.{mark_of}
 use Rattle.bankgen.specs.Classes.{account_pool, bank_pool, transfer_method, total_method}
 
 abbrev pub member : (class name descriptor : List ℕ) → Option MemberName

@@ -1,7 +1,7 @@
 -- The bank's two classes. An Account holds an amount. Bank has some accounts with 100 each, moves amounts between them, and adds them up.
 use Rattle.std.specs.Prelude.{ℕ, ◌+◌, List, [], ◌∷◌, ◌++◌, length, codes}
 use Rattle.jmodel.specs.declared.class_file.Constant.TheVariants.{Utf8, Class, Field, Method, NameAndType}
-use Rattle.jmodel.specs.ClassFile.{Attribute, Member, Pool, ClassFile, u2, code_spelling}
+use Rattle.jmodel.specs.format.ClassFile.{Attribute, Member, Pool, ClassFile, u2, code_spelling}
 use Rattle.bankgen.specs.Instructions.{iconst_0, iconst_1, bipush, sipush, iload_0, iload_1, iload_2, aload_0, istore_0, istore_1, dup, iadd, ineg, iinc, if_icmplt, if_icmpge, goto_back, ireturn, return, getstatic, putstatic, getfield, putfield, invokevirtual, invokespecial, aaload, aastore, new, anewarray, arraylength}
 
 -- ---- members

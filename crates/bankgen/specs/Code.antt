@@ -1,6 +1,6 @@
 -- How the code keeps instructions.
 use Rattle.std.specs.Prelude.{ℕ, List, [], ◌∷◌}
-use Rattle.jmodel.specs.ClassFile.{u2}
+use Rattle.jmodel.specs.format.ClassFile.{u2}
 use Rattle.bankgen.specs.declared.code.Instruction.{Instruction}
 use Rattle.bankgen.specs.declared.code.Instruction.TheVariants.{Plain, Byte, Short, Increment}
 

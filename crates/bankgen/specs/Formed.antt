@@ -1,8 +1,8 @@
 -- What a class must be so that it can be written, linked and rewritten.
 use Rattle.std.specs.Prelude.{ℕ, ◌<◌, List, slice_index}
 use Rattle.std.specs.List.{AllByRecursion}
-use Rattle.jmodel.specs.ClassFile.{Attribute, Member, ClassFile}
-use Rattle.jmodel.specs.ClassRules.{IsClassFile}
+use Rattle.jmodel.specs.format.ClassFile.{Attribute, Member, ClassFile}
+use Rattle.jmodel.specs.format.ClassRules.{IsClassFile}
 
 -- the attributes of its methods hold bytes, numbers below 256
 abbrev pub HasBytes : Member → Type 0

@@ -1,7 +1,7 @@
 -- Instructions as bytes, by the names of their opcodes (JVM Specification, Java SE 7, section 6.5). Indexes of the pool and offsets have two bytes; an offset
 -- counts from the jump's own opcode.
 use Rattle.std.specs.Prelude.{ℕ, ◌-◌, ◌^◌, List, [], ◌∷◌}
-use Rattle.jmodel.specs.ClassFile.{u2}
+use Rattle.jmodel.specs.format.ClassFile.{u2}
 
 -- ---- constants, locals and the stack
 

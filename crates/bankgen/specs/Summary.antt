@@ -2,7 +2,7 @@
 use Rattle.std.specs.Prelude.{ℕ, List, ◌++◌, codes}
 use Rattle.std.specs.Fmt.{decimal}
 use Rattle.jmodel.specs.declared.value.Answer.{Answer}
-use Rattle.jmodel.specs.Output.{line, ◌and◌, answer_text}
+use Rattle.jmodel.specs.history.Output.{line, ◌and◌, answer_text}
 use Rattle.bankgen.specs.declared.figures.Figures.{Figures}
 
 -- the numbers of the workload and the engine

@@ -2,8 +2,8 @@
 use Rattle.std.specs.Prelude.{ℕ, List, [], ◌∷◌, Result, Ok, Err, ◌&&◌, nat_le, if◌then◌else◌, codes}
 use Rattle.jmodel.specs.declared.refusal.Refusal.{Refusal}
 use Rattle.jmodel.specs.declared.refusal.Refusal.TheVariants.{OverLimit}
-use Rattle.jmodel.specs.ClassFile.{ClassFile}
-use Rattle.jmodel.specs.Reading.{place, ◌>>=◌}
+use Rattle.jmodel.specs.format.ClassFile.{ClassFile}
+use Rattle.jmodel.specs.format.Reading.{place, ◌>>=◌}
 use Rattle.bankgen.specs.Classes.{account, bank}
 use Rattle.bankgen.specs.Script.{script_text}
 

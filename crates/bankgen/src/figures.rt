@@ -1,6 +1,6 @@
 //! The summary of a run of a workload.
 ghost use Rattle.std.specs.Prelude.{◌≡◌, ◌++◌, IfOk, OnOk, codes};
-ghost use Rattle.jmodel.specs.Output.{line, ◌and◌};
+ghost use Rattle.jmodel.specs.history.Output.{line, ◌and◌};
 ghost use Rattle.bankgen.specs.Summary.{head_line, summary_lines};
 
 use jmodel::Bytes;

@@ -1,6 +1,6 @@
 //! A workload: the classes and the script of the bank.
 ghost use Rattle.std.specs.Prelude.{◌≡◌, IfOk};
-ghost use Rattle.jmodel.specs.Reading.{Gives};
+ghost use Rattle.jmodel.specs.format.Reading.{Gives};
 ghost use Rattle.bankgen.specs.Formed.{AreFormed};
 ghost use Rattle.bankgen.specs.Workload.{classes as classes_of, within as is_within, workload as workload_of};
 

@@ -4,7 +4,7 @@ use Rattle.std.proofs.lemmas.Bool.{ltb-false}
 use Rattle.std.proofs.lemmas.List.{nil_from_length}
 use Rattle.std.proofs.lemmas.List.Concat.{flat_map-cons}
 use Rattle.jmodel.specs.declared.instruction.Instr.{Instr}
-use Rattle.jmodel.specs.Relocation.{Block, all_instrs, size_at, behind, end_of, AscendFrom, IsAbove}
+use Rattle.jmodel.specs.format.Relocation.{Block, all_instrs, size_at, behind, end_of, AscendFrom, IsAbove}
 use Rattle.bytecode.specs.Within.{within}
 use Rattle.bytecode.specs.Places.{end_within}
 use Rattle.bytecode.proofs.SizeLaws.{behind_over}

@@ -1,5 +1,5 @@
 -- Code: what is read is spelled so, and what is spelled so is read.
-use Rattle.std.proofs.Common.{◌≡◌, ℕ, zero, suc, ◌+◌, ◌^◌, ◌<◌, ◌≤◌, Bool, true, false, cond, ◌||◌, eqb, leb, List, [], ◌∷◌, ◌++◌, length, drop, Option, Some, None, Result, Ok, Err, refl, sym, ap, subst, ◌∙◌, arith, length-append}
+use Rattle.std.proofs.Common.{◌≡◌, ℕ, zero, suc, ◌+◌, ◌^◌, ◌<◌, ◌≤◌, Bool, true, false, cond, ◌||◌, eqb, leb, List, [], ◌∷◌, ◌++◌, length, drop, Option, Some, None, Result, Ok, Err, refl, sym, ap, subst, ◌∙◌, arith, length-append, Vec, Global}
 use Rattle.std.specs.Int.{w8, w16, w32, to_be_bytes}
 use Rattle.std.specs.List.{flat_map, list_all, AllByRecursion}
 use Rattle.std.proofs.lemmas.Bool.{eqb-true, leb-true, leb-false, le-leb, lt-leb}
@@ -11,13 +11,12 @@ use Rattle.jmodel.specs.declared.instruction.Form.TheVariants as form
 use Rattle.jmodel.specs.declared.instruction.Operands.{Operands}
 use Rattle.jmodel.specs.declared.instruction.Operands.TheVariants.{Nothing}
 use Rattle.jmodel.specs.declared.instruction.Instr.{Instr}
-use Rattle.jmodel.specs.ClassFile.{Pool as Entries}
-use Rattle.std.proofs.Common.{Vec, Global}
+use Rattle.jmodel.specs.format.ClassFile.{Pool as Entries}
 use Rattle.std.specs.Prelude.{IfOk}
 use Rattle.jmodel.specs.declared.refusal.Halt.{Halt}
-use Rattle.jmodel.specs.Reading.{◌>>=◌, Gives, number_at}
-use Rattle.jmodel.specs.Instruction.{form_of, padding, zeros, operands_text, text_as, text_with, IsNothing, IsSized, IsSizedAs, IsInstr, FitPool, FitPoolAs, IsInstrOver, targets_of, is_start, text, code_text, AreInOrder, Holds, places_of_handler, AreStarts, AreInstrs, SpellsInstrs}
-use Rattle.jmodel.specs.InstructionReading.{bad_target, operands_at, operands_as, parts_at, instr_at, instrs_at, are_starts, targets_fit, lesser, least_bad, places_fit, instrs_of}
+use Rattle.jmodel.specs.format.Reading.{◌>>=◌, Gives, number_at}
+use Rattle.jmodel.specs.format.Instruction.{form_of, padding, zeros, operands_text, text_as, text_with, IsNothing, IsSized, IsSizedAs, IsInstr, FitPool, FitPoolAs, IsInstrOver, targets_of, is_start, text, code_text, AreInOrder, Holds, places_of_handler, AreStarts, AreInstrs, SpellsInstrs}
+use Rattle.jmodel.specs.format.InstructionReading.{bad_target, operands_at, operands_as, parts_at, instr_at, instrs_at, are_starts, targets_fit, lesser, least_bad, places_fit, instrs_of}
 use Rattle.const_pool.proofs.Takes.{bind_ok, ok_is, want_ok, IsBytes, Takes, Takes-nothing, Takes-then, Takes-first, Takes-second, wide16, number_takes, number_again}
 use Rattle.const_pool.proofs.Entries.{both_true}
 use Rattle.bytecode.proofs.NumberLaws.{wide8, signed8, signed16, signed32}

@@ -8,10 +8,10 @@ use Rattle.jmodel.specs.declared.instruction.EntryKind.{EntryKind}
 use Rattle.jmodel.specs.declared.instruction.EntryKind.TheVariants as kind
 use Rattle.jmodel.specs.declared.instruction.Operands.{Operands}
 use Rattle.jmodel.specs.declared.instruction.Operands.TheVariants.{Number, Local, LocalAdd, Pool, Interface, Dimensions, Target}
-use Rattle.jmodel.specs.ClassFile.{Pool as Entries, u2}
-use Rattle.jmodel.specs.Reading.{◌>>=◌, number_at, u2_at}
-use Rattle.jmodel.specs.Instruction.{signed, number_text, local_text, increment_text, index_text, interface_text, dimensions_text, target_text, is_entry, argument_places, targets_of, IsNumber, IsArrayType, IsLocal, IsIncrement, IsIndex, IsInterface, IsDimensions, IsTarget, Names, Counts}
-use Rattle.jmodel.specs.InstructionReading.{bad_instr, want, signed_at, target_at, is_count, signed_operand_at, array_type_at, local_at, increment_at, entry_operand_at, interface_at, dimensions_at, jump_at}
+use Rattle.jmodel.specs.format.ClassFile.{Pool as Entries, u2}
+use Rattle.jmodel.specs.format.Reading.{◌>>=◌, number_at, u2_at}
+use Rattle.jmodel.specs.format.Instruction.{signed, number_text, local_text, increment_text, index_text, interface_text, dimensions_text, target_text, is_entry, argument_places, targets_of, IsNumber, IsArrayType, IsLocal, IsIncrement, IsIndex, IsInterface, IsDimensions, IsTarget, Names, Counts}
+use Rattle.jmodel.specs.format.InstructionReading.{bad_instr, want, signed_at, target_at, is_count, signed_operand_at, array_type_at, local_at, increment_at, entry_operand_at, interface_at, dimensions_at, jump_at}
 use Rattle.const_pool.proofs.Takes.{bind_ok, ok_is, want_ok, IsBytes, Takes, Takes-then, Takes-first, Takes-second, IsWide as IsWidth, wide16, number_takes, number_again}
 use Rattle.const_pool.proofs.Entries.{both_true}
 use Rattle.bytecode.proofs.NumberLaws.{wide8, IsSigned, signed8, signed_takes, signed_again, target_takes, target_again}

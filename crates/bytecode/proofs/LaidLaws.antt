@@ -12,9 +12,9 @@ use Rattle.jmodel.specs.declared.instruction.Form.TheVariants as form
 use Rattle.jmodel.specs.declared.instruction.Operands.{Operands}
 use Rattle.jmodel.specs.declared.instruction.Operands.TheVariants.{Pool, Interface, Dimensions, Target, Table, Lookup}
 use Rattle.jmodel.specs.declared.instruction.Instr.{Instr}
-use Rattle.jmodel.specs.ClassFile.{Pool as Entries}
-use Rattle.jmodel.specs.Instruction.{form_of, zeros, text_as, code_text, Names, Counts, FitPoolAs, IsInstr, IsInstrOver, targets_of, is_start, AreInOrder, Holds, places_of_handler, AreStarts}
-use Rattle.jmodel.specs.Relocation.{Block, all_instrs, put_at, size_at, behind, place_from, place_of, end_of, retarget, retargeted, laid_to, relocated, reaches, far_block, moved, first_entry, moved_handlers, laid_out, relocate, IsShapedAs, IsShaped, is_pc, ArePcs, IsAbove, EachInstr, IsHandlerOver, AreBlocks}
+use Rattle.jmodel.specs.format.ClassFile.{Pool as Entries}
+use Rattle.jmodel.specs.format.Instruction.{form_of, zeros, text_as, code_text, Names, Counts, FitPoolAs, IsInstr, IsInstrOver, targets_of, is_start, AreInOrder, Holds, places_of_handler, AreStarts}
+use Rattle.jmodel.specs.format.Relocation.{Block, all_instrs, put_at, size_at, behind, place_from, place_of, end_of, retarget, retargeted, laid_to, relocated, reaches, far_block, moved, first_entry, moved_handlers, laid_out, relocate, IsShapedAs, IsShaped, is_pc, ArePcs, IsAbove, EachInstr, IsHandlerOver, AreBlocks}
 use Rattle.const_pool.proofs.Entries.{both_true}
 use Rattle.const_pool.proofs.Takes.{ok_is}
 use Rattle.bytecode.specs.Places.{LeadsInside}

@@ -12,8 +12,8 @@ use Rattle.jmodel.specs.declared.instruction.Form.TheVariants as form
 use Rattle.jmodel.specs.declared.instruction.Operands.{Operands}
 use Rattle.jmodel.specs.declared.instruction.Operands.TheVariants.{Nothing, Number, Local, LocalAdd, Pool, Interface, Dimensions, Target, Table, Lookup, Wide}
 use Rattle.jmodel.specs.declared.instruction.Instr.{Instr}
-use Rattle.jmodel.specs.Instruction.{form_of, distance, zeros, text_as, text, code_text, operands_text, number_text, local_text, increment_text, index_text, interface_text, dimensions_text, target_text, table_text, lookup_text, wide_text, ascend_after, IsNothing, IsNumber, IsArrayType, IsLocal, IsIncrement, IsIndex, IsInterface, IsDimensions, IsWide, IsTable, IsLookup, IsTarget, IsSizedAs, IsInstr}
-use Rattle.jmodel.specs.Relocation.{put_at, size_at, behind, retarget, retargeted, laid_to, is_near, reaches_as, reaches, IsJump, IsShapedAs, IsShaped}
+use Rattle.jmodel.specs.format.Instruction.{form_of, distance, zeros, text_as, text, code_text, operands_text, number_text, local_text, increment_text, index_text, interface_text, dimensions_text, target_text, table_text, lookup_text, wide_text, ascend_after, IsNothing, IsNumber, IsArrayType, IsLocal, IsIncrement, IsIndex, IsInterface, IsDimensions, IsWide, IsTable, IsLookup, IsTarget, IsSizedAs, IsInstr}
+use Rattle.jmodel.specs.format.Relocation.{put_at, size_at, behind, retarget, retargeted, laid_to, is_near, reaches_as, reaches, IsJump, IsShapedAs, IsShaped}
 use Rattle.bytecode.specs.Places.{LeadsInside}
 use Rattle.bytecode.proofs.SizeLaws.{table_length, lookup_length}
 use Rattle.const_pool.proofs.Entries.{both_true}

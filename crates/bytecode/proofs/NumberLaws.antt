@@ -7,9 +7,9 @@ use Rattle.std.proofs.Math.IntN.{+ℤ_comm, +ℤ-neg_ℤ_cancel, -ℤ-+ℤ_cance
 use Rattle.std.proofs.lemmas.Int.{of_z-to_z, to_z-of_z}
 use Rattle.std.proofs.lemmas.List.Concat.{flat_map-cons}
 use Rattle.jmodel.specs.declared.refusal.Refusal.{Refusal}
-use Rattle.jmodel.specs.Reading.{◌>>=◌, number_at, items_at}
-use Rattle.jmodel.specs.Instruction.{signed, distance, jump}
-use Rattle.jmodel.specs.InstructionReading.{signed_at, place_in_code, target_at}
+use Rattle.jmodel.specs.format.Reading.{◌>>=◌, number_at, items_at}
+use Rattle.jmodel.specs.format.Instruction.{signed, distance, jump}
+use Rattle.jmodel.specs.format.InstructionReading.{signed_at, place_in_code, target_at}
 use Rattle.const_pool.proofs.Takes.{bind_ok, ok_is, IsBytes, Takes, Takes-nothing, Takes-then, IsWide, wide16, wide32, number_takes, number_again}
 
 one_byte : (bytes : List ℕ) → length bytes ≡ 1 → IsBytes bytes → to_be_bytes w8 (from_be_bytes w8 bytes) ≡ bytes

@@ -8,10 +8,10 @@ use Rattle.jmodel.specs.declared.instruction.Form.TheVariants as form
 use Rattle.jmodel.specs.declared.instruction.Operands.{Operands}
 use Rattle.jmodel.specs.declared.instruction.Operands.TheVariants.{Target}
 use Rattle.jmodel.specs.declared.instruction.Instr.{Instr}
-use Rattle.jmodel.specs.ClassFile.{Pool as Entries}
+use Rattle.jmodel.specs.format.ClassFile.{Pool as Entries}
 use Rattle.std.specs.Int.{Width, w16, w32}
-use Rattle.jmodel.specs.Instruction.{form_of, text_as, text_with, IsTarget, IsSizedAs, FitPoolAs, IsInstrOver, is_start, Holds, places_of_handler, AreStarts}
-use Rattle.jmodel.specs.Relocation.{Block, IsJump, IsShapedAs, IsShaped, is_pc, AscendFrom, ArePcs, IsAbove, IsHandlerOver}
+use Rattle.jmodel.specs.format.Instruction.{form_of, text_as, text_with, IsTarget, IsSizedAs, FitPoolAs, IsInstrOver, is_start, Holds, places_of_handler, AreStarts}
+use Rattle.jmodel.specs.format.Relocation.{Block, IsJump, IsShapedAs, IsShaped, is_pc, AscendFrom, ArePcs, IsAbove, IsHandlerOver}
 use Rattle.bytecode.specs.Relocated.{StandFor, OriginLaw}
 
 -- ---- shapes

@@ -6,12 +6,12 @@ use Rattle.std.proofs.lemmas.List.Concat.{flat_map-cons}
 use Rattle.jmodel.specs.declared.refusal.Refusal.{Refusal}
 use Rattle.jmodel.specs.declared.refusal.Refusal.TheVariants.{BranchTooFar}
 use Rattle.jmodel.specs.declared.instruction.Instr.{Instr}
-use Rattle.jmodel.specs.Instruction.{text, code_text}
+use Rattle.jmodel.specs.format.Instruction.{text, code_text}
 use Rattle.jmodel.specs.declared.refusal.Halt.{Halt}
 use Rattle.jmodel.specs.declared.refusal.Halt.TheVariants as halts
-use Rattle.jmodel.specs.Reading.{◌>>=◌, Fails}
+use Rattle.jmodel.specs.format.Reading.{◌>>=◌, Fails}
 use Rattle.const_pool.proofs.Takes.{ok_is}
-use Rattle.jmodel.specs.Relocation.{Block, all_instrs, put_at, size_at, behind, retargeted, laid_to, reaches}
+use Rattle.jmodel.specs.format.Relocation.{Block, all_instrs, put_at, size_at, behind, retargeted, laid_to, reaches}
 use Rattle.bytecode.specs.Places.{with_block, with_blocks, with_all}
 use Rattle.bytecode.proofs.SizeLaws.{behind_over}
 use Rattle.bytecode.proofs.BlockLaws.{behind_append, all_cons, here}

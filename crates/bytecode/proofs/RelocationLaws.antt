@@ -14,9 +14,9 @@ use Rattle.jmodel.specs.declared.instruction.Form.TheVariants as form
 use Rattle.jmodel.specs.declared.instruction.Operands.{Operands}
 use Rattle.jmodel.specs.declared.instruction.Operands.TheVariants.{Target}
 use Rattle.jmodel.specs.declared.instruction.Instr.{Instr}
-use Rattle.jmodel.specs.Instruction.{form_of, text, code_text, targets_of}
-use Rattle.jmodel.specs.Reading.{◌>>=◌, Fails}
-use Rattle.jmodel.specs.Relocation.{Block, all_instrs, put_at, size_at, behind, place_of, end_of, retarget, retargeted, laid_to, relocated, reaches_as, reaches, far_block, moved, moved_handlers, first_entry, laid_out, relocate}
+use Rattle.jmodel.specs.format.Instruction.{form_of, text, code_text, targets_of}
+use Rattle.jmodel.specs.format.Reading.{◌>>=◌, Fails}
+use Rattle.jmodel.specs.format.Relocation.{Block, all_instrs, put_at, size_at, behind, place_of, end_of, retarget, retargeted, laid_to, relocated, reaches_as, reaches, far_block, moved, moved_handlers, first_entry, laid_out, relocate}
 use Rattle.bytecode.specs.declared.places.Places.{Places}
 use Rattle.bytecode.specs.Places.{place_in, ArePlaces, end_within, with_blocks, with_all, entry_to}
 use Rattle.const_pool.proofs.Takes.{ok_is}

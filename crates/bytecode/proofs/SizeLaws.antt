@@ -6,9 +6,9 @@ use Rattle.std.proofs.lemmas.List.{length-replicate, nil_from_length}
 use Rattle.std.proofs.lemmas.List.Concat.{flat_map-cons}
 use Rattle.jmodel.specs.declared.instruction.Operands.TheVariants.{Table, Lookup}
 use Rattle.jmodel.specs.declared.instruction.Instr.{Instr}
-use Rattle.jmodel.specs.ClassFile.{u4}
-use Rattle.jmodel.specs.Instruction.{signed, jump, padding, zeros, highest, pair_text, table_text, lookup_text}
-use Rattle.jmodel.specs.Relocation.{size_at, behind}
+use Rattle.jmodel.specs.format.ClassFile.{u4}
+use Rattle.jmodel.specs.format.Instruction.{signed, jump, padding, zeros, highest, pair_text, table_text, lookup_text}
+use Rattle.jmodel.specs.format.Relocation.{size_at, behind}
 use Rattle.bytecode.specs.Within.{within}
 
 pub jumps_length : (pc : ℕ) (ts : List ℕ) → length (flat_map (jump w32 pc) ts) ≡ 4 * length ts

@@ -8,10 +8,10 @@ use Rattle.jmodel.specs.declared.instruction.Form.{Form}
 use Rattle.jmodel.specs.declared.instruction.Form.TheVariants as form
 use Rattle.jmodel.specs.declared.instruction.Operands.{Operands}
 use Rattle.jmodel.specs.declared.instruction.Operands.TheVariants.{Table, Lookup, Wide}
-use Rattle.jmodel.specs.ClassFile.{u2, u4}
-use Rattle.jmodel.specs.Reading.{◌>>=◌, run_at, number_at, u2_at, u4_at, items_at}
-use Rattle.jmodel.specs.Instruction.{form_of, signed, distance, jump, padding, highest, pair_text, added, table_text, lookup_text, wide_text, ascend, FitsWide, IsTable, IsLookup, IsWide}
-use Rattle.jmodel.specs.InstructionReading.{bad_instr, want, signed_at, target_at, positive, keys_from, table_of, table_at, pair_at, count_at, lookup_at, wide_of, wide_at}
+use Rattle.jmodel.specs.format.ClassFile.{u2, u4}
+use Rattle.jmodel.specs.format.Reading.{◌>>=◌, run_at, number_at, u2_at, u4_at, items_at}
+use Rattle.jmodel.specs.format.Instruction.{form_of, signed, distance, jump, padding, highest, pair_text, added, table_text, lookup_text, wide_text, ascend, FitsWide, IsTable, IsLookup, IsWide}
+use Rattle.jmodel.specs.format.InstructionReading.{bad_instr, want, signed_at, target_at, positive, keys_from, table_of, table_at, pair_at, count_at, lookup_at, wide_of, wide_at}
 use Rattle.const_pool.proofs.Takes.{bind_ok, ok_is, want_ok, IsBytes, Takes, Takes-nothing, Takes-then, Takes-first, Takes-second, run_takes, run_again, wide16, wide32, number_takes, number_again, items_again}
 use Rattle.bytecode.proofs.NumberLaws.{wide8, signed16, signed32, signed_takes, signed_again, target_takes, target_again, good_items_take}
 use Rattle.bytecode.proofs.FormLaws.{AreInside}

@@ -3,7 +3,7 @@ use Rattle.std.proofs.Common.{◌≡◌, ℕ, zero, suc, ◌+◌, ◌<◌, ◌�
 use Rattle.std.specs.Option.{unwrap_or}
 use Rattle.std.proofs.lemmas.Bool.{eqb-true, ne_eqb, eqb-false, ltb-true, ltb-false}
 use Rattle.std.proofs.lemmas.List.{length-replicate}
-use Rattle.jmodel.specs.Relocation.{Block, all_instrs, behind, place_from, place_of, end_of, AscendFrom, IsAbove}
+use Rattle.jmodel.specs.format.Relocation.{Block, all_instrs, behind, place_from, place_of, end_of, AscendFrom, IsAbove}
 use Rattle.bytecode.specs.Within.{within}
 use Rattle.bytecode.proofs.BlockLaws.{behind_block, here, end_over}
 

@@ -10,15 +10,15 @@ use Rattle.jmodel.specs.declared.refusal.Halt.TheVariants as halts
 use Rattle.std.proofs.lemmas.Bool.{le-leb, lt-leb}
 use Rattle.std.proofs.lemmas.List.{append-nil, nil_from_length, length-drop}
 use Rattle.std.specs.Prelude.{option_map}
-use Rattle.jmodel.specs.Descriptor.{Signature, places_of}
-use Rattle.jmodel.specs.DescriptorReading.{signature_or}
-use Rattle.jmodel.specs.ClassFile.{Pool as Entries}
+use Rattle.jmodel.specs.format.Descriptor.{Signature, places_of}
+use Rattle.jmodel.specs.format.DescriptorReading.{signature_or}
+use Rattle.jmodel.specs.format.ClassFile.{Pool as Entries}
 use Rattle.jmodel.specs.declared.instruction.Operands.{Operands}
 use Rattle.std.specs.Int.{w8}
-use Rattle.jmodel.specs.Reading.{◌>>=◌, Fails, number_at}
+use Rattle.jmodel.specs.format.Reading.{◌>>=◌, Fails, number_at}
 use Rattle.const_pool.proofs.Takes.{bind_ok, ok_is}
-use Rattle.jmodel.specs.Instruction.{form_of, targets_of, is_start, places_of_handler}
-use Rattle.jmodel.specs.InstructionReading.{bad_target, as_bad, operands_as, parts_at, instr_at, instrs_at, are_starts, targets_fit, lesser, least_bad}
+use Rattle.jmodel.specs.format.Instruction.{form_of, targets_of, is_start, places_of_handler}
+use Rattle.jmodel.specs.format.InstructionReading.{bad_target, as_bad, operands_as, parts_at, instr_at, instrs_at, are_starts, targets_fit, lesser, least_bad}
 use Rattle.bytecode.specs.Marks.{AreMarks}
 
 -- ---- marks

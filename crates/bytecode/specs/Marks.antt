@@ -1,8 +1,8 @@
 -- Marks of the places at which instructions begin.
 use Rattle.std.specs.Prelude.{◌≡◌, ℕ, List, Bool, false, Option, Some, slice_index_or, if◌then◌else◌}
 use Rattle.jmodel.specs.declared.instruction.Instr.{Instr}
-use Rattle.jmodel.specs.Instruction.{is_start}
-use Rattle.jmodel.specs.InstructionReading.{lesser}
+use Rattle.jmodel.specs.format.Instruction.{is_start}
+use Rattle.jmodel.specs.format.InstructionReading.{lesser}
 
 -- the mark of a place says whether an instruction begins there
 pub record AreMarks (marks : List Bool) (is : List Instr) : Type 0 where

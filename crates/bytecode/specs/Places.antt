@@ -7,9 +7,9 @@ use Rattle.jmodel.specs.declared.refusal.Refusal.TheVariants.{BranchTooFar}
 use Rattle.jmodel.specs.declared.instruction.Operands.{Operands}
 use Rattle.jmodel.specs.declared.instruction.Operands.TheVariants.{Target}
 use Rattle.jmodel.specs.declared.instruction.Instr.{Instr}
-use Rattle.jmodel.specs.Instruction.{code_text}
-use Rattle.jmodel.specs.Reading.{◌>>=◌}
-use Rattle.jmodel.specs.Relocation.{Block, all_instrs, behind, place_of, end_of, laid_to, reaches}
+use Rattle.jmodel.specs.format.Instruction.{code_text}
+use Rattle.jmodel.specs.format.Reading.{◌>>=◌}
+use Rattle.jmodel.specs.format.Relocation.{Block, all_instrs, behind, place_of, end_of, laid_to, reaches}
 use Rattle.bytecode.specs.declared.places.Places.{Places}
 
 -- where the block of a pc stands, by a table

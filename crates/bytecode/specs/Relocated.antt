@@ -3,9 +3,9 @@ use Rattle.std.specs.Prelude.{◌≡◌, ℕ, ◌+◌, ◌<◌, List, [], ◌∷
 use Rattle.std.specs.List.{AllByRecursion, position}
 use Rattle.jmodel.specs.declared.class_file.Handler.{Handler}
 use Rattle.jmodel.specs.declared.instruction.Instr.{Instr}
-use Rattle.jmodel.specs.ClassFile.{Pool as Entries}
-use Rattle.jmodel.specs.Instruction.{form_of, text, code_text, FitPoolAs, IsInstr, AreInOrder, AreStarts, SpellsInstrs}
-use Rattle.jmodel.specs.Relocation.{Block, all_instrs, place_of, retargeted, relocated, relocate, IsShaped, EachInstr, ArePcs, AscendFrom, IsHandlerOver, AreBlocks}
+use Rattle.jmodel.specs.format.ClassFile.{Pool as Entries}
+use Rattle.jmodel.specs.format.Instruction.{form_of, text, code_text, FitPoolAs, IsInstr, AreInOrder, AreStarts, SpellsInstrs}
+use Rattle.jmodel.specs.format.Relocation.{Block, all_instrs, place_of, retargeted, relocated, relocate, IsShaped, EachInstr, ArePcs, AscendFrom, IsHandlerOver, AreBlocks}
 
 -- instructions that code spells, one behind the other
 pub record AreLaid (code : List ℕ) (is : List Instr) : Type 0 where

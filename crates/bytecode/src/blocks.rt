@@ -13,7 +13,7 @@ pub struct Block {
 }
 
 impl Model for Block {
-    ghost use Rattle.jmodel.specs.Relocation.{Block as Form};
+    ghost use Rattle.jmodel.specs.format.Relocation.{Block as Form};
 
     ghost Value = { Form };
 

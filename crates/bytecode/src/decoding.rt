@@ -1,9 +1,9 @@
 //! Code as a list of instructions.
 ghost use Rattle.std.specs.Prelude.{◌≡◌, ◌≤◌, List, length, IfOk, Ok};
 ghost use Rattle.jmodel.specs.declared.instruction.Instr.{Instr as Form};
-ghost use Rattle.jmodel.specs.Reading.{Gives};
-ghost use Rattle.jmodel.specs.Instruction.{SpellsInstrs};
-ghost use Rattle.jmodel.specs.InstructionReading.{instrs_of};
+ghost use Rattle.jmodel.specs.format.Reading.{Gives};
+ghost use Rattle.jmodel.specs.format.Instruction.{SpellsInstrs};
+ghost use Rattle.jmodel.specs.format.InstructionReading.{instrs_of};
 
 use crate::instructions::instrs_at;
 use crate::targets::{entries_fit, marks_of, targets_fit};
@@ -11,7 +11,7 @@ use const_pool::Pool;
 use jmodel::{Bytes, Halt, Handler, Instr};
 use std::alloc::Global;
 
-#[tactic(auto, unfolding(jmodel::specs::InstructionReading::instrs_of))]
+#[tactic(auto, unfolding(jmodel::specs::format::InstructionReading::instrs_of))]
 fn read(alloc: Global, pool: &Pool, code: &[u8], handlers: &[Handler]) -> Result<Vec<Instr>, Halt>
     requires { length code.now ≤ 65535 }
     ensures { Gives (λ v. v.items) result (instrs_of pool.now handlers.now code.now) }

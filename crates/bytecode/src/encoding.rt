@@ -2,8 +2,8 @@
 ghost use Rattle.std.specs.Prelude.{◌≡◌, ℕ, ◌++◌, ◌<◌, ◌^◌, length, OnOk, IfOk, FitsSigned};
 ghost use Rattle.std.specs.List.{flat_map, AllByRecursion};
 ghost use Rattle.std.specs.Int.{w8, w16, w32, to_be_bytes};
-ghost use Rattle.jmodel.specs.ClassFile.{u2, u4};
-ghost use Rattle.jmodel.specs.Instruction.{signed, distance as distance_of, highest as highest_of, jump, zeros, pair_text as text_of_pair, number_text, local_text, increment_text, index_text, interface_text, dimensions_text, target_text, table_text, lookup_text, wide_text, operands_text, text, code_text, IsNumber, IsArrayType, IsLocal, IsIncrement, IsIndex, IsTarget, IsTable, IsLookup, IsWide, IsSized, IsInstr, AreInOrder, Holds};
+ghost use Rattle.jmodel.specs.format.ClassFile.{u2, u4};
+ghost use Rattle.jmodel.specs.format.Instruction.{signed, distance as distance_of, highest as highest_of, jump, zeros, pair_text as text_of_pair, number_text, local_text, increment_text, index_text, interface_text, dimensions_text, target_text, table_text, lookup_text, wide_text, operands_text, text, code_text, IsNumber, IsArrayType, IsLocal, IsIncrement, IsIndex, IsTarget, IsTable, IsLookup, IsWide, IsSized, IsInstr, AreInOrder, Holds};
 
 use crate::forms::form_of;
 use crate::opcodes;

@@ -1,8 +1,8 @@
 //! What instructions ask of the pool.
 ghost use Rattle.std.specs.Prelude.{◌≡◌, ◌≤◌, suc, IfOk, option_map};
-ghost use Rattle.jmodel.specs.Instruction.{is_of_kind as of_kind, is_entry as entry_is, argument_places as arguments_of};
-ghost use Rattle.jmodel.specs.Descriptor.{places as places_in, places_of, Signature};
-ghost use Rattle.jmodel.specs.DescriptorReading.{signature_of};
+ghost use Rattle.jmodel.specs.format.Instruction.{is_of_kind as of_kind, is_entry as entry_is, argument_places as arguments_of};
+ghost use Rattle.jmodel.specs.format.Descriptor.{places as places_in, places_of, Signature};
+ghost use Rattle.jmodel.specs.format.DescriptorReading.{signature_of};
 
 use const_pool::{Descriptor, Pool};
 use jmodel::{Constant, EntryKind, FieldType, Halt, NoMemory};

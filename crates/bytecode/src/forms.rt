@@ -1,6 +1,6 @@
 //! The table of opcodes.
 ghost use Rattle.std.specs.Prelude.{◌≡◌};
-ghost use Rattle.jmodel.specs.Instruction.{form_of as form};
+ghost use Rattle.jmodel.specs.format.Instruction.{form_of as form};
 
 use crate::opcodes;
 use jmodel::{EntryKind, Form};

@@ -2,8 +2,8 @@
 ghost use Rattle.std.specs.Prelude.{◌≡◌, ◌<◌, ◌≤◌, length, IfOk};
 ghost use Rattle.std.specs.List.{AllByRecursion};
 ghost use Rattle.jmodel.specs.declared.instruction.Instr.{Instr as Form};
-ghost use Rattle.jmodel.specs.Reading.{Gives};
-ghost use Rattle.jmodel.specs.InstructionReading.{parts_at as parts, instr_at as instr, instrs_at as instrs};
+ghost use Rattle.jmodel.specs.format.Reading.{Gives};
+ghost use Rattle.jmodel.specs.format.InstructionReading.{parts_at as parts, instr_at as instr, instrs_at as instrs};
 
 use crate::forms::form_of;
 use crate::numbers::{bad_instr, u1_at};
@@ -12,7 +12,7 @@ use const_pool::Pool;
 use jmodel::{Halt, Instr};
 use std::alloc::Global;
 
-#[tactic(auto, unfolding(jmodel::specs::InstructionReading::parts_at))]
+#[tactic(auto, unfolding(jmodel::specs::format::InstructionReading::parts_at))]
 fn parts_at(alloc: Global, pool: &Pool, code: &[u8], pc: u16) -> Result<(Instr, usize), Halt>
     ensures { Gives (λ x. x) result (parts pool.now code.now pc) }
 {

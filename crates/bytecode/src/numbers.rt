@@ -1,8 +1,8 @@
 //! Numbers and places among the operands of an instruction. The highest byte of a number comes first.
 ghost use Rattle.std.specs.Prelude.{◌≡◌, pos, ◌+ℤ◌, [], ◌∷◌};
 ghost use Rattle.std.specs.Int.{w8, w16, w32};
-ghost use Rattle.jmodel.specs.Reading.{Gives, number_at};
-ghost use Rattle.jmodel.specs.InstructionReading.{signed_at, target_at, place_in_code as place, bad_instr as bad, want as wanted};
+ghost use Rattle.jmodel.specs.format.Reading.{Gives, number_at};
+ghost use Rattle.jmodel.specs.format.InstructionReading.{signed_at, target_at, place_in_code as place, bad_instr as bad, want as wanted};
 ghost use Rattle.jmodel.specs.declared.refusal.Halt.TheVariants as halts;
 
 use const_pool::fields::{run_at, u2_at, u4_at};
@@ -17,7 +17,7 @@ pub fn bad_instr(alloc: Global, pc: u16) -> Halt
 }
 
 /// A number of one byte, and the place after it.
-#[tactic(auto, unfolding(jmodel::specs::Reading::number_at))]
+#[tactic(auto, unfolding(jmodel::specs::format::Reading::number_at))]
 pub fn u1_at(bytes: &[u8], at: usize) -> Result<(u8, usize), Halt>
     ensures { Gives (λ x. x) result (number_at w8 bytes.now at) }
 {
@@ -26,7 +26,7 @@ pub fn u1_at(bytes: &[u8], at: usize) -> Result<(u8, usize), Halt>
 }
 
 /// A signed number of one byte, and the place after it.
-#[tactic(auto, unfolding(jmodel::specs::InstructionReading::signed_at))]
+#[tactic(auto, unfolding(jmodel::specs::format::InstructionReading::signed_at))]
 pub fn s1_at(bytes: &[u8], at: usize) -> Result<(i8, usize), Halt>
     ensures { Gives (λ x. x) result (signed_at w8 bytes.now at) }
 {
@@ -35,7 +35,7 @@ pub fn s1_at(bytes: &[u8], at: usize) -> Result<(i8, usize), Halt>
 }
 
 /// A signed number of two bytes, and the place after it.
-#[tactic(auto, unfolding(jmodel::specs::InstructionReading::signed_at))]
+#[tactic(auto, unfolding(jmodel::specs::format::InstructionReading::signed_at))]
 pub fn s2_at(bytes: &[u8], at: usize) -> Result<(i16, usize), Halt>
     ensures { Gives (λ x. x) result (signed_at w16 bytes.now at) }
 {
@@ -44,7 +44,7 @@ pub fn s2_at(bytes: &[u8], at: usize) -> Result<(i16, usize), Halt>
 }
 
 /// A signed number of four bytes, and the place after it.
-#[tactic(auto, unfolding(jmodel::specs::InstructionReading::signed_at))]
+#[tactic(auto, unfolding(jmodel::specs::format::InstructionReading::signed_at))]
 pub fn s4_at(bytes: &[u8], at: usize) -> Result<(i32, usize), Halt>
     ensures { Gives (λ x. x) result (signed_at w32 bytes.now at) }
 {
@@ -61,7 +61,7 @@ fn place_in_code(pc: u16, distance: i32) -> u16
 }
 
 /// A target by its distance of two bytes from a pc, and the place after it. One outside code is 65535.
-#[tactic(auto, unfolding(jmodel::specs::InstructionReading::target_at))]
+#[tactic(auto, unfolding(jmodel::specs::format::InstructionReading::target_at))]
 pub fn near_target_at(pc: u16, bytes: &[u8], at: usize) -> Result<(u16, usize), Halt>
     ensures { Gives (λ x. x) result (target_at w16 pc bytes.now at) }
 {
@@ -70,7 +70,7 @@ pub fn near_target_at(pc: u16, bytes: &[u8], at: usize) -> Result<(u16, usize), 
 }
 
 /// The same by a distance of four bytes.
-#[tactic(auto, unfolding(jmodel::specs::InstructionReading::target_at))]
+#[tactic(auto, unfolding(jmodel::specs::format::InstructionReading::target_at))]
 pub fn far_target_at(pc: u16, bytes: &[u8], at: usize) -> Result<(u16, usize), Halt>
     ensures { Gives (λ x. x) result (target_at w32 pc bytes.now at) }
 {

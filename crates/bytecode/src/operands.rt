@@ -1,9 +1,9 @@
 //! The operands of an instruction that isn't a switch, by their form.
 ghost use Rattle.std.specs.Prelude.{◌≡◌};
 ghost use Rattle.std.specs.Int.{w8, w16, w32};
-ghost use Rattle.jmodel.specs.Reading.{Gives};
-ghost use Rattle.jmodel.specs.Instruction.{form_of as form_in};
-ghost use Rattle.jmodel.specs.InstructionReading.{signed_operand_at, array_type_at as array_type, local_at as local, increment_at as increment, entry_operand_at, interface_at as interface, dimensions_at as dimensions, jump_at, wide_of as wide_form, wide_at as wide, operands_as};
+ghost use Rattle.jmodel.specs.format.Reading.{Gives};
+ghost use Rattle.jmodel.specs.format.Instruction.{form_of as form_in};
+ghost use Rattle.jmodel.specs.format.InstructionReading.{signed_operand_at, array_type_at as array_type, local_at as local, increment_at as increment, entry_operand_at, interface_at as interface, dimensions_at as dimensions, jump_at, wide_of as wide_form, wide_at as wide, operands_as};
 
 use crate::entries::{argument_places, is_entry};
 use crate::forms::form_of;
@@ -14,7 +14,7 @@ use const_pool::fields::u2_at;
 use jmodel::{EntryKind, Form, Halt, Operands};
 use std::alloc::Global;
 
-#[tactic(auto, unfolding(jmodel::specs::InstructionReading::signed_operand_at))]
+#[tactic(auto, unfolding(jmodel::specs::format::InstructionReading::signed_operand_at))]
 fn byte_at(bytes: &[u8], at: usize) -> Result<(Operands, usize), Halt>
     ensures { Gives (λ x. x) result (signed_operand_at w8 bytes.now at) }
 {
@@ -22,7 +22,7 @@ fn byte_at(bytes: &[u8], at: usize) -> Result<(Operands, usize), Halt>
     Ok((Operands::Number(i32::from(number)), after))
 }
 
-#[tactic(auto, unfolding(jmodel::specs::InstructionReading::signed_operand_at))]
+#[tactic(auto, unfolding(jmodel::specs::format::InstructionReading::signed_operand_at))]
 fn short_at(bytes: &[u8], at: usize) -> Result<(Operands, usize), Halt>
     ensures { Gives (λ x. x) result (signed_operand_at w16 bytes.now at) }
 {
@@ -30,7 +30,7 @@ fn short_at(bytes: &[u8], at: usize) -> Result<(Operands, usize), Halt>
     Ok((Operands::Number(i32::from(number)), after))
 }
 
-#[tactic(auto, unfolding(jmodel::specs::InstructionReading::array_type_at))]
+#[tactic(auto, unfolding(jmodel::specs::format::InstructionReading::array_type_at))]
 fn array_type_at(alloc: Global, pc: u16, bytes: &[u8], at: usize) -> Result<(Operands, usize), Halt>
     ensures { Gives (λ x. x) result (array_type pc bytes.now at) }
 {
@@ -42,7 +42,7 @@ fn array_type_at(alloc: Global, pc: u16, bytes: &[u8], at: usize) -> Result<(Ope
     }
 }
 
-#[tactic(auto, unfolding(jmodel::specs::InstructionReading::local_at))]
+#[tactic(auto, unfolding(jmodel::specs::format::InstructionReading::local_at))]
 fn local_at(bytes: &[u8], at: usize) -> Result<(Operands, usize), Halt>
     ensures { Gives (λ x. x) result (local bytes.now at) }
 {
@@ -50,7 +50,7 @@ fn local_at(bytes: &[u8], at: usize) -> Result<(Operands, usize), Halt>
     Ok((Operands::Local(u16::from(number)), after))
 }
 
-#[tactic(auto, unfolding(jmodel::specs::InstructionReading::increment_at))]
+#[tactic(auto, unfolding(jmodel::specs::format::InstructionReading::increment_at))]
 fn increment_at(bytes: &[u8], at: usize) -> Result<(Operands, usize), Halt>
     ensures { Gives (λ x. x) result (increment bytes.now at) }
 {
@@ -59,7 +59,7 @@ fn increment_at(bytes: &[u8], at: usize) -> Result<(Operands, usize), Halt>
     Ok((Operands::LocalAdd(u16::from(number), i16::from(add)), after))
 }
 
-#[tactic(auto, unfolding(jmodel::specs::InstructionReading::entry_operand_at))]
+#[tactic(auto, unfolding(jmodel::specs::format::InstructionReading::entry_operand_at))]
 fn short_entry_at(
     alloc: Global,
     pool: &Pool,
@@ -79,7 +79,7 @@ fn short_entry_at(
     }
 }
 
-#[tactic(auto, unfolding(jmodel::specs::InstructionReading::entry_operand_at))]
+#[tactic(auto, unfolding(jmodel::specs::format::InstructionReading::entry_operand_at))]
 fn entry_at(
     alloc: Global,
     pool: &Pool,
@@ -98,7 +98,7 @@ fn entry_at(
     }
 }
 
-#[tactic(auto, unfolding(jmodel::specs::InstructionReading::interface_at))]
+#[tactic(auto, unfolding(jmodel::specs::format::InstructionReading::interface_at))]
 fn interface_at(
     alloc: Global,
     pool: &Pool,
@@ -119,7 +119,7 @@ fn interface_at(
     }
 }
 
-#[tactic(auto, unfolding(jmodel::specs::InstructionReading::dimensions_at))]
+#[tactic(auto, unfolding(jmodel::specs::format::InstructionReading::dimensions_at))]
 fn dimensions_at(
     alloc: Global,
     pool: &Pool,
@@ -138,7 +138,7 @@ fn dimensions_at(
     }
 }
 
-#[tactic(auto, unfolding(jmodel::specs::InstructionReading::jump_at))]
+#[tactic(auto, unfolding(jmodel::specs::format::InstructionReading::jump_at))]
 fn near_jump_at(pc: u16, bytes: &[u8], at: usize) -> Result<(Operands, usize), Halt>
     ensures { Gives (λ x. x) result (jump_at w16 pc bytes.now at) }
 {
@@ -146,7 +146,7 @@ fn near_jump_at(pc: u16, bytes: &[u8], at: usize) -> Result<(Operands, usize), H
     Ok((Operands::Target(target), after))
 }
 
-#[tactic(auto, unfolding(jmodel::specs::InstructionReading::jump_at))]
+#[tactic(auto, unfolding(jmodel::specs::format::InstructionReading::jump_at))]
 fn far_jump_at(pc: u16, bytes: &[u8], at: usize) -> Result<(Operands, usize), Halt>
     ensures { Gives (λ x. x) result (jump_at w32 pc bytes.now at) }
 {
@@ -175,7 +175,7 @@ fn wide_of(
     }
 }
 
-#[tactic(auto, unfolding(jmodel::specs::InstructionReading::wide_at))]
+#[tactic(auto, unfolding(jmodel::specs::format::InstructionReading::wide_at))]
 fn wide_at(alloc: Global, pc: u16, bytes: &[u8], at: usize) -> Result<(Operands, usize), Halt>
     ensures { Gives (λ x. x) result (wide pc bytes.now at) }
 {

@@ -1,6 +1,6 @@
 //! Where blocks stand.
 ghost use Rattle.std.specs.Prelude.{◌≡◌, ◌≤◌, IfOk, Some, slice_index_or};
-ghost use Rattle.jmodel.specs.Relocation.{AscendFrom, IsAbove, IsShaped, EachInstr, end_of};
+ghost use Rattle.jmodel.specs.format.Relocation.{AscendFrom, IsAbove, IsShaped, EachInstr, end_of};
 ghost use Rattle.bytecode.specs.Places.{place_in, ArePlaces, end_within as end_in};
 ghost use Rattle.jmodel.specs.declared.instruction.Instr.{Instr as Form};
 ghost use Rattle.std.specs.List.{AllByRecursion};

@@ -1,14 +1,13 @@
 //! Blocks of instructions as code, with jumps and exception entries that lead to them.
-ghost use Rattle.std.specs.Prelude.{◌≡◌, ◌≤◌, ◌++◌, [], map, length, IfOk};
+ghost use Rattle.std.specs.Prelude.{◌≡◌, ◌≤◌, ◌++◌, [], map, length, IfOk, pos};
 ghost use Rattle.std.specs.List.{AllByRecursion};
 ghost use Rattle.jmodel.specs.declared.refusal.Halt.TheVariants as halts;
 ghost use Rattle.jmodel.specs.declared.instruction.Instr.{Instr as Form};
 ghost use Rattle.jmodel.specs.declared.refusal.Refusal.TheVariants.{CodeTooLarge, BranchTooFar};
-ghost use Rattle.jmodel.specs.Reading.{Gives};
-ghost use Rattle.jmodel.specs.Instruction.{targets_of};
-ghost use Rattle.jmodel.specs.Relocation.{all_instrs, put_at, behind, retarget as retarget_by, retargeted, reaches as reaches_target, moved as moved_by, moved_handlers as handlers_moved, relocate as relocate_all, IsShaped, EachInstr, AreBlocks, end_of};
+ghost use Rattle.jmodel.specs.format.Reading.{Gives};
+ghost use Rattle.jmodel.specs.format.Instruction.{targets_of};
+ghost use Rattle.jmodel.specs.format.Relocation.{all_instrs, put_at, behind, retarget as retarget_by, retargeted, reaches as reaches_target, moved as moved_by, moved_handlers as handlers_moved, relocate as relocate_all, IsShaped, EachInstr, AreBlocks, end_of};
 ghost use Rattle.bytecode.specs.Places.{place_in, LeadsInside, ArePlaces, with_block, with_all, entry_to};
-ghost use Rattle.std.specs.Prelude.{pos};
 
 use crate::blocks::Block;
 use crate::encoding::{distance, put_instr};

@@ -1,8 +1,8 @@
 //! How many bytes instructions take.
 ghost use Rattle.std.specs.Prelude.{◌≡◌, ◌<◌, ◌^◌, length, Some};
 ghost use Rattle.std.specs.List.{AllByRecursion};
-ghost use Rattle.jmodel.specs.Instruction.{zeros, table_text, lookup_text, wide_text, operands_text, IsTable, IsLookup, IsWide};
-ghost use Rattle.jmodel.specs.Relocation.{IsShapedAs, IsShaped, size_at as size, behind as place_behind};
+ghost use Rattle.jmodel.specs.format.Instruction.{zeros, table_text, lookup_text, wide_text, operands_text, IsTable, IsLookup, IsWide};
+ghost use Rattle.jmodel.specs.format.Relocation.{IsShapedAs, IsShaped, size_at as size, behind as place_behind};
 ghost use Rattle.bytecode.specs.Within.{within};
 
 use crate::forms::form_of;

@@ -1,9 +1,9 @@
 //! The operands of tableswitch and lookupswitch.
 ghost use Rattle.std.specs.Prelude.{◌≡◌, ℕ, ◌-◌};
 ghost use Rattle.std.specs.Int.{w32};
-ghost use Rattle.jmodel.specs.Reading.{Gives, items_at};
-ghost use Rattle.jmodel.specs.Instruction.{padding as padding_at, ascend as keys_ascend};
-ghost use Rattle.jmodel.specs.InstructionReading.{target_at, keys_from as keys, table_of as table_form, table_at as table, pair_at as pair, count_at as count_of, lookup_at as lookup};
+ghost use Rattle.jmodel.specs.format.Reading.{Gives, items_at};
+ghost use Rattle.jmodel.specs.format.Instruction.{padding as padding_at, ascend as keys_ascend};
+ghost use Rattle.jmodel.specs.format.InstructionReading.{target_at, keys_from as keys, table_of as table_form, table_at as table, pair_at as pair, count_at as count_of, lookup_at as lookup};
 
 use crate::numbers::{bad_instr, far_target_at, s4_at};
 use const_pool::fields::{run_at, u4_at};
@@ -71,7 +71,7 @@ fn table_of(
 }
 
 /// The operands of tableswitch.
-#[tactic(auto, unfolding(jmodel::specs::InstructionReading::table_at))]
+#[tactic(auto, unfolding(jmodel::specs::format::InstructionReading::table_at))]
 pub fn table_at(alloc: Global, pc: u16, bytes: &[u8], at: usize) -> Result<(Operands, usize), Halt>
     ensures { Gives (λ x. x) result (table pc bytes.now at) }
 {
@@ -82,7 +82,7 @@ pub fn table_at(alloc: Global, pc: u16, bytes: &[u8], at: usize) -> Result<(Oper
     table_of(alloc, pc, bytes, other, low, keys_from(low, high), at)
 }
 
-#[tactic(auto, unfolding(jmodel::specs::InstructionReading::pair_at))]
+#[tactic(auto, unfolding(jmodel::specs::format::InstructionReading::pair_at))]
 fn pair_at(pc: u16, bytes: &[u8], at: usize) -> Result<((i32, u16), usize), Halt>
     ensures { Gives (λ x. x) result (pair pc bytes.now at) }
 {
@@ -111,7 +111,7 @@ fn pair_list(
 }
 
 // A count that isn't negative.
-#[tactic(auto, unfolding(jmodel::specs::InstructionReading::count_at))]
+#[tactic(auto, unfolding(jmodel::specs::format::InstructionReading::count_at))]
 fn count_at(alloc: Global, pc: u16, bytes: &[u8], at: usize) -> Result<(u32, usize), Halt>
     ensures { Gives (λ x. x) result (count_of pc bytes.now at) }
 {
@@ -140,7 +140,7 @@ fn ascend(pairs: &[(i32, u16)]) -> bool
 }
 
 /// The operands of lookupswitch.
-#[tactic(auto, unfolding(jmodel::specs::InstructionReading::lookup_at))]
+#[tactic(auto, unfolding(jmodel::specs::format::InstructionReading::lookup_at))]
 pub fn lookup_at(alloc: Global, pc: u16, bytes: &[u8], at: usize) -> Result<(Operands, usize), Halt>
     ensures { Gives (λ x. x) result (lookup pc bytes.now at) }
 {

@@ -2,9 +2,9 @@
 ghost use Rattle.std.specs.Prelude.{◌≡◌, ◌<◌, ◌≤◌, ℕ, List, length, slice_index_or, false, IfOk};
 ghost use Rattle.std.specs.List.{AllByRecursion, flat_map, list_all};
 ghost use Rattle.jmodel.specs.declared.instruction.Instr.{Instr as Form};
-ghost use Rattle.jmodel.specs.Reading.{Gives};
-ghost use Rattle.jmodel.specs.Instruction.{targets_of, is_start, places_of_handler};
-ghost use Rattle.jmodel.specs.InstructionReading.{bad_target as bad, are_starts as starts, targets_fit as all_targets_fit, lesser as lesser_of, least_bad as least, places_fit as all_places_fit};
+ghost use Rattle.jmodel.specs.format.Reading.{Gives};
+ghost use Rattle.jmodel.specs.format.Instruction.{targets_of, is_start, places_of_handler};
+ghost use Rattle.jmodel.specs.format.InstructionReading.{bad_target as bad, are_starts as starts, targets_fit as all_targets_fit, lesser as lesser_of, least_bad as least, places_fit as all_places_fit};
 ghost use Rattle.jmodel.specs.declared.refusal.Halt.TheVariants as halts;
 ghost use Rattle.bytecode.specs.Marks.{AreMarks, worse};
 

@@ -5,14 +5,14 @@ use Rattle.std.specs.List.{AllByRecursion, flat_map}
 use Rattle.std.proofs.lemmas.Bool.{eqb-true, eq-eqb}
 use Rattle.jmodel.specs.declared.refusal.Refusal.TheVariants.{Trailing}
 use Rattle.jmodel.specs.declared.refusal.Halt.{Halt}
-use Rattle.jmodel.specs.ClassFile.{Pool, Attribute, Member, ClassFile, u2, constant, constants, magic, indexes, members, attributes, spelling}
-use Rattle.jmodel.specs.Pool.{utf8, class_name}
-use Rattle.jmodel.specs.Descriptor.{IsFieldDescriptor, IsMethodDescriptor}
-use Rattle.jmodel.specs.ClassRules.{IsTwoBytes, IsPool, AreAttributes, IsField, IsMethod, IsClassFile, Spells}
-use Rattle.jmodel.specs.Reading.{◌>>=◌, Gives, place}
-use Rattle.jmodel.specs.PoolReading.{all_fit, pool_at}
-use Rattle.jmodel.specs.ClassReading.{attributes_at}
-use Rattle.jmodel.specs.ClassFileReading.{magic_at, version_at, Head, head_at, field_at, method_at, members_at, parts_at, ended, distinct, distinct_members, class_file_of}
+use Rattle.jmodel.specs.format.ClassFile.{Pool, Attribute, Member, ClassFile, u2, constant, constants, magic, indexes, members, attributes, spelling}
+use Rattle.jmodel.specs.format.Pool.{utf8, class_name}
+use Rattle.jmodel.specs.format.Descriptor.{IsFieldDescriptor, IsMethodDescriptor}
+use Rattle.jmodel.specs.format.ClassRules.{IsTwoBytes, IsPool, AreAttributes, IsField, IsMethod, IsClassFile, Spells}
+use Rattle.jmodel.specs.format.Reading.{◌>>=◌, Gives, place}
+use Rattle.jmodel.specs.format.PoolReading.{all_fit, pool_at}
+use Rattle.jmodel.specs.format.ClassReading.{attributes_at}
+use Rattle.jmodel.specs.format.ClassFileReading.{magic_at, version_at, Head, head_at, field_at, method_at, members_at, parts_at, ended, distinct, distinct_members, class_file_of}
 use Rattle.const_pool.proofs.Takes.{bind_ok, ok_is, want_ok, IsBytes, Takes, Takes-then, Takes-first, Takes-second}
 use Rattle.const_pool.proofs.Named.{IsRead, pool_takes, pool_again}
 use Rattle.const_pool.proofs.Parts.{regrouped, Takes-all, all-Takes, attributes_take, attributes_again}

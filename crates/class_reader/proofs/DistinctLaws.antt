@@ -5,10 +5,10 @@ use Rattle.std.specs.List.{list_any}
 use Rattle.std.proofs.lemmas.Bool.{cases_lt}
 use Rattle.std.proofs.lemmas.List.{get_or_at, get_or_append_left, length-append}
 use Rattle.jmodel.specs.declared.refusal.Refusal.TheVariants.{Doubled}
-use Rattle.jmodel.specs.ClassFile.{Pool, Member}
-use Rattle.jmodel.specs.Pool.{utf8}
-use Rattle.jmodel.specs.ClassRules.{IsSameMember, AreDistinct}
-use Rattle.jmodel.specs.ClassFileReading.{text_or_nothing, full_name, is_same_member, distinct}
+use Rattle.jmodel.specs.format.ClassFile.{Pool, Member}
+use Rattle.jmodel.specs.format.Pool.{utf8}
+use Rattle.jmodel.specs.format.ClassRules.{IsSameMember, AreDistinct}
+use Rattle.jmodel.specs.format.ClassFileReading.{text_or_nothing, full_name, is_same_member, distinct}
 use Rattle.const_pool.proofs.Takes.{guard_ok}
 use Rattle.const_pool.proofs.Entries.{both_true}
 use Rattle.const_pool.proofs.Named.{the_some}

@@ -6,13 +6,13 @@ use Rattle.std.specs.List.{AllByRecursion, list_any}
 use Rattle.std.proofs.lemmas.Bool.{eqb-true, eqb-false, ne_eqb, not-true}
 use Rattle.std.proofs.lemmas.List.{nil_from_length}
 use Rattle.jmodel.specs.declared.refusal.Refusal.TheVariants.{BadMagic, BadVersion, WrongKind}
-use Rattle.jmodel.specs.ClassFile.{Pool, u2, u4, magic, indexes}
-use Rattle.jmodel.specs.Pool.{class_name}
-use Rattle.jmodel.specs.ClassRules.{IsTwoBytes}
-use Rattle.jmodel.specs.Descriptor.{is_array_name, IsClassName}
-use Rattle.jmodel.specs.Reading.{◌>>=◌, u2_at, u4_at}
-use Rattle.jmodel.specs.PoolReading.{class_at, passes, all_fit}
-use Rattle.jmodel.specs.ClassFileReading.{magic_at, version_at, is_class_name, class_index_at, this_at, interfaces_at, Head, head_at}
+use Rattle.jmodel.specs.format.ClassFile.{Pool, u2, u4, magic, indexes}
+use Rattle.jmodel.specs.format.Pool.{class_name}
+use Rattle.jmodel.specs.format.ClassRules.{IsTwoBytes}
+use Rattle.jmodel.specs.format.Descriptor.{is_array_name, IsClassName}
+use Rattle.jmodel.specs.format.Reading.{◌>>=◌, u2_at, u4_at}
+use Rattle.jmodel.specs.format.PoolReading.{class_at, passes, all_fit}
+use Rattle.jmodel.specs.format.ClassFileReading.{magic_at, version_at, is_class_name, class_index_at, this_at, interfaces_at, Head, head_at}
 use Rattle.const_pool.proofs.Takes.{bind_ok, ok_is, want_ok, IsBytes, Takes, Takes-then, Takes-first, Takes-second, wide16, wide32, number_takes, number_again, counted_take, counted_again}
 use Rattle.const_pool.proofs.Entries.{both_true}
 use Rattle.const_pool.proofs.Named.{some_is, class_read, class_named, class_again}

@@ -11,9 +11,9 @@ use Rattle.std.proofs.lemmas.Bool.{eqb-true, eq-eqb, ne_eqb}
 use Rattle.jmodel.specs.declared.class_file.Constant.{Constant}
 use Rattle.jmodel.specs.declared.refusal.Refusal.{Refusal}
 use Rattle.jmodel.specs.declared.refusal.Refusal.TheVariants.{Doubled}
-use Rattle.jmodel.specs.ClassFile.{Member}
-use Rattle.jmodel.specs.Pool.{utf8}
-use Rattle.jmodel.specs.ClassFileReading.{text_or_nothing, full_name, is_same_member, distinct}
+use Rattle.jmodel.specs.format.ClassFile.{Member}
+use Rattle.jmodel.specs.format.Pool.{utf8}
+use Rattle.jmodel.specs.format.ClassFileReading.{text_or_nothing, full_name, is_same_member, distinct}
 use Rattle.class_reader.specs.Numbers.{is_text, numbers_of, number_at, key_of, IsNamed, AreNamed}
 use Rattle.class_reader.proofs.Texts.{same_bytes, equal_bytes, number_named, has_first, HasFirst, same_number}
 

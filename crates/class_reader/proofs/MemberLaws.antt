@@ -7,15 +7,15 @@ use Rattle.std.specs.List.{AllByRecursion, flat_map}
 use Rattle.std.proofs.lemmas.List.Concat.{flat_map-cons}
 use Rattle.jmodel.specs.declared.refusal.Refusal.{Refusal}
 use Rattle.jmodel.specs.declared.refusal.Refusal.TheVariants.{BadCode, BadDescriptor}
-use Rattle.jmodel.specs.ClassFile.{Pool, Attribute, Member, Code, u2, u4, attribute, attributes, member, members}
-use Rattle.jmodel.specs.Pool.{utf8}
-use Rattle.jmodel.specs.Descriptor.{IsFieldDescriptor, IsMethodDescriptor}
-use Rattle.jmodel.specs.DescriptorReading.{is_field_descriptor, is_method_descriptor}
-use Rattle.jmodel.specs.ClassRules.{IsTwoBytes, IsAttribute, AreAttributes, SpellsCode, is_named, named_attributes, has_no_code, AreCodes, IsMember, IsField, IsMethod}
-use Rattle.jmodel.specs.Reading.{◌>>=◌, u2_at, items_at}
-use Rattle.jmodel.specs.PoolReading.{utf8_at, want_descriptor}
-use Rattle.jmodel.specs.ClassReading.{attribute_at, attributes_at, code_at, code_of}
-use Rattle.jmodel.specs.ClassFileReading.{full_name, descriptor_fits, MemberHead, member_head_at, member_of, field_at, Found, judge, method_attribute_at, method_attributes_at, method_at, members_at}
+use Rattle.jmodel.specs.format.ClassFile.{Pool, Attribute, Member, Code, u2, u4, attribute, attributes, member, members}
+use Rattle.jmodel.specs.format.Pool.{utf8}
+use Rattle.jmodel.specs.format.Descriptor.{IsFieldDescriptor, IsMethodDescriptor}
+use Rattle.jmodel.specs.format.DescriptorReading.{is_field_descriptor, is_method_descriptor}
+use Rattle.jmodel.specs.format.ClassRules.{IsTwoBytes, IsAttribute, AreAttributes, SpellsCode, is_named, named_attributes, has_no_code, AreCodes, IsMember, IsField, IsMethod}
+use Rattle.jmodel.specs.format.Reading.{◌>>=◌, u2_at, items_at}
+use Rattle.jmodel.specs.format.PoolReading.{utf8_at, want_descriptor}
+use Rattle.jmodel.specs.format.ClassReading.{attribute_at, attributes_at, code_at, code_of}
+use Rattle.jmodel.specs.format.ClassFileReading.{full_name, descriptor_fits, MemberHead, member_head_at, member_of, field_at, Found, judge, method_attribute_at, method_attributes_at, method_at, members_at}
 use Rattle.const_pool.proofs.Takes.{bind_ok, ok_is, want_ok, IsBytes, IsBytes-part, Takes, Takes-nothing, Takes-then, Takes-first, Takes-second, wide16, number_takes, number_again, counted_take, counted_again}
 use Rattle.const_pool.proofs.Uses.{text_read}
 use Rattle.const_pool.proofs.Named.{some_is, the_some, utf8_again}

@@ -3,12 +3,12 @@ use Rattle.std.proofs.Common.{◌≡◌, ℕ, Bool, true, false, List, Ok, refl,
 use Rattle.std.specs.Prelude.{if◌then◌else◌}
 use Rattle.jmodel.specs.declared.refusal.Halt.{Halt}
 use Rattle.jmodel.specs.declared.refusal.Halt.TheVariants as halts
-use Rattle.jmodel.specs.ClassFile.{Pool, Attribute}
-use Rattle.jmodel.specs.DescriptorReading.{is_field_descriptor, is_method_descriptor}
-use Rattle.jmodel.specs.Reading.{Fails}
-use Rattle.jmodel.specs.PoolReading.{utf8_at, want_descriptor}
-use Rattle.jmodel.specs.ClassReading.{attribute_at}
-use Rattle.jmodel.specs.ClassFileReading.{descriptor_fits, Found, judge, method_attribute_at}
+use Rattle.jmodel.specs.format.ClassFile.{Pool, Attribute}
+use Rattle.jmodel.specs.format.DescriptorReading.{is_field_descriptor, is_method_descriptor}
+use Rattle.jmodel.specs.format.Reading.{Fails}
+use Rattle.jmodel.specs.format.PoolReading.{utf8_at, want_descriptor}
+use Rattle.jmodel.specs.format.ClassReading.{attribute_at}
+use Rattle.jmodel.specs.format.ClassFileReading.{descriptor_fits, Found, judge, method_attribute_at}
 use Rattle.const_pool.specs.Uses.{uses_of, use_at}
 use Rattle.const_pool.proofs.Uses.{read_uses}
 

@@ -1,7 +1,7 @@
 -- Numbers of texts: the first place of each.
 use Rattle.std.proofs.Common.{◌≡◌, ℕ, zero, suc, ◌+◌, ◌<◌, Bool, true, false, cond, not, List, [], ◌∷◌, ◌++◌, length, get_or, take, Option, Some, None, refl, sym, ap, ◌∙◌, arith}
 use Rattle.std.specs.Prelude.{option_map, option_and_then, unwrap_or, bytes_eq, map, slice_get, slice_index}
-use Rattle.jmodel.specs.Pool.{text_in, utf8}
+use Rattle.jmodel.specs.format.Pool.{text_in, utf8}
 use Rattle.std.specs.List.{position_or_len}
 use Rattle.std.proofs.lemmas.List.{take_more, length-take-le}
 use Rattle.jmodel.specs.declared.class_file.Constant.{Constant}

@@ -1,8 +1,8 @@
 -- Members as they are read.
 use Rattle.std.specs.Prelude.{ℕ, List, Result, Err}
 use Rattle.jmodel.specs.declared.refusal.Refusal.{Refusal}
-use Rattle.jmodel.specs.ClassFile.{Member, Pool}
-use Rattle.jmodel.specs.ClassFileReading.{MemberHead as Form, field_at, method_at}
+use Rattle.jmodel.specs.format.ClassFile.{Member, Pool}
+use Rattle.jmodel.specs.format.ClassFileReading.{MemberHead as Form, field_at, method_at}
 use Rattle.class_reader.specs.declared.members.MemberHead.{MemberHead}
 use Rattle.class_reader.specs.declared.lists.MemberKind.{MemberKind}
 use Rattle.class_reader.specs.declared.lists.MemberKind.TheVariants.{Field, Method}

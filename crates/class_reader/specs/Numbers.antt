@@ -7,8 +7,8 @@ use Rattle.std.specs.Borrow.{Bor}
 use Rattle.std.specs.List.{position_or_len, AllByRecursion}
 use Rattle.jmodel.specs.declared.class_file.Constant.{Constant}
 use Rattle.jmodel.specs.declared.class_file.Constant.TheVariants.{Utf8}
-use Rattle.jmodel.specs.ClassFile.{Member}
-use Rattle.jmodel.specs.Pool.{utf8}
+use Rattle.jmodel.specs.format.ClassFile.{Member}
+use Rattle.jmodel.specs.format.Pool.{utf8}
 
 -- whether an entry has this text
 abbrev pub is_text : List ℕ → Constant → Bool

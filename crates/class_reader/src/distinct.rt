@@ -1,8 +1,8 @@
 //! No two fields, and no two methods, have one name and one descriptor (JVM Specification, Java SE 7, sections 4.5 and
 //! 4.6). Texts are numbered first, so that each is compared with few others, however many members name it.
 ghost use Rattle.std.specs.Prelude.{◌≡◌, ℕ, List, length, IfOk, OnOk, ◌<◌, ◌≤◌, [], ◌∷◌, ◌++◌};
-ghost use Rattle.jmodel.specs.Reading.{Gives, Fails};
-ghost use Rattle.jmodel.specs.ClassFileReading.{distinct as distinct_from, full_name as full_name_of};
+ghost use Rattle.jmodel.specs.format.Reading.{Gives, Fails};
+ghost use Rattle.jmodel.specs.format.ClassFileReading.{distinct as distinct_from, full_name as full_name_of};
 ghost use Rattle.class_reader.specs.Numbers.{number_known, number_for, or_at, is_text, numbers_of, number_at as number_of_index, key_of as key_of_member, AreNamed};
 ghost use Rattle.class_reader.specs.Heads.{no_method as no_unit};
 ghost use Rattle.jmodel.specs.declared.refusal.Refusal.TheVariants.{Doubled};

@@ -1,8 +1,8 @@
 //! What stands before and behind the pool: the magic number and the version, then the class's own names.
 ghost use Rattle.std.specs.Prelude.{◌≡◌, ◌==◌};
 ghost use Rattle.std.specs.List.{list_any};
-ghost use Rattle.jmodel.specs.Reading.{Gives, items_at};
-ghost use Rattle.jmodel.specs.ClassFileReading.{magic_at as magic, version_at as version, is_class_name as class_name, class_index_at as class_index, this_at as this, interfaces_at as interfaces, head_at as head};
+ghost use Rattle.jmodel.specs.format.Reading.{Gives, items_at};
+ghost use Rattle.jmodel.specs.format.ClassFileReading.{magic_at as magic, version_at as version, is_class_name as class_name, class_index_at as class_index, this_at as this, interfaces_at as interfaces, head_at as head};
 
 use const_pool::fields::{u2_at, u4_at};
 use const_pool::{Pool, is_array_name};
@@ -20,7 +20,7 @@ pub struct Head {
 }
 
 impl Model for Head {
-    ghost use Rattle.jmodel.specs.ClassFileReading.{Head as Form};
+    ghost use Rattle.jmodel.specs.format.ClassFileReading.{Head as Form};
 
     ghost Value = { Form };
 
@@ -28,7 +28,7 @@ impl Model for Head {
 }
 
 // The place after the magic number.
-#[tactic(auto, unfolding(jmodel::specs::ClassFileReading::magic_at))]
+#[tactic(auto, unfolding(jmodel::specs::format::ClassFileReading::magic_at))]
 pub fn magic_at(bytes: &[u8]) -> Result<usize, Halt>
     ensures { Gives (λ x. x) result (magic bytes.now) }
 {
@@ -41,7 +41,7 @@ pub fn magic_at(bytes: &[u8]) -> Result<usize, Halt>
 }
 
 // The minor number of a class of version 49, and the place after the version.
-#[tactic(auto, unfolding(jmodel::specs::ClassFileReading::version_at))]
+#[tactic(auto, unfolding(jmodel::specs::format::ClassFileReading::version_at))]
 pub fn version_at(bytes: &[u8], at: usize) -> Result<(u16, usize), Halt>
     ensures { Gives (λ x. x) result (version bytes.now at) }
 {
@@ -66,7 +66,7 @@ fn is_class_name(name: &[u8]) -> bool
     !name.is_empty() && !has_semicolon(name) && !is_array_name(name)
 }
 
-#[tactic(auto, unfolding(jmodel::specs::ClassFileReading::class_index_at))]
+#[tactic(auto, unfolding(jmodel::specs::format::ClassFileReading::class_index_at))]
 fn class_index_at(pool: &Pool, bytes: &[u8], at: usize) -> Result<(u16, usize), Halt>
     ensures { Gives (λ x. x) result (class_index pool.now bytes.now at) }
 {
@@ -76,7 +76,7 @@ fn class_index_at(pool: &Pool, bytes: &[u8], at: usize) -> Result<(u16, usize), 
 }
 
 // A Class that can be this one. One of another name is of a wrong kind.
-#[tactic(auto, unfolding(jmodel::specs::ClassFileReading::this_at))]
+#[tactic(auto, unfolding(jmodel::specs::format::ClassFileReading::this_at))]
 fn this_at(pool: &Pool, bytes: &[u8], at: usize) -> Result<(u16, usize), Halt>
     ensures { Gives (λ x. x) result (this pool.now bytes.now at) }
 {
@@ -106,7 +106,7 @@ fn interface_list(
     Ok((items, at))
 }
 
-#[tactic(auto, unfolding(jmodel::specs::ClassFileReading::interfaces_at))]
+#[tactic(auto, unfolding(jmodel::specs::format::ClassFileReading::interfaces_at))]
 fn interfaces_at(
     alloc: Global,
     pool: &Pool,
@@ -119,7 +119,7 @@ fn interfaces_at(
     interface_list(alloc, pool, bytes, count, at)
 }
 
-#[tactic(auto, unfolding(jmodel::specs::ClassFileReading::head_at))]
+#[tactic(auto, unfolding(jmodel::specs::format::ClassFileReading::head_at))]
 pub fn head_at(alloc: Global, pool: &Pool, bytes: &[u8], at: usize) -> Result<(Head, usize), Halt>
     ensures { Gives (λ x. x) result (head pool.now bytes.now at) }
 {

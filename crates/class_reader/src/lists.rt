@@ -1,7 +1,7 @@
 //! Lists of fields and of methods, each behind its count (JVM Specification, Java SE 7, sections 4.1, 4.5 and 4.6).
 ghost use Rattle.std.specs.Prelude.{◌≡◌};
-ghost use Rattle.jmodel.specs.Reading.{Gives};
-ghost use Rattle.jmodel.specs.ClassFileReading.{members_at as members};
+ghost use Rattle.jmodel.specs.format.Reading.{Gives};
+ghost use Rattle.jmodel.specs.format.ClassFileReading.{members_at as members};
 ghost use Rattle.const_pool.specs.Uses.{uses_of};
 ghost use Rattle.class_reader.specs.Heads.{read_as};
 
@@ -37,7 +37,7 @@ fn member_at(
 }
 
 /// The members behind their count, and the place after them.
-#[tactic(auto, unfolding(jmodel::specs::ClassFileReading::members_at))]
+#[tactic(auto, unfolding(jmodel::specs::format::ClassFileReading::members_at))]
 pub fn members_at(
     alloc: Global,
     pool: &Pool,

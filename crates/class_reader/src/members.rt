@@ -1,8 +1,8 @@
 //! What fields and methods begin with, and fields (JVM Specification, Java SE 7, section 4.5).
 ghost use Rattle.std.specs.Prelude.{◌≡◌, Bool, if◌then◌else◌, IfOk};
-ghost use Rattle.jmodel.specs.Reading.{Gives};
-ghost use Rattle.jmodel.specs.DescriptorReading.{is_field_descriptor as is_field, is_method_descriptor as is_method};
-ghost use Rattle.jmodel.specs.ClassFileReading.{descriptor_fits as fits_use, member_head_at as member_head, field_at as field, full_name as name_of};
+ghost use Rattle.jmodel.specs.format.Reading.{Gives};
+ghost use Rattle.jmodel.specs.format.DescriptorReading.{is_field_descriptor as is_field, is_method_descriptor as is_method};
+ghost use Rattle.jmodel.specs.format.ClassFileReading.{descriptor_fits as fits_use, member_head_at as member_head, field_at as field, full_name as name_of};
 ghost use Rattle.const_pool.specs.Uses.{uses_of};
 ghost use Rattle.class_reader.specs.Heads.{head_of};
 
@@ -20,7 +20,7 @@ pub struct MemberHead {
 }
 
 // Refuses a descriptor that isn't a method's, or a field's.
-#[tactic(auto, using(const_pool::proofs::Uses::read_uses), unfolding(jmodel::specs::ClassFileReading::descriptor_fits))]
+#[tactic(auto, using(const_pool::proofs::Uses::read_uses), unfolding(jmodel::specs::format::ClassFileReading::descriptor_fits))]
 fn descriptor_fits(
     pool: &Pool,
     known: &Descriptors,
@@ -39,7 +39,7 @@ fn descriptor_fits(
 }
 
 // A member's flags, name and descriptor, which is to be a method's or a field's.
-#[tactic(auto, unfolding(jmodel::specs::ClassFileReading::member_head_at))]
+#[tactic(auto, unfolding(jmodel::specs::format::ClassFileReading::member_head_at))]
 pub fn member_head_at(
     pool: &Pool,
     known: &Descriptors,
@@ -83,7 +83,7 @@ pub fn full_name(
 }
 
 /// A field, and the place after it.
-#[tactic(auto, unfolding(jmodel::specs::ClassFileReading::field_at))]
+#[tactic(auto, unfolding(jmodel::specs::format::ClassFileReading::field_at))]
 pub fn field_at(
     alloc: Global,
     pool: &Pool,

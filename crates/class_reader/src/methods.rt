@@ -1,8 +1,8 @@
 //! Methods, with their Code where it stands (JVM Specification, Java SE 7, sections 4.6 and 4.7.3).
 ghost use Rattle.std.specs.Prelude.{◌≡◌, false, codes};
-ghost use Rattle.jmodel.specs.Reading.{Gives, Fails, items_at};
-ghost use Rattle.jmodel.specs.ClassRules.{is_named as named, has_no_code as no_code};
-ghost use Rattle.jmodel.specs.ClassFileReading.{judge as judged, method_attribute_at as method_attribute, method_attributes_at as method_attributes, method_at as method, full_name as name_of};
+ghost use Rattle.jmodel.specs.format.Reading.{Gives, Fails, items_at};
+ghost use Rattle.jmodel.specs.format.ClassRules.{is_named as named, has_no_code as no_code};
+ghost use Rattle.jmodel.specs.format.ClassFileReading.{judge as judged, method_attribute_at as method_attribute, method_attributes_at as method_attributes, method_at as method, full_name as name_of};
 ghost use Rattle.const_pool.specs.Uses.{uses_of};
 ghost use Rattle.class_reader.specs.Heads.{no_method};
 ghost use Rattle.jmodel.specs.declared.refusal.Refusal.TheVariants.{BadCode};
@@ -85,7 +85,7 @@ fn attribute_list(
     Ok((items, found, at))
 }
 
-#[tactic(auto, unfolding(jmodel::specs::ClassFileReading::method_attributes_at))]
+#[tactic(auto, unfolding(jmodel::specs::format::ClassFileReading::method_attributes_at))]
 fn method_attributes_at(
     alloc: Global,
     pool: &Pool,
@@ -105,7 +105,7 @@ fn method_attributes_at(
 }
 
 /// A method, and the place after it.
-#[tactic(auto, unfolding(jmodel::specs::ClassFileReading::method_at))]
+#[tactic(auto, unfolding(jmodel::specs::format::ClassFileReading::method_at))]
 pub fn method_at(
     alloc: Global,
     pool: &Pool,

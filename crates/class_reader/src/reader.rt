@@ -1,9 +1,9 @@
 //! A class file as a whole.
 ghost use Rattle.std.specs.Prelude.{◌≡◌, ◌≤◌, length, IfOk, Ok};
-ghost use Rattle.jmodel.specs.Reading.{Gives};
-ghost use Rattle.jmodel.specs.ClassFile.{ClassFile as Form};
-ghost use Rattle.jmodel.specs.ClassFileReading.{parts_at as parts, ended as ended_at, distinct_members as distinct_members_of, class_file_of};
-ghost use Rattle.jmodel.specs.ClassRules.{Spells};
+ghost use Rattle.jmodel.specs.format.Reading.{Gives};
+ghost use Rattle.jmodel.specs.format.ClassFile.{ClassFile as Form};
+ghost use Rattle.jmodel.specs.format.ClassFileReading.{parts_at as parts, ended as ended_at, distinct_members as distinct_members_of, class_file_of};
+ghost use Rattle.jmodel.specs.format.ClassRules.{Spells};
 ghost use Rattle.class_reader.specs.Numbers.{AreNamed};
 
 use crate::distinct::distinct;
@@ -15,7 +15,7 @@ use jmodel::{Halt, Refusal};
 use std::alloc::Global;
 
 // What follows the pool, up to the class's attributes.
-#[tactic(auto, unfolding(jmodel::specs::ClassFileReading::parts_at))]
+#[tactic(auto, unfolding(jmodel::specs::format::ClassFileReading::parts_at))]
 fn parts_at(
     alloc: Global,
     minor: u16,
@@ -55,7 +55,7 @@ fn ended(bytes: &[u8], at: usize) -> Result<(), Halt>
 }
 
 // Refuses a second field, then a second method, of one name and descriptor.
-#[tactic(auto, unfolding(jmodel::specs::ClassFileReading::distinct_members))]
+#[tactic(auto, unfolding(jmodel::specs::format::ClassFileReading::distinct_members))]
 fn distinct_members(alloc: Global, class: &ClassFile) -> Result<(), Halt>
     requires few { length class.now.pool ≤ 65536 }
     requires fields { AreNamed class.now.pool class.now.fields }
@@ -66,7 +66,7 @@ fn distinct_members(alloc: Global, class: &ClassFile) -> Result<(), Halt>
     distinct(alloc, &class.pool, &class.methods)
 }
 
-#[tactic(auto, unfolding(jmodel::specs::ClassFileReading::class_file_of))]
+#[tactic(auto, unfolding(jmodel::specs::format::ClassFileReading::class_file_of))]
 fn read(alloc: Global, bytes: &[u8]) -> Result<ClassFile, Halt>
     ensures { Gives (λ x. x) result (class_file_of bytes.now) }
 {

@@ -4,7 +4,7 @@ use Rattle.std.specs.List.{AllByRecursion}
 use Rattle.std.specs.Int.{w32, w64, cast_unsigned}
 use Rattle.jmodel.specs.declared.class_file.Constant.{Constant}
 use Rattle.jmodel.specs.declared.class_file.Constant.TheVariants.{Utf8, Integer, Float, Long, Double, Class, Text, Field, Method, InterfaceMethod, NameAndType, Second}
-use Rattle.jmodel.specs.ClassFile.{Attribute, Member, ClassFile, u2, u4, u8, magic, constants, indexes, members, attributes}
+use Rattle.jmodel.specs.format.ClassFile.{Attribute, Member, ClassFile, u2, u4, u8, magic, constants, indexes, members, attributes}
 
 -- a text has a length of two bytes
 abbrev pub IsShort : Constant → Type 0

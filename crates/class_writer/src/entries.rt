@@ -1,6 +1,6 @@
 //! Entries of a constant pool, as they are spelled (JVM Specification, Java SE 7, section 4.4).
 ghost use Rattle.std.specs.Prelude.{◌≡◌, ◌++◌, ◌<◌, ◌^◌, OnOk, length};
-ghost use Rattle.jmodel.specs.ClassFile.{constant, u2, u4, u8 as u8_text};
+ghost use Rattle.jmodel.specs.format.ClassFile.{constant, u2, u4, u8 as u8_text};
 ghost use Rattle.class_writer.specs.Short.{IsShort, tag_in, content_of};
 
 use jmodel::{Bytes, Constant};

@@ -1,8 +1,8 @@
 //! A class file as a whole.
 ghost use Rattle.std.specs.Prelude.{◌≡◌, ◌++◌, ◌<◌, ◌^◌, List, length, OnOk, IfOk};
 ghost use Rattle.std.specs.List.{flat_map, AllByRecursion};
-ghost use Rattle.jmodel.specs.ClassFile.{attribute, attributes, member, members, indexes, constant, constants, magic, spelling, u2};
-ghost use Rattle.jmodel.specs.ClassRules.{IsClassFile};
+ghost use Rattle.jmodel.specs.format.ClassFile.{attribute, attributes, member, members, indexes, constant, constants, magic, spelling, u2};
+ghost use Rattle.jmodel.specs.format.ClassRules.{IsClassFile};
 ghost use Rattle.class_writer.specs.Short.{IsShort, HasLength, AreShort, AreMembersShort, front, names, parts};
 
 use crate::entries::{put_constant, put_u2, put_u4};

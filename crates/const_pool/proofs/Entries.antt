@@ -10,10 +10,10 @@ use Rattle.jmodel.specs.declared.class_file.Constant.{Constant}
 use Rattle.jmodel.specs.declared.class_file.Constant.TheVariants.{Utf8, Integer, Float, Long, Double, Class, Text, Field, Method, InterfaceMethod, NameAndType, Second}
 use Rattle.jmodel.specs.declared.refusal.Refusal.{Refusal}
 use Rattle.jmodel.specs.declared.refusal.Refusal.TheVariants.{BadTag}
-use Rattle.jmodel.specs.ClassFile.{u2, u4, u8, constant}
-use Rattle.jmodel.specs.ClassRules.{IsTwoBytes, IsTextByte, is_wide, is_second}
-use Rattle.jmodel.specs.Reading.{◌>>=◌, place, run_at, u2_at, u4_at, u8_at}
-use Rattle.jmodel.specs.PoolReading.{is_bad_byte, text_of, text_at, word_at, wide_at, index_at, of_pair, pair_at, tagged_at, constant_at}
+use Rattle.jmodel.specs.format.ClassFile.{u2, u4, u8, constant}
+use Rattle.jmodel.specs.format.ClassRules.{IsTwoBytes, IsTextByte, is_wide, is_second}
+use Rattle.jmodel.specs.format.Reading.{◌>>=◌, place, run_at, u2_at, u4_at, u8_at}
+use Rattle.jmodel.specs.format.PoolReading.{is_bad_byte, text_of, text_at, word_at, wide_at, index_at, of_pair, pair_at, tagged_at, constant_at}
 use Rattle.const_pool.proofs.Takes.{bind_ok, ok_is, IsBytes, Takes, Takes-then, Takes-first, Takes-second, run_takes, run_again, wide16, wide32, wide64, number_takes, number_again}
 
 -- an entry's own limits

@@ -3,10 +3,10 @@ use Rattle.std.proofs.Common.{◌≡◌, ℕ, zero, suc, ◌+◌, ◌<◌, ◌�
 use Rattle.std.specs.Prelude.{option_map, option_and_then, slice_get, nat_le}
 use Rattle.jmodel.specs.declared.class_file.Constant.{Constant}
 use Rattle.jmodel.specs.declared.class_file.Constant.TheVariants as entries
-use Rattle.jmodel.specs.ClassFile.{Pool}
-use Rattle.jmodel.specs.Pool.{entry, text_in, utf8, name_in, class_name, pair_in, pair}
-use Rattle.jmodel.specs.ClassRules.{same_text}
-use Rattle.jmodel.specs.PoolAdding.{means_text, means_class, means_pair, pair_means, parts_mean, means_member}
+use Rattle.jmodel.specs.format.ClassFile.{Pool}
+use Rattle.jmodel.specs.format.Pool.{entry, text_in, utf8, name_in, class_name, pair_in, pair}
+use Rattle.jmodel.specs.format.ClassRules.{same_text}
+use Rattle.jmodel.specs.format.PoolAdding.{means_text, means_class, means_pair, pair_means, parts_mean, means_member}
 use Rattle.const_pool.specs.declared.meanings.Kind.{Kind}
 use Rattle.const_pool.specs.declared.meanings.Kind.TheVariants as kinds
 use Rattle.const_pool.specs.declared.keys.Key.{Key}

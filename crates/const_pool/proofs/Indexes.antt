@@ -8,9 +8,9 @@ use Rattle.std.proofs.Math.Seq.{take-length}
 use Rattle.std.proofs.lemmas.Bool.Decides.{nat_tests}
 use Rattle.jmodel.specs.declared.class_file.Constant.{Constant}
 use Rattle.jmodel.specs.declared.class_file.Constant.TheVariants as entries
-use Rattle.jmodel.specs.ClassFile.{Pool}
-use Rattle.jmodel.specs.Pool.{both}
-use Rattle.jmodel.specs.PoolAdding.{means_text, means_class, means_pair, means_member, means_integer, means_long}
+use Rattle.jmodel.specs.format.ClassFile.{Pool}
+use Rattle.jmodel.specs.format.Pool.{both}
+use Rattle.jmodel.specs.format.PoolAdding.{means_text, means_class, means_pair, means_member, means_integer, means_long}
 use Rattle.const_pool.specs.declared.meanings.Kind.{Kind}
 use Rattle.const_pool.specs.declared.keys.Key.{Key}
 use Rattle.const_pool.specs.declared.keys.Key.TheVariants.{Integer, Long}

@@ -4,7 +4,7 @@ use Rattle.std.proofs.lemmas.List.{append-nil}
 use Rattle.jmodel.specs.declared.refusal.Refusal.{Refusal}
 use Rattle.jmodel.specs.declared.refusal.Halt.{Halt}
 use Rattle.jmodel.specs.declared.refusal.Halt.TheVariants as halts
-use Rattle.jmodel.specs.Reading.{◌>>=◌, Fails, items_at}
+use Rattle.jmodel.specs.format.Reading.{◌>>=◌, Fails, items_at}
 
 -- what was read before, and what is still read
 abbrev pub with_front : {A S : Type 0} → List A → Result (List A × S) Refusal → Result (List A × S) Refusal

@@ -11,14 +11,14 @@ use Rattle.jmodel.specs.declared.class_file.Constant.TheVariants.{Utf8, Integer,
 use Rattle.jmodel.specs.declared.class_file.FieldType.{FieldType}
 use Rattle.jmodel.specs.declared.class_file.FieldType.TheVariants as types
 use Rattle.jmodel.specs.declared.refusal.Refusal.TheVariants.{BadIndex, BadDescriptor}
-use Rattle.jmodel.specs.ClassFile.{Pool, constant, constants, u2}
-use Rattle.jmodel.specs.Pool as meaning
-use Rattle.jmodel.specs.Pool.{entry, utf8, class_name, pair, both}
-use Rattle.jmodel.specs.ClassRules.{IsNameOf, IsFieldPair, IsMethodPair, IsConstant, IsPool, is_second}
-use Rattle.jmodel.specs.Descriptor.{is_array_name, IsArrayName, IsFieldDescriptor, IsMethodDescriptor, IsFieldType, IsReferenceName, field_descriptor}
-use Rattle.jmodel.specs.DescriptorReading.{is_field_descriptor, is_method_descriptor}
-use Rattle.jmodel.specs.Reading.{◌>>=◌, Gives, u2_at}
-use Rattle.jmodel.specs.PoolReading.{entry_of, entry_at, text_in, utf8_at, name_in, class_at, pair_in, name_and_type_at, want_descriptor, is_text, passes, member_fits, name_fits, pair_fits, text_fits, constant_fits, all_fit, entries_at, pool_at}
+use Rattle.jmodel.specs.format.ClassFile.{Pool, constant, constants, u2}
+use Rattle.jmodel.specs.format.Pool as meaning
+use Rattle.jmodel.specs.format.Pool.{entry, utf8, class_name, pair, both}
+use Rattle.jmodel.specs.format.ClassRules.{IsNameOf, IsFieldPair, IsMethodPair, IsConstant, IsPool, is_second}
+use Rattle.jmodel.specs.format.Descriptor.{is_array_name, IsArrayName, IsFieldDescriptor, IsMethodDescriptor, IsFieldType, IsReferenceName, field_descriptor}
+use Rattle.jmodel.specs.format.DescriptorReading.{is_field_descriptor, is_method_descriptor}
+use Rattle.jmodel.specs.format.Reading.{◌>>=◌, Gives, u2_at}
+use Rattle.jmodel.specs.format.PoolReading.{entry_of, entry_at, text_in, utf8_at, name_in, class_at, pair_in, name_and_type_at, want_descriptor, is_text, passes, member_fits, name_fits, pair_fits, text_fits, constant_fits, all_fit, entries_at, pool_at}
 use Rattle.const_pool.proofs.Takes.{bind_ok, ok_is, want_ok, IsBytes, Takes, Takes-then, Takes-first, Takes-second, wide16, number_takes, number_again}
 use Rattle.const_pool.proofs.Entries.{IsPlain, either}
 use Rattle.const_pool.proofs.Scans.{entries_take, entries_again}

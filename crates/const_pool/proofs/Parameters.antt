@@ -1,8 +1,8 @@
 -- A step over the parameters of a descriptor.
 use Rattle.std.proofs.Common.{◌≡◌, ℕ, suc, ◌+◌, ◌-◌, ◌<◌, ◌≤◌, List, Option, Some, None, refl, sym, ap, ◌∙◌, add_assoc, arith}
 use Rattle.jmodel.specs.declared.class_file.FieldType.{FieldType}
-use Rattle.jmodel.specs.Descriptor.{places, places_of}
-use Rattle.jmodel.specs.DescriptorReading.{closing, type_rest, type_of, before, with_first, types_at, with_places}
+use Rattle.jmodel.specs.format.Descriptor.{places, places_of}
+use Rattle.jmodel.specs.format.DescriptorReading.{closing, type_rest, type_of, before, with_first, types_at, with_places}
 
 more : (total : ℕ) (t : FieldType) (others : Option (List FieldType × List ℕ)) → with_places total (with_first t others) ≡ with_places (total + places t) others
 more total t None = refl

@@ -10,12 +10,12 @@ use Rattle.std.proofs.lemmas.List.{append-nil, drop_all}
 use Rattle.jmodel.specs.declared.class_file.Handler.{Handler}
 use Rattle.jmodel.specs.declared.refusal.Refusal.{Refusal}
 use Rattle.jmodel.specs.declared.refusal.Refusal.TheVariants.{BadCode}
-use Rattle.jmodel.specs.ClassFile.{Pool, Attribute, Code, u2, u4, attribute, attributes, handler, code_spelling}
-use Rattle.jmodel.specs.Pool.{utf8, class_name}
-use Rattle.jmodel.specs.ClassRules.{IsAttribute, AreAttributes, IsHandler, IsCode, SpellsCode}
-use Rattle.jmodel.specs.Reading.{◌>>=◌, run_at, u2_at, u4_at}
-use Rattle.jmodel.specs.PoolReading.{utf8_at}
-use Rattle.jmodel.specs.ClassReading.{attribute_at, attributes_at, handler_fits, handler_at, handlers_at, body_at, code_at, code_of, AnswersCode, AnswersCodeAs}
+use Rattle.jmodel.specs.format.ClassFile.{Pool, Attribute, Code, u2, u4, attribute, attributes, handler, code_spelling}
+use Rattle.jmodel.specs.format.Pool.{utf8, class_name}
+use Rattle.jmodel.specs.format.ClassRules.{IsAttribute, AreAttributes, IsHandler, IsCode, SpellsCode}
+use Rattle.jmodel.specs.format.Reading.{◌>>=◌, run_at, u2_at, u4_at}
+use Rattle.jmodel.specs.format.PoolReading.{utf8_at}
+use Rattle.jmodel.specs.format.ClassReading.{attribute_at, attributes_at, handler_fits, handler_at, handlers_at, body_at, code_at, code_of, AnswersCode, AnswersCodeAs}
 use Rattle.const_pool.proofs.Takes.{bind_ok, ok_is, guard_ok, want_ok, IsBytes, Takes, Takes-then, Takes-first, Takes-second, run_takes, run_again, wide16, wide32, number_takes, number_again, counted_take, counted_again}
 use Rattle.const_pool.proofs.Entries.{either, both_true}
 use Rattle.const_pool.proofs.Uses.{text_read}

@@ -6,9 +6,9 @@ use Rattle.std.proofs.lemmas.Bool.{eqb-true}
 use Rattle.jmodel.specs.declared.class_file.FieldType.{FieldType}
 use Rattle.jmodel.specs.declared.refusal.Refusal.TheVariants.{BadDescriptor}
 use Rattle.jmodel.specs.declared.refusal.Halt.{Halt}
-use Rattle.jmodel.specs.Descriptor.{Signature, places_of, DescribesMethod}
-use Rattle.jmodel.specs.Reading.{Gives}
-use Rattle.jmodel.specs.DescriptorReading.{closing, type_rest, type_of, before, with_first, types_at, result_of, is_field_descriptor, signature_from, signature_of, is_method_descriptor, signature_or}
+use Rattle.jmodel.specs.format.Descriptor.{Signature, places_of, DescribesMethod}
+use Rattle.jmodel.specs.format.Reading.{Gives}
+use Rattle.jmodel.specs.format.DescriptorReading.{closing, type_rest, type_of, before, with_first, types_at, result_of, is_field_descriptor, signature_from, signature_of, is_method_descriptor, signature_or}
 use Rattle.const_pool.specs.Results.{result_in, made_of}
 use Rattle.const_pool.proofs.Signatures.{signature_found}
 

@@ -4,10 +4,10 @@ use Rattle.std.specs.Prelude.{bytes_eq, nat_eq, option_map, option_and_then, sli
 use Rattle.std.proofs.lemmas.Bool.{eqb-true, eq-eqb}
 use Rattle.jmodel.specs.declared.class_file.Constant.{Constant}
 use Rattle.jmodel.specs.declared.class_file.Constant.TheVariants as entries
-use Rattle.jmodel.specs.ClassFile.{Pool}
-use Rattle.jmodel.specs.Pool.{entry, text_in, utf8, name_in, class_name, pair_in, pair, both}
-use Rattle.jmodel.specs.ClassRules.{same_text}
-use Rattle.jmodel.specs.PoolAdding.{means_text, means_class, means_pair, pair_means, means_member, means_integer, means_long}
+use Rattle.jmodel.specs.format.ClassFile.{Pool}
+use Rattle.jmodel.specs.format.Pool.{entry, text_in, utf8, name_in, class_name, pair_in, pair, both}
+use Rattle.jmodel.specs.format.ClassRules.{same_text}
+use Rattle.jmodel.specs.format.PoolAdding.{means_text, means_class, means_pair, pair_means, means_member, means_integer, means_long}
 use Rattle.const_pool.specs.declared.meanings.Kind.{Kind}
 use Rattle.const_pool.specs.declared.meanings.Kind.TheVariants as kinds
 use Rattle.const_pool.specs.declared.keys.Key.{Key}

@@ -3,9 +3,9 @@ use Rattle.std.proofs.Common.{◌≡◌, ℕ, ◌-◌, List, Bool, Ok, refl}
 use Rattle.jmodel.specs.declared.class_file.Constant.{Constant}
 use Rattle.jmodel.specs.declared.refusal.Halt.{Halt}
 use Rattle.jmodel.specs.declared.refusal.Halt.TheVariants as halts
-use Rattle.jmodel.specs.ClassRules.{is_wide}
-use Rattle.jmodel.specs.Reading.{Fails}
-use Rattle.jmodel.specs.PoolReading.{Scan, entry_if, scan_at}
+use Rattle.jmodel.specs.format.ClassRules.{is_wide}
+use Rattle.jmodel.specs.format.Reading.{Fails}
+use Rattle.jmodel.specs.format.PoolReading.{Scan, entry_if, scan_at}
 
 module _ (bytes : List ℕ) (left : ℕ) (due : Bool) (at : ℕ) where
   abbrev pub here : Scan

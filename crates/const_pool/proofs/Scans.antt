@@ -4,10 +4,10 @@ use Rattle.std.specs.List.{flat_map, AllByRecursion}
 use Rattle.std.proofs.lemmas.List.Concat.{flat_map-cons}
 use Rattle.jmodel.specs.declared.class_file.Constant.{Constant}
 use Rattle.jmodel.specs.declared.class_file.Constant.TheVariants.{Utf8, Integer, Float, Long, Double, Class, Text, Field, Method, InterfaceMethod, NameAndType, Second}
-use Rattle.jmodel.specs.ClassFile.{constant}
-use Rattle.jmodel.specs.ClassRules.{is_wide, is_second, ArePlaced}
-use Rattle.jmodel.specs.Reading.{◌>>=◌, items_at}
-use Rattle.jmodel.specs.PoolReading.{Scan, after, entry_if, scan_at, entries_at}
+use Rattle.jmodel.specs.format.ClassFile.{constant}
+use Rattle.jmodel.specs.format.ClassRules.{is_wide, is_second, ArePlaced}
+use Rattle.jmodel.specs.format.Reading.{◌>>=◌, items_at}
+use Rattle.jmodel.specs.format.PoolReading.{Scan, after, entry_if, scan_at, entries_at}
 use Rattle.const_pool.proofs.Takes.{bind_ok, ok_is, IsBytes, Takes, Takes-nothing, Takes-then, Takes-first, Takes-second}
 use Rattle.const_pool.proofs.Entries.{IsPlain, constant_takes, constant_again}
 

@@ -6,8 +6,8 @@ use Rattle.std.proofs.lemmas.Bool.{eqb-true, ltb-false, le-ltb}
 use Rattle.std.proofs.lemmas.List.{nil_from_length}
 use Rattle.jmodel.specs.declared.class_file.FieldType.{FieldType}
 use Rattle.jmodel.specs.declared.class_file.FieldType.TheVariants.{Boolean, Byte, Char, Short, Int, Long, Float, Double, Reference}
-use Rattle.jmodel.specs.Descriptor.{is_array_name, field_descriptor, IsFieldType, IsReferenceName, places, places_of, Signature, result_descriptor, method_descriptor, DescribesMethod, IsFieldDescriptor, IsMethodDescriptor}
-use Rattle.jmodel.specs.DescriptorReading.{type_rest, is_field_descriptor, type_of, before, with_first, closing, closed_or, types_at, result_of, signature_from, signature_of, is_method_descriptor}
+use Rattle.jmodel.specs.format.Descriptor.{is_array_name, field_descriptor, IsFieldType, IsReferenceName, places, places_of, Signature, result_descriptor, method_descriptor, DescribesMethod, IsFieldDescriptor, IsMethodDescriptor}
+use Rattle.jmodel.specs.format.DescriptorReading.{type_rest, is_field_descriptor, type_of, before, with_first, closing, closed_or, types_at, result_of, signature_from, signature_of, is_method_descriptor}
 use Rattle.const_pool.proofs.Types.{type_found, type_again, of_type, before_is, field_found, field_again, element_plain}
 
 -- what a step over an option that isn't empty gave

@@ -8,8 +8,8 @@ use Rattle.std.proofs.lemmas.List.Concat.{flat_map-cons}
 use Rattle.std.proofs.lemmas.Nat.{be_bytes_2, be_bytes_4, be_bytes_8, from_be_bytes-to_be_bytes_2, from_be_bytes-to_be_bytes_4, from_be_bytes-to_be_bytes_8}
 use Rattle.jmodel.specs.declared.refusal.Refusal.{Refusal}
 use Rattle.jmodel.specs.declared.refusal.Refusal.TheVariants.{Truncated}
-use Rattle.jmodel.specs.ClassFile.{u2}
-use Rattle.jmodel.specs.Reading.{◌>>=◌, place, run_at, number_at, u2_at, items_at}
+use Rattle.jmodel.specs.format.ClassFile.{u2}
+use Rattle.jmodel.specs.format.Reading.{◌>>=◌, place, run_at, number_at, u2_at, items_at}
 
 -- ---- steps that may fail
 

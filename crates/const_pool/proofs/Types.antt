@@ -6,8 +6,8 @@ use Rattle.std.proofs.lemmas.Bool.{eqb-true, eqb-false, ltb-true, ltb-false, lt-
 use Rattle.std.proofs.lemmas.List.{take_at, drop_at, length-append, append-nil, length-replicate, nil_from_length}
 use Rattle.jmodel.specs.declared.class_file.FieldType.{FieldType}
 use Rattle.jmodel.specs.declared.class_file.FieldType.TheVariants.{Boolean, Byte, Char, Short, Int, Long, Float, Double, Reference}
-use Rattle.jmodel.specs.Descriptor.{is_array_name, field_descriptor, IsClassName, IsElement, IsReferenceName, IsFieldType, DescribesField}
-use Rattle.jmodel.specs.DescriptorReading.{base, class_end, class_rest, element_rest, brackets, type_rest, is_end, is_field_descriptor, type_of, before}
+use Rattle.jmodel.specs.format.Descriptor.{is_array_name, field_descriptor, IsClassName, IsElement, IsReferenceName, IsFieldType, DescribesField}
+use Rattle.jmodel.specs.format.DescriptorReading.{base, class_end, class_rest, element_rest, brackets, type_rest, is_end, is_field_descriptor, type_of, before}
 
 -- which way a test went
 by_bool : {P : Type 0} (b : Bool) → (b ≡ true → P) → (b ≡ false → P) → P

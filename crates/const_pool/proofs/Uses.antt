@@ -7,11 +7,11 @@ use Rattle.jmodel.specs.declared.class_file.Constant.TheVariants.{Utf8, Integer,
 use Rattle.jmodel.specs.declared.refusal.Refusal.{Refusal}
 use Rattle.jmodel.specs.declared.refusal.Halt.{Halt}
 use Rattle.jmodel.specs.declared.refusal.Halt.TheVariants as halts
-use Rattle.jmodel.specs.Pool as pool
-use Rattle.jmodel.specs.Pool.{utf8, entry}
-use Rattle.jmodel.specs.DescriptorReading.{is_field_descriptor, is_method_descriptor}
-use Rattle.jmodel.specs.Reading.{◌>>=◌, Fails}
-use Rattle.jmodel.specs.PoolReading.{passes, entry_of, text_in, utf8_at, constant_fits, all_fit}
+use Rattle.jmodel.specs.format.Pool as pool
+use Rattle.jmodel.specs.format.Pool.{utf8, entry}
+use Rattle.jmodel.specs.format.DescriptorReading.{is_field_descriptor, is_method_descriptor}
+use Rattle.jmodel.specs.format.Reading.{◌>>=◌, Fails}
+use Rattle.jmodel.specs.format.PoolReading.{passes, entry_of, text_in, utf8_at, constant_fits, all_fit}
 use Rattle.const_pool.specs.Uses.{use_of, uses_of, use_at}
 
 -- both uses of an index

@@ -6,9 +6,9 @@ use Rattle.std.specs.BTreeMap.{BTreeMap, get_by}
 use Rattle.std.specs.Cmp.Lexicographic.{slice_cmp}
 use Rattle.jmodel.specs.declared.class_file.Constant.{Constant}
 use Rattle.jmodel.specs.declared.class_file.Constant.TheVariants as entries
-use Rattle.jmodel.specs.ClassFile.{Pool}
-use Rattle.jmodel.specs.Pool.{utf8, class_name, pair, both}
-use Rattle.jmodel.specs.PoolAdding.{means_text, means_class, means_pair}
+use Rattle.jmodel.specs.format.ClassFile.{Pool}
+use Rattle.jmodel.specs.format.Pool.{utf8, class_name, pair, both}
+use Rattle.jmodel.specs.format.PoolAdding.{means_text, means_class, means_pair}
 use Rattle.const_pool.specs.declared.meanings.Kind.{Kind}
 use Rattle.const_pool.specs.declared.meanings.Kind.TheVariants as kinds
 use Rattle.const_pool.specs.declared.keys.Key.{Key}

@@ -1,7 +1,7 @@
 -- What an index knows of a pool: the first places among the entries at its front.
 use Rattle.std.specs.Prelude.{ℕ, ◌≤◌, ◌+◌, List, length, take, Option, Some, None, option_map, option_and_then}
-use Rattle.jmodel.specs.ClassFile.{Pool}
-use Rattle.jmodel.specs.Pool.{both}
+use Rattle.jmodel.specs.format.ClassFile.{Pool}
+use Rattle.jmodel.specs.format.Pool.{both}
 use Rattle.const_pool.specs.declared.meanings.Kind.{Kind}
 use Rattle.const_pool.specs.declared.keys.Key.TheVariants.{Class, Pair}
 use Rattle.const_pool.specs.declared.index.Index.{Index}

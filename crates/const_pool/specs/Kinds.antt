@@ -2,7 +2,7 @@
 use Rattle.std.specs.Prelude.{ℕ, Option}
 use Rattle.jmodel.specs.declared.class_file.Constant.{Constant}
 use Rattle.jmodel.specs.declared.class_file.Constant.TheVariants as entries
-use Rattle.jmodel.specs.PoolAdding.{field_parts, method_parts, interface_method_parts}
+use Rattle.jmodel.specs.format.PoolAdding.{field_parts, method_parts, interface_method_parts}
 use Rattle.const_pool.specs.declared.meanings.Kind.{Kind}
 use Rattle.const_pool.specs.declared.meanings.Kind.TheVariants.{Field, Method, InterfaceMethod}
 

@@ -1,8 +1,8 @@
 -- What stands behind the parameters of a descriptor.
 use Rattle.std.specs.Prelude.{ℕ, List, [], ◌∷◌, Option, Some, None, Bool, false, ◌==◌, if◌then◌else◌}
 use Rattle.jmodel.specs.declared.class_file.FieldType.{FieldType}
-use Rattle.jmodel.specs.Descriptor.{Signature}
-use Rattle.jmodel.specs.DescriptorReading.{type_of}
+use Rattle.jmodel.specs.format.Descriptor.{Signature}
+use Rattle.jmodel.specs.format.DescriptorReading.{type_of}
 
 abbrev pub void : List ℕ → Bool
 void [] = false

@@ -2,7 +2,7 @@
 use Rattle.std.specs.Prelude.{ℕ, zero, suc, List, Bool, false, get_or, map}
 use Rattle.jmodel.specs.declared.class_file.Constant.{Constant}
 use Rattle.jmodel.specs.declared.class_file.Constant.TheVariants.{Utf8}
-use Rattle.jmodel.specs.DescriptorReading.{is_field_descriptor, is_method_descriptor}
+use Rattle.jmodel.specs.format.DescriptorReading.{is_field_descriptor, is_method_descriptor}
 
 -- whether an entry is a field descriptor, and whether a method descriptor
 abbrev pub use_of : Constant → Bool × Bool

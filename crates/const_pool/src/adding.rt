@@ -2,7 +2,7 @@
 //! wanted is answered, else that of a new entry at the end. Refused as PoolFull, with no class's name, where the pool's
 //! count field would pass 65,535 or a new text has over 65,535 bytes; after that and for want of memory nothing is added.
 ghost use Rattle.std.specs.Prelude.{◌≡◌, IfOk, Some, is_ok, if◌then◌else◌, take};
-ghost use Rattle.jmodel.specs.PoolAdding.{Adds, Puts, IsLonger, add_text as text_of, add_integer as integer_of, add_long as long_of, new_class as new_class_of, add_class as class_of, new_pair as new_pair_of, add_pair as pair_of, new_member as new_member_of, add_member as member_of, add_field as field_of, add_method as method_of, add_interface_method as interface_method_of};
+ghost use Rattle.jmodel.specs.format.PoolAdding.{Adds, Puts, IsLonger, add_text as text_of, add_integer as integer_of, add_long as long_of, new_class as new_class_of, add_class as class_of, new_pair as new_pair_of, add_pair as pair_of, new_member as new_member_of, add_member as member_of, add_field as field_of, add_method as method_of, add_interface_method as interface_method_of};
 ghost use Rattle.const_pool.specs.Kinds.{make_of, parts_of};
 
 use crate::meanings::{
@@ -11,7 +11,7 @@ use crate::meanings::{
 use crate::pool::{Pool, full};
 use jmodel::{Bytes, Constant, Halt};
 
-#[tactic(auto, unfolding(jmodel::specs::PoolAdding::add_text))]
+#[tactic(auto, unfolding(jmodel::specs::format::PoolAdding::add_text))]
 fn put_text(pool: &mut Pool, text: &[u8]) -> Result<u16, Halt>
     ensures puts { Puts result pool.new (text_of pool.old text.now) }
     ensures grows { IsLonger pool.old pool.new }
@@ -28,7 +28,7 @@ fn put_text(pool: &mut Pool, text: &[u8]) -> Result<u16, Halt>
     pool.put(Constant::Utf8(bytes))
 }
 
-#[tactic(auto, unfolding(jmodel::specs::PoolAdding::new_class))]
+#[tactic(auto, unfolding(jmodel::specs::format::PoolAdding::new_class))]
 fn put_new_class(pool: &mut Pool, name: &[u8]) -> Result<u16, Halt>
     ensures puts { Puts result pool.new (new_class_of pool.old name.now) }
     ensures grows { IsLonger pool.old pool.new }
@@ -37,7 +37,7 @@ fn put_new_class(pool: &mut Pool, name: &[u8]) -> Result<u16, Halt>
     pool.put(Constant::Class(i))
 }
 
-#[tactic(auto, unfolding(jmodel::specs::PoolAdding::add_class))]
+#[tactic(auto, unfolding(jmodel::specs::format::PoolAdding::add_class))]
 fn put_class(pool: &mut Pool, name: &[u8]) -> Result<u16, Halt>
     ensures puts { Puts result pool.new (class_of pool.old name.now) }
     ensures grows { IsLonger pool.old pool.new }
@@ -50,7 +50,7 @@ fn put_class(pool: &mut Pool, name: &[u8]) -> Result<u16, Halt>
     put_new_class(pool, name)
 }
 
-#[tactic(auto, unfolding(jmodel::specs::PoolAdding::new_pair))]
+#[tactic(auto, unfolding(jmodel::specs::format::PoolAdding::new_pair))]
 fn put_new_pair(pool: &mut Pool, name: &[u8], descriptor: &[u8]) -> Result<u16, Halt>
     ensures puts { Puts result pool.new (new_pair_of pool.old name.now descriptor.now) }
     ensures grows { IsLonger pool.old pool.new }
@@ -60,7 +60,7 @@ fn put_new_pair(pool: &mut Pool, name: &[u8], descriptor: &[u8]) -> Result<u16, 
     pool.put(Constant::NameAndType { name, descriptor })
 }
 
-#[tactic(auto, unfolding(jmodel::specs::PoolAdding::add_pair))]
+#[tactic(auto, unfolding(jmodel::specs::format::PoolAdding::add_pair))]
 fn put_pair(pool: &mut Pool, name: &[u8], descriptor: &[u8]) -> Result<u16, Halt>
     ensures puts { Puts result pool.new (pair_of pool.old name.now descriptor.now) }
     ensures grows { IsLonger pool.old pool.new }
@@ -83,7 +83,7 @@ fn reference(kind: Kind, class: u16, pair: u16) -> Constant
     }
 }
 
-#[tactic(auto, unfolding(jmodel::specs::PoolAdding::new_member))]
+#[tactic(auto, unfolding(jmodel::specs::format::PoolAdding::new_member))]
 fn put_new_member(
     kind: Kind,
     pool: &mut Pool,
@@ -117,7 +117,7 @@ fn put_member(
     put_new_member(kind, pool, class, name, descriptor)
 }
 
-#[tactic(auto, unfolding(jmodel::specs::PoolAdding::add_integer))]
+#[tactic(auto, unfolding(jmodel::specs::format::PoolAdding::add_integer))]
 fn put_integer(pool: &mut Pool, n: i32) -> Result<u16, Halt>
     ensures puts { Puts result pool.new (integer_of pool.old n) }
     ensures grows { IsLonger pool.old pool.new }
@@ -130,7 +130,7 @@ fn put_integer(pool: &mut Pool, n: i32) -> Result<u16, Halt>
     pool.put(Constant::Integer(n))
 }
 
-#[tactic(auto, unfolding(jmodel::specs::PoolAdding::add_long))]
+#[tactic(auto, unfolding(jmodel::specs::format::PoolAdding::add_long))]
 fn put_long(pool: &mut Pool, n: i64) -> Result<u16, Halt>
     ensures puts { Puts result pool.new (long_of pool.old n) }
     ensures grows { IsLonger pool.old pool.new }

@@ -1,7 +1,7 @@
 //! Attributes, whose bytes are kept as they are (JVM Specification, Java SE 7, section 4.7).
 ghost use Rattle.std.specs.Prelude.{◌≡◌};
-ghost use Rattle.jmodel.specs.Reading.{Gives, items_at};
-ghost use Rattle.jmodel.specs.ClassReading.{attribute_at as attribute, attributes_at as attributes};
+ghost use Rattle.jmodel.specs.format.Reading.{Gives, items_at};
+ghost use Rattle.jmodel.specs.format.ClassReading.{attribute_at as attribute, attributes_at as attributes};
 
 use crate::class_file::Attribute;
 use crate::fields::{run_at, u2_at, u4_at};
@@ -10,7 +10,7 @@ use jmodel::{Bytes, Halt};
 use std::alloc::Global;
 
 /// The attribute at a place, and the place after it. Its name is to be a Utf8.
-#[tactic(auto, unfolding(jmodel::specs::ClassReading::attribute_at))]
+#[tactic(auto, unfolding(jmodel::specs::format::ClassReading::attribute_at))]
 pub fn attribute_at(
     alloc: Global,
     pool: &Pool,
@@ -47,7 +47,7 @@ fn attribute_list(
 }
 
 /// The attributes at a place, behind their count, and the place after them.
-#[tactic(auto, unfolding(jmodel::specs::ClassReading::attributes_at))]
+#[tactic(auto, unfolding(jmodel::specs::format::ClassReading::attributes_at))]
 pub fn attributes_at(
     alloc: Global,
     pool: &Pool,

@@ -1,6 +1,6 @@
 //! The entries of a list by their indexes, which count from 1 (JVM Specification, Java SE 7, section 4.4).
 ghost use Rattle.std.specs.Prelude.{◌≡◌, option_copied};
-ghost use Rattle.jmodel.specs.Pool.{entry as entry_of, utf8 as text_of, class_name as class_of};
+ghost use Rattle.jmodel.specs.format.Pool.{entry as entry_of, utf8 as text_of, class_name as class_of};
 
 use jmodel::{Bytes, Constant};
 

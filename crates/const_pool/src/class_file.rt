@@ -11,7 +11,7 @@ pub struct Attribute {
 }
 
 impl Model for Attribute {
-    ghost use Rattle.jmodel.specs.ClassFile.{Attribute as Form};
+    ghost use Rattle.jmodel.specs.format.ClassFile.{Attribute as Form};
 
     ghost Value = { Form };
 
@@ -28,7 +28,7 @@ pub struct Member {
 }
 
 impl Model for Member {
-    ghost use Rattle.jmodel.specs.ClassFile.{Member as Form};
+    ghost use Rattle.jmodel.specs.format.ClassFile.{Member as Form};
 
     ghost Value = { Form };
 
@@ -51,7 +51,7 @@ pub struct ClassFile {
 }
 
 impl Model for ClassFile {
-    ghost use Rattle.jmodel.specs.ClassFile.{ClassFile as Form};
+    ghost use Rattle.jmodel.specs.format.ClassFile.{ClassFile as Form};
 
     ghost Value = { Form };
 

@@ -1,11 +1,11 @@
 //! The Code attribute (JVM Specification, Java SE 7, section 4.7.3).
 ghost use Rattle.std.specs.Prelude.{◌≡◌, [], Some, IsNone};
-ghost use Rattle.jmodel.specs.ClassFile.{Code as Form};
-ghost use Rattle.jmodel.specs.ClassRules.{SpellsCode};
+ghost use Rattle.jmodel.specs.format.ClassFile.{Code as Form};
+ghost use Rattle.jmodel.specs.format.ClassRules.{SpellsCode};
 ghost use Rattle.jmodel.specs.declared.refusal.Halt.TheVariants as halts;
 ghost use Rattle.jmodel.specs.declared.refusal.Refusal.TheVariants.{BadCode};
-ghost use Rattle.jmodel.specs.Reading.{Gives, items_at};
-ghost use Rattle.jmodel.specs.ClassReading.{handler_fits as fits, handler_at as handler, handlers_at as handlers, body_at as body, code_at as code, code_of, AnswersCode, AnswersCodeAs};
+ghost use Rattle.jmodel.specs.format.Reading.{Gives, items_at};
+ghost use Rattle.jmodel.specs.format.ClassReading.{handler_fits as fits, handler_at as handler, handlers_at as handlers, body_at as body, code_at as code, code_of, AnswersCode, AnswersCodeAs};
 
 use crate::attributes::attributes_at;
 use crate::class_file::Attribute;
@@ -26,7 +26,7 @@ pub struct Code {
 }
 
 impl Model for Code {
-    ghost use Rattle.jmodel.specs.ClassFile.{Code as Form};
+    ghost use Rattle.jmodel.specs.format.ClassFile.{Code as Form};
 
     ghost Value = { Form };
 
@@ -50,7 +50,7 @@ fn handler_fits(pool: &Pool, len: usize, h: Handler) -> bool
         && (h.catch_type == 0 || pool.class_name(h.catch_type).is_some())
 }
 
-#[tactic(auto, unfolding(jmodel::specs::ClassReading::handler_at))]
+#[tactic(auto, unfolding(jmodel::specs::format::ClassReading::handler_at))]
 fn handler_at(
     alloc: Global,
     pool: &Pool,
@@ -97,7 +97,7 @@ fn handler_list(
     Ok((items, at))
 }
 
-#[tactic(auto, unfolding(jmodel::specs::ClassReading::handlers_at))]
+#[tactic(auto, unfolding(jmodel::specs::format::ClassReading::handlers_at))]
 fn handlers_at(
     alloc: Global,
     pool: &Pool,
@@ -112,7 +112,7 @@ fn handlers_at(
 }
 
 // The code itself, of 1 to 65535 bytes.
-#[tactic(auto, unfolding(jmodel::specs::ClassReading::body_at))]
+#[tactic(auto, unfolding(jmodel::specs::format::ClassReading::body_at))]
 fn body_at(alloc: Global, bytes: &[u8], at: usize) -> Result<(&[u8], usize), Halt>
     ensures { Gives (λ x. (x.0.now, x.1)) result (body bytes.now at) }
 {
@@ -123,7 +123,7 @@ fn body_at(alloc: Global, bytes: &[u8], at: usize) -> Result<(&[u8], usize), Hal
     run_at(bytes, at, len as usize)
 }
 
-#[tactic(auto, unfolding(jmodel::specs::ClassReading::code_at))]
+#[tactic(auto, unfolding(jmodel::specs::format::ClassReading::code_at))]
 fn code_at(alloc: Global, pool: &Pool, bytes: &[u8]) -> Result<Code, Halt>
     ensures { Gives (λ x. x) result (code pool.now bytes.now) }
 {

@@ -1,8 +1,8 @@
 //! The entries of a constant pool, as they are spelled (JVM Specification, Java SE 7, section 4.4).
 ghost use Rattle.std.specs.Prelude.{◌≡◌, IfOk, length, position};
-ghost use Rattle.jmodel.specs.Reading.{Gives};
-ghost use Rattle.jmodel.specs.ClassRules.{is_wide as wide};
-ghost use Rattle.jmodel.specs.PoolReading.{is_bad_byte as bad, text_at as text, word_at as word, wide_at as double_word, index_at as index, pair_at as pair, tagged_at as tagged, constant_at as constant, entry_if as entry, entries_at as all_entries};
+ghost use Rattle.jmodel.specs.format.Reading.{Gives};
+ghost use Rattle.jmodel.specs.format.ClassRules.{is_wide as wide};
+ghost use Rattle.jmodel.specs.format.PoolReading.{is_bad_byte as bad, text_at as text, word_at as word, wide_at as double_word, index_at as index, pair_at as pair, tagged_at as tagged, constant_at as constant, entry_if as entry, entries_at as all_entries};
 
 use crate::fields::{offset, run_at, u1_at, u2_at, u4_at, u8_at};
 use jmodel::{Bytes, Constant, Halt, Refusal};
@@ -21,7 +21,7 @@ fn first_bad_byte(text: &[u8]) -> Option<usize>
     text.iter().position(|b| is_bad_byte(*b))
 }
 
-#[tactic(auto, unfolding(jmodel::specs::PoolReading::text_at))]
+#[tactic(auto, unfolding(jmodel::specs::format::PoolReading::text_at))]
 fn text_at(alloc: Global, bytes: &[u8], at: usize) -> Result<(Constant, usize), Halt>
     ensures { Gives (λ x. x) result (text bytes.now at) }
 {
@@ -33,7 +33,7 @@ fn text_at(alloc: Global, bytes: &[u8], at: usize) -> Result<(Constant, usize), 
     Ok((Constant::Utf8(Bytes::from_slice(alloc, run)?), after))
 }
 
-#[tactic(auto, unfolding(jmodel::specs::PoolReading::word_at))]
+#[tactic(auto, unfolding(jmodel::specs::format::PoolReading::word_at))]
 fn word_at(tag: u8, bytes: &[u8], at: usize) -> Result<(Constant, usize), Halt>
     ensures { Gives (λ x. x) result (word tag bytes.now at) }
 {
@@ -46,7 +46,7 @@ fn word_at(tag: u8, bytes: &[u8], at: usize) -> Result<(Constant, usize), Halt>
     Ok((entry, after))
 }
 
-#[tactic(auto, unfolding(jmodel::specs::PoolReading::wide_at))]
+#[tactic(auto, unfolding(jmodel::specs::format::PoolReading::wide_at))]
 fn wide_at(tag: u8, bytes: &[u8], at: usize) -> Result<(Constant, usize), Halt>
     ensures { Gives (λ x. x) result (double_word tag bytes.now at) }
 {
@@ -59,7 +59,7 @@ fn wide_at(tag: u8, bytes: &[u8], at: usize) -> Result<(Constant, usize), Halt>
     Ok((entry, after))
 }
 
-#[tactic(auto, unfolding(jmodel::specs::PoolReading::index_at))]
+#[tactic(auto, unfolding(jmodel::specs::format::PoolReading::index_at))]
 fn index_at(tag: u8, bytes: &[u8], at: usize) -> Result<(Constant, usize), Halt>
     ensures { Gives (λ x. x) result (index tag bytes.now at) }
 {
@@ -72,7 +72,7 @@ fn index_at(tag: u8, bytes: &[u8], at: usize) -> Result<(Constant, usize), Halt>
     Ok((entry, after))
 }
 
-#[tactic(auto, unfolding(jmodel::specs::PoolReading::pair_at))]
+#[tactic(auto, unfolding(jmodel::specs::format::PoolReading::pair_at))]
 fn pair_at(tag: u8, bytes: &[u8], at: usize) -> Result<(Constant, usize), Halt>
     ensures { Gives (λ x. x) result (pair tag bytes.now at) }
 {
@@ -100,7 +100,7 @@ fn pair_at(tag: u8, bytes: &[u8], at: usize) -> Result<(Constant, usize), Halt>
 }
 
 // An entry behind its tag, which stands at `start`.
-#[tactic(auto, unfolding(jmodel::specs::PoolReading::tagged_at))]
+#[tactic(auto, unfolding(jmodel::specs::format::PoolReading::tagged_at))]
 fn tagged_at(
     alloc: Global,
     start: usize,
@@ -122,7 +122,7 @@ fn tagged_at(
 }
 
 // An entry, behind which `left` indexes are left.
-#[tactic(auto, unfolding(jmodel::specs::PoolReading::constant_at))]
+#[tactic(auto, unfolding(jmodel::specs::format::PoolReading::constant_at))]
 fn constant_at(alloc: Global, bytes: &[u8], left: u16, at: usize) -> Result<(Constant, usize), Halt>
     ensures { Gives (λ x. x) result (constant bytes.now left at) }
 {

@@ -1,7 +1,7 @@
 //! Descriptors of fields and methods (JVM Specification, Java SE 7, section 4.3).
 ghost use Rattle.std.specs.Prelude.{◌≡◌, ℕ, List, ◌+◌, ◌<◌, ◌≤◌, length, IfSome, option_map, option_copied, is_some, position, ◌==◌};
-ghost use Rattle.jmodel.specs.Descriptor.{places as places_of_type, is_array_name as array_name};
-ghost use Rattle.jmodel.specs.DescriptorReading.{base as base_of, brackets as brackets_of, class_rest as after_class, element_rest as after_element, type_rest as after_type, type_of, closing as after_closing, types_at, with_places, result_of, is_field_descriptor as is_field, is_method_descriptor as is_method};
+ghost use Rattle.jmodel.specs.format.Descriptor.{places as places_of_type, is_array_name as array_name};
+ghost use Rattle.jmodel.specs.format.DescriptorReading.{base as base_of, brackets as brackets_of, class_rest as after_class, element_rest as after_element, type_rest as after_type, type_of, closing as after_closing, types_at, with_places, result_of, is_field_descriptor as is_field, is_method_descriptor as is_method};
 
 use jmodel::FieldType;
 
@@ -61,7 +61,7 @@ fn class_rest(bytes: &[u8]) -> Option<&[u8]>
 }
 
 // What follows a type that is no array.
-#[tactic(auto, unfolding(jmodel::specs::DescriptorReading::element_rest))]
+#[tactic(auto, unfolding(jmodel::specs::format::DescriptorReading::element_rest))]
 fn element_rest(bytes: &[u8]) -> Option<&[u8]>
     ensures exact { option_copied result ≡ after_element bytes.now }
     ensures shorter { IfSome result (λ rest. length rest.now < length bytes.now) }
@@ -88,7 +88,7 @@ fn brackets(bytes: &[u8]) -> usize
 }
 
 // What follows a field descriptor.
-#[tactic(auto, unfolding(jmodel::specs::DescriptorReading::type_rest))]
+#[tactic(auto, unfolding(jmodel::specs::format::DescriptorReading::type_rest))]
 pub fn type_rest(bytes: &[u8]) -> Option<&[u8]>
     ensures exact { option_copied result ≡ after_type bytes.now }
     ensures shorter { IfSome result (λ rest. length rest.now < length bytes.now) }
@@ -101,7 +101,7 @@ pub fn type_rest(bytes: &[u8]) -> Option<&[u8]>
 }
 
 /// Whether the bytes are a field descriptor. Takes no memory.
-#[tactic(auto, unfolding(jmodel::specs::DescriptorReading::is_field_descriptor))]
+#[tactic(auto, unfolding(jmodel::specs::format::DescriptorReading::is_field_descriptor))]
 pub fn is_field_descriptor(bytes: &[u8]) -> bool
     ensures { result ≡ is_field bytes.now }
 {
@@ -112,7 +112,7 @@ pub fn is_field_descriptor(bytes: &[u8]) -> bool
 }
 
 // How many places a value of the descriptor's type takes.
-#[tactic(auto, unfolding(jmodel::specs::DescriptorReading::type_of))]
+#[tactic(auto, unfolding(jmodel::specs::format::DescriptorReading::type_of))]
 fn places(text: &[u8]) -> usize
     ensures exact { result ≡ places_of_type (type_of text.now) }
     ensures few { result ≤ 2 }
@@ -151,7 +151,7 @@ fn parameters_end(bytes: &[u8]) -> Option<(usize, &[u8])>
 }
 
 // Whether the bytes are V or a field descriptor.
-#[tactic(auto, unfolding(jmodel::specs::DescriptorReading::result_of))]
+#[tactic(auto, unfolding(jmodel::specs::format::DescriptorReading::result_of))]
 fn is_result(bytes: &[u8]) -> bool
     ensures { result ≡ is_some (result_of bytes.now) }
 {
@@ -163,7 +163,7 @@ fn is_result(bytes: &[u8]) -> bool
 }
 
 /// Whether the bytes are a method descriptor, whose parameters take at most 255 places. Takes no memory.
-#[tactic(auto, unfolding(jmodel::specs::DescriptorReading::signature_of))]
+#[tactic(auto, unfolding(jmodel::specs::format::DescriptorReading::signature_of))]
 pub fn is_method_descriptor(bytes: &[u8]) -> bool
     ensures { result ≡ is_method bytes.now }
 {

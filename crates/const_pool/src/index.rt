@@ -2,9 +2,9 @@
 //! that mean the same under different indexes, so an entry goes by the first places of what it names.
 ghost use Rattle.std.specs.Prelude.{◌≡◌, ℕ, List, ◌<◌, ◌≤◌, length, take, drop, OnOk, option_and_then, true};
 ghost use Rattle.std.specs.List.{list_all};
-ghost use Rattle.jmodel.specs.ClassFile.{Pool as Form};
-ghost use Rattle.jmodel.specs.Pool.{both, utf8 as text_of};
-ghost use Rattle.jmodel.specs.PoolAdding.{means_text, means_pair};
+ghost use Rattle.jmodel.specs.format.ClassFile.{Pool as Form};
+ghost use Rattle.jmodel.specs.format.Pool.{both, utf8 as text_of};
+ghost use Rattle.jmodel.specs.format.PoolAdding.{means_text, means_pair};
 ghost use Rattle.const_pool.specs.Firsts.{first, or_at, text_known, key_known, has_key, text_place as text_place_of, class_place as class_place_of, pair_place as pair_place_of, key_of, key_for, name_key as name_key_of, member_key as member_key_of, stays_within as stays_within_of, KnowsNames};
 ghost use Rattle.const_pool.specs.Indexed.{IsIndexed, class_known, pair_known, member_known};
 ghost use Rattle.const_pool.specs.declared.keys.Key.{Key as Keyed};

@@ -1,8 +1,8 @@
 //! Adding to a constant pool (JVM Specification, Java SE 7, section 4.4). An entry that means the wanted already is used.
 ghost use Rattle.std.specs.Prelude.{◌≡◌, ◌+◌, ◌<◌, length, position, option_copied, IfSome};
-ghost use Rattle.jmodel.specs.ClassRules.{same_text as same};
-ghost use Rattle.jmodel.specs.Pool.{entry as entry_of};
-ghost use Rattle.jmodel.specs.PoolAdding.{means_text, means_class as class_means, means_pair as names_mean, pair_means as pair_at_means, means_member as member_means, means_integer, means_long};
+ghost use Rattle.jmodel.specs.format.ClassRules.{same_text as same};
+ghost use Rattle.jmodel.specs.format.Pool.{entry as entry_of};
+ghost use Rattle.jmodel.specs.format.PoolAdding.{means_text, means_class as class_means, means_pair as names_mean, pair_means as pair_at_means, means_member as member_means, means_integer, means_long};
 ghost use Rattle.const_pool.specs.Kinds.{parts_of};
 ghost use Rattle.const_pool.specs.Indexed.{in_order as known_or_behind};
 

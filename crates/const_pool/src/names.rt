@@ -1,6 +1,6 @@
 //! What references to members mean (JVM Specification, Java SE 7, section 4.4.2).
 ghost use Rattle.std.specs.Prelude.{◌≡◌, List, ℕ, option_map, option_copied};
-ghost use Rattle.jmodel.specs.Pool.{pair as pair_of, named as named_of, member_name, class_name as class_of, MemberName};
+ghost use Rattle.jmodel.specs.format.Pool.{pair as pair_of, named as named_of, member_name, class_name as class_of, MemberName};
 
 use crate::pool::Pool;
 use jmodel::{Bytes, Constant};

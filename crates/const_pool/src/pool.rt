@@ -3,11 +3,11 @@ ghost use Rattle.std.specs.Prelude.{◌≡◌, ◌<◌, [], ◌∷◌, ◌++◌,
 ghost use Rattle.jmodel.specs.declared.class_file.Constant.TheVariants.{Second};
 ghost use Rattle.jmodel.specs.declared.refusal.Halt.TheVariants as halts;
 ghost use Rattle.jmodel.specs.declared.refusal.Refusal.TheVariants.{PoolFull};
-ghost use Rattle.jmodel.specs.PoolAdding.{Puts, IsLonger, put as put_entries};
-ghost use Rattle.jmodel.specs.Reading.{Gives};
+ghost use Rattle.jmodel.specs.format.PoolAdding.{Puts, IsLonger, put as put_entries};
+ghost use Rattle.jmodel.specs.format.Reading.{Gives};
 ghost use Rattle.const_pool.specs.Indexed.{IsIndexed};
-ghost use Rattle.jmodel.specs.Pool.{entry, utf8 as text_of, class_name as class_of, member_name, MemberName};
-ghost use Rattle.jmodel.specs.PoolReading.{entry_at, utf8_at, class_at, name_and_type_at};
+ghost use Rattle.jmodel.specs.format.Pool.{entry, utf8 as text_of, class_name as class_of, member_name, MemberName};
+ghost use Rattle.jmodel.specs.format.PoolReading.{entry_at, utf8_at, class_at, name_and_type_at};
 
 use crate::by_index;
 use crate::index::Index;
@@ -178,7 +178,7 @@ impl Pool {
     }
 
     /// The bytes of an index that is to be a Utf8's, else refused as BadIndex or WrongKind.
-    #[tactic(auto, unfolding(jmodel::specs::PoolReading::utf8_at))]
+    #[tactic(auto, unfolding(jmodel::specs::format::PoolReading::utf8_at))]
     pub fn utf8_at(&self, i: u16) -> Result<&Bytes, Halt>
         ensures { Gives (λ b. b.now) result (utf8_at self.now i) }
     {
@@ -189,7 +189,7 @@ impl Pool {
     }
 
     /// The name's index of an index that is to be a Class's, else refused as BadIndex or WrongKind.
-    #[tactic(auto, unfolding(jmodel::specs::PoolReading::class_at))]
+    #[tactic(auto, unfolding(jmodel::specs::format::PoolReading::class_at))]
     pub fn class_at(&self, i: u16) -> Result<u16, Halt>
         ensures { Gives (λ n. n) result (class_at self.now i) }
     {
@@ -200,7 +200,7 @@ impl Pool {
     }
 
     /// The indexes of name and descriptor of an index that is to be a NameAndType's, else refused as BadIndex or WrongKind.
-    #[tactic(auto, unfolding(jmodel::specs::PoolReading::name_and_type_at))]
+    #[tactic(auto, unfolding(jmodel::specs::format::PoolReading::name_and_type_at))]
     pub fn name_and_type_at(&self, i: u16) -> Result<(u16, u16), Halt>
         ensures { Gives (λ p. p) result (name_and_type_at self.now i) }
     {

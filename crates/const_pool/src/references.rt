@@ -2,11 +2,11 @@
 //! each is judged once.
 ghost use Rattle.std.specs.Prelude.{◌≡◌, ℕ, ◌+◌, ◌-◌, Bool, if◌then◌else◌, List, ◌++◌, length, drop, Ok, IfOk};
 ghost use Rattle.std.specs.List.{flat_map};
-ghost use Rattle.jmodel.specs.ClassFile.{Pool as Form, u2, constant as spelled, constants as spelled_all};
-ghost use Rattle.jmodel.specs.Reading.{Gives};
-ghost use Rattle.jmodel.specs.PoolReading.{want_descriptor as wanted, member_fits as member, name_fits as name_of, pair_fits as pair, text_fits as text, constant_fits as constant, all_fit as all, pool_at};
-ghost use Rattle.jmodel.specs.DescriptorReading.{is_field_descriptor as is_field, is_method_descriptor as is_method};
-ghost use Rattle.jmodel.specs.ClassRules.{IsPool};
+ghost use Rattle.jmodel.specs.format.ClassFile.{Pool as Form, u2, constant as spelled, constants as spelled_all};
+ghost use Rattle.jmodel.specs.format.Reading.{Gives};
+ghost use Rattle.jmodel.specs.format.PoolReading.{want_descriptor as wanted, member_fits as member, name_fits as name_of, pair_fits as pair, text_fits as text, constant_fits as constant, all_fit as all, pool_at};
+ghost use Rattle.jmodel.specs.format.DescriptorReading.{is_field_descriptor as is_field, is_method_descriptor as is_method};
+ghost use Rattle.jmodel.specs.format.ClassRules.{IsPool};
 ghost use Rattle.const_pool.specs.Uses.{use_of, uses_of, use_at};
 
 use crate::constants::entries_at;
@@ -93,7 +93,7 @@ pub fn want_descriptor(fits: bool, i: u16) -> Result<(), Halt>
 }
 
 // A class, and a NameAndType for a field or a method.
-#[tactic(auto, using(crate::proofs::Uses::uses), unfolding(jmodel::specs::PoolReading::member_fits))]
+#[tactic(auto, using(crate::proofs::Uses::uses), unfolding(jmodel::specs::format::PoolReading::member_fits))]
 fn member_fits(
     pool: &Pool,
     known: &Descriptors,
@@ -116,7 +116,7 @@ fn member_fits(
     }
 }
 
-#[tactic(auto, using(crate::proofs::Uses::read_uses), unfolding(jmodel::specs::PoolReading::name_fits))]
+#[tactic(auto, using(crate::proofs::Uses::read_uses), unfolding(jmodel::specs::format::PoolReading::name_fits))]
 fn name_fits(pool: &Pool, known: &Descriptors, name: u16) -> Result<(), Halt>
     requires { known.now ≡ uses_of pool.now }
     ensures { Gives (λ x. x) result (name_of pool.now name) }
@@ -128,7 +128,7 @@ fn name_fits(pool: &Pool, known: &Descriptors, name: u16) -> Result<(), Halt>
     want_descriptor(known.is_field(name), name)
 }
 
-#[tactic(auto, using(crate::proofs::Uses::read_uses), unfolding(jmodel::specs::PoolReading::pair_fits))]
+#[tactic(auto, using(crate::proofs::Uses::read_uses), unfolding(jmodel::specs::format::PoolReading::pair_fits))]
 fn pair_fits(pool: &Pool, known: &Descriptors, name: u16, descriptor: u16) -> Result<(), Halt>
     requires { known.now ≡ uses_of pool.now }
     ensures { Gives (λ x. x) result (pair pool.now name descriptor) }
@@ -139,7 +139,7 @@ fn pair_fits(pool: &Pool, known: &Descriptors, name: u16, descriptor: u16) -> Re
     want_descriptor(fits, descriptor)
 }
 
-#[tactic(auto, unfolding(jmodel::specs::PoolReading::text_fits))]
+#[tactic(auto, unfolding(jmodel::specs::format::PoolReading::text_fits))]
 fn text_fits(pool: &Pool, i: u16) -> Result<(), Halt>
     ensures { Gives (λ x. x) result (text pool.now i) }
 {
@@ -174,7 +174,7 @@ pub fn all_fit(alloc: Global, pool: &Pool) -> Result<(), Halt>
     Ok(())
 }
 
-#[tactic(auto, unfolding(jmodel::specs::PoolReading::pool_at))]
+#[tactic(auto, unfolding(jmodel::specs::format::PoolReading::pool_at))]
 fn read_pool(alloc: Global, bytes: &[u8], at: usize) -> Result<(Pool, usize), Halt>
     ensures { Gives (λ x. x) result (pool_at bytes.now at) }
 {

@@ -2,9 +2,9 @@
 ghost use Rattle.std.specs.Prelude.{◌≡◌, List, ℕ, pos, IfOk, Ok, option_map};
 ghost use Rattle.jmodel.specs.declared.class_file.FieldType.{FieldType as Form};
 ghost use Rattle.jmodel.specs.declared.refusal.Refusal.TheVariants.{BadDescriptor};
-ghost use Rattle.jmodel.specs.Descriptor.{Signature, DescribesMethod};
-ghost use Rattle.jmodel.specs.Reading.{Gives};
-ghost use Rattle.jmodel.specs.DescriptorReading.{type_of as type_in, types_at, signature_of, signature_or};
+ghost use Rattle.jmodel.specs.format.Descriptor.{Signature, DescribesMethod};
+ghost use Rattle.jmodel.specs.format.Reading.{Gives};
+ghost use Rattle.jmodel.specs.format.DescriptorReading.{type_of as type_in, types_at, signature_of, signature_or};
 ghost use Rattle.const_pool.specs.Results.{void, result_in, made_of};
 
 use crate::descriptor::{base, closing, is_array_name, is_method_descriptor, type_rest};
@@ -20,7 +20,7 @@ pub struct Descriptor {
 }
 
 impl Model for Descriptor {
-    ghost use Rattle.jmodel.specs.Descriptor.{Signature as Form};
+    ghost use Rattle.jmodel.specs.format.Descriptor.{Signature as Form};
 
     ghost Value = { Form };
 
@@ -28,7 +28,7 @@ impl Model for Descriptor {
 }
 
 // The type of a whole descriptor.
-#[tactic(auto, unfolding(jmodel::specs::DescriptorReading::type_of))]
+#[tactic(auto, unfolding(jmodel::specs::format::DescriptorReading::type_of))]
 fn type_of(alloc: Global, text: &[u8]) -> Result<FieldType, AllocError>
     ensures { IfOk result (λ t. t ≡ type_in text.now) }
 {

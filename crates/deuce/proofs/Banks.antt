@@ -4,19 +4,19 @@ use Rattle.std.specs.Prelude.{String}
 use Rattle.std.specs.declared.alloc.Global.{Global}
 use Rattle.deuce_io.specs.Seen.{Seen}
 use Rattle.jmodel.specs.declared.refusal.Refusal.{Refusal}
-use Rattle.jmodel.specs.ClassFile.{ClassFile}
+use Rattle.jmodel.specs.format.ClassFile.{ClassFile}
 use Rattle.bankgen.specs.declared.figures.Figures.{Figures}
 use Rattle.bankgen.specs.Workload.{workload}
-use Rattle.object_run.specs.Headline.{CanRun}
-use Rattle.object_run.specs.Faults.{IsBadProgram, IsUntypable, IsBadScript, IsUnopened, EndsRun}
-use Rattle.object_run.proofs.Complete.{no_bad_program, all_typed, good_script, opens}
+use Rattle.runner.specs.Headline.{CanRun}
+use Rattle.runner.specs.Faults.{IsBadProgram, IsUntypable, IsBadScript, IsUnopened, EndsRun}
+use Rattle.runner.proofs.Complete.{no_bad_program, all_typed, good_script, opens}
 use Rattle.deuce.specs.Command.{AsksBank}
 use Rattle.deuce.specs.Bank.{IsWorkload, IsOutside, OfBank}
 use Rattle.deuce.specs.declared.outcome.Outcome.{Outcome}
 use Rattle.deuce.specs.declared.outcome.Outcome.TheVariants.{Journal, Summary, Rewritten, Usage, BadClass, BadProgram, Untyped, BadScript, Unopened, Outside, NotPut}
 use Rattle.deuce.specs.Outcomes.{Says, IsRefusedAs, IsOutcome, FailedOutside, CanRunBankOfWords, IsOutsideOfWords, IsBankRunOrFailed, IsOutsideOrFailed, status_of}
-use Rattle.object_run.specs.declared.outcome.RunEnd.{RunEnd}
-use Rattle.object_run.specs.declared.outcome.RunEnd.TheVariants as run_ends
+use Rattle.runner.specs.declared.outcome.RunEnd.{RunEnd}
+use Rattle.runner.specs.declared.outcome.RunEnd.TheVariants as run_ends
 use Rattle.deuce.proofs.Asked.{one_bank, no_bank}
 
 one_ok : {A : Type 0} (x : Result A Refusal) (p q : A) → x ≡ Ok p → x ≡ Ok q → p ≡ q

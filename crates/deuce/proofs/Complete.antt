@@ -7,15 +7,15 @@ use Rattle.std.proofs.lemmas.List.{take_all}
 use Rattle.deuce_io.specs.Files.{Files, inside}
 use Rattle.jmodel.specs.declared.refusal.Refusal.{Refusal}
 use Rattle.jmodel.specs.declared.value.Answer.{Answer}
-use Rattle.jmodel.specs.ClassFile.{ClassFile}
-use Rattle.jmodel.specs.ClassRules.{Spells}
-use Rattle.objects.specs.Program.{Program}
+use Rattle.jmodel.specs.format.ClassFile.{ClassFile}
+use Rattle.jmodel.specs.format.ClassRules.{Spells}
+use Rattle.objects.specs.semantics.Program.{Program}
 use Rattle.class_reader.proofs.ClassLaws.{class_again}
 use Rattle.deuce.specs.Command.{seen_words, run_words, rewrite_words, IsNoBank, IsNoCommand, NamesFolder}
-use Rattle.object_script.specs.Script.{script_limit}
-use Rattle.object_run.specs.Headline.{IsRunnable, CanRun}
-use Rattle.object_run.specs.Faults.{HasFault, IsBadRewriting, IsUntypable, IsBadScript, IsUnopened}
-use Rattle.object_run.proofs.Complete.{no_bad_program, all_typed, good_script, opens}
+use Rattle.script.specs.Script.{script_limit}
+use Rattle.runner.specs.Headline.{IsRunnable, CanRun}
+use Rattle.runner.specs.Faults.{HasFault, IsBadRewriting, IsUntypable, IsBadScript, IsUnopened}
+use Rattle.runner.proofs.Complete.{no_bad_program, all_typed, good_script, opens}
 use Rattle.deuce.specs.Rewritten.{CanRewrite}
 use Rattle.deuce.specs.declared.outcome.Outcome.{Outcome}
 use Rattle.deuce.specs.declared.outcome.Outcome.TheVariants.{Journal, Summary, Rewritten, Usage, BadClass, BadProgram, Untyped, BadScript, Unopened, Outside, NotPut}

@@ -1,9 +1,9 @@
 -- The attributes of a class that bytes spell hold bytes.
 use Rattle.std.proofs.Common.{ℕ, zero, suc, List, [], ◌∷◌, ◌++◌, length, subst, arith}
 use Rattle.std.specs.List.{flat_map, AllByRecursion}
-use Rattle.jmodel.specs.ClassFile.{u2, u4, magic, constants, indexes, attribute, attributes, member, members, Attribute, Member, ClassFile}
-use Rattle.jmodel.specs.ClassRules.{Spells}
-use Rattle.object_rewriter.specs.Asked.{AreBytes, HasBytes, AreFiled}
+use Rattle.jmodel.specs.format.ClassFile.{u2, u4, magic, constants, indexes, attribute, attributes, member, members, Attribute, Member, ClassFile}
+use Rattle.jmodel.specs.format.ClassRules.{Spells}
+use Rattle.rewriter.specs.Asked.{AreBytes, HasBytes, AreFiled}
 
 behind : (xs ys : List ℕ) → AreBytes (xs ++ ys) → AreBytes ys
 behind [] ys h i = h i

@@ -12,7 +12,7 @@ use Rattle.std.proofs.lemmas.Cmp.{nat_list_cmp_total}
 use Rattle.std.proofs.lemmas.List.{length-map, get_or-map}
 use Rattle.std.proofs.lemmas.Map.Keys.{Less-from_sorted}
 use Rattle.deuce_io.specs.Files.{Files}
-use Rattle.jmodel.specs.Classes.{is_before}
+use Rattle.objects.specs.linking.Classes.{is_before}
 use Rattle.deuce.specs.Folder.{AreClassPaths}
 use Rattle.deuce.specs.Listing.{seen_texts}
 

@@ -4,7 +4,7 @@ use Rattle.std.specs.Prelude.{string_bytes, Contains}
 use Rattle.std.specs.List.{AllByRecursion, AllZip}
 use Rattle.std.proofs.lemmas.Option.{slice_get_read}
 use Rattle.jmodel.specs.declared.refusal.Refusal.{Refusal}
-use Rattle.jmodel.specs.ClassFile.{ClassFile}
+use Rattle.jmodel.specs.format.ClassFile.{ClassFile}
 use Rattle.deuce.specs.declared.inputs.ClassInput.{ClassInput}
 use Rattle.deuce.specs.Folder.{helper_path}
 use Rattle.deuce.specs.Ending.{paths_of, IsHelperAt, EndsReserved}

@@ -3,8 +3,8 @@ use Rattle.std.proofs.Common.{◌≡◌, ℕ, ◌+◌, ◌<◌, ◌≤◌, Bool,
 use Rattle.std.specs.Prelude.{filter}
 use Rattle.std.specs.Int.{from_bool}
 use Rattle.std.proofs.lemmas.List.Elements.{filter_more}
-use Rattle.objects.specs.Journal.{is_marked}
-use Rattle.objects.specs.Program.{Method}
+use Rattle.objects.specs.history.Journal.{is_marked}
+use Rattle.objects.specs.semantics.Program.{Method}
 
 -- so many are as one more method is looked at
 pub marked_more : (ks : List Method) (i n m : ℕ) (k : Method) → i < length ks → k ≡ get_or ks i k → n ≡ length (filter is_marked (take i ks)) → m ≡ from_bool (is_marked k)

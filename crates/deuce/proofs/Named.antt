@@ -10,10 +10,11 @@ use Rattle.std.specs.Cmp.Lexicographic.{slice_cmp}
 use Rattle.std.proofs.lemmas.List.{map-append, reverse-append}
 use Rattle.std.proofs.lemmas.Slice.Eq.{bytes_eq-Decides}
 use Rattle.std.proofs.lemmas.Map.Text.{is_eq-slice_cmp}
-use Rattle.jmodel.specs.ClassFile.{ClassFile}
-use Rattle.jmodel.specs.Superclasses.{own_name, class_named}
-use Rattle.jmodel.specs.Classes.{is_before, placed, in_order}
-use Rattle.objects.specs.Program.{Program}
+use Rattle.jmodel.specs.format.ClassFile.{ClassFile}
+use Rattle.objects.specs.linking.Members.{own_name}
+use Rattle.objects.specs.linking.Superclasses.{class_named}
+use Rattle.objects.specs.linking.Classes.{is_before, placed, in_order}
+use Rattle.objects.specs.semantics.Program.{Program}
 use Rattle.rewritten_names.specs.Heads.{Rewrites}
 use Rattle.deuce.specs.Ending.{AreUnderNames}
 use Rattle.deuce.proofs.Lists.{all_as}

@@ -2,9 +2,9 @@
 use Rattle.std.proofs.Common.{List, [], ◌∷◌, Bool, true, false}
 use Rattle.std.specs.Prelude.{if◌then◌else◌}
 use Rattle.std.specs.List.{AllByRecursion}
-use Rattle.jmodel.specs.ClassFile.{ClassFile}
-use Rattle.jmodel.specs.Superclasses.{own_name}
-use Rattle.jmodel.specs.Classes.{is_before, placed, in_order}
+use Rattle.jmodel.specs.format.ClassFile.{ClassFile}
+use Rattle.objects.specs.linking.Members.{own_name}
+use Rattle.objects.specs.linking.Classes.{is_before, placed, in_order}
 
 module _ (Q : ClassFile → Type 0) where
   all_placed : (c : ClassFile) (cs : List ClassFile) → Q c → AllByRecursion Q cs → AllByRecursion Q (placed c cs)

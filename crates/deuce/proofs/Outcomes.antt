@@ -7,16 +7,16 @@ use Rattle.deuce_io.specs.Files.{Files}
 use Rattle.deuce_io.specs.Seen.{Seen}
 use Rattle.jmodel.specs.declared.refusal.Refusal.{Refusal}
 use Rattle.jmodel.specs.declared.value.Answer.{Answer}
-use Rattle.jmodel.specs.ClassFile.{ClassFile}
+use Rattle.jmodel.specs.format.ClassFile.{ClassFile}
 use Rattle.deuce.specs.Command.{seen_words, rewrite_words, NamesFolder}
 use Rattle.deuce.specs.declared.inputs.ClassInput.{ClassInput}
 use Rattle.deuce.specs.declared.inputs.InputEnd.{InputEnd}
 use Rattle.deuce.specs.declared.inputs.InputEnd.TheVariants as ends
 use Rattle.deuce.specs.declared.putting.PutEnd.{PutEnd}
 use Rattle.deuce.specs.declared.putting.PutEnd.TheVariants as put_ends
-use Rattle.object_run.specs.Faults.{HasFault, IsBadRewriting, IsUntypable, IsBadScript, IsUnopened, EndsRun, EndsPreparing}
-use Rattle.object_run.specs.declared.outcome.RunEnd.{RunEnd}
-use Rattle.object_run.specs.declared.outcome.RunEnd.TheVariants as run_ends
+use Rattle.runner.specs.Faults.{HasFault, IsBadRewriting, IsUntypable, IsBadScript, IsUnopened, EndsRun, EndsPreparing}
+use Rattle.runner.specs.declared.outcome.RunEnd.{RunEnd}
+use Rattle.runner.specs.declared.outcome.RunEnd.TheVariants as run_ends
 use Rattle.deuce.specs.declared.outcome.Outcome.{Outcome}
 use Rattle.deuce.specs.declared.outcome.Outcome.TheVariants as outcomes
 use Rattle.deuce.specs.Folder.{IsOverfull, HasClasses, LacksHelper, placed_with, ArePutUpTo}

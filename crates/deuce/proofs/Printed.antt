@@ -4,7 +4,7 @@ use Rattle.std.specs.Prelude.{String, string_bytes, codes}
 use Rattle.std.specs.declared.alloc.Global.{Global}
 use Rattle.jmodel.specs.declared.refusal.Refusal.{Refusal}
 use Rattle.jmodel.specs.declared.value.Answer.{Answer}
-use Rattle.jmodel.specs.Output.{◌and◌, answer_text, refusal_text, error_text}
+use Rattle.jmodel.specs.history.Output.{◌and◌, answer_text, refusal_text, error_text}
 use Rattle.deuce.specs.Command.{seen_words, run_words, rewrite_words, AsksBank}
 use Rattle.deuce.specs.Rewritten.{counts_text}
 use Rattle.deuce.specs.declared.outcome.Outcome.{Outcome}

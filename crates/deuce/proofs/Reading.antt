@@ -6,14 +6,14 @@ use Rattle.std.proofs.lemmas.List.{length-map, length-take, take_all, map-append
 use Rattle.deuce_io.specs.Files.{Files, inside}
 use Rattle.jmodel.specs.declared.refusal.Refusal.{Refusal}
 use Rattle.jmodel.specs.declared.value.Answer.{Answer}
-use Rattle.jmodel.specs.ClassFile.{ClassFile}
-use Rattle.jmodel.specs.ClassRules.{IsClassFile}
+use Rattle.jmodel.specs.format.ClassFile.{ClassFile}
+use Rattle.jmodel.specs.format.ClassRules.{IsClassFile}
 use Rattle.deuce.specs.declared.inputs.ClassInput.{ClassInput}
 use Rattle.deuce.specs.declared.inputs.Inputs.{Inputs}
-use Rattle.object_run.specs.Headline.{IsRunOf}
-use Rattle.object_run.specs.Faults.{HasFault, IsUnopened}
+use Rattle.runner.specs.Headline.{IsRunOf}
+use Rattle.runner.specs.Faults.{HasFault, IsUnopened}
 use Rattle.deuce.specs.Rewritten.{IsRewriting}
-use Rattle.object_script.specs.Script.{script_limit}
+use Rattle.script.specs.Script.{script_limit}
 use Rattle.deuce.specs.Folder.{class_limit, HoldsClasses, HoldsContents, IsFrontOf, Holds, IsFileOf, IsGoodFile, HasClasses, IsBadClass, helper_path, LacksHelper, AreClassPaths, with_files, placed_with, ArePutUpTo}
 use Rattle.deuce.proofs.Lists.{all_at}
 use Rattle.deuce.specs.Ending.{IsClassInput, AreClassInputs, AreInputs, paths_of, AreClassesOf, IsFirstFault, AreLinked, HasBadClasses, IsHelperAmong, IsReservedAs, IsJournalOf, AreRewritten, IsRewritingOf, StopsAt, HasUnopened}

@@ -5,18 +5,18 @@ use Rattle.std.specs.List.{AllZip}
 use Rattle.jmodel.specs.declared.typing.VType.TheVariants.{UninitThis}
 use Rattle.objects.specs.declared.op.Op.{Op}
 use Rattle.objects.specs.declared.op.Op.TheVariants.{PutField}
-use Rattle.objects.specs.Program.{Field, Method, Program, has_code, field_at, method_at}
-use Rattle.objects.specs.Source.{IsSourceMethod, IsSource}
-use Rattle.objects.specs.Typing.{Types, Table, types_at}
-use Rattle.objects.specs.TypingLaw.{IsRewritable}
-use Rattle.objects.specs.Rewriting.{places_of, rewritten}
+use Rattle.objects.specs.semantics.Program.{Field, Method, Program, has_code, field_at, method_at}
+use Rattle.objects.specs.typing.Source.{IsSourceMethod, IsSource}
+use Rattle.objects.specs.typing.Typing.{Types, Table, types_at}
+use Rattle.objects.specs.laws.TypingLaw.{IsRewritable}
+use Rattle.objects.specs.rewriting.Rewriting.{word_places, rewritten}
 use Rattle.objects.proofs.DuplicateTypes.{duplicate_typable}
 use Rattle.objects.proofs.NarrowestTypes.{narrowest_known}
 use Rattle.objects.proofs.RewritingTypes.{rewriting_typable}
 use Rattle.program_typing.specs.Early.{is_this, is_early_over, is_early, early_from}
 use Rattle.program_typing.specs.Tables.{IsNarrowTyping, IsTableOf, AreTables}
 use Rattle.program_typing.specs.Typed.{IsLate, IsTyped}
-use Rattle.object_run.proofs.Readying.{typed_program}
+use Rattle.runner.proofs.Readying.{typed_program}
 use Rattle.deuce.specs.Rewritten.{AreTypable}
 use Rattle.deuce.proofs.Lists.{all_at}
 
@@ -31,14 +31,14 @@ not_early P T pc (x ∷ os) i j o none there at = go i (is_early P (types_at T p
     go zero false e later none there at = let same : x ≡ o = cc in let here : j ≡ pc = omega (arith, at) in rw (here, sym same) e
     go (suc i) false e later none there at = later i none there (omega (arith, at))
 
-late_over : (f : Option Field) (h : Option Types) (g : Field) (types : Types) → f ≡ Some g → h ≡ Some types → is_early_over f h ≡ false → slice_get types.stack (places_of g.declared.word) ≡ Some UninitThis → ⊥
+late_over : (f : Option Field) (h : Option Types) (g : Field) (types : Types) → f ≡ Some g → h ≡ Some types → is_early_over f h ≡ false → slice_get types.stack (word_places g.declared.word) ≡ Some UninitThis → ⊥
 late_over None h g types is too none this = cc
 late_over (Some f) None g types is too none this = cc
 late_over (Some f) (Some h) g types is too none this =
     let field : f ≡ g = cc in
     let same : h ≡ types = cc in
-    let test : is_this (slice_get types.stack (places_of g.declared.word)) ≡ false = rw (field, same) at none in
-    let yes : is_this (slice_get types.stack (places_of g.declared.word)) ≡ true = ap is_this this in
+    let test : is_this (slice_get types.stack (word_places g.declared.word)) ≡ false = rw (field, same) at none in
+    let yes : is_this (slice_get types.stack (word_places g.declared.word)) ≡ true = ap is_this this in
     cc
 
 narrow : (P : Program) (k : Method) (T : Table) → has_code (Some k) ≡ true → IsTableOf P k T → IsNarrowTyping P k T

@@ -2,8 +2,8 @@
 use Rattle.std.proofs.Common.{◌≡◌, ◌≤◌, ℕ, List, length, Ok, Err, Result, refl, ap, sym, arith}
 use Rattle.std.specs.Prelude.{codes}
 use Rattle.jmodel.specs.declared.refusal.Refusal.{Refusal}
-use Rattle.jmodel.specs.ClassFile.{ClassFile}
-use Rattle.jmodel.specs.Reading.{◌>>=◌}
+use Rattle.jmodel.specs.format.ClassFile.{ClassFile}
+use Rattle.jmodel.specs.format.Reading.{◌>>=◌}
 use Rattle.bankgen.specs.Workload.{workload, within, classes}
 use Rattle.bankgen.specs.Script.{script_text}
 

@@ -3,19 +3,20 @@ use Rattle.std.proofs.Common.{◌≡◌, ◌<◌, ◌∙◌, ℕ, List, [], ◌�
 use Rattle.std.specs.Prelude.{filter, IsSome}
 use Rattle.std.specs.List.{AllByRecursion, AllZip}
 use Rattle.std.proofs.lemmas.List.{length-append}
-use Rattle.jmodel.specs.ClassFile.{ClassFile}
-use Rattle.jmodel.specs.ClassRules.{IsClassFile, Spells}
-use Rattle.jmodel.specs.Superclasses.{own_name, class_named}
-use Rattle.jmodel.specs.Classes.{in_order}
-use Rattle.objects.specs.Journal.{is_marked}
-use Rattle.objects.specs.LinkingLaw.{IsLinkedFolder}
-use Rattle.objects.specs.Program.{Program}
+use Rattle.jmodel.specs.format.ClassFile.{ClassFile}
+use Rattle.jmodel.specs.format.ClassRules.{IsClassFile, Spells}
+use Rattle.objects.specs.linking.Members.{own_name}
+use Rattle.objects.specs.linking.Superclasses.{class_named}
+use Rattle.objects.specs.linking.Classes.{in_order}
+use Rattle.objects.specs.history.Journal.{is_marked}
+use Rattle.objects.specs.laws.LinkingLaw.{IsLinkedFolder}
+use Rattle.objects.specs.semantics.Program.{Program}
 use Rattle.program_typing.specs.Typed.{IsTyped}
-use Rattle.object_rewriter.specs.Asked.{AreFiled}
+use Rattle.rewriter.specs.Asked.{AreFiled}
 use Rattle.rewritten_form.specs.FormLaw.{FormLaw}
 use Rattle.rewritten_program.specs.Keeps.{IsFolder, HeadsLaw}
 use Rattle.rewritten_program.specs.Meaning.{MeaningLaw}
-use Rattle.object_run.specs.Headline.{linked_files, IsInstrumented}
+use Rattle.runner.specs.Headline.{linked_files, IsInstrumented}
 use Rattle.deuce.specs.Folder.{IsFileOf}
 use Rattle.deuce.specs.Rewritten.{IsNewOf, IsNewHelper, IsRewriting}
 use Rattle.deuce.proofs.Named.{all_named}

@@ -2,14 +2,14 @@
 use Rattle.std.specs.Prelude.{◌≡◌, ◌⊎◌, ℕ, List, length, Ok, Err, codes}
 use Rattle.jmodel.specs.declared.refusal.Refusal.{Refusal}
 use Rattle.jmodel.specs.declared.value.Answer.{Answer}
-use Rattle.jmodel.specs.ClassFile.{ClassFile}
-use Rattle.jmodel.specs.Schedule.{Made}
-use Rattle.objects.specs.Program.{Program}
+use Rattle.jmodel.specs.format.ClassFile.{ClassFile}
+use Rattle.jmodel.specs.history.Schedule.{Made}
+use Rattle.objects.specs.semantics.Program.{Program}
 use Rattle.bankgen.specs.declared.figures.Figures.{Figures}
 use Rattle.bankgen.specs.Summary.{summary_text}
 use Rattle.bankgen.specs.Workload.{workload}
-use Rattle.object_run.specs.Headline.{AreCallsOfRun, CanRun, answer_in}
-use Rattle.object_run.specs.Faults.{IsBadProgram, IsUntypable, IsBadScript, IsUnopened}
+use Rattle.runner.specs.Headline.{AreCallsOfRun, CanRun, IsRunnable, answer_in}
+use Rattle.runner.specs.Faults.{IsBadProgram, IsUntypable, IsBadScript, IsUnopened}
 
 -- the classes and the script of a bank of these numbers
 abbrev pub IsWorkload : Figures → List ClassFile → List ℕ → Type 0
@@ -23,7 +23,7 @@ IsOutside f r = workload f.seed f.accounts f.calls f.lanes ≡ Err r
 abbrev pub OfBank : Figures → (List ClassFile → List ℕ → Type 0) → Type 0
 OfBank f Holding = (files : List ClassFile) × (script : List ℕ) × IsWorkload f files script × Holding files script
 
--- The text is the summary of a run of a bank's script on its classes, as `run` makes runs; the total is the call of phase 1.
+-- The text is the summary of a run of a bank's script on its classes, which can be run, as `run` makes runs; the total is the call of phase 1.
 pub record IsSummaryOf (f : Figures) (text : List ℕ) : Type 0 where
   pub files : List ClassFile
   pub script : List ℕ
@@ -33,6 +33,7 @@ pub record IsSummaryOf (f : Figures) (text : List ℕ) : Type 0 where
   pub unplaced : List Made
   pub are_calls : AreCallsOfRun files script program placed unplaced
   pub is_text : text ≡ summary_text f (codes "tl2") (length placed) (length unplaced) (answer_in 1 placed)
+  pub lawful : IsRunnable files program
 
 -- why a bank is refused: one of its numbers is outside its limits, or `run` would refuse its classes so
 abbrev pub IsBadBank : Figures → Refusal → Type 0

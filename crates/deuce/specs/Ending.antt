@@ -13,12 +13,13 @@ use Rattle.jmodel.specs.declared.refusal.Refusal.{Refusal}
 use Rattle.jmodel.specs.declared.refusal.Halt.{Halt}
 use Rattle.jmodel.specs.declared.refusal.Halt.TheVariants as halts
 use Rattle.jmodel.specs.declared.refusal.Refusal.TheVariants.{OverLimit, ReservedName}
-use Rattle.jmodel.specs.ClassFile.{ClassFile}
+use Rattle.jmodel.specs.format.ClassFile.{ClassFile}
 use Rattle.jmodel.specs.declared.value.Answer.{Answer}
-use Rattle.jmodel.specs.Superclasses.{own_name, class_named}
-use Rattle.object_script.specs.Script.{script_limit}
-use Rattle.object_run.specs.Headline.{linked_files, CanRun}
-use Rattle.object_run.specs.Faults.{HasFault, IsBadRewriting, IsUntypable, IsBadScript, IsUnopened}
+use Rattle.objects.specs.linking.Members.{own_name}
+use Rattle.objects.specs.linking.Superclasses.{class_named}
+use Rattle.script.specs.Script.{script_limit}
+use Rattle.runner.specs.Headline.{linked_files, CanRun}
+use Rattle.runner.specs.Faults.{HasFault, IsBadRewriting, IsUntypable, IsBadScript, IsUnopened}
 use Rattle.deuce.specs.Folder.{IsClassFileName, depth, helper_path, LacksHelper, class_limit, IsFolder, HoldsClasses, IsTooDeep, IsOverfull, IsFrontOf, Holds, HoldsContents, IsFileFault, IsFileOf, IsGoodFile, HasClasses, with_files, placed_with, ArePutUpTo}
 use Rattle.deuce.specs.Headline.{IsRun}
 use Rattle.deuce.specs.Rewritten.{IsRewriting, CanRewrite}

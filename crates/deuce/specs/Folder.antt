@@ -5,10 +5,10 @@ use Rattle.std.specs.List.{AllPairs, AllZip}
 use Rattle.deuce_io.specs.Files.{Files, inside, with_content}
 use Rattle.jmodel.specs.declared.refusal.Refusal.{Refusal}
 use Rattle.jmodel.specs.declared.refusal.Refusal.TheVariants.{OverLimit}
-use Rattle.jmodel.specs.ClassFile.{ClassFile}
-use Rattle.jmodel.specs.ClassRules.{Spells}
-use Rattle.jmodel.specs.ClassFileReading.{class_file_of}
-use Rattle.jmodel.specs.Classes.{is_before}
+use Rattle.jmodel.specs.format.ClassFile.{ClassFile}
+use Rattle.jmodel.specs.format.ClassRules.{Spells}
+use Rattle.jmodel.specs.format.ClassFileReading.{class_file_of}
+use Rattle.objects.specs.linking.Classes.{is_before}
 
 -- ---- paths
 
@@ -32,8 +32,8 @@ helper_path = codes "org/deuce/transaction/ArrayHelper.class"
 abbrev pub LacksHelper : Option Files → List ℕ → Type 0
 LacksHelper files dir = ForSome files (λ told. told (inside dir helper_path) ≡ None)
 
--- These are the paths from a folder to the class files under it, each once, in the ascending order of their bytes; and no file under it lies in a
--- folder more than 16 levels down.
+-- These are the paths from a folder to the class files under it, each once, in the ascending order of their bytes. No file under it lies in a folder
+-- more than 16 levels down.
 pub record AreClassPaths (told : Files) (dir : List ℕ) (paths : List (List ℕ)) : Type 0 where
   pub shallow : (path : List ℕ) → IsSome (told (inside dir path)) → depth path ≤ 16
   pub each : (path : List ℕ) → Contains paths path ↔ (IsSome (told (inside dir path)) × IsClassFileName path)

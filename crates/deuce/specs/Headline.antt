@@ -1,8 +1,8 @@
 -- What a run promises: its answers are those of the original methods, called one after another.
 use Rattle.std.specs.Prelude.{ℕ, List}
 use Rattle.std.specs.List.{AllZip}
-use Rattle.jmodel.specs.ClassFile.{ClassFile}
-use Rattle.object_run.specs.Headline.{IsRunOf}
+use Rattle.jmodel.specs.format.ClassFile.{ClassFile}
+use Rattle.runner.specs.Headline.{IsRunOf}
 use Rattle.deuce.specs.Folder.{IsFileOf}
 
 -- The text is the journal of a run of a script on class files, each given by its bytes and within its limit, that can be run: each call of the

@@ -6,7 +6,7 @@ use Rattle.deuce_io.specs.Files.{Files, inside}
 use Rattle.deuce_io.specs.Seen.{Seen}
 use Rattle.jmodel.specs.declared.refusal.Refusal.{Refusal}
 use Rattle.jmodel.specs.declared.value.Answer.{Answer}
-use Rattle.jmodel.specs.Output.{◌and◌, answer_text, refusal_text, error_text}
+use Rattle.jmodel.specs.history.Output.{◌and◌, answer_text, refusal_text, error_text}
 use Rattle.deuce.specs.Command.{seen_words, run_words, rewrite_words, AsksBank, IsNoCommand, NamesFolder}
 use Rattle.deuce.specs.Bank.{IsSummaryOf, IsOutside, IsBadBank, IsUntypableBank, IsBadBankScript, IsUnopenedBank, CanRunBank}
 use Rattle.bankgen.specs.declared.figures.Figures.{Figures}
@@ -17,8 +17,8 @@ use Rattle.deuce.specs.declared.inputs.InputEnd.{InputEnd}
 use Rattle.deuce.specs.declared.inputs.InputEnd.TheVariants as ends
 use Rattle.deuce.specs.declared.putting.PutEnd.{PutEnd}
 use Rattle.deuce.specs.declared.putting.PutEnd.TheVariants as put_ends
-use Rattle.object_run.specs.declared.outcome.RunEnd.{RunEnd}
-use Rattle.object_run.specs.declared.outcome.RunEnd.TheVariants as run_ends
+use Rattle.runner.specs.declared.outcome.RunEnd.{RunEnd}
+use Rattle.runner.specs.declared.outcome.RunEnd.TheVariants as run_ends
 use Rattle.deuce.specs.declared.outcome.Outcome.{Outcome}
 use Rattle.deuce.specs.declared.outcome.Outcome.TheVariants.{Journal, Summary, Rewritten, Usage, BadClass, BadProgram, Untyped, BadScript, Unopened, Outside, NotPut}
 

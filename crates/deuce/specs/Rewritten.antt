@@ -2,19 +2,20 @@
 use Rattle.std.specs.Prelude.{◌≡◌, ℕ, List, [], ◌∷◌, ◌++◌, length, filter, Some, Ok, true, codes}
 use Rattle.std.specs.List.{AllZip}
 use Rattle.std.specs.Fmt.{decimal}
-use Rattle.jmodel.specs.ClassFile.{ClassFile}
-use Rattle.jmodel.specs.ClassRules.{Spells}
-use Rattle.jmodel.specs.Superclasses.{own_name, class_named}
-use Rattle.jmodel.specs.Classes.{in_order}
-use Rattle.jmodel.specs.Output.{◌and◌, line}
-use Rattle.objects.specs.Program.{Method, Program, method_at, has_code}
-use Rattle.objects.specs.Journal.{is_marked}
-use Rattle.objects.specs.Typing.{Table, IsTypable}
-use Rattle.objects.specs.Rewriting.{rewritten}
-use Rattle.objects.specs.Relinking.{relinked}
+use Rattle.jmodel.specs.format.ClassFile.{ClassFile}
+use Rattle.jmodel.specs.format.ClassRules.{Spells}
+use Rattle.objects.specs.linking.Members.{own_name}
+use Rattle.objects.specs.linking.Superclasses.{class_named}
+use Rattle.objects.specs.linking.Classes.{in_order}
+use Rattle.jmodel.specs.history.Output.{◌and◌, line}
+use Rattle.objects.specs.semantics.Program.{Method, Program, method_at, has_code}
+use Rattle.objects.specs.history.Journal.{is_marked}
+use Rattle.objects.specs.typing.Typing.{Table, IsTypable}
+use Rattle.objects.specs.rewriting.Rewriting.{rewritten}
+use Rattle.objects.specs.rewriting.Relinking.{relinked}
 use Rattle.array_helper.specs.Helper.{helper_file}
 use Rattle.program_typing.specs.Tables.{AreTables}
-use Rattle.object_run.specs.Headline.{IsRunnable}
+use Rattle.runner.specs.Headline.{IsRunnable}
 use Rattle.deuce.specs.Folder.{IsFileOf}
 
 -- what is printed: how many class files the folder has, how many of their methods are taken, and how many are marked

@@ -9,7 +9,7 @@ use crate::commands::refused;
 use crate::outcome::Outcome;
 use bankgen::{Figures, bank, summary};
 use jmodel::{Halt, NoMemory};
-use object_run::count_calls;
+use runner::count_calls;
 use std::alloc::Global;
 use std::thread::Threads;
 

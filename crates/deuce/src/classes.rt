@@ -1,8 +1,8 @@
 //! The classes that class files spell.
 ghost use Rattle.std.specs.Prelude.{◌≤◌, length, IfOk, IfErr, OnOk};
 ghost use Rattle.std.specs.List.{AllByRecursion};
-ghost use Rattle.jmodel.specs.ClassRules.{Spells};
-ghost use Rattle.object_rewriter.specs.Asked.{AreFiled};
+ghost use Rattle.jmodel.specs.format.ClassRules.{Spells};
+ghost use Rattle.rewriter.specs.Asked.{AreFiled};
 ghost use Rattle.deuce.specs.Folder.{class_limit};
 ghost use Rattle.deuce.specs.Ending.{EndsReading, AreClassesOf, IsBadClassAs, EndsClasses};
 

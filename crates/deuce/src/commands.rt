@@ -12,7 +12,7 @@ use crate::reserved::reserved;
 use crate::rewriting::write_rewriting;
 use deuce_io::Folder;
 use jmodel::NoMemory;
-use object_run::{RunEnd, run_files};
+use runner::{RunEnd, run_files};
 use std::alloc::Global;
 use std::thread::Threads;
 

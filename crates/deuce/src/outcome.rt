@@ -1,12 +1,12 @@
 //! How a command ends, before anything is written.
 ghost use Rattle.std.specs.Prelude.{◌≡◌, ◌++◌, ◌∷◌, [], IfOk, codes};
-ghost use Rattle.jmodel.specs.Output.{◌and◌, answer_text, refusal_text, error_text};
+ghost use Rattle.jmodel.specs.history.Output.{◌and◌, answer_text, refusal_text, error_text};
 ghost use Rattle.deuce.specs.Outcomes.{IsTextOf};
 ghost use Rattle.deuce.specs.Rewritten.{counts_text};
 
 use crate::refusal::push_refusal;
 use jmodel::{Answer, Bytes, Refusal};
-use object_run::push_answer;
+use runner::push_answer;
 use std::alloc::{AllocError, Global};
 
 /// How a command ends.

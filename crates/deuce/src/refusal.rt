@@ -1,10 +1,10 @@
 //! What is printed of a refusal.
 ghost use Rattle.std.specs.Prelude.{◌≡◌, ◌++◌, ◌∷◌, OnOk};
 ghost use Rattle.std.specs.Fmt.{signed_decimal};
-ghost use Rattle.jmodel.specs.Output.{name_of as name_text, details_of, refusal_text};
+ghost use Rattle.jmodel.specs.history.Output.{name_of as name_text, details_of, refusal_text};
 
 use jmodel::{Bytes, Refusal};
-use object_run::{push_number, push_signed};
+use runner::{push_number, push_signed};
 use std::alloc::{AllocError, Global};
 
 /// The number, the name and the details of a refusal, at the end.

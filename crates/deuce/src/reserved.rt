@@ -1,15 +1,15 @@
 //! Class files at the path that rewriting keeps for the helper of arrays.
 ghost use Rattle.std.specs.Prelude.{◌≡◌, ◌≤◌, ◌↔◌, Contains, IsTrue, IfOk, MatchOption, length, string_bytes};
 ghost use Rattle.std.specs.List.{AllByRecursion};
-ghost use Rattle.jmodel.specs.ClassRules.{IsClassFile};
+ghost use Rattle.jmodel.specs.format.ClassRules.{IsClassFile};
 ghost use Rattle.deuce.specs.Folder.{helper_path};
 ghost use Rattle.deuce.specs.Ending.{paths_of, AreClassesOf, IsHelperAt, IsReservedAs, EndsReserved};
 
 use crate::inputs::ClassInput;
 use const_pool::ClassFile;
+use hierarchy::symbols::own_name;
 use jmodel::{Bytes, NoMemory, Refusal};
-use object_hierarchy::symbols::own_name;
-use object_run::{RunEnd, link_files};
+use runner::{RunEnd, link_files};
 use std::alloc::Global;
 
 /// The path of the helper of arrays, from a folder of rewritten class files.

@@ -1,24 +1,25 @@
 //! A rewriting, from class files to the bytes of the new ones.
 ghost use Rattle.std.specs.Prelude.{◌≡◌, ◌≤◌, ◌<◌, ◌∷◌, ◌++◌, [], ℕ, List, length, filter, map, option_map, IfOk, IfErr, IsSome};
 ghost use Rattle.std.specs.List.{AllByRecursion, AllZip};
-ghost use Rattle.jmodel.specs.ClassFile.{ClassFile as Form};
-ghost use Rattle.jmodel.specs.ClassRules.{IsClassFile, Spells};
-ghost use Rattle.jmodel.specs.Superclasses.{own_name as own_name_of, class_named};
-ghost use Rattle.objects.specs.Journal.{is_marked as is_marked_method};
-ghost use Rattle.object_rewriter.specs.Asked.{AreFiled};
-ghost use Rattle.object_run.specs.Faults.{EndsPreparing};
+ghost use Rattle.jmodel.specs.format.ClassFile.{ClassFile as Form};
+ghost use Rattle.jmodel.specs.format.ClassRules.{IsClassFile, Spells};
+ghost use Rattle.objects.specs.linking.Members.{own_name as own_name_of};
+ghost use Rattle.objects.specs.linking.Superclasses.{class_named};
+ghost use Rattle.objects.specs.history.Journal.{is_marked as is_marked_method};
+ghost use Rattle.rewriter.specs.Asked.{AreFiled};
+ghost use Rattle.runner.specs.Faults.{EndsPreparing};
 ghost use Rattle.deuce.specs.Ending.{AreUnderNames};
 ghost use Rattle.deuce.specs.Folder.{IsFileOf};
 ghost use Rattle.deuce.specs.Rewritten.{IsNewOf, IsRewriting};
 
 use class_writer::write_class;
 use const_pool::ClassFile;
+use hierarchy::Method;
+use hierarchy::symbols::own_name;
 use jmodel::{Bytes, NoMemory};
-use object_hierarchy::Method;
-use object_hierarchy::symbols::own_name;
-use object_run::{RunEnd, instrument_files};
 use rewritten_form::laws::form_law;
 use rewritten_program::laws::{heads_law, meaning_law};
+use runner::{RunEnd, instrument_files};
 use std::alloc::{AllocError, Global};
 use std::collections::BTreeMap;
 

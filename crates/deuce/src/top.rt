@@ -3,7 +3,7 @@ ghost use Rattle.std.specs.Prelude.{◌≡◌, ◌⊎◌, ℕ, List, IfOk, codes
 ghost use Rattle.deuce_io.specs.Fault.{Rose};
 ghost use Rattle.jmodel.specs.declared.refusal.Refusal.{Refusal};
 ghost use Rattle.jmodel.specs.declared.value.Answer.{Answer};
-ghost use Rattle.jmodel.specs.Output.{◌and◌, answer_text, refusal_text, error_text};
+ghost use Rattle.jmodel.specs.history.Output.{◌and◌, answer_text, refusal_text, error_text};
 ghost use Rattle.deuce.specs.Command.{seen_words, run_words, rewrite_words, AsksBank, AsksNoFolder, IsNoRewriting, IsNoCommand};
 ghost use Rattle.bankgen.specs.declared.figures.Figures.{Figures};
 ghost use Rattle.deuce_io.specs.Seen.{Seen};

@@ -5,20 +5,20 @@ use Rattle.jmodel.specs.declared.instruction.Instr.{Instr}
 use Rattle.jmodel.specs.declared.name.MethodName.{MethodName}
 use Rattle.jmodel.specs.declared.typing.VType.{VType}
 use Rattle.jmodel.specs.declared.typing.VType.TheVariants as type
-use Rattle.jmodel.specs.ClassFile.{Pool}
-use Rattle.jmodel.specs.Pool.{MemberName, method_name, class_name}
-use Rattle.jmodel.specs.PoolAdding.{add_class, add_method, add_interface_method}
-use Rattle.jmodel.specs.Reading.{◌>>=◌}
-use Rattle.jmodel.specs.Relocation.{Block}
+use Rattle.jmodel.specs.format.ClassFile.{Pool}
+use Rattle.jmodel.specs.format.Pool.{MemberName, method_name, class_name}
+use Rattle.jmodel.specs.format.PoolAdding.{add_class, add_method, add_interface_method}
+use Rattle.jmodel.specs.format.Reading.{◌>>=◌}
+use Rattle.jmodel.specs.format.Relocation.{Block}
 use Rattle.objects.specs.declared.op.Sort.TheVariants as sort
 use Rattle.objects.specs.declared.op.WordType.{WordType}
 use Rattle.objects.specs.declared.op.WordType.TheVariants as word
 use Rattle.objects.specs.declared.op.Op.{Op}
 use Rattle.objects.specs.declared.op.Op.TheVariants.{Load, Store, Increment, GetStatic, PutStatic, GetField, PutField, InvokeStatic, InvokeSpecial, InvokeVirtual, InvokeInterface, LoadElement, StoreElement}
-use Rattle.objects.specs.Program.{Field, field_at}
-use Rattle.objects.specs.Typing.{Types, types_at}
-use Rattle.objects.specs.TypeOrder.{object_class, element_class}
-use Rattle.objects.specs.Rewriting.{places_of, moved, moved_to, helped, array_under}
+use Rattle.objects.specs.semantics.Program.{Field, field_at}
+use Rattle.objects.specs.typing.Typing.{Types, types_at}
+use Rattle.objects.specs.typing.TypeOrder.{object_class, element_class}
+use Rattle.objects.specs.rewriting.Rewriting.{word_places, moved, moved_to, helped, array_under}
 use Rattle.const_pool.proofs.Takes.{bind_ok, ok_is}
 use Rattle.member_code.specs.Names.{duplicate_named}
 use Rattle.member_code.specs.Instrs.{plain, naming, load, store, increment, call_interface, check_cast}
@@ -100,7 +100,7 @@ IsBlock O (Some (PutStatic f)) h i Z is = IsAccessorCall O.method.places setter_
 IsBlock O (Some (GetField f d)) h i Z is = IsAccessorCall O.method.places getter_named (field_at O.program f) i Z is
 IsBlock O (Some (PutField f d)) h i Z is = IsAccessorCall O.method.places setter_named (field_at O.program f) i Z is
 IsBlock O (Some (LoadElement t)) h i Z is = IsElementLoad O.method.places t (array_under 1 h) Z is
-IsBlock O (Some (StoreElement t)) h i Z is = IsCall O.method.places 184 (store_named (helped (array_under (1 + places_of t) h) t)) Z is
+IsBlock O (Some (StoreElement t)) h i Z is = IsCall O.method.places 184 (store_named (helped (array_under (1 + word_places t) h) t)) Z is
 IsBlock O (Some (InvokeStatic m)) h i Z is = IsDuplicateCall O.method.places 184 (called O i) i Z is
 IsBlock O (Some (InvokeSpecial m)) h i Z is = IsDuplicateCall O.method.places 183 (called O i) i Z is
 IsBlock O (Some (InvokeVirtual m d)) h i Z is = IsDuplicateCall O.method.places 182 (called O i) i Z is
@@ -192,7 +192,7 @@ adds_block O (Some (PutStatic f)) h i = adds_accessor O.method.places setter_nam
 adds_block O (Some (GetField f d)) h i = adds_accessor O.method.places getter_named (field_at O.program f) i
 adds_block O (Some (PutField f d)) h i = adds_accessor O.method.places setter_named (field_at O.program f) i
 adds_block O (Some (LoadElement t)) h i = adds_load O.method.places t (array_under 1 h)
-adds_block O (Some (StoreElement t)) h i = adds_call O.method.places 184 (store_named (helped (array_under (1 + places_of t) h) t))
+adds_block O (Some (StoreElement t)) h i = adds_call O.method.places 184 (store_named (helped (array_under (1 + word_places t) h) t))
 adds_block O (Some (InvokeStatic m)) h i = adds_duplicate O.method.places 184 (called O i) i
 adds_block O (Some (InvokeSpecial m)) h i = adds_duplicate O.method.places 183 (called O i) i
 adds_block O (Some (InvokeVirtual m d)) h i = adds_duplicate O.method.places 182 (called O i) i

@@ -5,19 +5,19 @@ use Rattle.std.specs.List.{list_any}
 use Rattle.jmodel.specs.declared.name.MethodName.{MethodName}
 use Rattle.jmodel.specs.declared.refusal.Refusal.{Refusal}
 use Rattle.jmodel.specs.declared.typing.VType.{VType}
-use Rattle.jmodel.specs.ClassFile.{Member}
-use Rattle.jmodel.specs.Descriptor.{Signature}
-use Rattle.jmodel.specs.Coded.{Coded, retries_of}
-use Rattle.jmodel.specs.Decoding.{each}
+use Rattle.jmodel.specs.format.ClassFile.{Member}
+use Rattle.jmodel.specs.format.Descriptor.{Signature}
+use Rattle.objects.specs.linking.Code.{Coded, retries_of}
+use Rattle.objects.specs.linking.Each.{each}
 use Rattle.objects.specs.declared.op.Dispatch.{Dispatch}
 use Rattle.objects.specs.declared.op.Op.{Op}
 use Rattle.objects.specs.declared.op.Catch.{Catch}
-use Rattle.objects.specs.Program.{Method, Program}
-use Rattle.objects.specs.Typing.{Table}
-use Rattle.objects.specs.Decoding.{Symbols, ops_of, catch_of}
-use Rattle.objects.specs.Linking.{receiver_types, parameter_types, result_type, dispatch_of, signature_in, Body, with_catches, coded_body, body_of, method_with, shaped, method_of, decoded_member}
-use Rattle.objects.specs.Relinking.{decoded_or_none}
-use Rattle.objects.specs.Rewriting.{typed_from, abstracted, duplicate_code, duplicate_method, context, is_stray, more_locals}
+use Rattle.objects.specs.semantics.Program.{Method, Program}
+use Rattle.objects.specs.typing.Typing.{Table}
+use Rattle.objects.specs.linking.Decoding.{Symbols, ops_of, catch_of}
+use Rattle.objects.specs.linking.Linking.{receiver_types, parameter_types, result_type, dispatch_of, signature_in, Body, with_catches, coded_body, body_of, method_with, shaped, method_of, decoded_member}
+use Rattle.objects.specs.rewriting.Relinking.{decoded_or_none}
+use Rattle.objects.specs.rewriting.Rewriting.{typed_from, abstracted, duplicate_code, duplicate_method, context, is_stray, more_locals}
 use Rattle.member_code.specs.Names.{duplicate_named}
 use Rattle.member_code.specs.Meaning.{meaning}
 use Rattle.dup_methods.proofs.Widened.{wider}

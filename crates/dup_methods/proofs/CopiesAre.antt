@@ -3,25 +3,25 @@ use Rattle.std.proofs.Common.{◌≡◌, ℕ, ◌+◌, ◌<◌, ◌≤◌, true,
 use Rattle.std.specs.Prelude.{slice_get}
 use Rattle.std.specs.List.{AllByRecursion}
 use Rattle.jmodel.specs.declared.instruction.Instr.{Instr}
-use Rattle.jmodel.specs.ClassFile.{Member, Pool, ClassFile, Code}
-use Rattle.jmodel.specs.Pool.{MemberName}
-use Rattle.jmodel.specs.Coded.{Coded, code_in, decoded}
-use Rattle.jmodel.specs.Decoding.{each}
-use Rattle.jmodel.specs.PoolAdding.{IsLonger}
-use Rattle.jmodel.specs.Instruction.{SpellsInstrs}
-use Rattle.jmodel.specs.Relocation.{Block, end_of, relocated, moved_handlers, EachInstr, IsAbove, AreBlocks}
+use Rattle.jmodel.specs.format.ClassFile.{Member, Pool, ClassFile, Code}
+use Rattle.jmodel.specs.format.Pool.{MemberName}
+use Rattle.objects.specs.linking.Code.{Coded, code_in, decoded}
+use Rattle.objects.specs.linking.Each.{each}
+use Rattle.jmodel.specs.format.PoolAdding.{IsLonger}
+use Rattle.jmodel.specs.format.Instruction.{SpellsInstrs}
+use Rattle.jmodel.specs.format.Relocation.{Block, end_of, relocated, moved_handlers, EachInstr, IsAbove, AreBlocks}
 use Rattle.bytecode.specs.Relocated.{Fits, HaveInstrs}
 use Rattle.bytecode.proofs.OriginLaws.{pcs_below, above}
 use Rattle.objects.specs.declared.op.Op.TheVariants.{Throw}
 use Rattle.objects.specs.declared.op.Catch.{Catch}
 use Rattle.objects.specs.declared.op.Catches.TheVariants.{Conflict}
-use Rattle.objects.specs.Program.{Method}
-use Rattle.objects.specs.Source.{IsSourceMethod}
-use Rattle.objects.specs.TypeOrder.{conflict_class}
-use Rattle.objects.specs.Constructs.{is_float_descriptor}
-use Rattle.objects.specs.Decoding.{Symbols, ops_of, catch_of}
-use Rattle.objects.specs.Linking.{Body, coded_body, decoded_member, has_no_code}
-use Rattle.objects.specs.Rewriting.{typed_from, block_at, blocks, catch, moved_catch, context, duplicate_code, duplicate_method}
+use Rattle.objects.specs.semantics.Program.{Method}
+use Rattle.objects.specs.typing.Source.{IsSourceMethod}
+use Rattle.objects.specs.typing.TypeOrder.{conflict_class}
+use Rattle.objects.specs.linking.Constructs.{is_float_descriptor}
+use Rattle.objects.specs.linking.Decoding.{Symbols, ops_of, catch_of}
+use Rattle.objects.specs.linking.Linking.{Body, coded_body, decoded_member, has_no_code}
+use Rattle.objects.specs.rewriting.Rewriting.{typed_from, block_at, blocks, catch, moved_catch, context, duplicate_code, duplicate_method}
 use Rattle.objects.proofs.Items.{each_many}
 use Rattle.objects.proofs.CodeRead.{coded_parts, has_instr}
 use Rattle.member_code.specs.Meaning.{meaning}

@@ -5,15 +5,15 @@ use Rattle.std.specs.List.{AllByRecursion}
 use Rattle.std.proofs.lemmas.List.{take_all}
 use Rattle.std.proofs.lemmas.List.Sums.{sum_by-cons}
 use Rattle.jmodel.specs.declared.instruction.Instr.{Instr}
-use Rattle.jmodel.specs.ClassFile.{Pool}
-use Rattle.jmodel.specs.Pool.{MemberName}
-use Rattle.jmodel.specs.Relocation.{Block, all_instrs, EachInstr}
+use Rattle.jmodel.specs.format.ClassFile.{Pool}
+use Rattle.jmodel.specs.format.Pool.{MemberName}
+use Rattle.jmodel.specs.format.Relocation.{Block, all_instrs, EachInstr}
 use Rattle.bytecode.specs.Relocated.{Fits, HaveInstrs}
 use Rattle.bytecode.proofs.BlockLaws.{all_cons}
 use Rattle.objects.specs.declared.op.Op.{Op}
-use Rattle.objects.specs.Typing.{types_at}
-use Rattle.objects.specs.Decoding.{Symbols}
-use Rattle.objects.specs.Rewriting.{typed_from, block_len, block_len_of, block_at}
+use Rattle.objects.specs.typing.Typing.{types_at}
+use Rattle.objects.specs.linking.Decoding.{Symbols}
+use Rattle.objects.specs.rewriting.Rewriting.{typed_from, block_len, block_len_of, block_at}
 use Rattle.member_code.proofs.Grown.{Grown}
 use Rattle.member_code.proofs.Puts.{AllPut}
 use Rattle.dup_methods.specs.Originals.{Original}

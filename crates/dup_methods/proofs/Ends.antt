@@ -5,20 +5,21 @@ use Rattle.std.specs.List.{AllByRecursion}
 use Rattle.std.proofs.lemmas.Bool.{eqb-true, ne_eqb}
 use Rattle.jmodel.specs.declared.class_file.Handler.{Handler}
 use Rattle.jmodel.specs.declared.instruction.Instr.{Instr}
-use Rattle.jmodel.specs.ClassFile.{Pool}
-use Rattle.jmodel.specs.Pool.{class_name}
-use Rattle.jmodel.specs.ClassRules.{IsHandler}
-use Rattle.jmodel.specs.Decoding.{number_at, in_front, each}
-use Rattle.jmodel.specs.Relocation.{Block, all_instrs, size_at, behind, place_from, place_of, end_of, relocated, moved, moved_handlers, EachInstr, IsShaped, is_pc, IsAbove, AscendFrom, IsHandlerOver}
+use Rattle.jmodel.specs.format.ClassFile.{Pool}
+use Rattle.jmodel.specs.format.Pool.{class_name}
+use Rattle.jmodel.specs.format.ClassRules.{IsHandler}
+use Rattle.objects.specs.linking.Code.{number_at}
+use Rattle.objects.specs.linking.Each.{in_front, each}
+use Rattle.jmodel.specs.format.Relocation.{Block, all_instrs, size_at, behind, place_from, place_of, end_of, relocated, moved, moved_handlers, EachInstr, IsShaped, is_pc, IsAbove, AscendFrom, IsHandlerOver}
 use Rattle.bytecode.specs.Relocated.{HaveInstrs, number_of}
 use Rattle.bytecode.proofs.SizeLaws.{behind_over}
 use Rattle.bytecode.proofs.LaidLaws.{some_size, place_over, place_is, place_above}
 use Rattle.objects.specs.declared.op.Catch.{Catch}
 use Rattle.objects.specs.declared.op.Catches.{Catches}
 use Rattle.objects.specs.declared.op.Catches.TheVariants.{Conflict, Any}
-use Rattle.objects.specs.TypeOrder.{conflict_class}
-use Rattle.objects.specs.Decoding.{end_at, catches_named, catches_of, make_catch, catch_of}
-use Rattle.objects.specs.Rewriting.{moved_catch, catch}
+use Rattle.objects.specs.typing.TypeOrder.{conflict_class}
+use Rattle.objects.specs.linking.Decoding.{end_at, catches_named, catches_of, make_catch, catch_of}
+use Rattle.objects.specs.rewriting.Rewriting.{moved_catch, catch}
 use Rattle.member_code.proofs.Grown.{Grown, class_grown}
 use Rattle.dup_methods.specs.Duplicates.{stub}
 

@@ -1,12 +1,12 @@
 -- Duplicates, computed: those of a class are as they stand in the class that rewriting makes of it, whose pool has all that they name.
 use Rattle.std.proofs.Common.{◌≡◌, ℕ, [], Option, Some, None, Ok, refl}
 use Rattle.std.specs.Prelude.{slice_get}
-use Rattle.jmodel.specs.ClassFile.{Member}
-use Rattle.jmodel.specs.PoolAdding.{add_text, new_class, add_class, new_pair, add_pair, new_member}
-use Rattle.jmodel.specs.Reading.{number_at, run_at, items_at}
-use Rattle.jmodel.specs.ClassReading.{attributes_at, handlers_at, handler_at, body_at, code_at}
-use Rattle.jmodel.specs.InstructionReading.{signed_at, target_at, jump_at, local_at, entry_operand_at, signed_operand_at, parts_at, instrs_at, targets_fit, instrs_of}
-use Rattle.objects.specs.Program.{Method}
+use Rattle.jmodel.specs.format.ClassFile.{Member}
+use Rattle.jmodel.specs.format.PoolAdding.{add_text, new_class, add_class, new_pair, add_pair, new_member}
+use Rattle.jmodel.specs.format.Reading.{number_at, run_at, items_at}
+use Rattle.jmodel.specs.format.ClassReading.{attributes_at, handlers_at, handler_at, body_at, code_at}
+use Rattle.jmodel.specs.format.InstructionReading.{signed_at, target_at, jump_at, local_at, entry_operand_at, signed_operand_at, parts_at, instrs_at, targets_fit, instrs_of}
+use Rattle.objects.specs.semantics.Program.{Method}
 use Rattle.objects.proofs.ExampleLinking.{program}
 use Rattle.objects.proofs.ExampleLinking as original
 use Rattle.objects.proofs.ExampleRewritten.{class_a, initialiser_copy, constructor_copy}

@@ -5,7 +5,7 @@ use Rattle.std.specs.List.{list_any, AllByRecursion}
 use Rattle.std.proofs.lemmas.Bool.Decides.{nat_tests}
 use Rattle.jmodel.specs.declared.instruction.Instr.{Instr}
 use Rattle.objects.specs.declared.op.Op.{Op}
-use Rattle.objects.specs.Program.{Method}
+use Rattle.objects.specs.semantics.Program.{Method}
 use Rattle.dup_methods.specs.Limits.{count_of, counts_full, moved_local, is_far, AddsLittle, FitsOp, FitsCount}
 
 -- what no item passes

@@ -8,22 +8,21 @@ use Rattle.jmodel.specs.declared.class_file.FieldType.TheVariants as types
 use Rattle.jmodel.specs.declared.name.MethodName.{MethodName}
 use Rattle.jmodel.specs.declared.typing.VType.{VType}
 use Rattle.jmodel.specs.declared.typing.VType.TheVariants as type
-use Rattle.jmodel.specs.ClassFile.{Member, ClassFile}
-use Rattle.jmodel.specs.Pool.{utf8}
-use Rattle.jmodel.specs.Descriptor.{Signature, places, places_of}
-use Rattle.jmodel.specs.DescriptorReading.{signature_of}
-use Rattle.jmodel.specs.Layout.{text_or_none}
-use Rattle.jmodel.specs.Superclasses.{own_name}
-use Rattle.jmodel.specs.Classes.{full_name}
-use Rattle.jmodel.specs.Coded.{mark_retries, retries_of}
-use Rattle.objects.specs.Constructs.{is_floating, has_floats, is_float_descriptor}
-use Rattle.objects.specs.Program.{Method}
-use Rattle.objects.specs.Resolution.{holds_of}
-use Rattle.objects.specs.TypeOrder.{context_class, place_types}
-use Rattle.objects.specs.Layout.{class_read, declared_as}
-use Rattle.objects.specs.Rewriting.{context, duplicate_name, with_context}
-use Rattle.objects.specs.Decoding.{Symbols}
-use Rattle.objects.specs.Linking.{dispatch_of, receiver_types, parameter_types, result_type, signature_in, Body, method_with}
+use Rattle.jmodel.specs.format.ClassFile.{Member, ClassFile}
+use Rattle.jmodel.specs.format.Pool.{utf8, text_or_none}
+use Rattle.jmodel.specs.format.Descriptor.{Signature, places, places_of}
+use Rattle.jmodel.specs.format.DescriptorReading.{signature_of}
+use Rattle.objects.specs.linking.Members.{own_name}
+use Rattle.objects.specs.linking.Classes.{full_name}
+use Rattle.objects.specs.linking.Code.{mark_retries, retries_of}
+use Rattle.objects.specs.linking.Constructs.{is_floating, has_floats, is_float_descriptor}
+use Rattle.objects.specs.semantics.Program.{Method}
+use Rattle.objects.specs.linking.Resolution.{holds_of}
+use Rattle.objects.specs.typing.TypeOrder.{context_class, place_types}
+use Rattle.objects.specs.linking.Layout.{class_read, declared_as}
+use Rattle.objects.specs.rewriting.Rewriting.{context, duplicate_name, with_context}
+use Rattle.objects.specs.linking.Decoding.{Symbols}
+use Rattle.objects.specs.linking.Linking.{dispatch_of, receiver_types, parameter_types, result_type, signature_in, Body, method_with}
 use Rattle.member_code.specs.Names.{duplicate_named}
 use Rattle.dup_methods.specs.Duplicates.{duplicate_flags}
 use Rattle.dup_methods.specs.DuplicateLaw.{ReadsAlike}

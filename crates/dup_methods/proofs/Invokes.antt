@@ -8,18 +8,18 @@ use Rattle.jmodel.specs.declared.instruction.Operands.{Operands}
 use Rattle.jmodel.specs.declared.instruction.Operands.TheVariants as operands
 use Rattle.jmodel.specs.declared.instruction.Instr.{Instr}
 use Rattle.jmodel.specs.declared.value.Value.TheVariants as value
-use Rattle.jmodel.specs.Pool.{MemberName, entry, string, class_name, field_name, member_name}
-use Rattle.jmodel.specs.ClassesTaken.{index_of}
-use Rattle.jmodel.specs.Decoding.{table_cases}
+use Rattle.jmodel.specs.format.Pool.{MemberName, entry, string, class_name, field_name, member_name}
+use Rattle.objects.specs.linking.Taken.{index_of}
+use Rattle.objects.specs.linking.Code.{table_cases}
 use Rattle.objects.specs.declared.op.Op.{Op}
 use Rattle.objects.specs.declared.op.Op.TheVariants as op
 use Rattle.objects.specs.declared.op.Unary.TheVariants.{Absolute}
 use Rattle.objects.specs.declared.op.Binary.TheVariants.{Minimum, Maximum}
-use Rattle.objects.specs.TypeOrder.{context_class}
-use Rattle.objects.specs.LibraryMethods.{is_library_constructor, is_library_function}
-use Rattle.objects.specs.Layout.{class_read, type_number, array_over}
-use Rattle.objects.specs.Resolution.{special_method}
-use Rattle.objects.specs.Decoding.{Symbols, is_among, field_number, number_of, method_number, simple_op, local_op, primitive_array, new_array, number_op, pushed_op, text_op, ldc_op, added_address, is_base, field_op, width_in, is_get_context, static_call_op, parameter_places, special_call_op, interface_call_op, context_call, virtual_call_op, call_op, class_op, pool_op, meaning}
+use Rattle.objects.specs.typing.TypeOrder.{context_class}
+use Rattle.objects.specs.linking.LibraryMethods.{is_library_constructor, is_library_function}
+use Rattle.objects.specs.linking.Layout.{class_read, type_number, array_over}
+use Rattle.objects.specs.linking.Resolution.{special_method}
+use Rattle.objects.specs.linking.Decoding.{Symbols, is_among, field_number, number_of, method_number, simple_op, local_op, primitive_array, new_array, number_op, pushed_op, text_op, ldc_op, added_address, is_base, field_op, width_in, is_get_context, static_call_op, parameter_places, special_call_op, interface_call_op, context_call, virtual_call_op, call_op, class_op, pool_op, meaning}
 use Rattle.dup_methods.proofs.Apart.{NoneOf, nothing, leaf, either, mapped, chained, or_none, below, jump_none, switch_none}
 
 -- ---- tests of invokes

@@ -5,13 +5,14 @@ use Rattle.std.specs.Int.{w32, int_wrapping_add}
 use Rattle.jmodel.specs.declared.instruction.Operands.{Operands}
 use Rattle.jmodel.specs.declared.instruction.Operands.TheVariants as operands
 use Rattle.jmodel.specs.declared.instruction.Instr.{Instr}
-use Rattle.jmodel.specs.Decoding.{number_at, in_front, each, table_cases, numbered_case}
-use Rattle.jmodel.specs.Relocation.{retarget}
+use Rattle.objects.specs.linking.Code.{number_at, table_cases, numbered_case}
+use Rattle.objects.specs.linking.Each.{in_front, each}
+use Rattle.jmodel.specs.format.Relocation.{retarget}
 use Rattle.objects.specs.declared.op.Op.{Op}
 use Rattle.objects.specs.declared.op.Op.TheVariants as op
 use Rattle.objects.specs.declared.op.Test.{Test}
-use Rattle.objects.specs.Rewriting.{moved_cases}
-use Rattle.objects.specs.Decoding.{Symbols, is_among, test_of, jump_to, jump_op, switch_to, switch_op, wide_op, local_op, meaning}
+use Rattle.objects.specs.rewriting.Rewriting.{moved_cases}
+use Rattle.objects.specs.linking.Decoding.{Symbols, is_among, test_of, jump_to, jump_op, switch_to, switch_op, wide_op, local_op, meaning}
 use Rattle.member_code.proofs.Single.{Means}
 use Rattle.dup_methods.proofs.Apart.{is_jump, is_switch, is_far, NoneOf, leaf, either, simple_near, number_near, local_near, pool_near, jump_none, switch_none}
 

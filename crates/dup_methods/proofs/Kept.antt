@@ -9,20 +9,20 @@ use Rattle.jmodel.specs.declared.instruction.Operands.TheVariants as operands
 use Rattle.jmodel.specs.declared.instruction.Instr.{Instr}
 use Rattle.jmodel.specs.declared.value.Value.{Value}
 use Rattle.jmodel.specs.declared.value.Value.TheVariants as value
-use Rattle.jmodel.specs.ClassFile.{Pool}
-use Rattle.jmodel.specs.Pool.{MemberName, entry, string_in, utf8, class_name, field_in, field_name, member_in, member_name}
-use Rattle.jmodel.specs.ClassesTaken.{index_of}
-use Rattle.jmodel.specs.Decoding.{table_cases}
-use Rattle.jmodel.specs.Relocation.{retarget}
+use Rattle.jmodel.specs.format.ClassFile.{Pool}
+use Rattle.jmodel.specs.format.Pool.{MemberName, entry, string_in, utf8, class_name, field_in, field_name, member_in, member_name}
+use Rattle.objects.specs.linking.Taken.{index_of}
+use Rattle.objects.specs.linking.Code.{table_cases}
+use Rattle.jmodel.specs.format.Relocation.{retarget}
 use Rattle.objects.specs.declared.op.Op.{Op}
 use Rattle.objects.specs.declared.op.Op.TheVariants as op
-use Rattle.objects.specs.Program.{Program, Row}
-use Rattle.objects.specs.TypeOrder.{context_class}
-use Rattle.objects.specs.LibraryMethods.{is_library_constructor, is_library_function}
-use Rattle.objects.specs.Layout.{class_read, type_number, array_over}
-use Rattle.objects.specs.Resolution.{special_method}
-use Rattle.objects.specs.Constructs.{accessed}
-use Rattle.objects.specs.Decoding.{Symbols, is_among, field_number, number_of, method_number, primitive_array, new_array, number_op, pushed_op, text_op, ldc_op, added_address, is_base, get_static_op, field_op, function_op, is_get_context, static_call_op, special_call_op, virtual_call_op, call_op, class_op, pool_op, meaning, op_of}
+use Rattle.objects.specs.semantics.Program.{Program, Row}
+use Rattle.objects.specs.typing.TypeOrder.{context_class}
+use Rattle.objects.specs.linking.LibraryMethods.{is_library_constructor, is_library_function}
+use Rattle.objects.specs.linking.Layout.{class_read, type_number, array_over}
+use Rattle.objects.specs.linking.Resolution.{special_method}
+use Rattle.objects.specs.linking.Constructs.{accessed}
+use Rattle.objects.specs.linking.Decoding.{Symbols, is_among, field_number, number_of, method_number, primitive_array, new_array, number_op, pushed_op, text_op, ldc_op, added_address, is_base, get_static_op, field_op, function_op, is_get_context, static_call_op, special_call_op, virtual_call_op, call_op, class_op, pool_op, meaning, op_of}
 use Rattle.member_code.proofs.Grown.{Grown, entry_grown, utf8_grown, class_grown, field_grown, member_grown}
 use Rattle.member_code.proofs.Single.{Means}
 use Rattle.dup_methods.specs.DuplicateLaw.{Ties}

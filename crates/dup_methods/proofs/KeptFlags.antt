@@ -3,16 +3,16 @@ use Rattle.std.proofs.Common.{◌≡◌, ℕ, ℤ, Bool, true, false, not, ◌&&
 use Rattle.std.specs.Prelude.{pos, bit_and, bytes_eq, codes, nat_eq, ◌==◌, if◌then◌else◌}
 use Rattle.std.proofs.lemmas.Nat.{and_assoc, and_or_apart}
 use Rattle.std.proofs.lemmas.Slice.Eq.{bytes_eq-Decides}
-use Rattle.jmodel.specs.ClassFile.{Member, Pool, ClassFile}
-use Rattle.jmodel.specs.Pool.{utf8}
-use Rattle.jmodel.specs.ClassRules.{same_text}
-use Rattle.jmodel.specs.Layout.{is_static, text_or_none}
-use Rattle.jmodel.specs.Mark.{all_annotations, retries_in}
-use Rattle.jmodel.specs.Coded.{mark_retries, is_initialiser, retries_of}
+use Rattle.jmodel.specs.format.ClassFile.{Member, Pool, ClassFile}
+use Rattle.jmodel.specs.format.Pool.{utf8, text_or_none}
+use Rattle.jmodel.specs.format.ClassRules.{same_text}
+use Rattle.objects.specs.linking.Members.{is_static}
+use Rattle.jmodel.specs.format.Mark.{all_annotations, retries_in}
+use Rattle.objects.specs.linking.Code.{mark_retries, is_initialiser, retries_of}
 use Rattle.objects.specs.declared.op.Dispatch.TheVariants as dispatch
-use Rattle.objects.specs.Resolution.{is_private, is_abstract_member}
-use Rattle.objects.specs.Linking.{dispatch_of, has_no_code}
-use Rattle.objects.specs.Rewriting.{duplicate_name}
+use Rattle.objects.specs.linking.Resolution.{is_private, is_abstract_member}
+use Rattle.objects.specs.linking.Linking.{dispatch_of, has_no_code}
+use Rattle.objects.specs.rewriting.Rewriting.{duplicate_name}
 use Rattle.member_code.specs.Coding.{added_method}
 use Rattle.dup_methods.specs.Duplicates.{duplicate_flags}
 

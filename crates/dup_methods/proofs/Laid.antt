@@ -6,23 +6,23 @@ use Rattle.std.proofs.lemmas.List.{length-map}
 use Rattle.jmodel.specs.declared.class_file.Handler.{Handler}
 use Rattle.jmodel.specs.declared.instruction.Instr.{Instr}
 use Rattle.jmodel.specs.declared.refusal.Refusal.{Refusal}
-use Rattle.jmodel.specs.ClassFile.{u2, u4, handler, attributes, Attribute, Member, Pool, Code, code_spelling}
-use Rattle.jmodel.specs.Pool.{class_name}
-use Rattle.jmodel.specs.ClassRules.{is_named, IsHandler, IsCode, SpellsCode}
-use Rattle.jmodel.specs.ClassReading.{code_of}
-use Rattle.jmodel.specs.Coded.{code_in}
-use Rattle.jmodel.specs.Instruction.{SpellsInstrs}
-use Rattle.jmodel.specs.InstructionReading.{instrs_of}
-use Rattle.jmodel.specs.Name.{printed}
-use Rattle.jmodel.specs.Relocation.{Block, all_instrs, behind, place_of, end_of, relocated, relocate, moved, moved_handlers, EachInstr, IsShaped, AreBlocks}
+use Rattle.jmodel.specs.format.ClassFile.{u2, u4, handler, attributes, Attribute, Member, Pool, Code, code_spelling}
+use Rattle.jmodel.specs.format.Pool.{class_name}
+use Rattle.jmodel.specs.format.ClassRules.{is_named, IsHandler, IsCode, SpellsCode}
+use Rattle.jmodel.specs.format.ClassReading.{code_of}
+use Rattle.objects.specs.linking.Code.{code_in}
+use Rattle.jmodel.specs.format.Instruction.{SpellsInstrs}
+use Rattle.jmodel.specs.format.InstructionReading.{instrs_of}
+use Rattle.jmodel.specs.format.Name.{printed}
+use Rattle.jmodel.specs.format.Relocation.{Block, all_instrs, behind, place_of, end_of, relocated, relocate, moved, moved_handlers, EachInstr, IsShaped, AreBlocks}
 use Rattle.bytecode.specs.Relocated.{Fits, HaveInstrs}
 use Rattle.bytecode.proofs.BlockLaws.{behind_append, behind_block}
 use Rattle.bytecode.proofs.SizeLaws.{behind_over}
 use Rattle.bytecode.proofs.CodeLaws.{code_take}
 use Rattle.bytecode.proofs.LaidLaws.{IsDone, done, spelled_is}
 use Rattle.bytecode.proofs.RelocationLaws.{whole_long}
-use Rattle.objects.specs.Program.{Method}
-use Rattle.objects.specs.TypeOrder.{conflict_class}
+use Rattle.objects.specs.semantics.Program.{Method}
+use Rattle.objects.specs.typing.TypeOrder.{conflict_class}
 use Rattle.const_pool.proofs.Takes.{IsBytes, bind_ok, ok_is}
 use Rattle.const_pool.proofs.Parts.{code_is_found, code_is_read}
 use Rattle.member_code.specs.Coding.{of_method, laid_code, laid_bytes}

@@ -2,11 +2,11 @@
 use Rattle.std.proofs.Common.{◌≡◌, List, [], ◌∷◌, Option, Some, None, refl, subst, sym, arith}
 use Rattle.std.specs.List.{AllByRecursion}
 use Rattle.jmodel.specs.declared.instruction.Instr.{Instr}
-use Rattle.jmodel.specs.Instruction.{IsInstr}
-use Rattle.jmodel.specs.Decoding.{in_front, each}
+use Rattle.jmodel.specs.format.Instruction.{IsInstr}
+use Rattle.objects.specs.linking.Each.{in_front, each}
 use Rattle.objects.specs.declared.op.Op.{Op}
 use Rattle.objects.specs.declared.op.Op.TheVariants as op
-use Rattle.objects.specs.Decoding.{Symbols, op_of}
+use Rattle.objects.specs.linking.Decoding.{Symbols, op_of}
 use Rattle.dup_methods.specs.Limits.{AddsLittle}
 use Rattle.dup_methods.specs.DuplicateLaw.{LittleLaw}
 use Rattle.dup_methods.proofs.Apart.{adds_little}

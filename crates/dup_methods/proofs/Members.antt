@@ -2,15 +2,15 @@
 use Rattle.std.proofs.Common.{◌≡◌, ℕ, List, [], Option, Some, Result, Ok, sym, ap, subst}
 use Rattle.std.specs.Prelude.{codes}
 use Rattle.jmodel.specs.declared.refusal.Refusal.{Refusal}
-use Rattle.jmodel.specs.ClassFile.{Member, Pool}
-use Rattle.jmodel.specs.Pool.{utf8}
-use Rattle.jmodel.specs.Reading.{◌>>=◌}
-use Rattle.jmodel.specs.Coded.{Coded}
-use Rattle.jmodel.specs.PoolAdding.{add_text}
-use Rattle.jmodel.specs.Relocation.{Block}
-use Rattle.objects.specs.Program.{Method}
-use Rattle.objects.specs.Linking.{decoded_member}
-use Rattle.objects.specs.Rewriting.{duplicate_name, with_context}
+use Rattle.jmodel.specs.format.ClassFile.{Member, Pool}
+use Rattle.jmodel.specs.format.Pool.{utf8}
+use Rattle.jmodel.specs.format.Reading.{◌>>=◌}
+use Rattle.objects.specs.linking.Code.{Coded}
+use Rattle.jmodel.specs.format.PoolAdding.{add_text}
+use Rattle.jmodel.specs.format.Relocation.{Block}
+use Rattle.objects.specs.semantics.Program.{Method}
+use Rattle.objects.specs.linking.Linking.{decoded_member}
+use Rattle.objects.specs.rewriting.Rewriting.{duplicate_name, with_context}
 use Rattle.const_pool.proofs.Takes.{bind_ok, ok_is}
 use Rattle.member_code.specs.Names.{duplicate_named}
 use Rattle.member_code.specs.Coding.{room_for, typed_name, added_method}

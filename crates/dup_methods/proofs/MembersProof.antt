@@ -2,16 +2,16 @@
 use Rattle.std.proofs.Common.{◌≡◌, ℕ, ◌+◌, ◌<◌, true, false, [], ◌∷◌, ◌++◌, length, Option, Some, None, Result, Ok, refl, sym, ap, ◌∙◌, subst, inl, inr}
 use Rattle.std.specs.Prelude.{option_and_then}
 use Rattle.jmodel.specs.declared.refusal.Refusal.{Refusal}
-use Rattle.jmodel.specs.ClassFile.{Member, Pool, ClassFile}
-use Rattle.jmodel.specs.Classes.{Declared}
-use Rattle.jmodel.specs.Coded.{Coded}
-use Rattle.jmodel.specs.PoolAdding.{IsLonger}
-use Rattle.objects.specs.Program.{Method}
-use Rattle.objects.specs.Constructs.{is_float_descriptor}
-use Rattle.objects.specs.Decoding.{Symbols}
-use Rattle.objects.specs.Linking.{Body, no_body, receiver_types, parameter_types, method_of, decoded_member, has_no_code}
-use Rattle.objects.specs.Relinking.{decoded_or_none}
-use Rattle.objects.specs.Rewriting.{context, duplicate_method}
+use Rattle.jmodel.specs.format.ClassFile.{Member, Pool, ClassFile}
+use Rattle.objects.specs.linking.Classes.{Declared}
+use Rattle.objects.specs.linking.Code.{Coded}
+use Rattle.jmodel.specs.format.PoolAdding.{IsLonger}
+use Rattle.objects.specs.semantics.Program.{Method}
+use Rattle.objects.specs.linking.Constructs.{is_float_descriptor}
+use Rattle.objects.specs.linking.Decoding.{Symbols}
+use Rattle.objects.specs.linking.Linking.{Body, no_body, receiver_types, parameter_types, method_of, decoded_member, has_no_code}
+use Rattle.objects.specs.rewriting.Relinking.{decoded_or_none}
+use Rattle.objects.specs.rewriting.Rewriting.{context, duplicate_method}
 use Rattle.objects.proofs.LinkedMethods.{coded_or_not}
 use Rattle.member_code.specs.Meaning.{meaning}
 use Rattle.member_code.specs.Names.{duplicate_named}

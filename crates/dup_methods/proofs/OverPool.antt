@@ -14,23 +14,23 @@ use Rattle.jmodel.specs.declared.instruction.Instr.{Instr}
 use Rattle.jmodel.specs.declared.name.MethodName.{MethodName}
 use Rattle.jmodel.specs.declared.typing.VType.{VType}
 use Rattle.jmodel.specs.declared.typing.VType.TheVariants as type
-use Rattle.jmodel.specs.ClassFile.{Pool}
-use Rattle.jmodel.specs.Pool.{MemberName, entry, member_name}
-use Rattle.jmodel.specs.ClassesTaken.{index_of}
-use Rattle.jmodel.specs.Descriptor.{Signature, places_of}
-use Rattle.jmodel.specs.DescriptorReading.{signature_of}
-use Rattle.jmodel.specs.Instruction.{form_of, is_kind_in, is_entry, places_in, argument_places, Names, Counts, FitPoolAs, IsInstrOver}
+use Rattle.jmodel.specs.format.ClassFile.{Pool}
+use Rattle.jmodel.specs.format.Pool.{MemberName, entry, member_name}
+use Rattle.objects.specs.linking.Taken.{index_of}
+use Rattle.jmodel.specs.format.Descriptor.{Signature, places_of}
+use Rattle.jmodel.specs.format.DescriptorReading.{signature_of}
+use Rattle.jmodel.specs.format.Instruction.{form_of, is_kind_in, is_entry, places_in, argument_places, Names, Counts, FitPoolAs, IsInstrOver}
 use Rattle.bytecode.specs.Relocated.{Fits}
 use Rattle.objects.specs.declared.op.Sort.TheVariants as sort
 use Rattle.objects.specs.declared.op.WordType.{WordType}
 use Rattle.objects.specs.declared.op.WordType.TheVariants as word
 use Rattle.objects.specs.declared.op.Op.{Op}
 use Rattle.objects.specs.declared.op.Op.TheVariants as op
-use Rattle.objects.specs.Program.{Field, field_at}
-use Rattle.objects.specs.Typing.{Types}
-use Rattle.objects.specs.TypeOrder.{object_class, element_class}
-use Rattle.objects.specs.Rewriting.{array_under, moved, moved_to, with_context}
-use Rattle.objects.specs.Decoding.{Symbols, op_of}
+use Rattle.objects.specs.semantics.Program.{Field, field_at}
+use Rattle.objects.specs.typing.Typing.{Types}
+use Rattle.objects.specs.typing.TypeOrder.{object_class, element_class}
+use Rattle.objects.specs.rewriting.Rewriting.{array_under, moved, moved_to, with_context}
+use Rattle.objects.specs.linking.Decoding.{Symbols, op_of}
 use Rattle.member_code.specs.Names.{duplicate_named}
 use Rattle.member_code.specs.Instrs.{load, call_interface}
 use Rattle.member_code.proofs.Single.{plain_laid, load_laid, store_laid, increment_laid, call_static_laid, call_virtual_laid, call_special_laid, check_cast_laid}

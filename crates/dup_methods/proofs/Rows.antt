@@ -8,23 +8,23 @@ use Rattle.jmodel.specs.declared.name.MethodName.{MethodName}
 use Rattle.jmodel.specs.declared.typing.VType.{VType}
 use Rattle.jmodel.specs.declared.typing.VType.TheVariants as type
 use Rattle.jmodel.specs.declared.value.Value.TheVariants as value
-use Rattle.jmodel.specs.ClassFile.{ClassFile}
-use Rattle.jmodel.specs.Pool.{MemberName, member_name}
-use Rattle.jmodel.specs.ClassesTaken.{index_of, invoked}
-use Rattle.jmodel.specs.Decoding.{number_at}
+use Rattle.jmodel.specs.format.ClassFile.{ClassFile}
+use Rattle.jmodel.specs.format.Pool.{MemberName, member_name}
+use Rattle.objects.specs.linking.Taken.{index_of, invoked}
+use Rattle.objects.specs.linking.Code.{number_at}
 use Rattle.objects.specs.declared.op.Sort.TheVariants as sort
 use Rattle.objects.specs.declared.op.WordType.{WordType}
 use Rattle.objects.specs.declared.op.WordType.TheVariants as word
 use Rattle.objects.specs.declared.op.Op.{Op}
 use Rattle.objects.specs.declared.op.Op.TheVariants as op
 use Rattle.objects.specs.declared.op.StackOp.TheVariants.{Pop}
-use Rattle.objects.specs.Program.{Field, field_at}
-use Rattle.objects.specs.Source.{IsSourceOp}
-use Rattle.objects.specs.Typing.{Types}
-use Rattle.objects.specs.TypeOrder.{object_class, element_class}
-use Rattle.objects.specs.Rewriting.{getter, setter, element_getter, places_of, moved, moved_to, after_load, array_under, helped, block_of}
-use Rattle.objects.specs.Constructs.{accessed}
-use Rattle.objects.specs.Decoding.{Symbols, is_among, static_call_op, special_call_op, virtual_call_op, interface_call_op, op_of}
+use Rattle.objects.specs.semantics.Program.{Field, field_at}
+use Rattle.objects.specs.typing.Source.{IsSourceOp}
+use Rattle.objects.specs.typing.Typing.{Types}
+use Rattle.objects.specs.typing.TypeOrder.{object_class, element_class}
+use Rattle.objects.specs.rewriting.Rewriting.{getter, setter, element_getter, word_places, moved, moved_to, after_load, array_under, helped, block_of}
+use Rattle.objects.specs.linking.Constructs.{accessed}
+use Rattle.objects.specs.linking.Decoding.{Symbols, is_among, static_call_op, special_call_op, virtual_call_op, interface_call_op, op_of}
 use Rattle.member_code.specs.Names.{duplicate_named}
 use Rattle.member_code.proofs.Grown.{Grown}
 use Rattle.member_code.proofs.Single.{Means, AreMeant, meant_append, load_means, store_means, increment_means, call_static_means, call_special_means, call_virtual_means, check_cast_means, named_member}
@@ -123,7 +123,7 @@ module _ (O : Original) (Called Accessed : MemberName → Type 0) (s0 s : Symbol
     block_meant (op.GetField f d) h js e r c = getter_meant f r.field i js r.there c
     block_meant (op.PutField f d) h js e r c = setter_meant f r.field i js r.there c
     block_meant (op.LoadElement t) h js e r c = load_meant t (array_under 1 h) js c
-    block_meant (op.StoreElement t) h js e r c = static_meant (store_named (helped (array_under (1 + places_of t) h) t)) _ js c (T.stores (helped (array_under (1 + places_of t) h) t))
+    block_meant (op.StoreElement t) h js e r c = static_meant (store_named (helped (array_under (1 + word_places t) h) t)) _ js c (T.stores (helped (array_under (1 + word_places t) h) t))
     block_meant (op.InvokeStatic m) h js e r c =
         let v = invoke (op.InvokeStatic m) refl e in
         static_meant (duplicate_named (as_name v.name)) _ js (subst (λ (x : Option MemberName). IsDuplicateCall O.method.places 184 x i s.class.pool js) (named_in v.name v.there) c) (T.statics v.name m (called_in v.name v.calls v.there) (static_is s0 i.op v.name (op.InvokeStatic m) refl v.means))

@@ -1,17 +1,16 @@
 -- The law of rows.
-use Rattle.std.proofs.Common.{◌≡◌, ℕ, Some, arith}
+use Rattle.std.proofs.Common.{◌≡◌, ℕ, Some, arith, subst, sym}
 use Rattle.jmodel.specs.declared.instruction.Form.{Form}
 use Rattle.jmodel.specs.declared.instruction.Form.TheVariants as form
 use Rattle.jmodel.specs.declared.instruction.Operands.{Operands}
 use Rattle.jmodel.specs.declared.instruction.Operands.TheVariants as operands
-use Rattle.jmodel.specs.ClassFile.{Pool, ClassFile}
-use Rattle.jmodel.specs.Instruction.{form_of, IsSizedAs}
-use Rattle.jmodel.specs.ClassesTaken.{invoked}
-use Rattle.jmodel.specs.PoolAdding.{IsLonger}
+use Rattle.jmodel.specs.format.ClassFile.{Pool, ClassFile}
+use Rattle.jmodel.specs.format.Instruction.{form_of, IsSizedAs}
+use Rattle.objects.specs.linking.Taken.{invoked}
+use Rattle.jmodel.specs.format.PoolAdding.{IsLonger}
 use Rattle.std.specs.Prelude.{Option, None}
-use Rattle.std.proofs.Common.{subst, sym}
-use Rattle.objects.specs.Constructs.{accessed}
-use Rattle.objects.specs.Rewriting.{block_of as block_in_program}
+use Rattle.objects.specs.linking.Constructs.{accessed}
+use Rattle.objects.specs.rewriting.Rewriting.{block_of as block_in_program}
 use Rattle.member_code.proofs.Grown.{Grown, grown_trans}
 use Rattle.member_code.proofs.Single.{all_meant}
 use Rattle.dup_methods.specs.DuplicateLaw.{RowsLaw}

@@ -6,13 +6,13 @@ use Rattle.jmodel.specs.declared.class_file.Handler.{Handler}
 use Rattle.jmodel.specs.declared.instruction.Instr.{Instr}
 use Rattle.jmodel.specs.declared.typing.VType.{VType}
 use Rattle.jmodel.specs.declared.typing.VType.TheVariants as type
-use Rattle.jmodel.specs.ClassFile.{Pool}
-use Rattle.jmodel.specs.Pool.{MemberName, method_name}
-use Rattle.jmodel.specs.PoolAdding.{add_class}
-use Rattle.jmodel.specs.Instruction.{targets_of, AreStarts, SpellsInstrs}
-use Rattle.jmodel.specs.Reading.{◌>>=◌}
-use Rattle.jmodel.specs.Coded.{Coded}
-use Rattle.jmodel.specs.Relocation.{Block, IsShaped, EachInstr, ArePcs, AreBlocks}
+use Rattle.jmodel.specs.format.ClassFile.{Pool}
+use Rattle.jmodel.specs.format.Pool.{MemberName, method_name}
+use Rattle.jmodel.specs.format.PoolAdding.{add_class}
+use Rattle.jmodel.specs.format.Instruction.{targets_of, AreStarts, SpellsInstrs}
+use Rattle.jmodel.specs.format.Reading.{◌>>=◌}
+use Rattle.objects.specs.linking.Code.{Coded}
+use Rattle.jmodel.specs.format.Relocation.{Block, IsShaped, EachInstr, ArePcs, AreBlocks}
 use Rattle.bytecode.specs.Relocated.{StandFor}
 use Rattle.bytecode.proofs.OriginLaws.{origin_is}
 use Rattle.objects.specs.declared.op.Sort.TheVariants as sort
@@ -20,10 +20,10 @@ use Rattle.objects.specs.declared.op.WordType.{WordType}
 use Rattle.objects.specs.declared.op.WordType.TheVariants as word
 use Rattle.objects.specs.declared.op.Op.{Op}
 use Rattle.objects.specs.declared.op.Op.TheVariants.{Load, Store, Increment, GetStatic, PutStatic, GetField, PutField, InvokeStatic, InvokeSpecial, InvokeVirtual, InvokeInterface, LoadElement, StoreElement}
-use Rattle.objects.specs.Program.{field_at}
-use Rattle.objects.specs.Typing.{Types, types_at}
-use Rattle.objects.specs.TypeOrder.{conflict_class, object_class, element_class}
-use Rattle.objects.specs.Rewriting.{array_under, moved, moved_to}
+use Rattle.objects.specs.semantics.Program.{field_at}
+use Rattle.objects.specs.typing.Typing.{Types, types_at}
+use Rattle.objects.specs.typing.TypeOrder.{conflict_class, object_class, element_class}
+use Rattle.objects.specs.rewriting.Rewriting.{array_under, moved, moved_to}
 use Rattle.const_pool.proofs.Takes.{bind_ok, ok_is}
 use Rattle.member_code.specs.Growing.{grow_from}
 use Rattle.member_code.specs.Instrs.{plain, naming, load, store, increment, check_cast}

@@ -6,29 +6,29 @@ use Rattle.std.proofs.lemmas.Bool.Decides.{nat_tests}
 use Rattle.std.proofs.lemmas.List.Concat.{flat_map-cons}
 use Rattle.std.proofs.lemmas.List.Sums.{sum_by-cons}
 use Rattle.jmodel.specs.declared.instruction.Instr.{Instr}
-use Rattle.jmodel.specs.ClassFile.{Pool, ClassFile, Code}
-use Rattle.jmodel.specs.Pool.{MemberName}
-use Rattle.jmodel.specs.ClassesTaken.{invoked}
-use Rattle.jmodel.specs.Name.{printed}
-use Rattle.jmodel.specs.Instruction.{IsInstr, IsInstrOver}
-use Rattle.jmodel.specs.PoolAdding.{IsLonger, add_class}
-use Rattle.jmodel.specs.Reading.{◌>>=◌}
-use Rattle.jmodel.specs.Relocation.{Block, all_instrs, place_of, relocated, EachInstr, IsShaped}
-use Rattle.jmodel.specs.Decoding.{number_at, in_front, each}
+use Rattle.jmodel.specs.format.ClassFile.{Pool, ClassFile, Code}
+use Rattle.jmodel.specs.format.Pool.{MemberName}
+use Rattle.objects.specs.linking.Taken.{invoked}
+use Rattle.jmodel.specs.format.Name.{printed}
+use Rattle.jmodel.specs.format.Instruction.{IsInstr, IsInstrOver}
+use Rattle.jmodel.specs.format.PoolAdding.{IsLonger, add_class}
+use Rattle.jmodel.specs.format.Reading.{◌>>=◌}
+use Rattle.jmodel.specs.format.Relocation.{Block, all_instrs, place_of, relocated, EachInstr, IsShaped}
+use Rattle.objects.specs.linking.Code.{number_at}
+use Rattle.objects.specs.linking.Each.{in_front, each}
 use Rattle.bytecode.specs.Relocated.{number_of}
 use Rattle.bytecode.proofs.BlockLaws.{all_cons}
 use Rattle.bytecode.proofs.LaidLaws.{place_is}
 use Rattle.objects.specs.declared.op.Op.{Op}
 use Rattle.objects.specs.declared.op.Op.TheVariants as op
-use Rattle.objects.specs.Program.{Method, Program}
-use Rattle.objects.specs.Source.{IsSourceOp}
-use Rattle.objects.specs.Typing.{Types, types_at}
-use Rattle.objects.specs.TypeOrder.{conflict_class}
-use Rattle.objects.specs.Constructs.{accessed}
-use Rattle.objects.specs.Decoding.{Symbols, op_of, ops_of}
+use Rattle.objects.specs.semantics.Program.{Method, Program}
+use Rattle.objects.specs.typing.Source.{IsSourceOp}
+use Rattle.objects.specs.typing.Typing.{Types, types_at}
+use Rattle.objects.specs.typing.TypeOrder.{conflict_class}
+use Rattle.objects.specs.linking.Constructs.{accessed}
+use Rattle.objects.specs.linking.Decoding.{Symbols, op_of, ops_of}
 use Rattle.objects.proofs.Items.{all_items}
-use Rattle.objects.specs.Rewriting.{Typed, typed_from, after_load, array_under, block_of, block_len_of, block_len, block_at, blocks}
-use Rattle.objects.specs.Rewriting.{block as block_in_program}
+use Rattle.objects.specs.rewriting.Rewriting.{Typed, typed_from, after_load, array_under, block_of, block_len_of, block_len, block_at, blocks, block as block_in_program}
 use Rattle.const_pool.proofs.Takes.{bind_ok, guard_ok, ok_is}
 use Rattle.member_code.specs.Growing.{grow_from}
 use Rattle.member_code.specs.Coding.{too_many}

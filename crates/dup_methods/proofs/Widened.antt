@@ -6,11 +6,11 @@ use Rattle.std.proofs.lemmas.Bool.{ne_eqb}
 use Rattle.std.proofs.lemmas.List.Concat.{flat_map-cons}
 use Rattle.jmodel.specs.declared.class_file.FieldType.{FieldType}
 use Rattle.jmodel.specs.declared.class_file.FieldType.TheVariants as types
-use Rattle.jmodel.specs.Descriptor.{is_array_name, field_descriptor, result_descriptor, method_descriptor, places_of, Signature, IsFieldType, IsReferenceName, IsElement, IsClassName, IsArrayName, IsSignature}
-use Rattle.jmodel.specs.DescriptorReading.{signature_of}
+use Rattle.jmodel.specs.format.Descriptor.{is_array_name, field_descriptor, result_descriptor, method_descriptor, places_of, Signature, IsFieldType, IsReferenceName, IsElement, IsClassName, IsArrayName, IsSignature}
+use Rattle.jmodel.specs.format.DescriptorReading.{signature_of}
 use Rattle.const_pool.proofs.Signatures.{signature_found, signature_again}
-use Rattle.objects.specs.TypeOrder.{context_class}
-use Rattle.objects.specs.Rewriting.{context_type, before_end, with_context}
+use Rattle.objects.specs.typing.TypeOrder.{context_class}
+use Rattle.objects.specs.rewriting.Rewriting.{context_type, before_end, with_context}
 use Rattle.member_code.proofs.Added.{two_true}
 
 -- ---- where the parameters end

@@ -4,27 +4,26 @@ use Rattle.std.specs.List.{AllByRecursion}
 use Rattle.jmodel.specs.declared.value.Value.{Value}
 use Rattle.jmodel.specs.declared.name.MethodName.{MethodName}
 use Rattle.jmodel.specs.declared.instruction.Instr.{Instr}
-use Rattle.jmodel.specs.ClassFile.{Attribute, Member, Pool, ClassFile, Code}
-use Rattle.jmodel.specs.Pool.{MemberName}
-use Rattle.jmodel.specs.Descriptor.{Signature}
-use Rattle.jmodel.specs.Instruction.{IsInstr, SpellsInstrs}
-use Rattle.jmodel.specs.PoolAdding.{IsLonger}
-use Rattle.jmodel.specs.Relocation.{Block, laid_to, relocated}
-use Rattle.jmodel.specs.Decoding.{number_at, each}
-use Rattle.jmodel.specs.Superclasses.{own_name}
-use Rattle.jmodel.specs.Coded.{Coded, decoded}
-use Rattle.jmodel.specs.ClassesTaken.{invoked}
+use Rattle.jmodel.specs.format.ClassFile.{Attribute, Member, Pool, ClassFile, Code}
+use Rattle.jmodel.specs.format.Pool.{MemberName}
+use Rattle.jmodel.specs.format.Descriptor.{Signature}
+use Rattle.jmodel.specs.format.Instruction.{IsInstr, SpellsInstrs}
+use Rattle.jmodel.specs.format.PoolAdding.{IsLonger}
+use Rattle.jmodel.specs.format.Relocation.{Block, laid_to, relocated}
+use Rattle.objects.specs.linking.Code.{number_at, Coded, decoded}
+use Rattle.objects.specs.linking.Each.{each}
+use Rattle.objects.specs.linking.Members.{own_name}
+use Rattle.objects.specs.linking.Taken.{invoked}
 use Rattle.objects.specs.declared.op.WordType.{WordType}
 use Rattle.objects.specs.declared.op.Op.{Op}
 use Rattle.objects.specs.declared.op.Op.TheVariants.{Constant, Throw, InvokeStatic, InvokeSpecial, InvokeVirtual, InvokeInterface}
-use Rattle.objects.specs.Program.{Field, Program, field_at}
-use Rattle.objects.specs.Source.{IsSourceOp, IsSourceMethod}
-use Rattle.objects.specs.Typing.{Types}
-use Rattle.objects.specs.Constructs.{accessed, is_float_descriptor}
-use Rattle.objects.specs.Linking.{signature_in, receiver_types, parameter_types, result_type}
-use Rattle.objects.specs.Decoding.{Symbols, op_of, ops_of, get_static_op, static_call_op, special_call_op, virtual_call_op, interface_call_op}
-use Rattle.objects.specs.Rewriting.{typed_from, blocks, getter, setter, duplicate, element_getter, element_setter, duplicate_method}
-use Rattle.objects.specs.Rewriting.{block_of as block_in_program}
+use Rattle.objects.specs.semantics.Program.{Field, Program, field_at}
+use Rattle.objects.specs.typing.Source.{IsSourceOp, IsSourceMethod}
+use Rattle.objects.specs.typing.Typing.{Types}
+use Rattle.objects.specs.linking.Constructs.{accessed, is_float_descriptor}
+use Rattle.objects.specs.linking.Linking.{signature_in, receiver_types, parameter_types, result_type}
+use Rattle.objects.specs.linking.Decoding.{Symbols, op_of, ops_of, get_static_op, static_call_op, special_call_op, virtual_call_op, interface_call_op}
+use Rattle.objects.specs.rewriting.Rewriting.{typed_from, blocks, getter, setter, duplicate, element_getter, element_setter, duplicate_method, block_of as block_in_program}
 use Rattle.member_code.specs.Names.{duplicate_named}
 use Rattle.member_code.specs.Meaning.{meaning}
 use Rattle.dup_methods.specs.Originals.{Original}

@@ -6,24 +6,24 @@ use Rattle.jmodel.specs.declared.name.MethodName.{MethodName}
 use Rattle.jmodel.specs.declared.instruction.Instr.{Instr}
 use Rattle.jmodel.specs.declared.typing.VType.{VType}
 use Rattle.jmodel.specs.declared.typing.VType.TheVariants as type
-use Rattle.jmodel.specs.ClassFile.{Member, Pool, Code}
-use Rattle.jmodel.specs.Pool.{MemberName, member_name}
-use Rattle.jmodel.specs.Name.{printed}
-use Rattle.jmodel.specs.Coded.{Coded}
-use Rattle.jmodel.specs.ClassesTaken.{index_of}
-use Rattle.jmodel.specs.PoolAdding.{add_text, add_class, add_method, add_interface_method}
-use Rattle.jmodel.specs.Reading.{◌>>=◌}
-use Rattle.jmodel.specs.Relocation.{Block}
+use Rattle.jmodel.specs.format.ClassFile.{Member, Pool, Code}
+use Rattle.jmodel.specs.format.Pool.{MemberName, member_name}
+use Rattle.jmodel.specs.format.Name.{printed}
+use Rattle.objects.specs.linking.Code.{Coded}
+use Rattle.objects.specs.linking.Taken.{index_of}
+use Rattle.jmodel.specs.format.PoolAdding.{add_text, add_class, add_method, add_interface_method}
+use Rattle.jmodel.specs.format.Reading.{◌>>=◌}
+use Rattle.jmodel.specs.format.Relocation.{Block}
 use Rattle.objects.specs.declared.op.Sort.TheVariants as sort
 use Rattle.objects.specs.declared.op.WordType.{WordType}
 use Rattle.objects.specs.declared.op.WordType.TheVariants as word
 use Rattle.objects.specs.declared.op.Op.{Op}
 use Rattle.objects.specs.declared.op.Op.TheVariants.{Load, Store, Increment, GetStatic, PutStatic, GetField, PutField, InvokeStatic, InvokeSpecial, InvokeVirtual, InvokeInterface, LoadElement, StoreElement}
-use Rattle.objects.specs.Program.{Field, Method, field_at}
-use Rattle.objects.specs.Typing.{Types, types_at}
-use Rattle.objects.specs.TypeOrder.{conflict_class, object_class, element_class}
-use Rattle.objects.specs.Linking.{decoded_member}
-use Rattle.objects.specs.Rewriting.{places_of, moved, moved_to, helped, array_under}
+use Rattle.objects.specs.semantics.Program.{Field, Method, field_at}
+use Rattle.objects.specs.typing.Typing.{Types, types_at}
+use Rattle.objects.specs.typing.TypeOrder.{conflict_class, object_class, element_class}
+use Rattle.objects.specs.linking.Linking.{decoded_member}
+use Rattle.objects.specs.rewriting.Rewriting.{word_places, moved, moved_to, helped, array_under}
 use Rattle.member_code.specs.Growing.{Growth, grow_from}
 use Rattle.member_code.specs.Names.{duplicate_named}
 use Rattle.member_code.specs.Instrs.{plain, naming, load, store, increment, call_interface, check_cast}
@@ -95,7 +95,7 @@ block_of O (Some (PutStatic f)) h i pool = accessor_call O.method.places setter_
 block_of O (Some (GetField f d)) h i pool = accessor_call O.method.places getter_named (field_at O.program f) i pool
 block_of O (Some (PutField f d)) h i pool = accessor_call O.method.places setter_named (field_at O.program f) i pool
 block_of O (Some (LoadElement t)) h i pool = element_load O.method.places t (array_under 1 h) pool
-block_of O (Some (StoreElement t)) h i pool = element_store O.method.places t (array_under (1 + places_of t) h) pool
+block_of O (Some (StoreElement t)) h i pool = element_store O.method.places t (array_under (1 + word_places t) h) pool
 block_of O (Some (InvokeStatic m)) h i pool = duplicate_call O.method.places 184 (called O i) i pool
 block_of O (Some (InvokeSpecial m)) h i pool = duplicate_call O.method.places 183 (called O i) i pool
 block_of O (Some (InvokeVirtual m d)) h i pool = duplicate_call O.method.places 182 (called O i) i pool

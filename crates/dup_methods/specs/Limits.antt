@@ -6,12 +6,12 @@ use Rattle.jmodel.specs.declared.refusal.Refusal.{Refusal}
 use Rattle.jmodel.specs.declared.instruction.Operands.{Operands}
 use Rattle.jmodel.specs.declared.instruction.Operands.TheVariants as operands
 use Rattle.jmodel.specs.declared.instruction.Instr.{Instr}
-use Rattle.jmodel.specs.ClassFile.{Code}
-use Rattle.jmodel.specs.Name.{printed}
+use Rattle.jmodel.specs.format.ClassFile.{Code}
+use Rattle.jmodel.specs.format.Name.{printed}
 use Rattle.objects.specs.declared.op.Op.{Op}
 use Rattle.objects.specs.declared.op.Op.TheVariants.{Load, Store, Increment, InvokeStatic, InvokeSpecial, InvokeVirtual, InvokeInterface}
-use Rattle.objects.specs.Program.{Method, Program, method_at}
-use Rattle.objects.specs.Rewriting.{moved, moved_to, is_stray, more_locals}
+use Rattle.objects.specs.semantics.Program.{Method, Program, method_at}
+use Rattle.objects.specs.rewriting.Rewriting.{moved, moved_to, is_stray, more_locals}
 use Rattle.member_code.specs.Coding.{too_many}
 
 -- ---- arguments

@@ -1,10 +1,10 @@
 -- Names of the members that duplicates call (Korland, Shavit, Felber, MULTIPROG 2010, in this project's form).
 use Rattle.std.specs.Prelude.{ℕ, List, [], ◌++◌, Option, Some, None, codes}
 use Rattle.jmodel.specs.declared.name.MethodName.{MethodName}
-use Rattle.jmodel.specs.Pool.{MemberName}
+use Rattle.jmodel.specs.format.Pool.{MemberName}
 use Rattle.objects.specs.declared.op.WordType.{WordType}
-use Rattle.objects.specs.Program.{Field}
-use Rattle.objects.specs.Rewriting.{context_type, helper_class, helper_letter, array_type, type_descriptor}
+use Rattle.objects.specs.semantics.Program.{Field}
+use Rattle.objects.specs.rewriting.Rewriting.{context_type, helper_class, helper_letter, array_type, type_descriptor}
 
 -- what stands for the object among the parameters of accessors: nothing for a static field
 abbrev pub receiver_type : Field → List ℕ

@@ -1,9 +1,9 @@
 //! The blocks of a duplicate: what stands there for each instruction.
 ghost use Rattle.std.specs.Prelude.{◌≡◌, ◌≤◌, [], ◌∷◌, IfOk, IfSome, option_copied};
 ghost use Rattle.std.specs.List.{AllByRecursion};
-ghost use Rattle.jmodel.specs.ClassesTaken.{index_of as index_in};
-ghost use Rattle.objects.specs.Rewriting.{array_under as type_under, helped as helped_by, places_of as places_of_word};
-ghost use Rattle.objects.specs.TypeOrder.{element_class as class_of_element};
+ghost use Rattle.objects.specs.linking.Taken.{index_of as index_in};
+ghost use Rattle.objects.specs.rewriting.Rewriting.{array_under as type_under, helped as helped_by, word_places as places_of_word};
+ghost use Rattle.objects.specs.typing.TypeOrder.{element_class as class_of_element};
 ghost use Rattle.member_code.specs.Growing.{Grows, grow_from};
 ghost use Rattle.dup_methods.specs.Names.{getter_named as named_getter, setter_named as named_setter};
 ghost use Rattle.dup_methods.specs.Limits.{FitsOp, FitsCount};
@@ -14,11 +14,11 @@ use crate::names::{as_name, getter_named, load_named, setter_named, store_named}
 use crate::originals::Original;
 use bytecode::{Block, Instr, Operands, opcodes};
 use const_pool::Pool;
+use hierarchy::TypeEntry;
+use hierarchy::reference::{Reference, member_reference};
 use jmodel::{Halt, MethodName, VType};
 use member_code::instrs::{call_interface, check_cast, increment, load, naming, plain, store};
 use member_code::names::duplicate_named;
-use object_hierarchy::TypeEntry;
-use object_hierarchy::reference::{Reference, member_reference};
 use objects::op::{Op, Sort, WordType};
 use std::alloc::{AllocError, Global};
 
@@ -97,7 +97,7 @@ fn getter_call(
     }
 }
 
-ghost use Rattle.objects.specs.Program.{field_at};
+ghost use Rattle.objects.specs.semantics.Program.{field_at};
 
 // A call of its setter.
 fn setter_call(
@@ -197,7 +197,7 @@ fn without_last(bytes: &[u8]) -> &[u8]
     }
 }
 
-ghost use Rattle.objects.specs.TypeOrder.{without_last as all_but_last, named_by as named_by_descriptor};
+ghost use Rattle.objects.specs.typing.TypeOrder.{without_last as all_but_last, named_by as named_by_descriptor};
 
 // The class's name, or the array's descriptor, that a descriptor says.
 fn named_by(descriptor: &[u8]) -> &[u8]

@@ -1,10 +1,10 @@
 //! Duplicates of methods.
 ghost use Rattle.std.specs.Prelude.{◌≡◌, ◌+◌, ◌≤◌, Some, IfOk, IfSome};
 ghost use Rattle.std.specs.List.{AllByRecursion};
-ghost use Rattle.jmodel.specs.Reading.{Gives};
-ghost use Rattle.jmodel.specs.Relocation.{AreBlocks};
-ghost use Rattle.jmodel.specs.Instruction.{SpellsInstrs};
-ghost use Rattle.objects.specs.Linking.{has_no_code as is_without_code, decoded_member as decoded_so};
+ghost use Rattle.jmodel.specs.format.Reading.{Gives};
+ghost use Rattle.jmodel.specs.format.Relocation.{AreBlocks};
+ghost use Rattle.jmodel.specs.format.Instruction.{SpellsInstrs};
+ghost use Rattle.objects.specs.linking.Linking.{has_no_code as is_without_code, decoded_member as decoded_so};
 ghost use Rattle.member_code.specs.Growing.{Grows};
 ghost use Rattle.dup_methods.specs.Limits.{added_locals as locals_added, AddsLittle, FitsOp, FitsCount};
 ghost use Rattle.dup_methods.specs.Duplicates.{stub as stub_of, refs_of as refs, duplicate_flags as flags_of_duplicate, duplicate_bytes as bytes_of_duplicate, texts_of as texts, made_duplicate as made, coded_duplicate as coded_copy, abstract_duplicate as abstract_copy, duplicate_of as duplicate};
@@ -14,14 +14,14 @@ use crate::limits::{added_locals, want_arguments, want_places};
 use crate::originals::Original;
 use bytecode::{Block, Instr, opcodes};
 use const_pool::{Code, Member, Pool};
+use hierarchy::Method;
+use hierarchy::code::{Coded, decoded};
 use jmodel::{Bytes, Halt};
 use member_code::instrs::plain;
 use member_code::laying::bytes_of_method;
 use member_code::members::{added_method, typed_name};
 use member_code::names::duplicate_named;
 use member_code::places::want_room;
-use object_hierarchy::Method;
-use object_hierarchy::code::{Coded, decoded};
 use std::alloc::Global;
 
 // What the code of a duplicate names: what its blocks do, and the class of conflicts.

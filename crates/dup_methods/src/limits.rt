@@ -1,16 +1,16 @@
 //! Of what a duplicate may not have too many (JVM Specification, Java SE 7, sections 4.3.3, 4.7.3 and 4.9.1).
 ghost use Rattle.std.specs.Prelude.{◌≡◌, ◌+◌, ◌≤◌, ◌<◌, length, OnOk};
 ghost use Rattle.std.specs.List.{list_any, AllByRecursion};
-ghost use Rattle.jmodel.specs.Reading.{Gives};
-ghost use Rattle.objects.specs.Rewriting.{is_stray as is_stray_in, moved as moved_by, moved_to as moved_so};
+ghost use Rattle.jmodel.specs.format.Reading.{Gives};
+ghost use Rattle.objects.specs.rewriting.Rewriting.{is_stray as is_stray_in, moved as moved_by, moved_to as moved_so};
 ghost use Rattle.objects.specs.declared.op.Op.{Op as Form};
 ghost use Rattle.dup_methods.specs.Limits.{called_places as places_of_called, count_of as count_in, calls_full as is_calling_full, counts_full as is_counting_full, few_arguments, few_places, added_locals as locals_added, moved_local, is_far as is_far_in, FitsCount};
 
 use bytecode::{Instr, Operands};
 use const_pool::Code;
+use hierarchy::{Method, Program};
 use jmodel::Halt;
 use member_code::places::too_many;
-use object_hierarchy::{Method, Program};
 use objects::op::{Op, Sort};
 use std::alloc::Global;
 
@@ -24,7 +24,7 @@ fn places_of(program: &Program, method: usize) -> usize
     }
 }
 
-ghost use Rattle.objects.specs.Program.{method_at};
+ghost use Rattle.objects.specs.semantics.Program.{method_at};
 ghost use Rattle.dup_methods.specs.Limits.{places_in};
 
 // How many places the arguments of the folder's method take that an instruction calls.

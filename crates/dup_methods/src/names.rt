@@ -1,13 +1,13 @@
 //! Names of the members that duplicates call.
 ghost use Rattle.std.specs.Prelude.{◌≡◌, ◌++◌, IfOk, OnOk};
-ghost use Rattle.objects.specs.Rewriting.{helper_letter as letter_of};
-ghost use Rattle.objects.specs.WordTypes.{type_descriptor as type_of};
+ghost use Rattle.objects.specs.rewriting.Rewriting.{helper_letter as letter_of};
+ghost use Rattle.objects.specs.semantics.WordTypes.{type_descriptor as type_of};
 ghost use Rattle.dup_methods.specs.Names.{receiver_type as type_of_receiver, getter_named as named_getter, setter_named as named_setter, load_named as named_load, store_named as named_store, as_name as named_so};
 
+use hierarchy::Field;
+use hierarchy::reference::Reference;
 use jmodel::{Bytes, MethodName};
 use member_code::bytes::joined;
-use object_hierarchy::Field;
-use object_hierarchy::reference::Reference;
 use objects::op::WordType;
 use std::alloc::{AllocError, Global};
 

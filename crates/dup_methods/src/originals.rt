@@ -1,9 +1,9 @@
 //! A method of an original program, with what its class's file has of it, and a typing of it.
 ghost use Rattle.std.specs.Prelude.{◌≡◌, ◌≤◌, option_copied, slice_get};
-ghost use Rattle.objects.specs.Typing.{types_at};
+ghost use Rattle.objects.specs.typing.Typing.{types_at};
 
 use const_pool::{ClassFile, Member};
-use object_hierarchy::{Method, Program, TypeEntry, Typing};
+use hierarchy::{Method, Program, TypeEntry, Typing};
 use objects::op::Op;
 use std::marker::Model;
 

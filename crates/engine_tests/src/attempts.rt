@@ -1,12 +1,12 @@
 //! Attempts over a table of shared words.
 ghost use Rattle.std.specs.Prelude.{◌≡◌, ◌≤◌, ◌<◌, ◌+◌, ◌^◌, ℕ, IfOk};
-ghost use Rattle.jmodel.specs.History.{Call, Entry};
+ghost use Rattle.jmodel.specs.history.History.{Call, Entry};
 ghost use Rattle.tx_table.specs.Passes.{book, IsSame, IsKin};
 ghost use Rattle.tx_table.specs.Trials.{the_call};
 ghost use Rattle.tl2.specs.Standing.{IsOpen, Awaits};
 ghost use Rattle.tl2.specs.Trials.{StandsSomehow, IsWaiting};
 
-use jmodel::op::Access;
+use jmodel::access::Access;
 use jmodel::value::Answer;
 use std::snapshot::Snapshot;
 use tl2::attempt::{Calling, Ruled, Tl2};

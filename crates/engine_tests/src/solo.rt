@@ -1,6 +1,6 @@
 ghost use Rattle.std.specs.Prelude.{◌≡◌};
 
-use jmodel::op::Access;
+use jmodel::access::Access;
 use jmodel::value::{Answer, Stamp};
 use std::alloc::{AllocError, Global};
 use std::marker::Brand;

@@ -5,15 +5,15 @@ use Rattle.std.specs.List.{flat_map}
 use Rattle.std.proofs.lemmas.List.Concat.{flat_map-cons}
 use Rattle.jmodel.specs.declared.typing.VType.{VType}
 use Rattle.jmodel.specs.declared.instruction.Instr.{Instr}
-use Rattle.jmodel.specs.ClassFile.{Member, ClassFile}
-use Rattle.jmodel.specs.Decoding.{each}
-use Rattle.jmodel.specs.Relocation.{place_of, relocated}
+use Rattle.jmodel.specs.format.ClassFile.{Member, ClassFile}
+use Rattle.objects.specs.linking.Each.{each}
+use Rattle.jmodel.specs.format.Relocation.{place_of, relocated}
 use Rattle.objects.specs.declared.op.Op.TheVariants.{ReturnValue}
-use Rattle.objects.specs.Program.{Field, Method}
-use Rattle.objects.specs.Step.{sort_of}
-use Rattle.objects.specs.TypeOrder.{place_types}
-use Rattle.objects.specs.Decoding.{Symbols}
-use Rattle.objects.specs.Rewriting.{context, as_result, added, places_of, getter_method, setter_method, accessors}
+use Rattle.objects.specs.semantics.Program.{Field, Method}
+use Rattle.objects.specs.semantics.Step.{sort_of}
+use Rattle.objects.specs.typing.TypeOrder.{place_types}
+use Rattle.objects.specs.linking.Decoding.{Symbols}
+use Rattle.objects.specs.rewriting.Rewriting.{context, as_result, added, word_places, getter_method, setter_method, accessors}
 use Rattle.const_pool.proofs.Takes.{bind_ok, ok_is}
 use Rattle.member_code.specs.Instrs.{give}
 use Rattle.member_code.specs.Meaning.{meaning}
@@ -50,22 +50,22 @@ module _ (s : Symbols) (n : ℕ) (f : Field) (K : IsKnown s n f) where
   getter_long : receiver_places f + 1 ≡ length getter_takes
   getter_long = omega (arith, length-append (receiver_takes f.base f.class) (context ∷ []), receiver_places_are f)
 
-  setter_long : receiver_places f + places_of f.declared.word + 1 ≡ length setter_takes
+  setter_long : receiver_places f + word_places f.declared.word + 1 ≡ length setter_takes
   setter_long = omega (arith, length-append (receiver_takes f.base f.class ++ place_types f.declared) (context ∷ []), length-append (receiver_takes f.base f.class) (place_types f.declared), receiver_places_are f, places_are f.declared)
 
-  getter_made : added f.class (getter_named f).name (getter_named f).descriptor getter_takes (4 + places_of f.declared.word) (Some (as_result f.declared)) (getter_ops f n f.base) ≡ getter_method n f
+  getter_made : added f.class (getter_named f).name (getter_named f).descriptor getter_takes (4 + word_places f.declared.word) (Some (as_result f.declared)) (getter_ops f n f.base) ≡ getter_method n f
   getter_made = go f.base refl
     where
-      go : (o : Option ℕ) → f.base ≡ o → added f.class (getter_named f).name (getter_named f).descriptor (receiver_takes o f.class ++ context ∷ []) (4 + places_of f.declared.word) (Some (as_result f.declared)) (getter_ops f n o) ≡ getter_method n f
+      go : (o : Option ℕ) → f.base ≡ o → added f.class (getter_named f).name (getter_named f).descriptor (receiver_takes o f.class ++ context ∷ []) (4 + word_places f.declared.word) (Some (as_result f.declared)) (getter_ops f n o) ≡ getter_method n f
       go None e = let c = cast_is f.declared (ReturnValue (sort_of f.declared.word) ∷ []) in rw e (rw c refl)
       go (Some o) e = let c = cast_is f.declared (ReturnValue (sort_of f.declared.word) ∷ []) in rw e (rw c refl)
 
-  setter_made : added f.class (setter_named f).name (setter_named f).descriptor setter_takes (4 + places_of f.declared.word) None (setter_ops f f.base) ≡ setter_method f
+  setter_made : added f.class (setter_named f).name (setter_named f).descriptor setter_takes (4 + word_places f.declared.word) None (setter_ops f f.base) ≡ setter_method f
   setter_made = go f.base refl
     where
-      go : (o : Option ℕ) → f.base ≡ o → added f.class (setter_named f).name (setter_named f).descriptor (receiver_takes o f.class ++ place_types f.declared ++ context ∷ []) (4 + places_of f.declared.word) None (setter_ops f o) ≡ setter_method f
+      go : (o : Option ℕ) → f.base ≡ o → added f.class (setter_named f).name (setter_named f).descriptor (receiver_takes o f.class ++ place_types f.declared ++ context ∷ []) (4 + word_places f.declared.word) None (setter_ops f o) ≡ setter_method f
       go None e = rw e refl
-      go (Some o) e = let z : 0 + places_of f.declared.word ≡ places_of f.declared.word = omega arith in rw e (rw z refl)
+      go (Some o) e = let z : 0 + word_places f.declared.word ≡ word_places f.declared.word = omega arith in rw e (rw z refl)
 
   some_getter : (is : List Instr) → GetterAt f s.class.pool is → 0 < length is
   some_getter is h = omega (arith, ap length h.code, length-append (h.look ++ h.read ++ h.cast) (give (sort_of f.declared.word) ∷ []))
@@ -76,9 +76,9 @@ module _ (s : Symbols) (n : ℕ) (f : Field) (K : IsKnown s n f) where
   pub getter_is : (m : Member) → IsGetter f s.class.pool m → meaning s false m ≡ Some (getter_method n f)
   getter_is m g =
       let M = g.method in
-      straight_means s m f.class (getter_named f).name (getter_named f).descriptor getter_takes (Some (as_result f.declared)) (4 + places_of f.declared.word) g.is (getter_ops f n f.base) M.bytes
+      straight_means s m f.class (getter_named f).name (getter_named f).descriptor getter_takes (Some (as_result f.declared)) (4 + word_places f.declared.word) g.is (getter_ops f n f.base) M.bytes
       (as_added s (getter_named f) M.bytes m M.coded) (getter_typed s n f K)
-      (in_places (4 + places_of f.declared.word) (receiver_places f + 1) (length getter_takes) g.is M.bytes getter_long M.run)
+      (in_places (4 + word_places f.declared.word) (receiver_places f + 1) (length getter_takes) g.is M.bytes getter_long M.run)
       (getter_laid f s.class.pool g.is g.code) (some_getter g.is g.code) (omega (arith, few_places f.declared.word)) (omega (arith, getter_long, receiver_few f)) K.own
       (getter_meant s n f K (place_of (run g.is)) (relocated (run g.is) []) g.is g.code)
       ∙ ap (λ (k : Method). Some k) getter_made
@@ -86,9 +86,9 @@ module _ (s : Symbols) (n : ℕ) (f : Field) (K : IsKnown s n f) where
   pub setter_is : (m : Member) → IsSetter f s.class.pool m → meaning s false m ≡ Some (setter_method f)
   setter_is m g =
       let M = g.method in
-      straight_means s m f.class (setter_named f).name (setter_named f).descriptor setter_takes None (4 + places_of f.declared.word) g.is (setter_ops f f.base) M.bytes
+      straight_means s m f.class (setter_named f).name (setter_named f).descriptor setter_takes None (4 + word_places f.declared.word) g.is (setter_ops f f.base) M.bytes
       (as_added s (setter_named f) M.bytes m M.coded) (setter_typed s n f K)
-      (in_places (4 + places_of f.declared.word) (receiver_places f + places_of f.declared.word + 1) (length setter_takes) g.is M.bytes setter_long M.run)
+      (in_places (4 + word_places f.declared.word) (receiver_places f + word_places f.declared.word + 1) (length setter_takes) g.is M.bytes setter_long M.run)
       (setter_laid f s.class.pool g.is g.code) (some_setter g.is g.code) (omega (arith, few_places f.declared.word)) (omega (arith, setter_long, receiver_few f, few_places f.declared.word)) K.own
       (setter_meant s n f K (place_of (run g.is)) (relocated (run g.is) []) g.is g.code)
       ∙ ap (λ (k : Method). Some k) setter_made

@@ -6,19 +6,18 @@ use Rattle.std.specs.List.{AllByRecursion, list_any}
 use Rattle.std.proofs.lemmas.List.{append_cancel_right}
 use Rattle.jmodel.specs.declared.name.MethodName.{MethodName}
 use Rattle.jmodel.specs.declared.value.Value.TheVariants.{Ref}
-use Rattle.jmodel.specs.ClassFile.{Attribute, Member, Pool, ClassFile}
-use Rattle.jmodel.specs.Pool.{utf8, MemberName}
-use Rattle.jmodel.specs.ClassRules.{same_text}
-use Rattle.jmodel.specs.Classes.{Declared as DeclaredMember, full_name}
-use Rattle.jmodel.specs.Constants.{pair_number, long_in, named_entry, long_value}
-use Rattle.jmodel.specs.Layout.{text_or_none}
-use Rattle.jmodel.specs.Linking.{has_part, is_reserved}
-use Rattle.jmodel.specs.Superclasses.{own_name, is_member}
+use Rattle.jmodel.specs.format.ClassFile.{Attribute, Member, Pool, ClassFile}
+use Rattle.jmodel.specs.format.Pool.{utf8, MemberName, text_or_none}
+use Rattle.jmodel.specs.format.ClassRules.{same_text}
+use Rattle.objects.specs.linking.Classes.{Declared as DeclaredMember, full_name}
+use Rattle.jmodel.specs.format.Constants.{pair_number, long_in, named_entry, long_value}
+use Rattle.objects.specs.linking.Reserved.{has_part, is_reserved}
+use Rattle.objects.specs.linking.Members.{own_name, is_member}
 use Rattle.objects.specs.declared.op.Op.TheVariants.{Constant}
-use Rattle.objects.specs.Program.{Field}
-use Rattle.objects.specs.Decoding.{Symbols, is_field_of, field_number, added_address, get_static_op}
-use Rattle.objects.specs.Resolution.{has_name, resolved_field, fields_in, ancestry}
-use Rattle.objects.specs.Rewriting.{distance}
+use Rattle.objects.specs.semantics.Program.{Field}
+use Rattle.objects.specs.linking.Decoding.{Symbols, is_field_of, field_number, added_address, get_static_op}
+use Rattle.objects.specs.linking.Resolution.{has_name, resolved_field, fields_in, ancestry}
+use Rattle.objects.specs.rewriting.Rewriting.{distance}
 use Rattle.const_pool.proofs.Takes.{bind_ok, ok_is}
 use Rattle.const_pool.proofs.Entries.{no_place}
 use Rattle.member_code.specs.Coding.{high, low}

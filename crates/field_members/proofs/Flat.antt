@@ -2,10 +2,10 @@
 use Rattle.std.proofs.Common.{◌≡◌, ◌<◌, List, [], length, Ok}
 use Rattle.std.specs.List.{AllByRecursion}
 use Rattle.jmodel.specs.declared.instruction.Instr.{Instr}
-use Rattle.jmodel.specs.ClassFile.{Pool}
-use Rattle.jmodel.specs.Instruction.{targets_of}
-use Rattle.jmodel.specs.Relocation.{IsShaped}
-use Rattle.objects.specs.Program.{Field}
+use Rattle.jmodel.specs.format.ClassFile.{Pool}
+use Rattle.jmodel.specs.format.Instruction.{targets_of}
+use Rattle.jmodel.specs.format.Relocation.{IsShaped}
+use Rattle.objects.specs.semantics.Program.{Field}
 use Rattle.member_code.proofs.Grown.{grown_refl}
 use Rattle.member_code.proofs.Single.{IsLaid}
 use Rattle.member_code.proofs.Straight.{each_shaped, each_nowhere}

@@ -2,14 +2,14 @@
 use Rattle.std.proofs.Common.{◌≡◌, ℕ, ◌+◌, ◌-◌, List, [], ◌∷◌, ◌++◌, Bool, true, false, Option, Some, None, Ok, refl, subst}
 use Rattle.std.specs.Prelude.{codes}
 use Rattle.jmodel.specs.declared.instruction.Instr.{Instr}
-use Rattle.jmodel.specs.ClassFile.{Pool, Member}
-use Rattle.jmodel.specs.PoolAdding.{add_class, add_field}
-use Rattle.jmodel.specs.Reading.{◌>>=◌}
-use Rattle.objects.specs.Program.{Field}
-use Rattle.objects.specs.Step.{sort_of}
-use Rattle.objects.specs.TypeOrder.{context_class}
-use Rattle.objects.specs.Rewriting.{places_of}
-use Rattle.objects.specs.Decoding.{read_descriptor, write_descriptor}
+use Rattle.jmodel.specs.format.ClassFile.{Pool, Member}
+use Rattle.jmodel.specs.format.PoolAdding.{add_class, add_field}
+use Rattle.jmodel.specs.format.Reading.{◌>>=◌}
+use Rattle.objects.specs.semantics.Program.{Field}
+use Rattle.objects.specs.semantics.Step.{sort_of}
+use Rattle.objects.specs.typing.TypeOrder.{context_class}
+use Rattle.objects.specs.rewriting.Rewriting.{word_places}
+use Rattle.objects.specs.linking.Decoding.{read_descriptor, write_descriptor}
 use Rattle.const_pool.proofs.Takes.{bind_ok, ok_is}
 use Rattle.member_code.specs.Instrs.{give, check_cast}
 use Rattle.member_code.specs.Coding.{room_for, straight_method}
@@ -164,29 +164,29 @@ setter_code_puts f pool r s e =
 pub record IsGetter (f : Field) (Z : Pool) (m : Member) : Type 0 where
   pub is : List Instr
   pub code : GetterAt f Z is
-  pub method : IsStraightAt (4 + places_of f.declared.word) (receiver_places f + 1) is (getter_named f) Z m
+  pub method : IsStraightAt (4 + word_places f.declared.word) (receiver_places f + 1) is (getter_named f) Z m
 
 getter_puts : (room : ℕ) (f : Field) → Adding (IsGetter f) (getter_of room f)
 unfolding getter_of
 getter_puts room f pool r s e =
-    let x = bind_ok (room_for room (getter_named f)) (λ fits. getter_instrs f pool >>= λ code. straight_method (4 + places_of f.declared.word) (receiver_places f + 1) code.0 (getter_named f) code.1) r e in
-    let a = bind_ok (getter_instrs f pool) (λ code. straight_method (4 + places_of f.declared.word) (receiver_places f + 1) code.0 (getter_named f) code.1) r x.2 in
+    let x = bind_ok (room_for room (getter_named f)) (λ fits. getter_instrs f pool >>= λ code. straight_method (4 + word_places f.declared.word) (receiver_places f + 1) code.0 (getter_named f) code.1) r e in
+    let a = bind_ok (getter_instrs f pool) (λ code. straight_method (4 + word_places f.declared.word) (receiver_places f + 1) code.0 (getter_named f) code.1) r x.2 in
     let p = getter_code_puts f pool a.0 s a.1 in
-    let q = adds_straight (4 + places_of f.declared.word) (receiver_places f + 1) a.0.0 (getter_named f) a.0.1 r p.short a.2 in
+    let q = adds_straight (4 + word_places f.declared.word) (receiver_places f + 1) a.0.0 (getter_named f) a.0.1 r p.short a.2 in
     record { grown = grown_trans pool a.0.1 r.1 p.grown q.grown; short = q.short; facts = λ Z g. record { is = a.0.0; code = p.facts Z (grown_trans a.0.1 r.1 Z q.grown g); method = q.facts Z g } }
 
 pub record IsSetter (f : Field) (Z : Pool) (m : Member) : Type 0 where
   pub is : List Instr
   pub code : SetterAt f Z is
-  pub method : IsStraightAt (4 + places_of f.declared.word) (receiver_places f + places_of f.declared.word + 1) is (setter_named f) Z m
+  pub method : IsStraightAt (4 + word_places f.declared.word) (receiver_places f + word_places f.declared.word + 1) is (setter_named f) Z m
 
 setter_puts : (room : ℕ) (f : Field) → Adding (IsSetter f) (setter_of room f)
 unfolding setter_of
 setter_puts room f pool r s e =
-    let x = bind_ok (room_for room (setter_named f)) (λ fits. setter_instrs f pool >>= λ code. straight_method (4 + places_of f.declared.word) (receiver_places f + places_of f.declared.word + 1) code.0 (setter_named f) code.1) r e in
-    let a = bind_ok (setter_instrs f pool) (λ code. straight_method (4 + places_of f.declared.word) (receiver_places f + places_of f.declared.word + 1) code.0 (setter_named f) code.1) r x.2 in
+    let x = bind_ok (room_for room (setter_named f)) (λ fits. setter_instrs f pool >>= λ code. straight_method (4 + word_places f.declared.word) (receiver_places f + word_places f.declared.word + 1) code.0 (setter_named f) code.1) r e in
+    let a = bind_ok (setter_instrs f pool) (λ code. straight_method (4 + word_places f.declared.word) (receiver_places f + word_places f.declared.word + 1) code.0 (setter_named f) code.1) r x.2 in
     let p = setter_code_puts f pool a.0 s a.1 in
-    let q = adds_straight (4 + places_of f.declared.word) (receiver_places f + places_of f.declared.word + 1) a.0.0 (setter_named f) a.0.1 r p.short a.2 in
+    let q = adds_straight (4 + word_places f.declared.word) (receiver_places f + word_places f.declared.word + 1) a.0.0 (setter_named f) a.0.1 r p.short a.2 in
     record { grown = grown_trans pool a.0.1 r.1 p.grown q.grown; short = q.short; facts = λ Z g. record { is = a.0.0; code = p.facts Z (grown_trans a.0.1 r.1 Z q.grown g); method = q.facts Z g } }
 
 pub record AreAccessors (f : Field) (Z : Pool) (a : Accessors) : Type 0 where

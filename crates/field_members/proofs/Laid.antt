@@ -4,19 +4,19 @@ use Rattle.std.specs.Prelude.{codes, not, bytes_eq, if◌then◌else◌}
 use Rattle.std.specs.List.{AllByRecursion}
 use Rattle.jmodel.specs.declared.value.Value.TheVariants.{Ref}
 use Rattle.jmodel.specs.declared.instruction.Instr.{Instr}
-use Rattle.jmodel.specs.ClassFile.{Pool}
-use Rattle.jmodel.specs.Pool.{field_name}
+use Rattle.jmodel.specs.format.ClassFile.{Pool}
+use Rattle.jmodel.specs.format.Pool.{field_name}
 use Rattle.objects.specs.declared.op.Sort.TheVariants as sort
 use Rattle.objects.specs.declared.op.WordType.{WordType}
 use Rattle.objects.specs.declared.op.WordType.TheVariants as word
 use Rattle.objects.specs.declared.op.ContextCall.TheVariants.{BeforeRead, OnRead, OnWrite}
 use Rattle.objects.specs.declared.op.Op.{Op}
 use Rattle.objects.specs.declared.op.Op.TheVariants.{Constant, Load, GetStatic, GetField, CheckCast, Return, ReturnValue, Context}
-use Rattle.objects.specs.Program.{Declared, Field}
-use Rattle.objects.specs.Step.{sort_of}
-use Rattle.objects.specs.TypeOrder.{context_class, object_class}
-use Rattle.objects.specs.Rewriting.{places_of, distance, cast_to, cast_of}
-use Rattle.objects.specs.Decoding.{Symbols, read_descriptor, write_descriptor, virtual_call_op}
+use Rattle.objects.specs.semantics.Program.{Declared, Field}
+use Rattle.objects.specs.semantics.Step.{sort_of}
+use Rattle.objects.specs.typing.TypeOrder.{context_class, object_class}
+use Rattle.objects.specs.rewriting.Rewriting.{word_places, distance, cast_to, cast_of}
+use Rattle.objects.specs.linking.Decoding.{Symbols, read_descriptor, write_descriptor, virtual_call_op}
 use Rattle.bytecode.proofs.LaidLaws.{join_all}
 use Rattle.member_code.specs.Instrs.{load, give, get_static, get_field, call_virtual}
 use Rattle.member_code.proofs.Added.{member}
@@ -99,7 +99,7 @@ module _ (f : Field) (Z : Pool) where
 
   pub setter_laid : (is : List Instr) → SetterAt f Z is → AllByRecursion (IsLaid Z) is
   setter_laid is h = subst (AllByRecursion (IsLaid Z)) (sym h.code) (
-    load_laid Z sort.Reference (receiver_places f + places_of f.declared.word) (omega (arith, few_places f.declared.word, receiver_few)),
+    load_laid Z sort.Reference (receiver_places f + word_places f.declared.word) (omega (arith, few_places f.declared.word, receiver_few)),
     (
       object_laid f.base h.place.base h.is_place.base,
       (
@@ -165,7 +165,7 @@ abbrev pub getter_ops : Field → ℕ → Option ℕ → List Op
 getter_ops f n o = (look_ops f o ++ read_ops f n o) ++ cast_ops f.declared.word f.declared.class (ReturnValue (sort_of f.declared.word) ∷ [])
 
 abbrev pub setter_ops : Field → Option ℕ → List Op
-setter_ops f o = Load sort.Reference (receiver_places f + places_of f.declared.word) ∷ object_op o ∷ Load (sort_of f.declared.word) (receiver_places f) ∷ distance f.index ∷ Context (OnWrite f.declared.word) ∷ Return ∷ []
+setter_ops f o = Load sort.Reference (receiver_places f + word_places f.declared.word) ∷ object_op o ∷ Load (sort_of f.declared.word) (receiver_places f) ∷ distance f.index ∷ Context (OnWrite f.declared.word) ∷ Return ∷ []
 
 module _ (s : Symbols) (n : ℕ) (f : Field) (K : IsKnown s n f) (place : ℕ → ℕ) (L : List Instr) where
   object_meant : (o b : Option ℕ) → f.base ≡ o → BaseAt o f s.class.pool b → Means s place L (object_op o) (object b)
@@ -241,7 +241,7 @@ module _ (s : Symbols) (n : ℕ) (f : Field) (K : IsKnown s n f) (place : ℕ �
 
   pub setter_meant : (is : List Instr) → SetterAt f s.class.pool is → AreMeant s place L is (setter_ops f f.base)
   setter_meant is h = subst (λ (x : List Instr). AreMeant s place L x (setter_ops f f.base)) (sym h.code) (
-    load_means s place L sort.Reference (receiver_places f + places_of f.declared.word),
+    load_means s place L sort.Reference (receiver_places f + word_places f.declared.word),
     (
       object_meant f.base h.place.base refl h.is_place.base,
       (

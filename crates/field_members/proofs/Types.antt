@@ -7,17 +7,16 @@ use Rattle.jmodel.specs.declared.class_file.FieldType.{FieldType}
 use Rattle.jmodel.specs.declared.class_file.FieldType.TheVariants as types
 use Rattle.jmodel.specs.declared.typing.VType.{VType}
 use Rattle.jmodel.specs.declared.typing.VType.TheVariants as type
-use Rattle.jmodel.specs.ClassFile.{ClassFile}
-use Rattle.jmodel.specs.Descriptor.{field_descriptor, is_array_name, places, places_of, Signature, IsClassName, IsFieldType, DescribesField, DescribesMethod}
+use Rattle.jmodel.specs.format.ClassFile.{ClassFile}
+use Rattle.jmodel.specs.format.Descriptor.{field_descriptor, is_array_name, places, places_of, Signature, IsClassName, IsFieldType, DescribesField, DescribesMethod}
 use Rattle.const_pool.proofs.Signatures.{signature_again}
 use Rattle.objects.specs.declared.op.WordType.{WordType}
 use Rattle.objects.specs.declared.op.WordType.TheVariants as word
-use Rattle.objects.specs.Program.{Declared, Field}
-use Rattle.objects.specs.TypeOrder.{context_class, is_array, place_types}
-use Rattle.objects.specs.Decoding.{Symbols}
-use Rattle.objects.specs.Layout.{class_read, referred, declared_as}
-use Rattle.objects.specs.Rewriting.{context_type, context, as_result}
-use Rattle.objects.specs.Rewriting.{places_of as word_places}
+use Rattle.objects.specs.semantics.Program.{Declared, Field}
+use Rattle.objects.specs.typing.TypeOrder.{context_class, is_array, place_types}
+use Rattle.objects.specs.linking.Decoding.{Symbols}
+use Rattle.objects.specs.linking.Layout.{class_read, referred, declared_as}
+use Rattle.objects.specs.rewriting.Rewriting.{context_type, context, as_result, word_places}
 use Rattle.member_code.proofs.Added.{two_true}
 use Rattle.member_code.proofs.Texts.{differ}
 use Rattle.member_code.proofs.Coded.{IsTyped}

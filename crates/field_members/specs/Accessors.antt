@@ -4,17 +4,17 @@ use Rattle.std.specs.Prelude.{ℕ, ◌+◌, ◌-◌, List, [], ◌∷◌, ◌++�
 use Rattle.std.specs.List.{flat_map}
 use Rattle.jmodel.specs.declared.instruction.Instr.{Instr}
 use Rattle.jmodel.specs.declared.refusal.Refusal.{Refusal}
-use Rattle.jmodel.specs.ClassFile.{Member, Pool, ClassFile}
-use Rattle.jmodel.specs.PoolAdding.{add_class, add_field, add_method}
-use Rattle.jmodel.specs.Reading.{◌>>=◌}
+use Rattle.jmodel.specs.format.ClassFile.{Member, Pool, ClassFile}
+use Rattle.jmodel.specs.format.PoolAdding.{add_class, add_field, add_method}
+use Rattle.jmodel.specs.format.Reading.{◌>>=◌}
 use Rattle.objects.specs.declared.op.Sort.TheVariants as sort
 use Rattle.objects.specs.declared.op.WordType.{WordType}
 use Rattle.objects.specs.declared.op.WordType.TheVariants as word
-use Rattle.objects.specs.Program.{Field}
-use Rattle.objects.specs.Step.{sort_of}
-use Rattle.objects.specs.TypeOrder.{context_class, object_class}
-use Rattle.objects.specs.Rewriting.{places_of}
-use Rattle.objects.specs.Decoding.{read_descriptor, write_descriptor}
+use Rattle.objects.specs.semantics.Program.{Field}
+use Rattle.objects.specs.semantics.Step.{sort_of}
+use Rattle.objects.specs.typing.TypeOrder.{context_class, object_class}
+use Rattle.objects.specs.rewriting.Rewriting.{word_places}
+use Rattle.objects.specs.linking.Decoding.{read_descriptor, write_descriptor}
 use Rattle.member_code.specs.Growing.{Growth, grow_from}
 use Rattle.member_code.specs.Instrs.{plain, load, give, get_static, get_field, call_virtual, check_cast}
 use Rattle.member_code.specs.Coding.{room_for, straight_method}
@@ -110,14 +110,14 @@ unfoldable pub getter_of : ℕ → Field → Pool → Growth Member
 getter_of room f pool = do
   fits ← room_for room (getter_named f)
   code ← getter_instrs f pool
-  straight_method (4 + places_of f.declared.word) (receiver_places f + 1) code.0 (getter_named f) code.1
+  straight_method (4 + word_places f.declared.word) (receiver_places f + 1) code.0 (getter_named f) code.1
 
 -- ---- setters
 
 -- in place of the store of a value of a type, behind so many places of the object
 abbrev pub setter_code : Place → WordType → (receiver write : ℕ) → List Instr
 setter_code p t receiver write =
-    load sort.Reference (receiver + places_of t) ∷ object p.base ∷ load (sort_of t) receiver ∷ get_static p.address ∷ call_virtual write ∷ plain 177 ∷ []
+    load sort.Reference (receiver + word_places t) ∷ object p.base ∷ load (sort_of t) receiver ∷ get_static p.address ∷ call_virtual write ∷ plain 177 ∷ []
 
 unfoldable pub setter_instrs : Field → Pool → Growth (List Instr)
 setter_instrs f pool = do
@@ -130,7 +130,7 @@ unfoldable pub setter_of : ℕ → Field → Pool → Growth Member
 setter_of room f pool = do
   fits ← room_for room (setter_named f)
   code ← setter_instrs f pool
-  straight_method (4 + places_of f.declared.word) (receiver_places f + places_of f.declared.word + 1) code.0 (setter_named f) code.1
+  straight_method (4 + word_places f.declared.word) (receiver_places f + word_places f.declared.word + 1) code.0 (setter_named f) code.1
 
 -- ---- all of a class
 

@@ -1,18 +1,18 @@
 -- The accessors that are added to a class are those of its fields.
 use Rattle.std.specs.Prelude.{◌≡◌, ℕ, suc, ◌<◌, List, [], ◌∷◌, length, drop, Some, Ok, false, codes}
 use Rattle.jmodel.specs.declared.class_file.FieldType.{FieldType}
-use Rattle.jmodel.specs.ClassFile.{ClassFile}
-use Rattle.jmodel.specs.Pool.{MemberName}
-use Rattle.jmodel.specs.Descriptor.{IsClassName, DescribesField}
-use Rattle.jmodel.specs.Decoding.{each}
-use Rattle.jmodel.specs.Superclasses.{own_name}
-use Rattle.jmodel.specs.PoolAdding.{IsLonger}
+use Rattle.jmodel.specs.format.ClassFile.{ClassFile}
+use Rattle.jmodel.specs.format.Pool.{MemberName}
+use Rattle.jmodel.specs.format.Descriptor.{IsClassName, DescribesField}
+use Rattle.objects.specs.linking.Each.{each}
+use Rattle.objects.specs.linking.Members.{own_name}
+use Rattle.jmodel.specs.format.PoolAdding.{IsLonger}
 use Rattle.jmodel.specs.declared.value.Value.TheVariants.{Ref}
 use Rattle.objects.specs.declared.op.Op.TheVariants.{Constant}
-use Rattle.objects.specs.Program.{Field}
-use Rattle.objects.specs.Decoding.{Symbols, field_number, get_static_op}
-use Rattle.objects.specs.Layout.{class_read, declared_as}
-use Rattle.objects.specs.Rewriting.{distance, accessors}
+use Rattle.objects.specs.semantics.Program.{Field}
+use Rattle.objects.specs.linking.Decoding.{Symbols, field_number, get_static_op}
+use Rattle.objects.specs.linking.Layout.{class_read, declared_as}
+use Rattle.objects.specs.rewriting.Rewriting.{distance, accessors}
 use Rattle.member_code.specs.Meaning.{meaning}
 use Rattle.field_members.specs.Names.{address_name, base_name, base_type}
 use Rattle.field_members.specs.Accessors.{with_accessors}

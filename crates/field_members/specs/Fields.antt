@@ -2,12 +2,12 @@
 use Rattle.std.specs.Prelude.{ℕ, ℤ, suc, List, [], ◌∷◌, ◌++◌, Result, Ok, Bool, true, false, ◌&&◌, not, codes}
 use Rattle.std.specs.Int.{w64, cast_signed}
 use Rattle.jmodel.specs.declared.refusal.Refusal.{Refusal}
-use Rattle.jmodel.specs.ClassFile.{Attribute, Member, Pool, ClassFile}
-use Rattle.jmodel.specs.Layout.{has_base}
-use Rattle.jmodel.specs.PoolAdding.{add_text, add_long}
-use Rattle.jmodel.specs.Reading.{◌>>=◌}
-use Rattle.objects.specs.Program.{Field}
-use Rattle.objects.specs.Resolution.{is_interface}
+use Rattle.jmodel.specs.format.ClassFile.{Attribute, Member, Pool, ClassFile}
+use Rattle.objects.specs.linking.StaticBases.{has_base}
+use Rattle.jmodel.specs.format.PoolAdding.{add_text, add_long}
+use Rattle.jmodel.specs.format.Reading.{◌>>=◌}
+use Rattle.objects.specs.semantics.Program.{Field}
+use Rattle.objects.specs.linking.Resolution.{is_interface}
 use Rattle.member_code.specs.Growing.{Growth, grow_from}
 use Rattle.member_code.specs.Coding.{high, low, typed_name}
 use Rattle.field_members.specs.Names.{address_name, base_name, base_type}

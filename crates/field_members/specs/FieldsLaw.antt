@@ -1,16 +1,16 @@
 -- In rewritten code, a read of an added field is a constant.
 use Rattle.std.specs.Prelude.{◌≡◌, ◌≢◌, ℕ, ◌<◌, List, [], ◌∷◌, ◌++◌, length, Some, Ok, false}
 use Rattle.std.specs.List.{AllByRecursion}
-use Rattle.jmodel.specs.ClassFile.{Member, Pool, ClassFile}
-use Rattle.jmodel.specs.Pool.{utf8}
-use Rattle.jmodel.specs.Superclasses.{own_name}
-use Rattle.jmodel.specs.PoolAdding.{IsLonger}
+use Rattle.jmodel.specs.format.ClassFile.{Member, Pool, ClassFile}
+use Rattle.jmodel.specs.format.Pool.{utf8}
+use Rattle.objects.specs.linking.Members.{own_name}
+use Rattle.jmodel.specs.format.PoolAdding.{IsLonger}
 use Rattle.jmodel.specs.declared.value.Value.TheVariants.{Ref}
 use Rattle.objects.specs.declared.op.Op.TheVariants.{Constant}
-use Rattle.objects.specs.Program.{Field}
-use Rattle.objects.specs.Decoding.{Symbols, get_static_op}
-use Rattle.jmodel.specs.Linking.{is_reserved}
-use Rattle.objects.specs.Rewriting.{distance}
+use Rattle.objects.specs.semantics.Program.{Field}
+use Rattle.objects.specs.linking.Decoding.{Symbols, get_static_op}
+use Rattle.objects.specs.linking.Reserved.{is_reserved}
+use Rattle.objects.specs.rewriting.Rewriting.{distance}
 use Rattle.field_members.specs.Fields.{with_fields}
 use Rattle.field_members.specs.AccessorsLaw.{address_named, base_named}
 

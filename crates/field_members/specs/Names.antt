@@ -1,8 +1,8 @@
 -- Names of the members that rewriting adds for fields (Korland, Shavit, Felber, MULTIPROG 2010, in this project's form).
 use Rattle.std.specs.Prelude.{ℕ, List, [], ◌++◌, Option, Some, None, codes}
 use Rattle.jmodel.specs.declared.name.MethodName.{MethodName}
-use Rattle.objects.specs.Program.{Field}
-use Rattle.objects.specs.Rewriting.{context_type}
+use Rattle.objects.specs.semantics.Program.{Field}
+use Rattle.objects.specs.rewriting.Rewriting.{context_type}
 
 -- the field that holds a field's place as a constant
 abbrev pub address_name : Field → List ℕ

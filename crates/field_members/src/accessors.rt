@@ -1,19 +1,19 @@
 //! Accessors: for each field a getter and a setter, which read and write it over the context.
 ghost use Rattle.std.specs.Prelude.{◌≡◌, ◌<◌, codes, IfOk};
 ghost use Rattle.std.specs.List.{flat_map};
-ghost use Rattle.objects.specs.Decoding.{read_descriptor as type_of_read, write_descriptor as type_of_write};
+ghost use Rattle.objects.specs.linking.Decoding.{read_descriptor as type_of_read, write_descriptor as type_of_write};
 ghost use Rattle.member_code.specs.Growing.{Grows, Becomes};
 ghost use Rattle.field_members.specs.Accessors.{read_call as with_read_call, write_call as with_write_call, receiver_places as places_of_receiver, base_if as static_base_if, place_of as place, object as object_instr, look_code as code_of_look, read_code as code_of_read, is_cast as is_cast_to, cast_if as casts, look_of as look, read_of as read, getter_instrs as instrs_of_getter, getter_of as getter, setter_code as code_of_setter, setter_instrs as instrs_of_setter, setter_of as setter, accessors_of as both, room_in as room_of, all_accessors as every, both_of, with_accessors};
 
 use crate::names::{address_name, getter_named, setter_named};
 use bytecode::{Instr, opcodes};
 use const_pool::{ClassFile, Member, Pool};
+use hierarchy::{Declared, Field};
 use jmodel::Halt;
 use member_code::instrs::{call_virtual, check_cast, get_field, get_static, give, load, plain};
 use member_code::members::{Frame, straight_method};
 use member_code::places::want_room;
 use member_code::words::{add_context_method, places_of, sort_of};
-use object_hierarchy::{Declared, Field};
 use objects::op::{Sort, WordType};
 use std::alloc::{AllocError, Global};
 

@@ -1,17 +1,18 @@
 //! The fields that are added: for each field its place, and one for the object of the class's static fields.
 ghost use Rattle.std.specs.Prelude.{◌≡◌, suc, filter, length};
 ghost use Rattle.std.specs.Int.{w64, cast_signed};
-ghost use Rattle.jmodel.specs.Layout.{is_static as is_static_member, has_base as has_static};
-ghost use Rattle.objects.specs.Resolution.{is_interface as is_interface_class};
+ghost use Rattle.objects.specs.linking.Members.{is_static as is_static_member};
+ghost use Rattle.objects.specs.linking.StaticBases.{has_base as has_static};
+ghost use Rattle.objects.specs.linking.Resolution.{is_interface as is_interface_class};
 ghost use Rattle.member_code.specs.Growing.{Grows, Becomes, grow_from};
 ghost use Rattle.field_members.specs.Fields.{added_field as field_of, constant_value as value, address_of as address, static_base as base, needs_base as wants_base, bases as base_if, added_fields as all_fields, with_fields};
 
 use crate::names::address_name;
 use const_pool::{Attribute, ClassFile, Member, Pool};
+use hierarchy::Field;
 use jmodel::{Bytes, Halt};
 use member_code::bytes::{high, low};
 use member_code::members::{alone, typed_name};
-use object_hierarchy::Field;
 use std::alloc::Global;
 
 // A public static final synthetic field.

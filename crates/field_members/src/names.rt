@@ -2,9 +2,9 @@
 ghost use Rattle.std.specs.Prelude.{◌≡◌, ◌++◌, IfOk, OnOk};
 ghost use Rattle.field_members.specs.Names.{address_name as name_of_address, receiver_type as type_of_receiver, getter_named as named_getter, setter_named as named_setter};
 
+use hierarchy::Field;
 use jmodel::{Bytes, MethodName};
 use member_code::bytes::joined;
-use object_hierarchy::Field;
 use std::alloc::{AllocError, Global};
 
 /// `f__ADDRESS__`.

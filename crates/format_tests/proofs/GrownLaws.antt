@@ -5,9 +5,9 @@ use Rattle.std.proofs.lemmas.List.{take_more, take_all}
 use Rattle.jmodel.specs.declared.class_file.Handler.{Handler}
 use Rattle.jmodel.specs.declared.instruction.Operands.TheVariants.{Nothing}
 use Rattle.jmodel.specs.declared.instruction.Instr.{Instr}
-use Rattle.jmodel.specs.ClassFile.{Pool as Entries}
-use Rattle.jmodel.specs.Instruction.{targets_of, AreStarts, SpellsInstrs}
-use Rattle.jmodel.specs.Relocation.{Block, IsShaped, EachInstr, ArePcs, HasRoom, AreBlocks}
+use Rattle.jmodel.specs.format.ClassFile.{Pool as Entries}
+use Rattle.jmodel.specs.format.Instruction.{targets_of, AreStarts, SpellsInstrs}
+use Rattle.jmodel.specs.format.Relocation.{Block, IsShaped, EachInstr, ArePcs, HasRoom, AreBlocks}
 use Rattle.bytecode.specs.Relocated.{StandFor}
 use Rattle.bytecode.proofs.OriginLaws.{origin_is}
 

@@ -1,6 +1,6 @@
 ghost use Rattle.std.specs.Prelude.{◌≤◌, length, IfOk};
 ghost use Rattle.std.specs.List.{AllByRecursion};
-ghost use Rattle.jmodel.specs.Instruction.{IsInstr};
+ghost use Rattle.jmodel.specs.format.Instruction.{IsInstr};
 
 use bytecode::{Instr, decode, encode};
 use const_pool::Pool;

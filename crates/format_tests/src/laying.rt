@@ -2,8 +2,8 @@ ghost use Rattle.std.specs.Prelude.{◌≡◌, ◌≤◌, ◌∷◌, [], ◌++�
 ghost use Rattle.std.specs.List.{AllByRecursion};
 ghost use Rattle.jmodel.specs.declared.instruction.Instr.{Instr as Item};
 ghost use Rattle.jmodel.specs.declared.instruction.Operands.TheVariants as operands;
-ghost use Rattle.jmodel.specs.Instruction.{targets_of};
-ghost use Rattle.jmodel.specs.Relocation.{IsShaped, HasRoom, AreBlocks};
+ghost use Rattle.jmodel.specs.format.Instruction.{targets_of};
+ghost use Rattle.jmodel.specs.format.Relocation.{IsShaped, HasRoom, AreBlocks};
 
 use bytecode::{Block, Instr, Operands, decode, relocate};
 use const_pool::Pool;

@@ -1,26 +1,22 @@
-//! The shared types, and in `specs/` the definitions of what the program promises.
+//! The shared types, and in `specs/` what class files, scripts and histories are.
 #![tactic(auto)]
 
+pub mod access;
 pub mod bytes;
 pub mod class_file;
-pub mod classes_law;
 pub mod instruction;
-pub mod laws;
 pub mod mark;
 pub mod name;
-pub mod op;
 pub mod refusal;
-pub mod serial_law;
-pub mod switch;
 pub mod typing;
 pub mod value;
 
+pub use access::Access;
 pub use bytes::Bytes;
 pub use class_file::{Constant, FieldType, Handler};
 pub use instruction::{EntryKind, Form, Instr, Operands, Pairs, Targets};
 pub use mark::{AnnotationFault, Atomic};
 pub use name::MethodName;
 pub use refusal::{Halt, NoMemory, Refusal};
-pub use switch::{Cases, Exits};
-pub use typing::{TypeEntry, Typing, VType};
+pub use typing::VType;
 pub use value::{Answer, Stamp, Value};

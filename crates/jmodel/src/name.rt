@@ -1,6 +1,6 @@
 //! The name of a method.
 ghost use Rattle.std.specs.Prelude.{◌≡◌, ◌++◌, ◌∷◌, IfOk};
-ghost use Rattle.jmodel.specs.Name.{printed};
+ghost use Rattle.jmodel.specs.format.Name.{printed};
 
 use crate::bytes::Bytes;
 use std::alloc::{AllocError, Global};

@@ -1,6 +1,6 @@
 //! Why an input is refused.
 ghost use Rattle.std.specs.Prelude.{◌≡◌};
-ghost use Rattle.jmodel.specs.Refusal.{number_of};
+ghost use Rattle.jmodel.specs.history.Refusal.{number_of};
 ghost use Rattle.jmodel.specs.declared.refusal.Halt.TheVariants as halts;
 
 use crate::bytes::Bytes;

@@ -4,21 +4,21 @@
 
 ghost use Rattle.std.specs.Prelude.{IfOk};
 ghost use Rattle.std.specs.List.{AllByRecursion};
-ghost use Rattle.jmodel.specs.ClassRules.{IsClassFile};
-ghost use Rattle.objects.specs.Source.{IsSource};
+ghost use Rattle.jmodel.specs.format.ClassRules.{IsClassFile};
+ghost use Rattle.objects.specs.typing.Source.{IsSource};
 ghost use Rattle.program_typing.specs.Tables.{IsTypedOrBare};
-ghost use Rattle.object_rewriter.specs.Asked.{AreFiled};
+ghost use Rattle.rewriter.specs.Asked.{AreFiled};
 
 use const_pool::ClassFile;
 use deuce::classes::class_of;
 use deuce::listing::class_paths;
 use deuce::top::deuce;
 use deuce_io::{Folder, IoEnd, MemSink, RealFolder, names_in};
-use object_hierarchy::Program;
-use object_hierarchy::symbols::own_name;
-use object_linking::rebuild::rebuild;
-use object_run::instrument_files;
+use hierarchy::Program;
+use hierarchy::symbols::own_name;
+use linking::rebuild::rebuild;
 use program_rewriter::rewrite_program;
+use runner::instrument_files;
 use std::alloc::{AllocError, Global};
 use std::collections::BTreeMap;
 use std::io;

@@ -9,13 +9,13 @@ use Rattle.jmodel.specs.declared.class_file.Constant.{Constant}
 use Rattle.jmodel.specs.declared.class_file.Constant.TheVariants as constants
 use Rattle.jmodel.specs.declared.refusal.Refusal.{Refusal}
 use Rattle.jmodel.specs.declared.refusal.Refusal.TheVariants.{PoolFull}
-use Rattle.jmodel.specs.ClassFile.{Pool}
-use Rattle.jmodel.specs.Pool.{entry, utf8, text_in, class_name, pair, pair_in, MemberName, field_name, method_name, member_name}
-use Rattle.jmodel.specs.ClassRules.{same_text}
-use Rattle.jmodel.specs.Constants.{as_int, integer, integer_in, long_in}
-use Rattle.jmodel.specs.Reading.{◌>>=◌}
-use Rattle.jmodel.specs.PoolAdding.{full, put, first_or, means_text, means_class, means_pair, pair_means, field_parts, method_parts, interface_method_parts, parts_mean, means_member, means_integer, means_long, add_text, add_integer, add_long, new_class, add_class, new_pair, add_pair, new_member, add_member, add_field, add_method, add_interface_method}
-use Rattle.jmodel.proofs.Places.{get_back}
+use Rattle.jmodel.specs.format.ClassFile.{Pool}
+use Rattle.jmodel.specs.format.Pool.{entry, utf8, text_in, class_name, pair, pair_in, MemberName, field_name, method_name, member_name}
+use Rattle.jmodel.specs.format.ClassRules.{same_text}
+use Rattle.jmodel.specs.format.Constants.{as_int, integer, integer_in, long_in}
+use Rattle.jmodel.specs.format.Reading.{◌>>=◌}
+use Rattle.jmodel.specs.format.PoolAdding.{full, put, first_or, means_text, means_class, means_pair, pair_means, field_parts, method_parts, interface_method_parts, parts_mean, means_member, means_integer, means_long, add_text, add_integer, add_long, new_class, add_class, new_pair, add_pair, new_member, add_member, add_field, add_method, add_interface_method}
+use Rattle.objects.proofs.Fetching.{get_back}
 use Rattle.const_pool.proofs.Takes.{bind_ok, guard_ok, ok_is}
 use Rattle.member_code.proofs.Grown.{Grown, grown_refl, grown_trans, utf8_grown, class_grown, pair_grown}
 

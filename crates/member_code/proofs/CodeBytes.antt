@@ -9,9 +9,9 @@ use Rattle.jmodel.specs.declared.instruction.Form.TheVariants as form
 use Rattle.jmodel.specs.declared.instruction.Operands.{Operands}
 use Rattle.jmodel.specs.declared.instruction.Operands.TheVariants as operands
 use Rattle.jmodel.specs.declared.instruction.Instr.{Instr}
-use Rattle.jmodel.specs.ClassFile.{u4}
-use Rattle.jmodel.specs.Instruction.{number_text, local_text, increment_text, index_text, interface_text, dimensions_text, target_text, added, wide_text, table_text, lookup_text, pair_text, highest, padding, jump, form_of, signed, operands_text, text_as, text, code_text, zeros}
-use Rattle.jmodel.specs.Relocation.{put_at, size_at, retargeted, laid_to}
+use Rattle.jmodel.specs.format.ClassFile.{u4}
+use Rattle.jmodel.specs.format.Instruction.{number_text, local_text, increment_text, index_text, interface_text, dimensions_text, target_text, added, wide_text, table_text, lookup_text, pair_text, highest, padding, jump, form_of, signed, operands_text, text_as, text, code_text, zeros}
+use Rattle.jmodel.specs.format.Relocation.{put_at, size_at, retargeted, laid_to}
 use Rattle.const_pool.proofs.Takes.{IsBytes}
 
 abbrev pub AreBytes : List ℕ → Type 0

@@ -6,28 +6,27 @@ use Rattle.jmodel.specs.declared.instruction.Instr.{Instr}
 use Rattle.jmodel.specs.declared.name.MethodName.{MethodName}
 use Rattle.jmodel.specs.declared.refusal.Refusal.{Refusal}
 use Rattle.jmodel.specs.declared.typing.VType.{VType}
-use Rattle.jmodel.specs.ClassFile.{Pool, Member, Code}
-use Rattle.jmodel.specs.Pool.{utf8}
-use Rattle.jmodel.specs.ClassRules.{same_text}
-use Rattle.jmodel.specs.ClassReading.{code_of}
-use Rattle.jmodel.specs.Layout.{text_or_none}
-use Rattle.jmodel.specs.Classes.{full_name}
-use Rattle.jmodel.specs.Coded.{Coded, code_in, decoded, decoded_code, mark_retries, is_initialiser, retries_of}
-use Rattle.jmodel.specs.Descriptor.{Signature}
-use Rattle.jmodel.specs.DescriptorReading.{signature_of}
-use Rattle.jmodel.specs.InstructionReading.{instrs_of}
-use Rattle.jmodel.specs.Mark.{all_annotations, retries_in}
-use Rattle.jmodel.specs.Relocation.{place_of, relocated}
-use Rattle.jmodel.specs.Superclasses.{own_name}
+use Rattle.jmodel.specs.format.ClassFile.{Pool, Member, Code}
+use Rattle.jmodel.specs.format.Pool.{utf8, text_or_none}
+use Rattle.jmodel.specs.format.ClassRules.{same_text}
+use Rattle.jmodel.specs.format.ClassReading.{code_of}
+use Rattle.objects.specs.linking.Classes.{full_name}
+use Rattle.objects.specs.linking.Code.{Coded, code_in, decoded, decoded_code, mark_retries, is_initialiser, retries_of}
+use Rattle.jmodel.specs.format.Descriptor.{Signature}
+use Rattle.jmodel.specs.format.DescriptorReading.{signature_of}
+use Rattle.jmodel.specs.format.InstructionReading.{instrs_of}
+use Rattle.jmodel.specs.format.Mark.{all_annotations, retries_in}
+use Rattle.jmodel.specs.format.Relocation.{place_of, relocated}
+use Rattle.objects.specs.linking.Members.{own_name}
 use Rattle.objects.specs.declared.op.Dispatch.{Dispatch}
 use Rattle.objects.specs.declared.op.Dispatch.TheVariants as dispatch
 use Rattle.objects.specs.declared.op.Op.{Op}
 use Rattle.objects.specs.declared.op.Catch.{Catch}
-use Rattle.objects.specs.Decoding.{Symbols, ops_of}
-use Rattle.objects.specs.Program.{Method}
-use Rattle.objects.specs.Linking.{parameter_types, result_type, signature_in, shaped, with_catches, decoded_member}
-use Rattle.objects.specs.Relinking.{decoded_or_none}
-use Rattle.objects.specs.Rewriting.{added}
+use Rattle.objects.specs.linking.Decoding.{Symbols, ops_of}
+use Rattle.objects.specs.semantics.Program.{Method}
+use Rattle.objects.specs.linking.Linking.{parameter_types, result_type, signature_in, shaped, with_catches, decoded_member}
+use Rattle.objects.specs.rewriting.Relinking.{decoded_or_none}
+use Rattle.objects.specs.rewriting.Rewriting.{added}
 use Rattle.member_code.specs.Coding.{added_method}
 use Rattle.member_code.specs.Meaning.{meaning}
 use Rattle.member_code.proofs.Single.{AreMeant, IsLaid}

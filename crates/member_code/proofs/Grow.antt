@@ -4,8 +4,8 @@ use Rattle.std.proofs.lemmas.List.{append-nil, drop_all}
 use Rattle.jmodel.specs.declared.refusal.Refusal.{Refusal}
 use Rattle.jmodel.specs.declared.refusal.Halt.{Halt}
 use Rattle.jmodel.specs.declared.refusal.Halt.TheVariants as halts
-use Rattle.jmodel.specs.Reading.{◌>>=◌, Fails}
-use Rattle.jmodel.specs.ClassFile.{Pool}
+use Rattle.jmodel.specs.format.Reading.{◌>>=◌, Fails}
+use Rattle.jmodel.specs.format.ClassFile.{Pool}
 use Rattle.member_code.specs.Growing.{grow_from}
 
 -- what was put before, and what is still put

@@ -4,10 +4,10 @@ use Rattle.std.specs.Prelude.{option_and_then, IsSome, IsSomeAnd}
 use Rattle.std.proofs.lemmas.List.{append-nil}
 use Rattle.jmodel.specs.declared.class_file.Constant.{Constant}
 use Rattle.jmodel.specs.declared.class_file.Constant.TheVariants as constants
-use Rattle.jmodel.specs.ClassFile.{Pool}
-use Rattle.jmodel.specs.Pool.{entry, utf8, text_in, class_name, name_in, both, pair, pair_in, MemberName, named, field_name, field_in, method_name, method_in, member_name, member_in}
-use Rattle.jmodel.specs.Constants.{integer, integer_in, long_in}
-use Rattle.jmodel.proofs.Places.{get_front}
+use Rattle.jmodel.specs.format.ClassFile.{Pool}
+use Rattle.jmodel.specs.format.Pool.{entry, utf8, text_in, class_name, name_in, both, pair, pair_in, MemberName, named, field_name, field_in, method_name, method_in, member_name, member_in}
+use Rattle.jmodel.specs.format.Constants.{integer, integer_in, long_in}
+use Rattle.objects.proofs.Fetching.{get_front}
 
 -- what an option that is not empty holds
 pub the_some : {A : Type 0} (o : Option A) → IsSome o → (x : A) × (o ≡ Some x)

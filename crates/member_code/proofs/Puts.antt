@@ -4,13 +4,13 @@ use Rattle.std.specs.Prelude.{codes, option_and_then}
 use Rattle.jmodel.specs.declared.refusal.Refusal.{Refusal}
 use Rattle.jmodel.specs.declared.name.MethodName.{MethodName}
 use Rattle.jmodel.specs.declared.instruction.Instr.{Instr}
-use Rattle.jmodel.specs.ClassFile.{Pool, Member}
-use Rattle.jmodel.specs.Pool.{utf8, MemberName}
-use Rattle.jmodel.specs.Reading.{◌>>=◌}
-use Rattle.jmodel.specs.Constants.{as_int, long_in}
-use Rattle.jmodel.specs.PoolAdding.{add_text, add_integer, add_long, add_class, add_field, add_method}
+use Rattle.jmodel.specs.format.ClassFile.{Pool, Member}
+use Rattle.jmodel.specs.format.Pool.{utf8, MemberName}
+use Rattle.jmodel.specs.format.Reading.{◌>>=◌}
+use Rattle.jmodel.specs.format.Constants.{as_int, long_in}
+use Rattle.jmodel.specs.format.PoolAdding.{add_text, add_integer, add_long, add_class, add_field, add_method}
 use Rattle.const_pool.proofs.Takes.{bind_ok, ok_is, fine}
-use Rattle.objects.specs.Decoding.{Symbols}
+use Rattle.objects.specs.linking.Decoding.{Symbols}
 use Rattle.member_code.specs.Growing.{Growth, grow_from}
 use Rattle.member_code.specs.Coding.{typed_name, added_method, coded_method, straight_bytes, straight_method}
 use Rattle.member_code.proofs.Grown.{Grown, grown_refl, grown_trans, utf8_grown, class_grown, field_grown, method_grown, integer_grown, long_grown}

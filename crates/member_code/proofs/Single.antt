@@ -11,17 +11,17 @@ use Rattle.jmodel.specs.declared.instruction.EntryKind.{EntryKind}
 use Rattle.jmodel.specs.declared.instruction.EntryKind.TheVariants as kind
 use Rattle.jmodel.specs.declared.instruction.Operands.TheVariants as operands
 use Rattle.jmodel.specs.declared.instruction.Instr.{Instr}
-use Rattle.jmodel.specs.ClassFile.{Pool}
-use Rattle.jmodel.specs.Pool.{entry, field_in, field_name, method_in, method_name, member_in, member_name, class_name, name_in, MemberName}
-use Rattle.jmodel.specs.Constants.{as_int, integer, integer_in}
-use Rattle.jmodel.specs.Instruction.{form_of, is_kind_in, targets_of, FitPoolAs}
-use Rattle.jmodel.specs.Decoding.{each}
-use Rattle.jmodel.specs.Relocation.{put_at, retargeted, size_at, laid_to, IsShaped, IsShapedAs}
+use Rattle.jmodel.specs.format.ClassFile.{Pool}
+use Rattle.jmodel.specs.format.Pool.{entry, field_in, field_name, method_in, method_name, member_in, member_name, class_name, name_in, MemberName}
+use Rattle.jmodel.specs.format.Constants.{as_int, integer, integer_in}
+use Rattle.jmodel.specs.format.Instruction.{form_of, is_kind_in, targets_of, FitPoolAs}
+use Rattle.objects.specs.linking.Each.{each}
+use Rattle.jmodel.specs.format.Relocation.{put_at, retargeted, size_at, laid_to, IsShaped, IsShapedAs}
 use Rattle.objects.specs.declared.op.Sort.{Sort}
 use Rattle.objects.specs.declared.op.Sort.TheVariants as sort
 use Rattle.objects.specs.declared.op.Op.{Op}
 use Rattle.objects.specs.declared.op.Op.TheVariants as op
-use Rattle.objects.specs.Decoding.{Symbols, op_of, get_static_op, field_op, call_op, virtual_call_op, static_call_op, special_call_op}
+use Rattle.objects.specs.linking.Decoding.{Symbols, op_of, get_static_op, field_op, call_op, virtual_call_op, static_call_op, special_call_op}
 use Rattle.member_code.specs.Instrs.{instr, plain, naming, local_instr, load, store, increment, give, call_static, call_virtual, call_special, get_static, get_field, check_cast}
 
 -- ---- the shortest form of a load or a store

@@ -8,15 +8,15 @@ use Rattle.jmodel.specs.declared.class_file.Handler.{Handler}
 use Rattle.jmodel.specs.declared.instruction.Instr.{Instr}
 use Rattle.jmodel.specs.declared.refusal.Refusal.{Refusal}
 use Rattle.jmodel.specs.declared.refusal.Refusal.TheVariants.{CodeTooLarge}
-use Rattle.jmodel.specs.ClassFile.{Pool, Code, code_spelling}
-use Rattle.jmodel.specs.ClassRules.{IsCode, AreAttributes}
-use Rattle.jmodel.specs.ClassReading.{code_of}
-use Rattle.jmodel.specs.Instruction.{code_text, targets_of, SpellsInstrs}
-use Rattle.jmodel.specs.InstructionReading.{instrs_of}
-use Rattle.jmodel.specs.Decoding.{each}
-use Rattle.jmodel.specs.Relocation.{Block, all_instrs, behind, size_at, place_of, laid_to, relocated, relocate, laid_out, far_block, IsShaped, ArePcs, AreBlocks}
+use Rattle.jmodel.specs.format.ClassFile.{Pool, Code, code_spelling}
+use Rattle.jmodel.specs.format.ClassRules.{IsCode, AreAttributes}
+use Rattle.jmodel.specs.format.ClassReading.{code_of}
+use Rattle.jmodel.specs.format.Instruction.{code_text, targets_of, SpellsInstrs}
+use Rattle.jmodel.specs.format.InstructionReading.{instrs_of}
+use Rattle.objects.specs.linking.Each.{each}
+use Rattle.jmodel.specs.format.Relocation.{Block, all_instrs, behind, size_at, place_of, laid_to, relocated, relocate, laid_out, far_block, IsShaped, ArePcs, AreBlocks}
 use Rattle.objects.specs.declared.op.Op.{Op}
-use Rattle.objects.specs.Decoding.{Symbols, op_of, ops_of}
+use Rattle.objects.specs.linking.Decoding.{Symbols, op_of, ops_of}
 use Rattle.const_pool.proofs.Takes.{IsBytes, bind_ok, guard_ok, ok_is}
 use Rattle.const_pool.proofs.Parts.{code_is_read}
 use Rattle.bytecode.specs.Relocated.{Fits}

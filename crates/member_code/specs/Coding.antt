@@ -5,11 +5,11 @@ use Rattle.jmodel.specs.declared.refusal.Refusal.{Refusal}
 use Rattle.jmodel.specs.declared.refusal.Refusal.TheVariants.{CodeTooLarge, BranchTooFar, TooManyPlaces}
 use Rattle.jmodel.specs.declared.name.MethodName.{MethodName}
 use Rattle.jmodel.specs.declared.instruction.Instr.{Instr}
-use Rattle.jmodel.specs.ClassFile.{Member, Pool, Code, code_spelling}
-use Rattle.jmodel.specs.Name.{printed}
-use Rattle.jmodel.specs.Reading.{◌>>=◌}
-use Rattle.jmodel.specs.Relocation.{Block, relocate}
-use Rattle.jmodel.specs.PoolAdding.{add_text}
+use Rattle.jmodel.specs.format.ClassFile.{Member, Pool, Code, code_spelling}
+use Rattle.jmodel.specs.format.Name.{printed}
+use Rattle.jmodel.specs.format.Reading.{◌>>=◌}
+use Rattle.jmodel.specs.format.Relocation.{Block, relocate}
+use Rattle.jmodel.specs.format.PoolAdding.{add_text}
 use Rattle.member_code.specs.Growing.{Growth}
 
 -- ---- refusals

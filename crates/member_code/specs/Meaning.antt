@@ -1,10 +1,10 @@
 -- What a method of a rewritten class means.
 use Rattle.std.specs.Prelude.{Bool, Option, option_and_then}
-use Rattle.jmodel.specs.ClassFile.{Member}
-use Rattle.objects.specs.Program.{Method}
-use Rattle.objects.specs.Decoding.{Symbols}
-use Rattle.objects.specs.Linking.{method_of, decoded_member}
-use Rattle.objects.specs.Relinking.{decoded_or_none}
+use Rattle.jmodel.specs.format.ClassFile.{Member}
+use Rattle.objects.specs.semantics.Program.{Method}
+use Rattle.objects.specs.linking.Decoding.{Symbols}
+use Rattle.objects.specs.linking.Linking.{method_of, decoded_member}
+use Rattle.objects.specs.rewriting.Relinking.{decoded_or_none}
 
 -- A method of a class, decoded, with the symbols of that class, its frames counted or not. With the symbols of rewritten classes it is what linking these reads.
 abbrev pub meaning : Symbols → Bool → Member → Option Method

@@ -1,6 +1,6 @@
 -- Names of duplicates, which take the context as last parameter.
 use Rattle.jmodel.specs.declared.name.MethodName.{MethodName}
-use Rattle.objects.specs.Rewriting.{duplicate_name, with_context}
+use Rattle.objects.specs.rewriting.Rewriting.{duplicate_name, with_context}
 
 -- the duplicate of a method
 abbrev pub duplicate_named : MethodName → MethodName

@@ -1,7 +1,7 @@
 //! Texts, and the bytes of Code attributes.
 ghost use Rattle.std.specs.Prelude.{◌≡◌, ◌≤◌, ◌++◌, [], IfOk, OnOk, length};
 ghost use Rattle.std.specs.List.{flat_map};
-ghost use Rattle.jmodel.specs.ClassFile.{u2, handler as entry_bytes, code_spelling};
+ghost use Rattle.jmodel.specs.format.ClassFile.{u2, handler as entry_bytes, code_spelling};
 ghost use Rattle.member_code.specs.Coding.{high as high_of, low as low_of};
 
 use const_pool::Handler;

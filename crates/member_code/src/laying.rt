@@ -2,10 +2,10 @@
 ghost use Rattle.std.specs.Prelude.{◌≡◌, ◌≤◌, [], ◌∷◌, length, IfOk};
 ghost use Rattle.std.specs.List.{AllByRecursion};
 ghost use Rattle.jmodel.specs.declared.instruction.Instr.{Instr as Form};
-ghost use Rattle.jmodel.specs.Name.{printed};
-ghost use Rattle.jmodel.specs.Instruction.{targets_of};
-ghost use Rattle.jmodel.specs.Relocation.{IsShaped, AreBlocks};
-ghost use Rattle.jmodel.specs.Reading.{Gives};
+ghost use Rattle.jmodel.specs.format.Name.{printed};
+ghost use Rattle.jmodel.specs.format.Instruction.{targets_of};
+ghost use Rattle.jmodel.specs.format.Relocation.{IsShaped, AreBlocks};
+ghost use Rattle.jmodel.specs.format.Reading.{Gives};
 ghost use Rattle.member_code.specs.Coding.{laid_bytes as bytes_laid, straight_bytes as bytes_of_run, fault_of as fault_in, of_method as of_this_method};
 
 use crate::bytes::spelled;

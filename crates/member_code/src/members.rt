@@ -2,8 +2,8 @@
 ghost use Rattle.std.specs.Prelude.{◌≡◌, [], ◌∷◌, IfOk};
 ghost use Rattle.std.specs.List.{AllByRecursion};
 ghost use Rattle.jmodel.specs.declared.instruction.Instr.{Instr as Form};
-ghost use Rattle.jmodel.specs.Instruction.{targets_of};
-ghost use Rattle.jmodel.specs.Relocation.{IsShaped};
+ghost use Rattle.jmodel.specs.format.Instruction.{targets_of};
+ghost use Rattle.jmodel.specs.format.Relocation.{IsShaped};
 ghost use Rattle.member_code.specs.Growing.{Grows};
 ghost use Rattle.member_code.specs.Coding.{typed_name as typed, added_method as method_of, coded_method as coded, straight_method as straight};
 

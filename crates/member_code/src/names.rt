@@ -1,6 +1,6 @@
 //! Names of duplicates, which take the context as last parameter.
 ghost use Rattle.std.specs.Prelude.{◌≡◌, ◌≤◌, length, IfOk, false};
-ghost use Rattle.objects.specs.Rewriting.{before_end as bytes_before_end, with_context as context_in, duplicate_name as name_of_duplicate};
+ghost use Rattle.objects.specs.rewriting.Rewriting.{before_end as bytes_before_end, with_context as context_in, duplicate_name as name_of_duplicate};
 ghost use Rattle.member_code.specs.Names.{duplicate_named as named_duplicate};
 
 use jmodel::{Bytes, MethodName};

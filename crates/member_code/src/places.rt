@@ -1,7 +1,7 @@
 //! Places of which there are too many.
 ghost use Rattle.std.specs.Prelude.{◌≡◌, IfOk};
-ghost use Rattle.jmodel.specs.Name.{printed};
-ghost use Rattle.jmodel.specs.Reading.{Gives};
+ghost use Rattle.jmodel.specs.format.Name.{printed};
+ghost use Rattle.jmodel.specs.format.Reading.{Gives};
 ghost use Rattle.jmodel.specs.declared.refusal.Halt.TheVariants as halts;
 ghost use Rattle.member_code.specs.Coding.{room_for, too_many as too_many_of};
 

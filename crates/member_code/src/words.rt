@@ -1,9 +1,9 @@
 //! Words of each type: how many places their values take, and which loads and stores they have.
 ghost use Rattle.std.specs.Prelude.{◌≡◌};
-ghost use Rattle.jmodel.specs.PoolAdding.{add_method as with_method};
-ghost use Rattle.objects.specs.Rewriting.{places_of as places_of_word};
-ghost use Rattle.objects.specs.Step.{sort_of as sort_of_word};
-ghost use Rattle.objects.specs.TypeOrder.{context_class};
+ghost use Rattle.jmodel.specs.format.PoolAdding.{add_method as with_method};
+ghost use Rattle.objects.specs.rewriting.Rewriting.{word_places as places_of_word};
+ghost use Rattle.objects.specs.semantics.Step.{sort_of as sort_of_word};
+ghost use Rattle.objects.specs.typing.TypeOrder.{context_class};
 ghost use Rattle.member_code.specs.Growing.{Grows};
 
 use const_pool::Pool;

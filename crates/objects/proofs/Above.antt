@@ -18,8 +18,8 @@ use Rattle.objects.specs.declared.op.Doing.TheVariants as doing
 use Rattle.objects.specs.declared.op.Asking.{Asking}
 use Rattle.objects.specs.declared.op.Asking.TheVariants as asking
 use Rattle.objects.specs.declared.op.Place.{Place}
-use Rattle.objects.specs.Program.{Method, Program, method_at, is_counted, row_at, is_instance, selected}
-use Rattle.objects.specs.Step.{Frame, Frames, Did, Does, Wrong, Asked, Asks, Fails, Taken, Took, TooFew, take_args, at, next, with_stack, goes, enters, with_args, invokes, trapped, found, received, gives, catch_at, caught, unwinds, on_doing, on_did, acts, step, advanced, resumed, or_trap, enters_found, accesses, fitted, stored, kept_in, element_name, element_place, has_address, if_addressed, in_bounds, truth, told, does}
+use Rattle.objects.specs.semantics.Program.{Method, Program, method_at, is_counted, row_at, is_instance, selected}
+use Rattle.objects.specs.semantics.Step.{Frame, Frames, Did, Does, Wrong, Asked, Asks, Fails, Taken, Took, TooFew, take_args, at, next, with_stack, goes, enters, with_args, invokes, trapped, found, received, gives, catch_at, caught, unwinds, on_doing, on_did, acts, step, advanced, resumed, or_trap, enters_found, accesses, fitted, stored, kept_in, element_name, element_place, has_address, if_addressed, in_bounds, truth, told, does}
 use Rattle.objects.proofs.Frames.{frame}
 use Rattle.objects.proofs.Inner.{IsAdded, SelectsAdded, IsInnerUse, IsInnerRequest, IsInnerDoing, IsInnerOp, IsInnerDid, does_inner}
 

@@ -9,12 +9,12 @@ use Rattle.objects.specs.declared.op.WordType.{WordType}
 use Rattle.objects.specs.declared.op.WordType.TheVariants as word
 use Rattle.objects.specs.declared.op.Op.TheVariants as op
 use Rattle.objects.specs.declared.op.ContextCall.TheVariants as call
-use Rattle.objects.specs.Program.{Declared, Field, Method, Program, field_at}
-use Rattle.objects.specs.Step.{sort_of}
-use Rattle.objects.specs.TypeOrder.{object_class, context_class, IsWithin, AreWithin, IsLocals, IsStack, stack_types, place_types}
-use Rattle.objects.specs.Typing.{Flow, Leads, leaves, loads, on_each, called, flow, is_constructor, stored_types, IsTypable}
-use Rattle.objects.specs.Source.{IsReadName, IsReadWord}
-use Rattle.objects.specs.Rewriting.{places_of, array_type, any_of, plain_load, as_result, cast_of, getter_method, setter_method, element_getter_method, element_setter_method}
+use Rattle.objects.specs.semantics.Program.{Declared, Field, Method, Program, field_at}
+use Rattle.objects.specs.semantics.Step.{sort_of}
+use Rattle.objects.specs.typing.TypeOrder.{object_class, context_class, IsWithin, AreWithin, IsLocals, IsStack, stack_types, place_types}
+use Rattle.objects.specs.typing.Typing.{Flow, Leads, leaves, loads, on_each, called, flow, is_constructor, stored_types, IsTypable}
+use Rattle.objects.specs.typing.Source.{IsReadName, IsReadWord}
+use Rattle.objects.specs.rewriting.Rewriting.{word_places, array_type, any_of, plain_load, as_result, cast_of, getter_method, setter_method, element_getter_method, element_setter_method}
 use Rattle.objects.proofs.TypingTables.{over, Line, line_typable, added_first}
 
 -- the class of contexts is at most itself, and Object is read
@@ -60,7 +60,7 @@ module _ (Q : Program) where
   value_itself word.Long c s r h = (refl, (refl, h))
   value_itself word.Reference c s r h = (r.itself, h)
 
-  value_places : (w : WordType) (c : List ℕ) (s : List VType) → length (stack_types (kind w c) ++ s) ≡ places_of w + length s
+  value_places : (w : WordType) (c : List ℕ) (s : List VType) → length (stack_types (kind w c) ++ s) ≡ word_places w + length s
   value_places word.Boolean c s = omega arith
   value_places word.Byte c s = omega arith
   value_places word.Char c s = omega arith
@@ -125,7 +125,7 @@ module _ (Q : Program) where
   value_third t u word.Reference c l s pc = refl
 
   -- and the context from behind it
-  context_first : (w : WordType) (c : List ℕ) → slice_get (place_types (kind w c) ++ context ∷ []) (places_of w) ≡ Some context
+  context_first : (w : WordType) (c : List ℕ) → slice_get (place_types (kind w c) ++ context ∷ []) (word_places w) ≡ Some context
   context_first word.Boolean c = refl
   context_first word.Byte c = refl
   context_first word.Char c = refl
@@ -134,7 +134,7 @@ module _ (Q : Program) where
   context_first word.Long c = refl
   context_first word.Reference c = refl
 
-  context_second : (t : VType) (w : WordType) (c : List ℕ) → slice_get (t ∷ place_types (kind w c) ++ context ∷ []) (1 + places_of w) ≡ Some context
+  context_second : (t : VType) (w : WordType) (c : List ℕ) → slice_get (t ∷ place_types (kind w c) ++ context ∷ []) (1 + word_places w) ≡ Some context
   context_second t word.Boolean c = refl
   context_second t word.Byte c = refl
   context_second t word.Char c = refl
@@ -143,7 +143,7 @@ module _ (Q : Program) where
   context_second t word.Long c = refl
   context_second t word.Reference c = refl
 
-  context_third : (t u : VType) (w : WordType) (c : List ℕ) → slice_get (t ∷ u ∷ place_types (kind w c) ++ context ∷ []) (2 + places_of w) ≡ Some context
+  context_third : (t u : VType) (w : WordType) (c : List ℕ) → slice_get (t ∷ u ∷ place_types (kind w c) ++ context ∷ []) (2 + word_places w) ≡ Some context
   context_third t u word.Boolean c = refl
   context_third t u word.Byte c = refl
   context_third t u word.Char c = refl
@@ -221,7 +221,7 @@ module _ (Q : Program) where
       abbrev static_get : Method
       static_get = getter_method n static_field
 
-      one_more : 1 ≤ 4 + places_of w
+      one_more : 1 ≤ 4 + word_places w
       one_more = omega arith
 
       pub static_getter_typable : field_at Q n ≡ Some static_field → IsTypable Q static_get
@@ -327,7 +327,7 @@ module _ (Q : Program) where
           let many = value_places w c (this ∷ context ∷ []) in
           let stored = value_places w object_class [] in
           let ro = stored_read w in
-          let room : 1 ≤ 4 + places_of w = omega arith in
+          let room : 1 ≤ 4 + word_places w = omega arith in
           let e = con in let f = owner.itself in
           line_typable Q field_get pair refl refl tt (f, (e, tt)) (added_first field_get pair (no_constructor name (codes "__Getter$") (omega arith)) refl refl refl)
           ((context ∷ []) ∷ (this ∷ context ∷ []) ∷ (Second ∷ Long ∷ this ∷ context ∷ []) ∷ [] ∷ (context ∷ []) ∷ (this ∷ context ∷ []) ∷ (this ∷ this ∷ context ∷ []) ∷ taken ∷ (Second ∷ Long ∷ taken) ∷ (stored_types w ++ []) ∷ cast_stacks w c) (
@@ -434,7 +434,7 @@ module _ (Q : Program) where
     array_local : (t : WordType) → IsLocals (array t ∷ Int ∷ context ∷ [])
     array_local t = tt
 
-    some_place : (t : WordType) → 1 ≤ places_of t
+    some_place : (t : WordType) → 1 ≤ word_places t
     some_place word.Boolean = omega arith
     some_place word.Byte = omega arith
     some_place word.Char = omega arith

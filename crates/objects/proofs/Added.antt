@@ -8,11 +8,11 @@ use Rattle.objects.specs.declared.op.WordType.{WordType}
 use Rattle.objects.specs.declared.op.WordType.TheVariants as word
 use Rattle.objects.specs.declared.op.Op.{Op}
 use Rattle.objects.specs.declared.op.Op.TheVariants as op
-use Rattle.objects.specs.Program.{Field, Method, Program, method_at, selected}
-use Rattle.objects.specs.TypeOrder.{object_class, element_class}
-use Rattle.objects.specs.Typing.{Types, Table}
-use Rattle.objects.specs.Source.{IsSource, IsSourceOp, IsSourceMethod}
-use Rattle.objects.specs.Rewriting.{getter, setter, duplicate, element_getter, element_setter, getter_method, setter_method, element_getter_method, element_setter_method, helper_methods, accessors, cast_to, cast_of, plain_load, Typed, typed_from, after_load, array_under, helped, block, block_of, block_at, blocks, duplicate_code, duplicate_method, abstracted, duplicates, old_methods, rewritten}
+use Rattle.objects.specs.semantics.Program.{Field, Method, Program, method_at, selected}
+use Rattle.objects.specs.typing.TypeOrder.{object_class, element_class}
+use Rattle.objects.specs.typing.Typing.{Types, Table}
+use Rattle.objects.specs.typing.Source.{IsSource, IsSourceOp, IsSourceMethod}
+use Rattle.objects.specs.rewriting.Rewriting.{getter, setter, duplicate, element_getter, element_setter, getter_method, setter_method, element_getter_method, element_setter_method, helper_methods, accessors, cast_to, cast_of, plain_load, Typed, typed_from, after_load, array_under, helped, block, block_of, block_at, blocks, duplicate_code, duplicate_method, abstracted, duplicates, old_methods, rewritten}
 use Rattle.objects.proofs.Inner.{IsInnerOp}
 use Rattle.objects.proofs.Places.{old_length, typed_length}
 

@@ -12,9 +12,9 @@ use Rattle.jmodel.specs.declared.typing.VType.TheVariants.{Int, Long, Second, Nu
 use Rattle.objects.specs.declared.op.Slot.{Slot}
 use Rattle.objects.specs.declared.op.Slot.TheVariants.{Context, Empty}
 use Rattle.objects.specs.declared.op.Op.{Op}
-use Rattle.objects.specs.Program.{Method, Program}
-use Rattle.objects.specs.Typing.{is_within, AreWithin, freed, freed_by, become, is_uninit}
-use Rattle.objects.specs.Rewriting.{moved, moved_long, is_stray, more_locals}
+use Rattle.objects.specs.semantics.Program.{Method, Program}
+use Rattle.objects.specs.typing.Typing.{is_within, AreWithin, freed, freed_by, become, is_uninit}
+use Rattle.objects.specs.rewriting.Rewriting.{moved, moved_long, is_stray, more_locals}
 use Rattle.objects.proofs.Fields.{some_at}
 use Rattle.objects.proofs.Heap.{one_or}
 use Rattle.objects.proofs.Moved.{get_set_same, get_set_other}

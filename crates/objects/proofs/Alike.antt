@@ -24,12 +24,12 @@ use Rattle.objects.specs.declared.op.Op.TheVariants as op
 use Rattle.objects.specs.declared.op.Use.{Use}
 use Rattle.objects.specs.declared.op.Use.TheVariants.{Casts, Tests, Measures}
 use Rattle.objects.specs.declared.op.Doing.TheVariants.{Next, Jump, Give, Raise, Trap, Make, Head}
-use Rattle.objects.specs.Program.{Row, Method, Program, is_counted, method_at, row_at}
-use Rattle.objects.specs.Step.{Frame, Did, Does, Wrong, leaves, on_top, int_in, on_int, ref_in, on_ref, second_in, long_in, on_long, on_number, object_in, on_value, slot_in, number_in, not_null, if_object, throws, divides, branches, set_local, loads, stores, switched, sized, without, does}
-use Rattle.objects.specs.Typing.{Types, Table, types_at, freed, Flow, Leads, if_so, on_each, is_reference, is_uninit, become, constructs, is_named, new_class, direct_superclass, is_constructor, returns, flow, KeepsFlow, KeepsAt, IsTyping, AreWithin}
-use Rattle.objects.specs.Typing as typing
-use Rattle.objects.specs.Source.{IsSourceOp}
-use Rattle.objects.specs.Rewriting.{result_sort, moved, moved_long, moved_to, is_stray, moved_cases}
+use Rattle.objects.specs.semantics.Program.{Row, Method, Program, is_counted, method_at, row_at}
+use Rattle.objects.specs.semantics.Step.{Frame, Did, Does, Wrong, leaves, on_top, int_in, on_int, ref_in, on_ref, second_in, long_in, on_long, on_number, object_in, on_value, slot_in, number_in, not_null, if_object, throws, divides, branches, set_local, loads, stores, switched, sized, without, does}
+use Rattle.objects.specs.typing.Typing.{Types, Table, types_at, freed, Flow, Leads, if_so, on_each, is_reference, is_uninit, become, constructs, is_named, new_class, direct_superclass, is_constructor, returns, flow, KeepsFlow, KeepsAt, IsTyping, AreWithin}
+use Rattle.objects.specs.typing.Typing as typing
+use Rattle.objects.specs.typing.Source.{IsSourceOp}
+use Rattle.objects.specs.rewriting.Rewriting.{result_sort, moved, moved_long, moved_to, is_stray, moved_cases}
 use Rattle.objects.proofs.Frames.{frame}
 use Rattle.objects.proofs.Wrapper.{value_sort}
 use Rattle.objects.proofs.Agreeing.{Agree, IsOneKind, agree_within, agree_store, agree_store_long, agree_set, agree_become, one_room, long_room}

@@ -4,18 +4,18 @@ use Rattle.std.specs.Prelude.{bytes_eq, ◌&&◌, ◌||◌, ◌==◌, codes, if�
 use Rattle.std.specs.List.{AllByRecursion, list_any}
 use Rattle.std.proofs.lemmas.Slice.Eq.{bytes_eq-Decides}
 use Rattle.std.proofs.lemmas.Bool.Decides.{Decides-eqb}
-use Rattle.jmodel.specs.ClassFile.{ClassFile}
+use Rattle.jmodel.specs.format.ClassFile.{ClassFile}
 use Rattle.jmodel.specs.declared.typing.VType.TheVariants as type
-use Rattle.objects.specs.Program.{Row, Program, row_at, is_instance, is_instance_in}
-use Rattle.objects.specs.TypeOrder.{object_class, context_class, is_array, is_class_name, without_last, named_by, descriptor_of, is_ended, is_within, IsWithin, is_class_above, is_element_within, element_read, name_read}
-use Rattle.objects.specs.TypeOrder as typing
-use Rattle.objects.specs.Layout as layout
-use Rattle.objects.specs.Layout.{class_instances, descriptor_read, declared_as, element_instances, array_row}
+use Rattle.objects.specs.semantics.Program.{Row, Program, row_at, is_instance, is_instance_in}
+use Rattle.objects.specs.typing.TypeOrder.{object_class, context_class, is_array, is_class_name, without_last, named_by, descriptor_of, is_ended, is_within, IsWithin, is_class_above, is_element_within, element_read, name_read}
+use Rattle.objects.specs.typing.TypeOrder as typing
+use Rattle.objects.specs.linking.Layout as layout
+use Rattle.objects.specs.linking.Layout.{class_instances, descriptor_read, declared_as, element_instances, array_row}
 use Rattle.jmodel.specs.declared.class_file.FieldType.{FieldType}
 use Rattle.jmodel.specs.declared.class_file.FieldType.TheVariants as types
-use Rattle.jmodel.specs.DescriptorReading.{type_of}
+use Rattle.jmodel.specs.format.DescriptorReading.{type_of}
 use Rattle.objects.specs.declared.op.WordType.TheVariants as word
-use Rattle.objects.specs.Source.{element_descriptor}
+use Rattle.objects.specs.typing.Source.{element_descriptor}
 use Rattle.objects.proofs.LibraryRows.{HasInstances, HasWithin, IsRow, for_any}
 use Rattle.objects.proofs.ArrayTypes.{without_end, ended}
 

@@ -5,8 +5,8 @@ use Rattle.std.specs.List.{AllByRecursion}
 use Rattle.std.proofs.lemmas.Slice.Eq.{bytes_eq-Decides}
 use Rattle.std.proofs.lemmas.Bool.Decides.{Decides-eqb}
 use Rattle.jmodel.specs.declared.typing.VType.TheVariants as type
-use Rattle.objects.specs.Program.{Program, is_instance}
-use Rattle.objects.specs.TypeOrder.{object_class, without_last, is_ended, classes_from, IsWithin, is_element_within, is_class_above}
+use Rattle.objects.specs.semantics.Program.{Program, is_instance}
+use Rattle.objects.specs.typing.TypeOrder.{object_class, without_last, is_ended, classes_from, IsWithin, is_element_within, is_class_above}
 use Rattle.objects.proofs.LibraryRows.{for_any}
 
 both : (a b : Bool) → (a && b) ≡ true → (a ≡ true) × (b ≡ true)

@@ -3,19 +3,20 @@ use Rattle.std.proofs.Common.{◌≡◌, ℕ, List, [], ◌∷◌, ◌++◌, map
 use Rattle.std.specs.Prelude.{slice_get, find, cond, bytes_eq, ◌||◌, codes, if◌then◌else◌}
 use Rattle.std.specs.List.{AllByRecursion, list_any}
 use Rattle.std.proofs.lemmas.Slice.Eq.{bytes_eq-Decides}
-use Rattle.jmodel.specs.ClassFile.{ClassFile}
-use Rattle.jmodel.specs.Superclasses.{own_name, class_named}
-use Rattle.jmodel.specs.Classes.{doubled_class}
-use Rattle.objects.specs.Program.{Row, Field, Method, Program}
-use Rattle.objects.specs.LibraryClasses.{library_rows}
-use Rattle.objects.specs.LibraryMethods.{is_library}
-use Rattle.objects.specs.TypeOrder.{object_class, context_class, is_class_name, without_last, is_ended, read_in, is_class_above}
-use Rattle.objects.specs.TypeOrder as typing
-use Rattle.objects.specs.Resolution.{is_interface, holds_of}
-use Rattle.objects.specs.ClassesFaults.{supers_fault}
-use Rattle.objects.specs.LinkingLaw.{IsUpward}
-use Rattle.objects.specs.Layout as layout
-use Rattle.objects.specs.Layout.{class_row, class_instances}
+use Rattle.jmodel.specs.format.ClassFile.{ClassFile}
+use Rattle.objects.specs.linking.Members.{own_name}
+use Rattle.objects.specs.linking.Superclasses.{class_named}
+use Rattle.objects.specs.linking.Classes.{doubled_class}
+use Rattle.objects.specs.semantics.Program.{Row, Field, Method, Program}
+use Rattle.objects.specs.linking.LibraryClasses.{library_rows}
+use Rattle.objects.specs.linking.LibraryMethods.{is_library}
+use Rattle.objects.specs.typing.TypeOrder.{object_class, context_class, is_class_name, without_last, is_ended, read_in, is_class_above}
+use Rattle.objects.specs.typing.TypeOrder as typing
+use Rattle.objects.specs.linking.Resolution.{is_interface, holds_of}
+use Rattle.objects.specs.linking.ClassesFaults.{supers_fault}
+use Rattle.objects.specs.laws.LinkingLaw.{IsUpward}
+use Rattle.objects.specs.linking.Layout as layout
+use Rattle.objects.specs.linking.Layout.{class_row, class_instances}
 use Rattle.objects.proofs.ClassRows.{found_at, found_passes, is_row}
 use Rattle.objects.proofs.ClassTypes.{of_library, new_to_library, class_found, library_found, none_found, IsAboveAs, plain_instances, interface_instances, library_instances, plain_wider, interface_wider, library_wider}
 

@@ -6,16 +6,16 @@ use Rattle.std.proofs.lemmas.Slice.Eq.{bytes_eq-Decides}
 use Rattle.jmodel.specs.declared.refusal.Refusal.TheVariants.{ReservedName}
 use Rattle.jmodel.specs.declared.class_file.Constant.{Constant}
 use Rattle.jmodel.specs.declared.class_file.Constant.TheVariants as constants
-use Rattle.jmodel.specs.ClassFile.{Pool, ClassFile}
-use Rattle.jmodel.specs.Pool.{entry, text_in, utf8, name_in, class_name}
-use Rattle.jmodel.specs.ClassRules.{IsClassFile, IsConstant, IsNameOf}
-use Rattle.jmodel.specs.Descriptor.{is_array_name, IsClassName}
-use Rattle.jmodel.specs.Layout.{text_or_none}
-use Rattle.jmodel.specs.Linking.{is_reserved, is_form_constant}
-use Rattle.jmodel.specs.Superclasses.{own_name, class_named}
-use Rattle.objects.specs.TypeOrder.{is_class_name, context_class, conflict_class}
-use Rattle.objects.specs.ClassesFaults.{reserved_fault}
-use Rattle.objects.specs.LinkingLaw.{IsFormed, AreRead}
+use Rattle.jmodel.specs.format.ClassFile.{Pool, ClassFile}
+use Rattle.jmodel.specs.format.Pool.{entry, text_in, utf8, name_in, class_name, text_or_none}
+use Rattle.jmodel.specs.format.ClassRules.{IsClassFile, IsConstant, IsNameOf}
+use Rattle.jmodel.specs.format.Descriptor.{is_array_name, IsClassName}
+use Rattle.objects.specs.linking.Reserved.{is_reserved, is_unreserved}
+use Rattle.objects.specs.linking.Members.{own_name}
+use Rattle.objects.specs.linking.Superclasses.{class_named}
+use Rattle.objects.specs.typing.TypeOrder.{is_class_name, context_class, conflict_class}
+use Rattle.objects.specs.linking.ClassesFaults.{reserved_fault}
+use Rattle.objects.specs.laws.LinkingLaw.{IsFormed, AreRead}
 use Rattle.objects.proofs.Items.{IsAt, item, found, each_passes}
 use Rattle.objects.proofs.ClassTypes.{each_none}
 
@@ -88,7 +88,7 @@ module _ (cs : List ClassFile) (read : AreRead cs) where
 
   -- no text of a class is kept
   pub unreserved : (c : ClassFile) → IsAt cs c → (i : ℕ) (t : List ℕ) → utf8 c.pool i ≡ Some t → is_reserved t ≡ false
-  unreserved c h i t e = by (is_reserved t) (each_passes is_form_constant c.pool (free (list_all is_form_constant c.pool) (item (λ c. reserved_fault c ≡ None) cs c (each_none reserved_fault cs read.reserved) h)) (constants.Utf8 t) (text_entry c.pool i t e))
+  unreserved c h i t e = by (is_reserved t) (each_passes is_unreserved c.pool (free (list_all is_unreserved c.pool) (item (λ c. reserved_fault c ≡ None) cs c (each_none reserved_fault cs read.reserved) h)) (constants.Utf8 t) (text_entry c.pool i t e))
     where
       free : (b : Bool) → (if b then None else Some (ReservedName (own_name c))) ≡ None → b ≡ true
       free true e = refl

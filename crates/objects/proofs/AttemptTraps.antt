@@ -2,7 +2,7 @@
 use Rattle.std.proofs.Common.{◌≡◌, ◌≢◌, ℕ, zero, suc, ◌+◌, List, [], ◌∷◌, Option, Some, None, Bool, true, false, refl, sym, ap, subst, ◌⊎◌, inl, inr}
 use Rattle.std.specs.Prelude.{nat_lt, min}
 use Rattle.jmodel.specs.declared.value.Answer.{Answer}
-use Rattle.jmodel.specs.declared.op.Access.{Access}
+use Rattle.jmodel.specs.declared.access.Access.{Access}
 use Rattle.objects.specs.declared.op.Made.{Made}
 use Rattle.objects.specs.declared.op.Made.TheVariants.{Pushed, Raised}
 use Rattle.objects.specs.declared.op.Use.{Use}
@@ -12,12 +12,12 @@ use Rattle.objects.specs.declared.op.Request.{Request}
 use Rattle.objects.specs.declared.op.Request.TheVariants as request
 use Rattle.objects.specs.declared.op.Phase.TheVariants.{Ready, Open, Doomed, Closed}
 use Rattle.objects.specs.declared.op.Asking.TheVariants as asking
-use Rattle.objects.specs.Program.{Row, Program, row_at}
-use Rattle.objects.specs.Region.{next_reference, has_words}
-use Rattle.objects.specs.State.{Object, header, type_in, words_of, object_of}
-use Rattle.objects.specs.Step.{Frames, Asked, Asks, Fails, unwinds, told}
-use Rattle.objects.specs.Attempt.{Log, access, answered, written, recorded, Reply, Gives, Refuses, Bounds, Meter, Run, On, Ended, Stuck, on_asked, on_request, on_head, heads, followed, throws, on_raise, on_thrown, with_turns, with_depth, makes, made, on_made, threw_of, class_of, begun, count_of}
-use Rattle.objects.specs.Traps.{trap_in, IsOpen}
+use Rattle.objects.specs.semantics.Program.{Row, Program, row_at}
+use Rattle.objects.specs.semantics.Region.{next_reference, has_words}
+use Rattle.objects.specs.semantics.State.{Object, header, type_in, words_of, object_of}
+use Rattle.objects.specs.semantics.Step.{Frames, Asked, Asks, Fails, unwinds, told}
+use Rattle.objects.specs.rewriting.Attempt.{Log, access, answered, written, recorded, Reply, Gives, Refuses, Bounds, Meter, Run, On, Ended, Stuck, on_asked, on_request, on_head, heads, followed, throws, on_raise, on_thrown, with_turns, with_depth, makes, made, on_made, threw_of, class_of, begun, count_of}
+use Rattle.objects.specs.semantics.Traps.{trap_in, IsOpen}
 use Rattle.objects.proofs.Makes.{used_in, Conflicted, doomed, stuck, conflicted, Making, goes, over, making}
 
 -- an attempt that is open

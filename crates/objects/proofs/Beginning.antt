@@ -6,25 +6,25 @@ use Rattle.jmodel.specs.declared.value.Value.{Value}
 use Rattle.jmodel.specs.declared.value.Answer.{Answer}
 use Rattle.jmodel.specs.declared.value.Answer.TheVariants.{Budget}
 use Rattle.jmodel.specs.declared.typing.VType.{VType}
-use Rattle.jmodel.specs.History.{Words}
+use Rattle.jmodel.specs.history.History.{Words}
 use Rattle.objects.specs.declared.op.Slot.{Slot}
 use Rattle.objects.specs.declared.op.Slot.TheVariants.{Context, Empty}
 use Rattle.objects.specs.declared.op.Op.TheVariants.{Throw}
 use Rattle.objects.specs.declared.op.Phase.TheVariants.{Open}
 use Rattle.objects.specs.declared.op.Dispatch.TheVariants as dispatch
-use Rattle.objects.specs.Value.{slots_of}
-use Rattle.objects.specs.Program.{Method, Program, is_counted, method_at}
-use Rattle.objects.specs.State.{State}
-use Rattle.objects.specs.Step.{Frames, catch_at}
-use Rattle.objects.specs.Call.{Direct, direct, call_start, turned}
-use Rattle.objects.specs.Call as call
-use Rattle.objects.specs.Attempt.{Log, Bounds, Meter, Run, On, with_depth}
-use Rattle.objects.specs.Meaning.{Represents}
-use Rattle.objects.specs.Typing.{Table}
-use Rattle.objects.specs.TypingLaw.{IsTypedProgram}
-use Rattle.objects.specs.Source.{AreArguments}
-use Rattle.objects.specs.Rewriting.{Typed, blocks, load_all, duplicate, duplicate_code}
-use Rattle.objects.specs.Law.{Matched, state_of}
+use Rattle.objects.specs.semantics.Value.{slots_of}
+use Rattle.objects.specs.semantics.Program.{Method, Program, is_counted, method_at}
+use Rattle.objects.specs.semantics.State.{State}
+use Rattle.objects.specs.semantics.Step.{Frames, catch_at}
+use Rattle.objects.specs.semantics.Call.{Direct, direct, call_start, turned}
+use Rattle.objects.specs.semantics.Call as call
+use Rattle.objects.specs.rewriting.Attempt.{Log, Bounds, Meter, Run, On, with_depth}
+use Rattle.objects.specs.history.Meaning.{Represents}
+use Rattle.objects.specs.typing.Typing.{Table}
+use Rattle.objects.specs.laws.TypingLaw.{IsTypedProgram}
+use Rattle.objects.specs.typing.Source.{AreArguments}
+use Rattle.objects.specs.rewriting.Rewriting.{Typed, blocks, load_all, duplicate, duplicate_code}
+use Rattle.objects.specs.laws.Law.{Matched, state_of}
 use Rattle.objects.proofs.Frames.{frame}
 use Rattle.objects.proofs.Inner.{IsAdded, IsInnerOp}
 use Rattle.objects.proofs.Moved.{pushed_on}

@@ -9,10 +9,10 @@ use Rattle.objects.specs.declared.op.Op.{Op}
 use Rattle.objects.specs.declared.op.WordType.{WordType}
 use Rattle.objects.specs.declared.op.WordType.TheVariants as word
 use Rattle.objects.specs.declared.op.Op.TheVariants as op
-use Rattle.objects.specs.Program.{Declared, Field, Method, Program}
-use Rattle.objects.specs.TypeOrder.{context_class, object_class, name_read, is_within, IsWithin, stack_types, place_types}
-use Rattle.objects.specs.Typing.{Types, Table, Flow, with_stack, leaves, if_so, on, on_each, on_top, arguments, is_constructor, constructs, special, calls, results, result_types, flow}
-use Rattle.objects.specs.Rewriting.{array_type, any_of, as_result, getter, setter, duplicate_name, abstracted, element_getter, element_setter, duplicate_method, duplicate_code, typed_from}
+use Rattle.objects.specs.semantics.Program.{Declared, Field, Method, Program}
+use Rattle.objects.specs.typing.TypeOrder.{context_class, object_class, name_read, is_within, IsWithin, stack_types, place_types}
+use Rattle.objects.specs.typing.Typing.{Types, Table, Flow, with_stack, leaves, if_so, on, on_each, on_top, arguments, is_constructor, constructs, special, calls, results, result_types, flow}
+use Rattle.objects.specs.rewriting.Rewriting.{array_type, any_of, as_result, getter, setter, duplicate_name, abstracted, element_getter, element_setter, duplicate_method, duplicate_code, typed_from}
 use Rattle.objects.proofs.Places.{Rewrites}
 
 abbrev pub context : VType

@@ -8,23 +8,23 @@ use Rattle.std.proofs.lemmas.Nat.{and_assoc}
 use Rattle.jmodel.specs.declared.class_file.Constant.{Constant}
 use Rattle.jmodel.specs.declared.instruction.Instr.{Instr}
 use Rattle.jmodel.specs.declared.refusal.Refusal.{Refusal}
-use Rattle.jmodel.specs.ClassFile.{ClassFile}
-use Rattle.jmodel.specs.Pool.{entry, string_in, string, class_name, MemberName}
-use Rattle.jmodel.specs.Descriptor.{is_array_name}
-use Rattle.jmodel.specs.Layout.{text_or_none}
-use Rattle.jmodel.specs.Superclasses.{own_name, class_named}
-use Rattle.jmodel.specs.Classes.{Declared, methods_in, full_name, is_before}
-use Rattle.jmodel.specs.Coded.{Coded, decoded, is_root}
-use Rattle.jmodel.specs.ClassesTaken.{index_of, invoked, is_taken_by, is_named_by, code_calls, calls, is_next, is_taken}
-use Rattle.jmodel.proofs.ClassesTaken.{closed}
-use Rattle.objects.specs.LibraryClasses.{library_rows}
-use Rattle.objects.specs.LibraryMethods.{is_library}
-use Rattle.objects.specs.Program.{Row}
-use Rattle.objects.specs.Resolution.{is_interface, is_known, holds_of}
-use Rattle.objects.specs.Constructs.{is_abstract, has_no_object}
-use Rattle.objects.specs.Layout.{rows, class_row, base_rows, array_row, primitive_arrays, with_text, in_text_order, array_over, some_array, made_by, made_in, made_arrays, some_text, texts_of, type_number}
-use Rattle.objects.specs.Decoding.{is_method, number_of}
-use Rattle.objects.specs.Linking.{taken_methods, original_symbols}
+use Rattle.jmodel.specs.format.ClassFile.{ClassFile}
+use Rattle.jmodel.specs.format.Pool.{entry, string_in, string, class_name, MemberName, text_or_none}
+use Rattle.jmodel.specs.format.Descriptor.{is_array_name}
+use Rattle.objects.specs.linking.Members.{own_name}
+use Rattle.objects.specs.linking.Superclasses.{class_named}
+use Rattle.objects.specs.linking.Classes.{Declared, methods_in, full_name, is_before}
+use Rattle.objects.specs.linking.Code.{Coded, decoded, is_root}
+use Rattle.objects.specs.linking.Taken.{index_of, invoked, is_taken_by, is_named_by, code_calls, calls, is_next, is_taken}
+use Rattle.objects.proofs.TakenLaws.{closed}
+use Rattle.objects.specs.linking.LibraryClasses.{library_rows}
+use Rattle.objects.specs.linking.LibraryMethods.{is_library}
+use Rattle.objects.specs.semantics.Program.{Row}
+use Rattle.objects.specs.linking.Resolution.{is_interface, is_known, holds_of}
+use Rattle.objects.specs.linking.Constructs.{is_abstract, has_no_object}
+use Rattle.objects.specs.linking.Layout.{rows, class_row, base_rows, array_row, primitive_arrays, with_text, in_text_order, array_over, some_array, made_by, made_in, made_arrays, some_text, texts_of, type_number}
+use Rattle.objects.specs.linking.Decoding.{is_method, number_of}
+use Rattle.objects.specs.linking.Linking.{taken_methods, original_symbols}
 use Rattle.objects.proofs.Items.{IsAt, later, item, in_front_part, in_back_part, into_map, into_filter, into_flat, places}
 use Rattle.objects.proofs.AsRead.{entry_at, named_as}
 use Rattle.objects.proofs.ClassRows.{found_passes, is_row}

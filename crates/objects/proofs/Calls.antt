@@ -6,7 +6,7 @@ use Rattle.std.proofs.lemmas.List.{append-nil}
 use Rattle.jmodel.specs.declared.value.Value.{Value}
 use Rattle.jmodel.specs.declared.typing.VType.{VType}
 use Rattle.jmodel.specs.declared.typing.VType.TheVariants as type
-use Rattle.jmodel.specs.History.{Words, Agrees}
+use Rattle.jmodel.specs.history.History.{Words, Agrees}
 use Rattle.objects.specs.declared.op.Slot.{Slot}
 use Rattle.objects.specs.declared.op.Slot.TheVariants.{Int, Long, Second, Ref, Context, Loaded, Empty}
 use Rattle.objects.specs.declared.op.Sort.TheVariants as sort
@@ -23,21 +23,21 @@ use Rattle.objects.specs.declared.op.Doing.TheVariants as doing
 use Rattle.objects.specs.declared.op.Asking.{Asking as Wanted}
 use Rattle.objects.specs.declared.op.Asking.TheVariants as asking
 use Rattle.objects.specs.declared.op.Phase.TheVariants.{Open}
-use Rattle.objects.specs.Library.{trap_type}
-use Rattle.objects.specs.Program.{Method, Program, is_counted, is_instance, method_at, is_code, has_code, selected}
-use Rattle.objects.specs.Region.{Region}
-use Rattle.objects.specs.State.{Object, State, length_of}
-use Rattle.objects.specs.Step.{Frame, Frames, Did, Does, Wrong, Asked, Asks, Fails, Taken, Took, TooFew, take_args, started, with_stack, depth, does, on_did, step, invokes, with_args, enters, found, enters_found, over_object, slot_in, ref_in, not_null, runs, receiver, told, or_trap, catch_at, unwinds}
-use Rattle.objects.specs.Call.{Direct, next_direct}
-use Rattle.objects.specs.Call as call
-use Rattle.objects.specs.Attempt.{Log, Reply, Bounds, Meter, Run, On, Asking, next_run, with_depth}
-use Rattle.objects.specs.Attempt as attempt
-use Rattle.objects.specs.Meaning.{IsHeap}
-use Rattle.objects.specs.Typing.{Table, types_at, arguments}
-use Rattle.objects.specs.TypingLaw.{IsTypedProgram, HasTyping}
-use Rattle.objects.specs.Source.{IsSourceMethod, IsSourceOp, HasObject}
-use Rattle.objects.specs.TypeOrder.{name_read}
-use Rattle.objects.specs.Rewriting.{Typed, block_at, block_of, block_len_of, duplicate, duplicate_method, duplicate_code, is_stray, more_locals}
+use Rattle.objects.specs.linking.Library.{trap_type}
+use Rattle.objects.specs.semantics.Program.{Method, Program, is_counted, is_instance, method_at, is_code, has_code, selected}
+use Rattle.objects.specs.semantics.Region.{Region}
+use Rattle.objects.specs.semantics.State.{Object, State, length_of}
+use Rattle.objects.specs.semantics.Step.{Frame, Frames, Did, Does, Wrong, Asked, Asks, Fails, Taken, Took, TooFew, take_args, started, with_stack, depth, does, on_did, step, invokes, with_args, enters, found, enters_found, over_object, slot_in, ref_in, not_null, runs, receiver, told, or_trap, catch_at, unwinds}
+use Rattle.objects.specs.semantics.Call.{Direct, next_direct}
+use Rattle.objects.specs.semantics.Call as call
+use Rattle.objects.specs.rewriting.Attempt.{Log, Reply, Bounds, Meter, Run, On, Asking, next_run, with_depth}
+use Rattle.objects.specs.rewriting.Attempt as attempt
+use Rattle.objects.specs.history.Meaning.{IsHeap}
+use Rattle.objects.specs.typing.Typing.{Table, types_at, arguments}
+use Rattle.objects.specs.laws.TypingLaw.{IsTypedProgram, HasTyping}
+use Rattle.objects.specs.typing.Source.{IsSourceMethod, IsSourceOp, HasObject}
+use Rattle.objects.specs.typing.TypeOrder.{name_read}
+use Rattle.objects.specs.rewriting.Rewriting.{Typed, block_at, block_of, block_len_of, duplicate, duplicate_method, duplicate_code, is_stray, more_locals}
 use Rattle.objects.proofs.Frames.{frame}
 use Rattle.objects.proofs.Fields.{each_at}
 use Rattle.objects.proofs.Moved.{pushed_on}
@@ -315,7 +315,7 @@ module _ (P : Program) (Ts : List Table) (S : IsTypedProgram P Ts) (Q : Program)
   dup_places : (k1 : Method) (T1 : Table) → (duplicate_method P k1 T1).places ≡ k1.places + 1
   dup_places k1 T1 = by k1.ops
     where
-      by : (os : List Op) → (Rattle.objects.specs.Rewriting.abstracted os (duplicate_code P k1 (typed_code P Ts S k1 T1))).places ≡ k1.places + 1
+      by : (os : List Op) → (Rattle.objects.specs.rewriting.Rewriting.abstracted os (duplicate_code P k1 (typed_code P Ts S k1 T1))).places ≡ k1.places + 1
       by [] = refl
       by (x ∷ os) = refl
 
@@ -378,7 +378,7 @@ module _ (P : Program) (Ts : List Table) (S : IsTypedProgram P Ts) (Q : Program)
     over_down g =
         let there = (dup_is m1 k1 is1).1 in
         let lies : receiver kd1 (Context ∷ s) ≡ under = ap (λ (i : ℕ). slice_get (Context ∷ s) (i - 1)) (dup_places k1 T1) ∙ receiver_moved k1.places s (takes_object P k1 (source_of P Ts S m1 k1 is1) over) in
-        ap (λ (y : Option Method). Rattle.objects.specs.Step.method_in y (λ (k : Method). slot_in (receiver k (Context ∷ s)) (λ v. ref_in v (λ x. not_null x down (g k x))))) there ∙ ap (λ (y : Option Slot). slot_in y (λ v. ref_in v (λ x. not_null x down (g kd1 x)))) lies
+        ap (λ (y : Option Method). Rattle.objects.specs.semantics.Step.method_in y (λ (k : Method). slot_in (receiver k (Context ∷ s)) (λ v. ref_in v (λ x. not_null x down (g k x))))) there ∙ ap (λ (y : Option Slot). slot_in y (λ v. ref_in v (λ x. not_null x down (g kd1 x)))) lies
 
     over_served : (f g : Method → ℕ → Did) → IsFineWith First (on_did P (over_object P m1 up f) fs) → step P (up ∷ fs) ≡ on_did P (over_object P m1 up f) fs
         → step Q (down ∷ gs) ≡ on_did Q (over_object Q (duplicate P m1) down g) gs

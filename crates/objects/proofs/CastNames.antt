@@ -5,18 +5,18 @@ use Rattle.std.specs.List.{AllByRecursion}
 use Rattle.std.proofs.lemmas.Slice.Eq.{bytes_eq-Decides}
 use Rattle.jmodel.specs.declared.class_file.FieldType.{FieldType}
 use Rattle.jmodel.specs.declared.class_file.FieldType.TheVariants as field
-use Rattle.jmodel.specs.ClassFile.{ClassFile}
-use Rattle.jmodel.specs.Descriptor.{is_array_name, field_descriptor, IsArrayName, IsElement}
-use Rattle.jmodel.specs.Superclasses.{own_name}
-use Rattle.objects.specs.LibraryClasses.{library_rows}
-use Rattle.objects.specs.LibraryMethods.{is_library}
-use Rattle.objects.specs.Program.{Row, Program}
-use Rattle.objects.specs.TypeOrder.{conflict_classes, is_array, is_class_name, without_last, is_class_above, element_read, class_read, name_read, read_in, above_in, classes_from, from_class}
-use Rattle.objects.specs.Resolution.{is_interface}
-use Rattle.objects.specs.ClassesFaults.{supers_fault}
-use Rattle.objects.specs.Layout.{rows, class_row, primitive_arrays, made_arrays}
-use Rattle.objects.specs.Source.{AreTypes, IsKnownName}
-use Rattle.objects.specs.LinkingLaw.{AreRead}
+use Rattle.jmodel.specs.format.ClassFile.{ClassFile}
+use Rattle.jmodel.specs.format.Descriptor.{is_array_name, field_descriptor, IsArrayName, IsElement}
+use Rattle.objects.specs.linking.Members.{own_name}
+use Rattle.objects.specs.linking.LibraryClasses.{library_rows}
+use Rattle.objects.specs.linking.LibraryMethods.{is_library}
+use Rattle.objects.specs.semantics.Program.{Row, Program}
+use Rattle.objects.specs.typing.TypeOrder.{conflict_classes, is_array, is_class_name, without_last, is_class_above, element_read, class_read, name_read, read_in, above_in, classes_from, from_class}
+use Rattle.objects.specs.linking.Resolution.{is_interface}
+use Rattle.objects.specs.linking.ClassesFaults.{supers_fault}
+use Rattle.objects.specs.linking.Layout.{rows, class_row, primitive_arrays, made_arrays}
+use Rattle.objects.specs.typing.Source.{AreTypes, IsKnownName}
+use Rattle.objects.specs.laws.LinkingLaw.{AreRead}
 use Rattle.objects.proofs.Items.{IsAt, item, found}
 use Rattle.objects.proofs.AsRead.{class_names}
 use Rattle.objects.proofs.ArrayTypes.{without_end, ended}

@@ -8,11 +8,11 @@ use Rattle.std.proofs.lemmas.Option.{slice_get_within}
 use Rattle.objects.specs.declared.op.Catch.{Catch}
 use Rattle.objects.specs.declared.op.Catches.{Catches}
 use Rattle.objects.specs.declared.op.Catches.TheVariants.{Conflict, Any, Of}
-use Rattle.objects.specs.Program.{Row, Method, Program, row_at, is_instance, is_instance_in}
-use Rattle.objects.specs.Typing.{Table}
-use Rattle.objects.specs.Step.{takes, find_catch}
-use Rattle.objects.specs.Source.{IsSourceCatch}
-use Rattle.objects.specs.Rewriting.{Typed, block_len, block_at, moved_catch, duplicate_code}
+use Rattle.objects.specs.semantics.Program.{Row, Method, Program, row_at, is_instance, is_instance_in}
+use Rattle.objects.specs.typing.Typing.{Table}
+use Rattle.objects.specs.semantics.Step.{takes, find_catch}
+use Rattle.objects.specs.typing.Source.{IsSourceCatch}
+use Rattle.objects.specs.rewriting.Rewriting.{Typed, block_len, block_at, moved_catch, duplicate_code}
 use Rattle.objects.proofs.Places.{Rewrites, next_block, blocks_most}
 
 -- a place of the code, by one inside a block

@@ -7,9 +7,9 @@ use Rattle.jmodel.specs.declared.typing.VType.{VType}
 use Rattle.jmodel.specs.declared.typing.VType.TheVariants.{Int, Long, Second, Null, Ref, Uninit, UninitThis, Top}
 use Rattle.objects.specs.declared.op.Op.{Op}
 use Rattle.objects.specs.declared.op.Catch.{Catch}
-use Rattle.objects.specs.Program.{Method, Program}
-use Rattle.objects.specs.TypeOrder.{throwable_class, is_within, AreWithin, IsLocalsAfter, IsStackUnder}
-use Rattle.objects.specs.Typing.{Types, Table, types_at, FitsIn, Flow, Leads, Wrong, flow, Covers, caught_type, is_guarded, AreCaught, KeepsFlow, KeepsAt, IsTypedAt, first_types, IsTyping}
+use Rattle.objects.specs.semantics.Program.{Method, Program}
+use Rattle.objects.specs.typing.TypeOrder.{throwable_class, is_within, AreWithin, IsLocalsAfter, IsStackUnder}
+use Rattle.objects.specs.typing.Typing.{Types, Table, types_at, FitsIn, Flow, Leads, Wrong, flow, Covers, caught_type, is_guarded, AreCaught, KeepsFlow, KeepsAt, IsTypedAt, first_types, IsTyping}
 
 -- ---- truths
 

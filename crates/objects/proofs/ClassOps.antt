@@ -7,28 +7,29 @@ use Rattle.std.proofs.lemmas.Slice.Eq.{bytes_eq-Decides}
 use Rattle.jmodel.specs.declared.class_file.FieldType.{FieldType}
 use Rattle.jmodel.specs.declared.class_file.FieldType.TheVariants as field
 use Rattle.jmodel.specs.declared.instruction.Instr.{Instr}
-use Rattle.jmodel.specs.ClassFile.{ClassFile}
-use Rattle.jmodel.specs.Pool.{class_name}
-use Rattle.jmodel.specs.ClassRules.{IsConstant}
-use Rattle.jmodel.specs.Descriptor.{is_array_name, field_descriptor, IsClassName, IsArrayName}
-use Rattle.jmodel.specs.Descriptor as descriptor
-use Rattle.jmodel.specs.DescriptorReading.{brackets, type_of}
-use Rattle.jmodel.specs.Superclasses.{own_name, class_named}
-use Rattle.jmodel.specs.Classes.{Declared}
-use Rattle.jmodel.specs.ClassesTaken.{index_of}
+use Rattle.jmodel.specs.format.ClassFile.{ClassFile}
+use Rattle.jmodel.specs.format.Pool.{class_name}
+use Rattle.jmodel.specs.format.ClassRules.{IsConstant}
+use Rattle.jmodel.specs.format.Descriptor.{is_array_name, field_descriptor, IsClassName, IsArrayName}
+use Rattle.jmodel.specs.format.Descriptor as descriptor
+use Rattle.jmodel.specs.format.DescriptorReading.{brackets, type_of}
+use Rattle.objects.specs.linking.Members.{own_name}
+use Rattle.objects.specs.linking.Superclasses.{class_named}
+use Rattle.objects.specs.linking.Classes.{Declared}
+use Rattle.objects.specs.linking.Taken.{index_of}
 use Rattle.objects.specs.declared.op.Op.{Op}
 use Rattle.objects.specs.declared.op.Op.TheVariants as op
-use Rattle.objects.specs.LibraryClasses.{library_rows}
-use Rattle.objects.specs.Program.{Declared as DeclaredWord, Words, Row, Method, Program, row_at}
-use Rattle.objects.specs.LibraryMethods.{is_library}
-use Rattle.objects.specs.TypeOrder.{context_class, is_class_name}
-use Rattle.objects.specs.Resolution.{is_interface, is_known, holds_of}
-use Rattle.objects.specs.Constructs.{named_class, reference_name, unknown_core, unknown_in, is_bad_new, has_no_object}
-use Rattle.objects.specs.Layout.{rows, words_upward, class_row, primitive_arrays, array_over, made_arrays, type_number, descriptor_read}
-use Rattle.objects.specs.Decoding.{Symbols, primitive_array, new_array, class_op}
-use Rattle.objects.specs.Linking.{taken_methods, original_symbols}
-use Rattle.objects.specs.Source.{CanMake, IsKnownName, IsMadeOf, AreTypes}
-use Rattle.objects.specs.LinkingLaw.{AreRead}
+use Rattle.objects.specs.linking.LibraryClasses.{library_rows}
+use Rattle.objects.specs.semantics.Program.{Declared as DeclaredWord, Words, Row, Method, Program, row_at}
+use Rattle.objects.specs.linking.LibraryMethods.{is_library}
+use Rattle.objects.specs.typing.TypeOrder.{context_class, is_class_name}
+use Rattle.objects.specs.linking.Resolution.{is_interface, is_known, holds_of}
+use Rattle.objects.specs.linking.Constructs.{named_class, reference_name, unknown_core, unknown_in, is_bad_new, has_no_object}
+use Rattle.objects.specs.linking.Layout.{rows, words_upward, class_row, primitive_arrays, array_over, made_arrays, type_number, descriptor_read}
+use Rattle.objects.specs.linking.Decoding.{Symbols, primitive_array, new_array, class_op}
+use Rattle.objects.specs.linking.Linking.{taken_methods, original_symbols}
+use Rattle.objects.specs.typing.Source.{CanMake, IsKnownName, IsMadeOf, AreTypes}
+use Rattle.objects.specs.laws.LinkingLaw.{AreRead}
 use Rattle.objects.proofs.Items.{IsAt, item, placed}
 use Rattle.objects.proofs.AsRead.{formed, is_file, named_as, class_names, no_context}
 use Rattle.objects.proofs.DeclaredMembers.{of_methods}

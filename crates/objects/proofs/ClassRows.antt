@@ -4,14 +4,15 @@ use Rattle.std.specs.Prelude.{slice_get, find, cond, bytes_eq, ◌&&◌, ◌||�
 use Rattle.std.specs.List.{list_any}
 use Rattle.std.proofs.lemmas.Slice.Eq.{bytes_eq-Decides}
 use Rattle.std.proofs.lemmas.Bool.Decides.{same_from_decides}
-use Rattle.jmodel.specs.ClassFile.{ClassFile}
+use Rattle.jmodel.specs.format.ClassFile.{ClassFile}
 use Rattle.jmodel.specs.declared.refusal.Refusal.TheVariants.{DoubledClass}
-use Rattle.jmodel.specs.Superclasses.{own_name, class_named}
-use Rattle.jmodel.specs.Classes.{doubled_among}
-use Rattle.objects.specs.Program.{Row}
-use Rattle.objects.specs.TypeOrder.{is_class_name}
-use Rattle.objects.specs.Resolution.{is_interface, holds_of}
-use Rattle.objects.specs.Layout.{class_row}
+use Rattle.objects.specs.linking.Members.{own_name}
+use Rattle.objects.specs.linking.Superclasses.{class_named}
+use Rattle.objects.specs.linking.Classes.{doubled_among}
+use Rattle.objects.specs.semantics.Program.{Row}
+use Rattle.objects.specs.typing.TypeOrder.{is_class_name}
+use Rattle.objects.specs.linking.Resolution.{is_interface, holds_of}
+use Rattle.objects.specs.linking.Layout.{class_row}
 
 -- ---- lists
 

@@ -4,28 +4,28 @@ use Rattle.std.specs.Prelude.{slice_get, find, filter, cond, bytes_eq, ◌&&◌,
 use Rattle.std.specs.List.{AllByRecursion, list_any, flat_map}
 use Rattle.std.specs.Option.{option_or}
 use Rattle.std.proofs.lemmas.Slice.Eq.{bytes_eq-Decides}
-use Rattle.jmodel.specs.ClassFile.{ClassFile}
+use Rattle.jmodel.specs.format.ClassFile.{ClassFile}
 use Rattle.jmodel.specs.declared.refusal.Refusal.{Refusal}
 use Rattle.jmodel.specs.declared.refusal.Refusal.TheVariants.{UnknownClass, BadSuper}
-use Rattle.jmodel.specs.Layout.{library as library_names}
-use Rattle.jmodel.specs.Superclasses.{own_name, class_named, super_name, with_above, lineage}
-use Rattle.jmodel.specs.ClassesLinking.{first_fault}
-use Rattle.jmodel.specs.Classes.{doubled_class, is_before}
+use Rattle.objects.specs.linking.Library.{library as library_names}
+use Rattle.objects.specs.linking.Members.{own_name}
+use Rattle.objects.specs.linking.Superclasses.{class_named, super_name, with_above, lineage}
+use Rattle.objects.specs.linking.Faults.{first_fault}
+use Rattle.objects.specs.linking.Classes.{doubled_class, is_before}
 use Rattle.jmodel.specs.declared.typing.VType.TheVariants as type
-use Rattle.objects.specs.Program.{Declared, Words, Row, Field, Method, Program, row_at, is_instance, is_instance_in}
-use Rattle.objects.specs.LibraryClasses.{library_rows}
-use Rattle.objects.specs.LibraryMethods.{is_library}
-use Rattle.objects.specs.TypeOrder.{object_class, is_array, is_class_name, IsWithin, is_within, class_read, name_read, read_in, above_in, classes_from, is_class_above}
-use Rattle.jmodel.specs.Descriptor.{is_array_name}
-use Rattle.objects.specs.Resolution.{is_interface, holds_of, is_in_folder, names_interface, is_known, interface_names, names_above, all_upward, ancestry}
-use Rattle.objects.specs.ClassesFaults.{has_subclasses, may_be_super, superclass_fault, interface_fault, super_fault, supers_fault}
-use Rattle.objects.specs.LinkingLaw.{IsUpward}
-use Rattle.objects.specs.Source.{IsClass, IsUnder}
+use Rattle.objects.specs.semantics.Program.{Declared, Words, Row, Field, Method, Program, row_at, is_instance, is_instance_in}
+use Rattle.objects.specs.linking.LibraryClasses.{library_rows}
+use Rattle.objects.specs.linking.LibraryMethods.{is_library}
+use Rattle.objects.specs.typing.TypeOrder.{object_class, is_array, is_class_name, IsWithin, is_within, class_read, name_read, read_in, above_in, classes_from, is_class_above}
+use Rattle.jmodel.specs.format.Descriptor.{is_array_name}
+use Rattle.objects.specs.linking.Resolution.{is_interface, holds_of, is_in_folder, names_interface, is_known, interface_names, names_above, all_upward, ancestry}
+use Rattle.objects.specs.linking.ClassesFaults.{has_subclasses, may_be_super, superclass_fault, interface_fault, super_fault, supers_fault}
+use Rattle.objects.specs.laws.LinkingLaw.{IsUpward}
+use Rattle.objects.specs.typing.Source.{IsClass, IsUnder}
 use Rattle.std.proofs.lemmas.Grind.{reverse_onto, flat_map-append}
 use Rattle.std.proofs.lemmas.List.{append-nil}
-use Rattle.objects.specs.Layout.{nameless, class_row, class_instances, with_text, in_text_order, names_upward, words_upward, own_words, library_lineage, lineage_of, above_last}
-use Rattle.objects.proofs.LibraryRows.{IsRow, IsReadIn}
-use Rattle.objects.proofs.LibraryRows.{class_row as class_row_of}
+use Rattle.objects.specs.linking.Layout.{nameless, class_row, class_instances, with_text, in_text_order, names_upward, words_upward, own_words, library_lineage, lineage_of, above_last}
+use Rattle.objects.proofs.LibraryRows.{IsRow, IsReadIn, class_row as class_row_of}
 use Rattle.objects.proofs.ClassRows.{find_front, find_back, found_at, found_passes, swapped, absent, new_names, found_by_name, is_row, find_row, find_none}
 
 -- ---- faults

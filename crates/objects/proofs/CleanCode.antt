@@ -4,16 +4,16 @@ use Rattle.std.specs.Prelude.{not, bytes_eq, ◌&&◌, ◌==◌, ◌||◌, if◌
 use Rattle.std.specs.List.{AllByRecursion}
 use Rattle.jmodel.specs.declared.class_file.Handler.{Handler}
 use Rattle.jmodel.specs.declared.instruction.Instr.{Instr}
-use Rattle.jmodel.specs.ClassFile.{ClassFile}
-use Rattle.jmodel.specs.Pool.{MemberName}
-use Rattle.jmodel.specs.Classes.{Declared}
-use Rattle.jmodel.specs.ClassesTaken.{invoked}
-use Rattle.jmodel.specs.ClassesLinking.{first_fault}
-use Rattle.jmodel.specs.Coded.{Coded, decoded}
-use Rattle.objects.specs.Resolution.{holds_of, resolved_field, resolved_method}
-use Rattle.objects.specs.Constructs.{accessed, named_class, has_flag, is_float_descriptor, is_float, is_subroutine, is_among, pushed, is_class_constant, unknown_in, is_bad_new, is_outside_field, is_library_call, is_unresolved, is_interface_field, is_bad_access, is_bad_static, is_bad_interface, is_elsewhere, is_bad_special_name, is_bad_special, is_bad_call, construct, first_kind, kind_fault, whole_kinds, whole_fault, first_kinds, last_kinds, instr_fault, catch_fault, place_fault, code_construct, construct_fault}
-use Rattle.jmodel.specs.Linking.{descriptor_of}
-use Rattle.objects.specs.Linking.{taken_methods, constructs_fault}
+use Rattle.jmodel.specs.format.ClassFile.{ClassFile}
+use Rattle.jmodel.specs.format.Pool.{MemberName}
+use Rattle.objects.specs.linking.Classes.{Declared}
+use Rattle.objects.specs.linking.Taken.{invoked}
+use Rattle.objects.specs.linking.Faults.{first_fault}
+use Rattle.objects.specs.linking.Code.{Coded, decoded}
+use Rattle.objects.specs.linking.Resolution.{holds_of, resolved_field, resolved_method}
+use Rattle.objects.specs.linking.Constructs.{accessed, named_class, has_flag, is_float_descriptor, is_float, is_subroutine, is_among, entry_pushed, is_class_constant, unknown_in, is_bad_new, is_outside_field, is_library_call, is_unresolved, is_interface_field, is_bad_access, is_bad_static, is_bad_interface, is_elsewhere, is_bad_special_name, is_bad_special, is_bad_call, construct, first_kind, kind_fault, whole_kinds, whole_fault, first_kinds, last_kinds, instr_fault, catch_fault, place_fault, code_construct, construct_fault}
+use Rattle.objects.specs.linking.Members.{descriptor_of}
+use Rattle.objects.specs.linking.Linking.{taken_methods, constructs_fault}
 use Rattle.objects.proofs.Items.{IsAt, item}
 use Rattle.objects.proofs.ClassTypes.{no_first, each_none}
 
@@ -59,7 +59,7 @@ pub record IsClean (cs : List ClassFile) (k : Declared) (i : Instr) : Type 0 whe
   pub subroutine : is_subroutine i ≡ false
   pub monitor : is_among 194 195 i.op ≡ false
   pub multi_array : (i.op == 197) ≡ false
-  pub class_literal : holds_of is_class_constant (pushed k.class.pool i) ≡ false
+  pub class_literal : holds_of is_class_constant (entry_pushed k.class.pool i) ≡ false
   pub known : unknown_in cs (named_class k.class.pool i) ≡ None
   pub new : holds_of (is_bad_new cs i.op) (named_class k.class.pool i) ≡ false
   pub inside : holds_of (is_outside_field cs) (accessed k.class.pool i) ≡ false

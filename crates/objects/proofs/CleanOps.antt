@@ -12,10 +12,10 @@ use Rattle.objects.specs.declared.op.WordType.{WordType}
 use Rattle.objects.specs.declared.op.WordType.TheVariants as word
 use Rattle.objects.specs.declared.op.Op.{Op}
 use Rattle.objects.specs.declared.op.Op.TheVariants as op
-use Rattle.objects.specs.Program.{Holds, Words, Elements, Row, Field, Method, Program, field_at, method_at, row_at}
-use Rattle.objects.specs.TypeOrder.{object_class, throwable_class, string_class, is_array, element_class, name_read, stack_types, is_within}
-use Rattle.objects.specs.Typing.{is_received, argument_places, value_places, Types, Flow, leaves, if_so, field_in, row_in, method_in, fits_elements, element_types, stored_types, puts, exits, constant_types, is_constructor, is_uninit, new_class, is_named, direct_superclass, constructs, makes_new, arguments, results, calls, special, returns, flow}
-use Rattle.objects.specs.Source.{AreTypes, IsReadType, IsReadWord, IsKnownName, IsMadeOf, IsSourceOp, IsSourceField, IsSourceMethod, IsSource}
+use Rattle.objects.specs.semantics.Program.{Holds, Words, Elements, Row, Field, Method, Program, field_at, method_at, row_at}
+use Rattle.objects.specs.typing.TypeOrder.{object_class, throwable_class, string_class, is_array, element_class, name_read, stack_types, is_within}
+use Rattle.objects.specs.typing.Typing.{is_received, argument_places, value_places, Types, Flow, leaves, if_so, field_in, row_in, method_in, fits_elements, element_types, stored_types, puts, exits, constant_types, is_constructor, is_uninit, new_class, is_named, direct_superclass, constructs, makes_new, arguments, results, calls, special, returns, flow}
+use Rattle.objects.specs.typing.Source.{AreTypes, IsReadType, IsReadWord, IsKnownName, IsMadeOf, IsSourceOp, IsSourceField, IsSourceMethod, IsSource}
 use Rattle.objects.proofs.Fields.{each_at}
 use Rattle.objects.proofs.ReadTypes.{object_is_read}
 use Rattle.objects.proofs.KnownTypes.{element_known}

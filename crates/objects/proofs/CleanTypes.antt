@@ -5,10 +5,10 @@ use Rattle.std.specs.List.{AllByRecursion, list_any}
 use Rattle.std.proofs.lemmas.Slice.Eq.{bytes_eq-Decides}
 use Rattle.jmodel.specs.declared.typing.VType.{VType}
 use Rattle.jmodel.specs.declared.typing.VType.TheVariants.{Int, Long, Second, Null, Ref, Uninit, UninitThis, Top}
-use Rattle.objects.specs.Program.{Program}
-use Rattle.objects.specs.TypeOrder.{is_within, IsWithin, AreWithin, is_array, name_read, IsLocalsAfter, IsStackUnder}
-use Rattle.objects.specs.Typing.{freed, freed_by, become, is_uninit}
-use Rattle.objects.specs.Source.{AreTypes, IsKnownName, IsKnownType}
+use Rattle.objects.specs.semantics.Program.{Program}
+use Rattle.objects.specs.typing.TypeOrder.{is_within, IsWithin, AreWithin, is_array, name_read, IsLocalsAfter, IsStackUnder}
+use Rattle.objects.specs.typing.Typing.{freed, freed_by, become, is_uninit}
+use Rattle.objects.specs.typing.Source.{AreTypes, IsKnownName, IsKnownType}
 use Rattle.objects.proofs.Places.{get_map}
 use Rattle.objects.proofs.MovedTypes.{map_set, map_none}
 use Rattle.objects.proofs.KnownTypes.{known_up}

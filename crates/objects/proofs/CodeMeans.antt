@@ -12,26 +12,24 @@ use Rattle.jmodel.specs.declared.instruction.Form.TheVariants as form
 use Rattle.jmodel.specs.declared.instruction.Operands.{Operands}
 use Rattle.jmodel.specs.declared.instruction.Operands.TheVariants as operands
 use Rattle.jmodel.specs.declared.instruction.Instr.{Instr}
-use Rattle.jmodel.specs.ClassFile.{ClassFile}
-use Rattle.jmodel.specs.Pool.{class_name, field_name, member_name}
-use Rattle.jmodel.specs.Descriptor.{is_array_name}
-use Rattle.jmodel.specs.DescriptorReading.{brackets, type_of}
-use Rattle.jmodel.specs.Instruction.{form_of, is_entry, argument_places, targets_of, is_start}
-use Rattle.jmodel.specs.InstructionReading.{are_starts}
-use Rattle.jmodel.specs.Linking.{widened}
-use Rattle.jmodel.specs.Classes.{Declared}
-use Rattle.jmodel.specs.ClassesTaken.{index_of}
-use Rattle.jmodel.specs.Coded.{Coded, decoded}
-use Rattle.jmodel.specs.Decoding.{number_at, in_front, each, table_cases, numbered_case}
+use Rattle.jmodel.specs.format.ClassFile.{ClassFile}
+use Rattle.jmodel.specs.format.Pool.{class_name, field_name, member_name}
+use Rattle.jmodel.specs.format.Descriptor.{is_array_name}
+use Rattle.jmodel.specs.format.DescriptorReading.{brackets, type_of}
+use Rattle.jmodel.specs.format.Instruction.{form_of, is_entry, argument_places, targets_of, is_start}
+use Rattle.jmodel.specs.format.InstructionReading.{are_starts}
+use Rattle.objects.specs.linking.Code.{widened, Coded, decoded, number_at, table_cases, numbered_case}
+use Rattle.objects.specs.linking.Classes.{Declared}
+use Rattle.objects.specs.linking.Taken.{index_of, invoked}
+use Rattle.objects.specs.linking.Each.{in_front, each}
 use Rattle.objects.specs.declared.op.Op.{Op}
 use Rattle.objects.specs.declared.op.Op.TheVariants as op
-use Rattle.objects.specs.Resolution.{is_known, holds_of}
-use Rattle.objects.specs.Constructs.{named_class, reference_name, unknown_core, unknown_in, has_no_object, is_bad_new, is_float_op, is_float_array, is_float_constant, is_float_field, is_float_method, accessed, pushed}
-use Rattle.jmodel.specs.ClassesTaken.{invoked}
-use Rattle.objects.specs.Layout.{rows, array_over, primitive_arrays, type_number}
-use Rattle.objects.specs.Decoding.{Symbols, is_among, simple_op, local_op, wide_op, jump_to, jump_op, switch_to, switch_op, primitive_array, new_array, number_op, class_op, pool_op, ldc_op, field_op, call_op, meaning, op_of}
-use Rattle.objects.specs.Linking.{taken_methods, original_symbols, constructs_fault}
-use Rattle.objects.specs.LinkingLaw.{AreRead}
+use Rattle.objects.specs.linking.Resolution.{is_known, holds_of}
+use Rattle.objects.specs.linking.Constructs.{named_class, reference_name, unknown_core, unknown_in, has_no_object, is_bad_new, is_float_op, is_float_array, is_float_constant, is_float_field, is_float_method, accessed, entry_pushed}
+use Rattle.objects.specs.linking.Layout.{rows, array_over, primitive_arrays, type_number}
+use Rattle.objects.specs.linking.Decoding.{Symbols, is_among, simple_op, local_op, wide_op, jump_to, jump_op, switch_to, switch_op, primitive_array, new_array, number_op, class_op, pool_op, ldc_op, field_op, call_op, meaning, op_of}
+use Rattle.objects.specs.linking.Linking.{taken_methods, original_symbols, constructs_fault}
+use Rattle.objects.specs.laws.LinkingLaw.{AreRead}
 use Rattle.objects.proofs.Items.{IsAt, item, any_item, places}
 use Rattle.objects.proofs.CleanCode.{IsClean, clean_code, taken_clean, neither}
 use Rattle.objects.proofs.FolderArrays.{known_is}
@@ -120,16 +118,16 @@ module _ (cs : List ClassFile) (read : AreRead cs) (d : Declared) (taken : IsAt 
 
     no_float_op : is_float_op (widened i.op i.operands) ≡ false
     no_float_op =
-        let a = neither (is_float_op (widened i.op i.operands) || is_float_array i.op i.operands || holds_of is_float_constant (pushed d.class.pool i) || holds_of is_float_field (accessed d.class.pool i)) (holds_of is_float_method (invoked d.class.pool i)) clean.float in
-        let b = neither (is_float_op (widened i.op i.operands) || is_float_array i.op i.operands || holds_of is_float_constant (pushed d.class.pool i)) (holds_of is_float_field (accessed d.class.pool i)) a.0 in
-        let c = neither (is_float_op (widened i.op i.operands) || is_float_array i.op i.operands) (holds_of is_float_constant (pushed d.class.pool i)) b.0 in
+        let a = neither (is_float_op (widened i.op i.operands) || is_float_array i.op i.operands || holds_of is_float_constant (entry_pushed d.class.pool i) || holds_of is_float_field (accessed d.class.pool i)) (holds_of is_float_method (invoked d.class.pool i)) clean.float in
+        let b = neither (is_float_op (widened i.op i.operands) || is_float_array i.op i.operands || holds_of is_float_constant (entry_pushed d.class.pool i)) (holds_of is_float_field (accessed d.class.pool i)) a.0 in
+        let c = neither (is_float_op (widened i.op i.operands) || is_float_array i.op i.operands) (holds_of is_float_constant (entry_pushed d.class.pool i)) b.0 in
         (neither (is_float_op (widened i.op i.operands)) (is_float_array i.op i.operands) c.0).0
 
     no_float_array : is_float_array i.op i.operands ≡ false
     no_float_array =
-        let a = neither (is_float_op (widened i.op i.operands) || is_float_array i.op i.operands || holds_of is_float_constant (pushed d.class.pool i) || holds_of is_float_field (accessed d.class.pool i)) (holds_of is_float_method (invoked d.class.pool i)) clean.float in
-        let b = neither (is_float_op (widened i.op i.operands) || is_float_array i.op i.operands || holds_of is_float_constant (pushed d.class.pool i)) (holds_of is_float_field (accessed d.class.pool i)) a.0 in
-        let c = neither (is_float_op (widened i.op i.operands) || is_float_array i.op i.operands) (holds_of is_float_constant (pushed d.class.pool i)) b.0 in
+        let a = neither (is_float_op (widened i.op i.operands) || is_float_array i.op i.operands || holds_of is_float_constant (entry_pushed d.class.pool i) || holds_of is_float_field (accessed d.class.pool i)) (holds_of is_float_method (invoked d.class.pool i)) clean.float in
+        let b = neither (is_float_op (widened i.op i.operands) || is_float_array i.op i.operands || holds_of is_float_constant (entry_pushed d.class.pool i)) (holds_of is_float_field (accessed d.class.pool i)) a.0 in
+        let c = neither (is_float_op (widened i.op i.operands) || is_float_array i.op i.operands) (holds_of is_float_constant (entry_pushed d.class.pool i)) b.0 in
         (neither (is_float_op (widened i.op i.operands)) (is_float_array i.op i.operands) c.0).1
 
     no_subroutine : ((i.op == 168) ≡ false) × ((i.op == 201) ≡ false) × ((widened i.op i.operands == 169) ≡ false)

@@ -8,14 +8,14 @@ use Rattle.jmodel.specs.declared.refusal.Refusal.{Refusal}
 use Rattle.jmodel.specs.declared.refusal.Refusal.TheVariants.{Truncated, BadCode}
 use Rattle.jmodel.specs.declared.class_file.Handler.{Handler}
 use Rattle.jmodel.specs.declared.instruction.Instr.{Instr}
-use Rattle.jmodel.specs.ClassFile.{Attribute, Member, Pool, ClassFile, Code}
-use Rattle.jmodel.specs.ClassRules.{is_named}
-use Rattle.jmodel.specs.Reading.{◌>>=◌, place, run_at, u2_at, u4_at}
-use Rattle.jmodel.specs.ClassReading.{handlers_at, attributes_at, body_at, code_at, code_of}
-use Rattle.jmodel.specs.InstructionReading.{instr_at, instrs_at, targets_fit, places_fit, instrs_of}
-use Rattle.jmodel.specs.Coded.{Coded, code_in, named_fault, decoded_code, decoded}
-use Rattle.jmodel.specs.Decoding.{name_of}
-use Rattle.jmodel.proofs.Numbers.{Has, then_has, after, IsSmallInstr, read_small}
+use Rattle.jmodel.specs.format.ClassFile.{Attribute, Member, Pool, ClassFile, Code}
+use Rattle.jmodel.specs.format.ClassRules.{is_named}
+use Rattle.jmodel.specs.format.Reading.{◌>>=◌, place, run_at, u2_at, u4_at}
+use Rattle.jmodel.specs.format.ClassReading.{handlers_at, attributes_at, body_at, code_at, code_of}
+use Rattle.jmodel.specs.format.InstructionReading.{instr_at, instrs_at, targets_fit, places_fit, instrs_of}
+use Rattle.objects.specs.linking.Code.{Coded, code_in, named_fault, decoded_code, decoded}
+use Rattle.objects.specs.linking.Members.{name_of}
+use Rattle.objects.proofs.InstrNumbers.{Has, then_has, after, IsSmallInstr, read_small}
 
 -- ---- the parts of what is decoded
 

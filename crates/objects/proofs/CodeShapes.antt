@@ -15,15 +15,15 @@ use Rattle.jmodel.specs.declared.instruction.Form.TheVariants as form
 use Rattle.jmodel.specs.declared.instruction.Operands.{Operands}
 use Rattle.jmodel.specs.declared.instruction.Operands.TheVariants as operands
 use Rattle.jmodel.specs.declared.instruction.Instr.{Instr}
-use Rattle.jmodel.specs.ClassFile.{Attribute, Member, Pool as Entries, ClassFile, Code}
-use Rattle.jmodel.specs.Pool.{class_name}
-use Rattle.jmodel.specs.ClassRules.{is_named}
-use Rattle.jmodel.specs.Reading.{◌>>=◌, run_at, number_at, u2_at, items_at}
-use Rattle.jmodel.specs.ClassReading.{handler_fits, handler_at, handlers_at, attributes_at, body_at, code_at, code_of}
-use Rattle.jmodel.specs.Instruction.{form_of, padding, is_entry, argument_places, targets_of, is_start, places_of_handler}
-use Rattle.jmodel.specs.InstructionReading.{bad_target, want, as_bad, signed_at, target_at, signed_operand_at, array_type_at, local_at, increment_at, entry_operand_at, is_count, interface_at, dimensions_at, jump_at, keys_from, table_of, table_at, pair_at, count_at, lookup_at, wide_of, wide_at, operands_at, operands_as, parts_at, instr_at, instrs_at, are_starts, targets_fit, lesser, least_bad, places_fit, instrs_of}
-use Rattle.jmodel.specs.Coded.{Coded, decoded}
-use Rattle.jmodel.proofs.Numbers.{Has, then_has, after}
+use Rattle.jmodel.specs.format.ClassFile.{Attribute, Member, Pool as Entries, ClassFile, Code}
+use Rattle.jmodel.specs.format.Pool.{class_name}
+use Rattle.jmodel.specs.format.ClassRules.{is_named}
+use Rattle.jmodel.specs.format.Reading.{◌>>=◌, run_at, number_at, u2_at, items_at}
+use Rattle.jmodel.specs.format.ClassReading.{handler_fits, handler_at, handlers_at, attributes_at, body_at, code_at, code_of}
+use Rattle.jmodel.specs.format.Instruction.{form_of, padding, is_entry, argument_places, targets_of, is_start, places_of_handler}
+use Rattle.jmodel.specs.format.InstructionReading.{bad_target, want, as_bad, signed_at, target_at, signed_operand_at, array_type_at, local_at, increment_at, entry_operand_at, is_count, interface_at, dimensions_at, jump_at, keys_from, table_of, table_at, pair_at, count_at, lookup_at, wide_of, wide_at, operands_at, operands_as, parts_at, instr_at, instrs_at, are_starts, targets_fit, lesser, least_bad, places_fit, instrs_of}
+use Rattle.objects.specs.linking.Code.{Coded, decoded}
+use Rattle.objects.proofs.InstrNumbers.{Has, then_has, after}
 use Rattle.objects.proofs.CodeRead.{coded_parts}
 
 -- ---- operands by forms

@@ -6,19 +6,19 @@ use Rattle.std.proofs.lemmas.Bool.{cases_lt}
 use Rattle.jmodel.specs.declared.value.Value.{Value}
 use Rattle.jmodel.specs.declared.value.Answer.{Answer}
 use Rattle.jmodel.specs.declared.typing.VType.{VType}
-use Rattle.jmodel.specs.History.{Words, overlaid, Agrees}
+use Rattle.jmodel.specs.history.History.{Words, overlaid, Agrees}
 use Rattle.objects.specs.declared.op.Slot.{Slot}
 use Rattle.objects.specs.declared.op.Phase.TheVariants.{Open}
-use Rattle.objects.specs.Program.{Method, Program, is_counted}
-use Rattle.objects.specs.Region.{Region}
-use Rattle.objects.specs.State.{State}
-use Rattle.objects.specs.Step.{Frames, catch_at}
-use Rattle.objects.specs.Call.{Direct, direct, next_direct, call_start, kept}
-use Rattle.objects.specs.Call as call
-use Rattle.objects.specs.Attempt.{Log, written, recorded, Reply, Gives, Bounds, Meter, Run, On, Ended, next_run, run}
-use Rattle.objects.specs.Meaning.{Represents}
-use Rattle.objects.specs.Typing.{Table}
-use Rattle.objects.specs.TypingLaw.{IsTypedProgram}
+use Rattle.objects.specs.semantics.Program.{Method, Program, is_counted}
+use Rattle.objects.specs.semantics.Region.{Region}
+use Rattle.objects.specs.semantics.State.{State}
+use Rattle.objects.specs.semantics.Step.{Frames, catch_at}
+use Rattle.objects.specs.semantics.Call.{Direct, direct, next_direct, call_start, kept}
+use Rattle.objects.specs.semantics.Call as call
+use Rattle.objects.specs.rewriting.Attempt.{Log, written, recorded, Reply, Gives, Bounds, Meter, Run, On, Ended, next_run, run}
+use Rattle.objects.specs.history.Meaning.{Represents}
+use Rattle.objects.specs.typing.Typing.{Table}
+use Rattle.objects.specs.laws.TypingLaw.{IsTypedProgram}
 use Rattle.objects.proofs.Frames.{frame}
 use Rattle.objects.proofs.Fields.{some_at}
 use Rattle.objects.proofs.Inner.{IsAdded, IsInnerOp}

@@ -10,23 +10,23 @@ use Rattle.jmodel.specs.declared.value.Answer.{Answer}
 use Rattle.jmodel.specs.declared.value.Answer.TheVariants.{Returned, Threw}
 use Rattle.jmodel.specs.declared.typing.VType.{VType}
 use Rattle.jmodel.specs.declared.typing.VType.TheVariants as type
-use Rattle.jmodel.specs.History.{Words, overlaid, Agrees}
+use Rattle.jmodel.specs.history.History.{Words, overlaid, Agrees}
 use Rattle.objects.specs.declared.op.Slot.{Slot}
 use Rattle.objects.specs.declared.op.Slot.TheVariants.{Int, Ref, Context, Empty}
 use Rattle.objects.specs.declared.op.Phase.TheVariants.{Open, Ready, Closed}
 use Rattle.objects.specs.declared.op.Dispatch.TheVariants as dispatch
-use Rattle.objects.specs.Value.{pushed, slots_of}
-use Rattle.objects.specs.Program.{Method, Program, is_counted, method_at, name_at}
-use Rattle.objects.specs.State.{State}
-use Rattle.objects.specs.Step.{Frames, catch_at, next, received, resumed}
-use Rattle.objects.specs.Call.{Direct, direct, call_start, kept}
-use Rattle.objects.specs.Call as call
-use Rattle.objects.specs.Attempt.{Log, Reply, Gives, Bounds, Meter, Run, On, Ended, next_run, run_start, set_back, begun, count_of, on_commit, class_of}
-use Rattle.objects.specs.Meaning.{Represents}
-use Rattle.objects.specs.Typing.{Table}
-use Rattle.objects.specs.TypingLaw.{IsTypedProgram}
-use Rattle.objects.specs.Source.{AreArguments}
-use Rattle.objects.specs.Rewriting.{duplicate, result_sort, spare_locals}
+use Rattle.objects.specs.semantics.Value.{pushed, slots_of}
+use Rattle.objects.specs.semantics.Program.{Method, Program, is_counted, method_at, name_at}
+use Rattle.objects.specs.semantics.State.{State}
+use Rattle.objects.specs.semantics.Step.{Frames, catch_at, next, received, resumed}
+use Rattle.objects.specs.semantics.Call.{Direct, direct, call_start, kept}
+use Rattle.objects.specs.semantics.Call as call
+use Rattle.objects.specs.rewriting.Attempt.{Log, Reply, Gives, Bounds, Meter, Run, On, Ended, next_run, run_start, set_back, begun, count_of, on_commit, class_of}
+use Rattle.objects.specs.history.Meaning.{Represents}
+use Rattle.objects.specs.typing.Typing.{Table}
+use Rattle.objects.specs.laws.TypingLaw.{IsTypedProgram}
+use Rattle.objects.specs.typing.Source.{AreArguments}
+use Rattle.objects.specs.rewriting.Rewriting.{duplicate, result_sort, spare_locals}
 use Rattle.objects.proofs.Frames.{frame}
 use Rattle.objects.proofs.Moved.{get_set_same, get_set_other}
 use Rattle.objects.proofs.Inner.{IsAdded, IsInnerOp}

@@ -4,21 +4,21 @@ use Rattle.std.specs.Prelude.{slice_get, nat_eq}
 use Rattle.std.specs.List.{AllByRecursion, flat_map}
 use Rattle.jmodel.specs.declared.value.Value.{Value}
 use Rattle.jmodel.specs.declared.value.Answer.{Answer}
-use Rattle.jmodel.specs.History.{Words, overlaid}
+use Rattle.jmodel.specs.history.History.{Words, overlaid}
 use Rattle.objects.specs.declared.op.Slot.{Slot}
 use Rattle.objects.specs.declared.op.Dispatch.TheVariants as dispatch
-use Rattle.objects.specs.Value.{slots_of}
-use Rattle.objects.specs.Program.{Method, Program, is_counted}
-use Rattle.objects.specs.Step.{catch_at}
-use Rattle.objects.specs.State.{State}
-use Rattle.objects.specs.Call.{Calls}
-use Rattle.objects.specs.Attempt.{Bounds, Run, run_start, count_of}
-use Rattle.objects.specs.Meaning.{Represents}
-use Rattle.objects.specs.Typing.{Table}
-use Rattle.objects.specs.TypingLaw.{IsTypedProgram}
-use Rattle.objects.specs.Source.{AreArguments}
-use Rattle.objects.specs.Rewriting.{rewritten, wrapper_method, conflict_at}
-use Rattle.objects.specs.Law.{Completion, Meets}
+use Rattle.objects.specs.semantics.Value.{slots_of}
+use Rattle.objects.specs.semantics.Program.{Method, Program, is_counted}
+use Rattle.objects.specs.semantics.Step.{catch_at}
+use Rattle.objects.specs.semantics.State.{State}
+use Rattle.objects.specs.semantics.Call.{Calls}
+use Rattle.objects.specs.rewriting.Attempt.{Bounds, Run, run_start, count_of}
+use Rattle.objects.specs.history.Meaning.{Represents}
+use Rattle.objects.specs.typing.Typing.{Table}
+use Rattle.objects.specs.laws.TypingLaw.{IsTypedProgram}
+use Rattle.objects.specs.typing.Source.{AreArguments}
+use Rattle.objects.specs.rewriting.Rewriting.{rewritten, wrapper_method, conflict_at}
+use Rattle.objects.specs.laws.Law.{Completion, Meets}
 use Rattle.objects.proofs.Inner.{IsAdded, IsInnerOp}
 use Rattle.objects.proofs.Selection.{duplicate_is, selected_moved}
 use Rattle.objects.proofs.Wrapper.{call_place}

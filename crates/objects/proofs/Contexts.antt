@@ -1,7 +1,7 @@
 -- A descriptor is told by the one that has the context as last parameter.
 use Rattle.std.proofs.Common.{◌≡◌, ℕ, suc, ◌+◌, List, [], ◌∷◌, ◌++◌, length, take, drop, Bool, true, false, refl, sym, ap, ◌∙◌, arith, length-append}
 use Rattle.std.specs.Prelude.{not, ◌==◌}
-use Rattle.objects.specs.Rewriting.{before_end, context_type, with_context}
+use Rattle.objects.specs.rewriting.Rewriting.{before_end, context_type, with_context}
 
 -- with the context where the parameters end, inside a class's name or not
 abbrev inserted : Bool → List ℕ → List ℕ

@@ -5,9 +5,9 @@ use Rattle.std.specs.Prelude.{slice_get, slice_set, nat_lt, if◌then◌else◌}
 use Rattle.std.proofs.lemmas.Bool.Decides.{nat_tests}
 use Rattle.jmodel.specs.declared.typing.VType.{VType}
 use Rattle.jmodel.specs.declared.typing.VType.TheVariants.{Int, Long, Second, Null, Ref, Uninit, UninitThis, Top}
-use Rattle.objects.specs.Program.{Program}
-use Rattle.objects.specs.TypeOrder.{context_class, IsWithin, AreWithin, IsLocals, IsLocalsAfter}
-use Rattle.objects.specs.Rewriting.{moved}
+use Rattle.objects.specs.semantics.Program.{Program}
+use Rattle.objects.specs.typing.TypeOrder.{context_class, IsWithin, AreWithin, IsLocals, IsLocalsAfter}
+use Rattle.objects.specs.rewriting.Rewriting.{moved}
 use Rattle.objects.proofs.Agreeing.{IsOneKind}
 
 abbrev pub context : VType

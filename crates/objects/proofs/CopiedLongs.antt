@@ -5,9 +5,9 @@ use Rattle.std.proofs.lemmas.Bool.{cases_lt}
 use Rattle.std.proofs.lemmas.Bool.Decides.{nat_tests}
 use Rattle.jmodel.specs.declared.typing.VType.{VType}
 use Rattle.jmodel.specs.declared.typing.VType.TheVariants.{Int, Long, Second, Null, Ref, Uninit, UninitThis, Top}
-use Rattle.objects.specs.TypeOrder.{IsLocals, IsLocalsAfter}
-use Rattle.objects.specs.Typing.{freed, freed_by}
-use Rattle.objects.specs.Rewriting.{moved}
+use Rattle.objects.specs.typing.TypeOrder.{IsLocals, IsLocalsAfter}
+use Rattle.objects.specs.typing.Typing.{freed, freed_by}
+use Rattle.objects.specs.rewriting.Rewriting.{moved}
 use Rattle.objects.proofs.Heap.{one_or}
 use Rattle.objects.proofs.Agreeing.{set_same}
 use Rattle.objects.proofs.CopiedLocals.{before, after, copied, IsPlainKind, copied_plain, copied_set}

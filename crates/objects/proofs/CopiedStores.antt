@@ -7,10 +7,10 @@ use Rattle.std.proofs.lemmas.Bool.Decides.{nat_tests}
 use Rattle.std.proofs.lemmas.List.{length-set}
 use Rattle.jmodel.specs.declared.typing.VType.{VType}
 use Rattle.jmodel.specs.declared.typing.VType.TheVariants.{Int, Long, Second, Null, Ref, Uninit, UninitThis, Top}
-use Rattle.objects.specs.Program.{Program}
-use Rattle.objects.specs.TypeOrder.{IsWithin, AreWithin, IsLocals, IsLocalsAfter}
-use Rattle.objects.specs.Typing.{freed}
-use Rattle.objects.specs.Rewriting.{moved, moved_long, more_locals}
+use Rattle.objects.specs.semantics.Program.{Program}
+use Rattle.objects.specs.typing.TypeOrder.{IsWithin, AreWithin, IsLocals, IsLocalsAfter}
+use Rattle.objects.specs.typing.Typing.{freed}
+use Rattle.objects.specs.rewriting.Rewriting.{moved, moved_long, more_locals}
 use Rattle.objects.proofs.Heap.{one_or}
 use Rattle.objects.proofs.Moved.{get_set_same, get_set_other}
 use Rattle.objects.proofs.Places.{get_front, get_back}

@@ -4,10 +4,10 @@ use Rattle.std.specs.Prelude.{slice_get, slice_set}
 use Rattle.std.proofs.lemmas.Bool.{cases_lt}
 use Rattle.jmodel.specs.declared.typing.VType.{VType}
 use Rattle.jmodel.specs.declared.typing.VType.TheVariants.{Long, Second, Ref, Top}
-use Rattle.objects.specs.Program.{Program}
-use Rattle.objects.specs.TypeOrder.{IsWithin, AreWithin, IsLocals}
-use Rattle.objects.specs.Typing.{freed, become, is_uninit}
-use Rattle.objects.specs.Rewriting.{moved, moved_long, more_locals}
+use Rattle.objects.specs.semantics.Program.{Program}
+use Rattle.objects.specs.typing.TypeOrder.{IsWithin, AreWithin, IsLocals}
+use Rattle.objects.specs.typing.Typing.{freed, become, is_uninit}
+use Rattle.objects.specs.rewriting.Rewriting.{moved, moved_long, more_locals}
 use Rattle.objects.proofs.Heap.{one_or}
 use Rattle.objects.proofs.Agreeing.{IsOneKind}
 use Rattle.objects.proofs.Places.{get_map}

@@ -3,15 +3,16 @@ use Rattle.std.proofs.Common.{◌≡◌, ◌⊎◌, inl, inr, ℕ, ◌<◌, List
 use Rattle.std.specs.Prelude.{slice_get, ◌&&◌, IsSome, IsSomeAnd}
 use Rattle.std.proofs.lemmas.Option.{get_or_from_slice_get, slice_get_within}
 use Rattle.std.proofs.lemmas.Slice.Eq.{bytes_eq-Decides}
-use Rattle.jmodel.specs.ClassFile.{Member, Pool, ClassFile}
-use Rattle.jmodel.specs.Pool.{utf8, MemberName}
-use Rattle.jmodel.specs.ClassRules.{same_text, IsMember, IsSameMember, AreDistinct}
-use Rattle.jmodel.specs.Descriptor.{IsMethodDescriptor}
-use Rattle.jmodel.specs.Layout.{text_or_none, library}
-use Rattle.jmodel.specs.Superclasses.{own_name, class_named}
-use Rattle.jmodel.specs.Classes.{Declared, declared_in, methods_in, full_name}
-use Rattle.objects.specs.Resolution.{has_name, fields_in}
-use Rattle.objects.specs.LinkingLaw.{AreRead}
+use Rattle.jmodel.specs.format.ClassFile.{Member, Pool, ClassFile}
+use Rattle.jmodel.specs.format.Pool.{utf8, MemberName, text_or_none}
+use Rattle.jmodel.specs.format.ClassRules.{same_text, IsMember, IsSameMember, AreDistinct}
+use Rattle.jmodel.specs.format.Descriptor.{IsMethodDescriptor}
+use Rattle.objects.specs.linking.Library.{library}
+use Rattle.objects.specs.linking.Members.{own_name}
+use Rattle.objects.specs.linking.Superclasses.{class_named}
+use Rattle.objects.specs.linking.Classes.{Declared, declared_in, methods_in, full_name}
+use Rattle.objects.specs.linking.Resolution.{has_name, fields_in}
+use Rattle.objects.specs.laws.LinkingLaw.{AreRead}
 use Rattle.objects.proofs.Items.{IsAt, item, of_map, of_flat}
 use Rattle.objects.proofs.ClassRows.{found_by_name}
 use Rattle.objects.proofs.AsRead.{is_file}

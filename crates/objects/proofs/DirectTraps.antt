@@ -10,13 +10,13 @@ use Rattle.objects.specs.declared.op.Use.{Use}
 use Rattle.objects.specs.declared.op.Place.{Place}
 use Rattle.objects.specs.declared.op.Request.TheVariants as request
 use Rattle.objects.specs.declared.op.Asking.TheVariants as asking
-use Rattle.objects.specs.Program.{Row, Program, row_at, name_at}
-use Rattle.objects.specs.Region.{Region, next_reference, has_words}
-use Rattle.objects.specs.State.{Object, State, words_of, length_of, with_object, object_of, type_at, value_held}
-use Rattle.objects.specs.Step.{Frames, Asked, Asks, Fails, step, unwinds, told}
-use Rattle.objects.specs.Call.{Direct, On, Asking, Ended, Stuck, direct, next_direct, turned, entered, got, set_at, threw_of, on_thrown, throws, on_raise, on_made, makes, made, followed, headed, on_asking, on_asked}
-use Rattle.objects.specs.Traps.{trap_in, trap_of, traps}
-use Rattle.objects.specs.Law.{state_of}
+use Rattle.objects.specs.semantics.Program.{Row, Program, row_at, name_at}
+use Rattle.objects.specs.semantics.Region.{Region, next_reference, has_words}
+use Rattle.objects.specs.semantics.State.{Object, State, words_of, length_of, with_object, object_of, type_at, value_held}
+use Rattle.objects.specs.semantics.Step.{Frames, Asked, Asks, Fails, step, unwinds, told}
+use Rattle.objects.specs.semantics.Call.{Direct, On, Asking, Ended, Stuck, direct, next_direct, turned, entered, got, set_at, threw_of, on_thrown, throws, on_raise, on_made, makes, made, followed, headed, on_asking, on_asked}
+use Rattle.objects.specs.semantics.Traps.{trap_in, trap_of, traps}
+use Rattle.objects.specs.laws.Law.{state_of}
 use Rattle.objects.proofs.Makes.{run_asks}
 
 -- What a step does to the used words of a region: it leaves them and meets no trap, or takes some, or ends the run.

@@ -13,10 +13,10 @@ use Rattle.objects.specs.declared.op.Conversion.{Conversion}
 use Rattle.objects.specs.declared.op.Conversion.TheVariants.{IntToLong, LongToInt}
 use Rattle.objects.specs.declared.op.StackOp.{StackOp}
 use Rattle.objects.specs.declared.op.StackOp.TheVariants.{Nop, Pop, Pop2, Dup, DupX1, DupX2, Dup2, Dup2X1, Dup2X2, Swap}
-use Rattle.objects.specs.Program.{Method, Program}
-use Rattle.objects.specs.TypeOrder.{object_class, is_array, is_within, IsWithin, AreWithin, IsLocals}
-use Rattle.objects.specs.Typing.{freed, Types, Flow, Leads, Wrong, with_stack, leaves, ends, if_so, is_reference, on, on_each, on_int, on_long, on_number, number_types, on_reference, on_top, on_one, on_two, on_array, local_in, int_in, long_at, set_local, set_long, loads, stores, rearranged, converted}
-use Rattle.objects.specs.Rewriting.{moved, moved_long, moved_to, more_locals, is_stray_of}
+use Rattle.objects.specs.semantics.Program.{Method, Program}
+use Rattle.objects.specs.typing.TypeOrder.{object_class, is_array, is_within, IsWithin, AreWithin, IsLocals}
+use Rattle.objects.specs.typing.Typing.{freed, Types, Flow, Leads, Wrong, with_stack, leaves, ends, if_so, is_reference, on, on_each, on_int, on_long, on_number, number_types, on_reference, on_top, on_one, on_two, on_array, local_in, int_in, long_at, set_local, set_long, loads, stores, rearranged, converted}
+use Rattle.objects.specs.rewriting.Rewriting.{moved, moved_long, moved_to, more_locals, is_stray_of}
 use Rattle.objects.proofs.SameFlow.{within_same}
 use Rattle.objects.proofs.Agreeing.{IsOneKind}
 use Rattle.objects.proofs.MovedTypes.{named, all_named, named_within, IsFixed, AreFixed, fixed_before}

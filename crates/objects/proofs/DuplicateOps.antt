@@ -13,11 +13,11 @@ use Rattle.objects.specs.declared.op.WordType.{WordType}
 use Rattle.objects.specs.declared.op.WordType.TheVariants as word
 use Rattle.objects.specs.declared.op.Op.{Op}
 use Rattle.objects.specs.declared.op.Op.TheVariants as op
-use Rattle.objects.specs.Program.{Row, Field, Method, Program, row_at}
-use Rattle.objects.specs.TypeOrder.{object_class, throwable_class, string_class, is_array, name_read, stack_types, is_within, IsWithin, IsLocals}
-use Rattle.objects.specs.Typing.{is_received, argument_places, value_places, field_in, Types, Table, Flow, Leads, Wrong, with_stack, leaves, ends, if_so, on, on_each, on_int, on_long, on_number, on_reference, on_array, row_in, method_in, fits_elements, stored_types, puts, exits, constant_types, number_types, is_constructor, is_uninit, built_as, become, new_class, is_named, direct_superclass, constructs, makes_new, arguments, results, calls, special, returns, flow}
-use Rattle.objects.specs.Source.{AreTypes, IsReadType, IsKnownName, IsKnownType, AreParameters, IsResult, IsSourceOp}
-use Rattle.objects.specs.Rewriting.{moved, moved_to, moved_cases, is_stray, more_locals, places_of, array_type, any_of, helped, getter, setter, duplicate, element_getter, element_setter, duplicate_method, rewritten}
+use Rattle.objects.specs.semantics.Program.{Row, Field, Method, Program, row_at}
+use Rattle.objects.specs.typing.TypeOrder.{object_class, throwable_class, string_class, is_array, name_read, stack_types, is_within, IsWithin, IsLocals}
+use Rattle.objects.specs.typing.Typing.{is_received, argument_places, value_places, field_in, Types, Table, Flow, Leads, Wrong, with_stack, leaves, ends, if_so, on, on_each, on_int, on_long, on_number, on_reference, on_array, row_in, method_in, fits_elements, stored_types, puts, exits, constant_types, number_types, is_constructor, is_uninit, built_as, become, new_class, is_named, direct_superclass, constructs, makes_new, arguments, results, calls, special, returns, flow}
+use Rattle.objects.specs.typing.Source.{AreTypes, IsReadType, IsKnownName, IsKnownType, AreParameters, IsResult, IsSourceOp}
+use Rattle.objects.specs.rewriting.Rewriting.{moved, moved_to, moved_cases, is_stray, more_locals, word_places, array_type, any_of, helped, getter, setter, duplicate, element_getter, element_setter, duplicate_method, rewritten}
 use Rattle.objects.proofs.Switched.{exits_moved}
 use Rattle.objects.proofs.Fields.{each_at}
 use Rattle.objects.proofs.Places.{Rewrites}
@@ -286,20 +286,20 @@ module _ (P : Program) (Ts : List Table) (k d : Method) (at : ℕ → ℕ) (copy
           go false off true true g = leave u
           go false off true false g = absurd (let e = g refl in cc)
 
-      word_places : (w : WordType) (c : List ℕ) → length (stack_types (record { word = w; class = c })) ≡ places_of w
-      word_places word.Boolean c = refl
-      word_places word.Byte c = refl
-      word_places word.Char c = refl
-      word_places word.Short c = refl
-      word_places word.Int c = refl
-      word_places word.Long c = refl
-      word_places word.Reference c = refl
+      stacked_places : (w : WordType) (c : List ℕ) → length (stack_types (record { word = w; class = c })) ≡ word_places w
+      stacked_places word.Boolean c = refl
+      stacked_places word.Byte c = refl
+      stacked_places word.Char c = refl
+      stacked_places word.Short c = refl
+      stacked_places word.Int c = refl
+      stacked_places word.Long c = refl
+      stacked_places word.Reference c = refl
 
-      pub put_field_moved : (c : List ℕ) → slice_get P.fields x ≡ Some (with_base None) → slice_get h.stack (places_of f.declared.word) ≢ Some UninitThis → Moved (flow P k pc (op.PutField x c) h) (flow Q d a (op.InvokeStatic (setter P x)) Over)
+      pub put_field_moved : (c : List ℕ) → slice_get P.fields x ≡ Some (with_base None) → slice_get h.stack (word_places f.declared.word) ≢ Some UninitThis → Moved (flow P k pc (op.PutField x c) h) (flow Q d a (op.InvokeStatic (setter P x)) Over)
       put_field_moved c there late = guarded (is_received P c (slice_get h.stack (value_places (slice_get P.fields x)))) (field_in (slice_get P.fields x) (λ f. on_each P (stack_types f.declared) h.stack (λ u. puts P k pc f h u))) (flow Q d a (op.InvokeStatic (setter P x)) Over) (both _ _ (on_each P (stack_types f.declared) h.stack (λ u. puts P k pc (with_base None) h u)) _ (rw there refl)
           (put_field P Ts Q R con d a (E r) r x f.class f.name f.descriptor f.index f.declared.word f.declared.class there)
           (each_moved_at P ms at copy p n s (stack_types f.declared) h.stack _ _ fixed (λ u below. put u (λ e.
-          let z : length (stack_types f.declared) + 0 ≡ places_of f.declared.word = let y = word_places f.declared.word f.declared.class in omega (arith, y) in
+          let z : length (stack_types f.declared) + 0 ≡ word_places f.declared.word = let y = stacked_places f.declared.word f.declared.class in omega (arith, y) in
           late (ap (slice_get h.stack) (sym z) ∙ below 0 ∙ e)))))
 
     -- ---- elements
@@ -359,16 +359,16 @@ module _ (P : Program) (Ts : List Table) (k d : Method) (at : ℕ → ℕ) (copy
       stores t o (Int ∷ x ∷ u) e read = tt
       stores t o (x ∷ u) e read = tt
 
-      pub store_moved : (t : WordType) → AllByRecursion (IsKnownType P) h.stack → Moved (flow P k pc (op.StoreElement t) h) (flow Q d a (op.InvokeStatic (element_setter P (helped (slice_get h.stack (1 + places_of t)) t))) Over)
+      pub store_moved : (t : WordType) → AllByRecursion (IsKnownType P) h.stack → Moved (flow P k pc (op.StoreElement t) h) (flow Q d a (op.InvokeStatic (element_setter P (helped (slice_get h.stack (1 + word_places t)) t))) Over)
       store_moved t read =
-          let o = slice_get h.stack (1 + places_of t) in
+          let o = slice_get h.stack (1 + word_places t) in
           let e = put_element P Ts Q R con d a (E r) r (helped o t) ∙ ap (λ (l : List VType). on_each Q l r (λ u. on_each Q (Int ∷ Ref (array_type (helped o t)) ∷ []) u (λ u. leaves a (E r) u))) (stored_helped o t) in
           both _ _ (on_each P (stored_types t) h.stack (λ u. on_int u (λ u. on_array u (λ x u. if_so (fits_elements t x) (leaves pc h u))))) _ refl e
           (each_moved_at P ms at copy p n s (stored_types t) h.stack _ _ (stored_fixed t) (λ u below. stores t o u
-          (let z : length (stored_types t) + 1 ≡ 1 + places_of t = let y = places t in omega (arith, y) in sym (below 1) ∙ ap (slice_get h.stack) z)
-          (λ m e. each_at (IsKnownType P) h.stack (1 + places_of t) (Ref m) read e)))
+          (let z : length (stored_types t) + 1 ≡ 1 + word_places t = let y = places t in omega (arith, y) in sym (below 1) ∙ ap (slice_get h.stack) z)
+          (λ m e. each_at (IsKnownType P) h.stack (1 + word_places t) (Ref m) read e)))
         where
-          places : (t : WordType) → length (stored_types t) ≡ places_of t
+          places : (t : WordType) → length (stored_types t) ≡ word_places t
           places word.Boolean = refl
           places word.Byte = refl
           places word.Char = refl

@@ -14,11 +14,11 @@ use Rattle.objects.specs.declared.op.Op.TheVariants as op
 use Rattle.objects.specs.declared.op.Catch.{Catch}
 use Rattle.objects.specs.declared.op.Catches.{Catches}
 use Rattle.objects.specs.declared.op.Catches.TheVariants.{Conflict, Any, Of}
-use Rattle.objects.specs.Program.{Method, Program}
-use Rattle.objects.specs.TypeOrder.{object_class, throwable_class, conflict_class, element_class, IsWithin, AreWithin}
-use Rattle.objects.specs.Typing.{Types, Table, types_at, Covers, AreCaught, caught_type, is_guarded}
-use Rattle.objects.specs.Source.{IsSourceCatch}
-use Rattle.objects.specs.Rewriting.{more_locals, is_stray, Typed, typed_from, after_load, block_len, block_len_of, block_at, moved_catch, duplicate_code, rewritten}
+use Rattle.objects.specs.semantics.Program.{Method, Program}
+use Rattle.objects.specs.typing.TypeOrder.{object_class, throwable_class, conflict_class, element_class, IsWithin, AreWithin}
+use Rattle.objects.specs.typing.Typing.{Types, Table, types_at, Covers, AreCaught, caught_type, is_guarded}
+use Rattle.objects.specs.typing.Source.{IsSourceCatch}
+use Rattle.objects.specs.rewriting.Rewriting.{more_locals, is_stray, Typed, typed_from, after_load, block_len, block_len_of, block_at, moved_catch, duplicate_code, rewritten}
 use Rattle.objects.proofs.Fields.{some_at}
 use Rattle.objects.proofs.Places.{HasAt, has_all, get_back, typed_at, typed_length, at_cons, blocks_most, has_stub, past_end, blocks_grow}
 use Rattle.objects.proofs.Caught.{same_le, same_lt}

@@ -18,12 +18,12 @@ use Rattle.objects.specs.declared.op.Dispatch.TheVariants as dispatch
 use Rattle.objects.specs.declared.op.Op.{Op}
 use Rattle.objects.specs.declared.op.Op.TheVariants as op
 use Rattle.objects.specs.declared.op.Catch.{Catch}
-use Rattle.objects.specs.Program.{Method, Program, has_code}
-use Rattle.objects.specs.TypeOrder.{object_class, throwable_class, conflict_class, element_class, name_read, is_array, IsWithin, AreWithin, IsLocals, IsStack}
-use Rattle.objects.specs.Typing.{first_locals, Types, Table, types_at, Flow, Leads, Wrong, flow, leaves, on_int, on_array, if_so, fits_elements, element_types, stored_types, first_types, is_constructor, arguments, Covers, AreCaught, KeepsFlow, KeepsAt, IsTypedAt, IsTyping, IsTypable}
-use Rattle.objects.specs.Source.{AreTypes, IsReadType, IsKnownName, IsKnownType, IsSourceOp, IsSourceCatch, IsSourceMethod, HasObject}
-use Rattle.objects.specs.TypingLaw.{IsTypedProgram, IsRewritable}
-use Rattle.objects.specs.Rewriting.{more_locals, is_stray, Typed, typed_from, block_of, block_len, block_len_of, block_at, moved_catch, helped, array_under, after_load, places_of, getter, setter, duplicate, element_getter, element_setter, duplicate_method, duplicate_code, rewritten}
+use Rattle.objects.specs.semantics.Program.{Method, Program, has_code}
+use Rattle.objects.specs.typing.TypeOrder.{object_class, throwable_class, conflict_class, element_class, name_read, is_array, IsWithin, AreWithin, IsLocals, IsStack}
+use Rattle.objects.specs.typing.Typing.{first_locals, Types, Table, types_at, Flow, Leads, Wrong, flow, leaves, on_int, on_array, if_so, fits_elements, element_types, stored_types, first_types, is_constructor, arguments, Covers, AreCaught, KeepsFlow, KeepsAt, IsTypedAt, IsTyping, IsTypable}
+use Rattle.objects.specs.typing.Source.{AreTypes, IsReadType, IsKnownName, IsKnownType, IsSourceOp, IsSourceCatch, IsSourceMethod, HasObject}
+use Rattle.objects.specs.laws.TypingLaw.{IsTypedProgram, IsRewritable}
+use Rattle.objects.specs.rewriting.Rewriting.{more_locals, is_stray, Typed, typed_from, block_of, block_len, block_len_of, block_at, moved_catch, helped, array_under, after_load, word_places, getter, setter, duplicate, element_getter, element_setter, duplicate_method, duplicate_code, rewritten}
 use Rattle.objects.proofs.Fields.{each_at, some_at}
 use Rattle.objects.proofs.Places.{HasAt, has_block, has_duplicate, typed_at, typed_length, next_block, blocks_most, has_stub, rewrites}
 use Rattle.objects.proofs.Selection.{duplicate_is}
@@ -568,7 +568,7 @@ module _ (P : Program) (Ts : List Table) (S : IsTypedProgram P Ts) (k : Method) 
     stands pc (op.LoadElement t) is h there source = stands_load pc t is h there
     stands pc (op.StoreElement t) is h there source =
         let ok = typed pc (op.StoreElement t) is h there in
-        stands_pair pc (op.StoreElement t) is h there (op.InvokeStatic (element_setter P (helped (slice_get h.stack (1 + places_of t)) t))) refl refl refl
+        stands_pair pc (op.StoreElement t) is h there (op.InvokeStatic (element_setter P (helped (slice_get h.stack (1 + word_places t)) t))) refl refl refl
         (λ a next. store_moved P Ts k D at copy p n s K X src.result h ok.locals ok.each_local pc a next (rewrites P Ts) con C t (W.known pc h there).1)
     stands pc (op.InvokeStatic m) is h there source =
         let ok = typed pc (op.InvokeStatic m) is h there in

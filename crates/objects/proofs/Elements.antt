@@ -7,11 +7,11 @@ use Rattle.jmodel.specs.declared.typing.VType.{VType}
 use Rattle.jmodel.specs.declared.typing.VType.TheVariants.{Ref}
 use Rattle.objects.specs.declared.op.WordType.{WordType}
 use Rattle.objects.specs.declared.op.WordType.TheVariants as word
-use Rattle.objects.specs.Program.{Declared, Holds, Words, Elements, Row, Field, Program, row_at, field_at}
-use Rattle.objects.specs.TypeOrder.{object_class, IsWithin, classes_from, is_class_name, is_array, is_class_above, is_ended, without_last, named_by, element_class, descriptor_of, is_element_within, is_array_within}
-use Rattle.objects.specs.Typing.{begins, has_elements, direct_superclass}
-use Rattle.objects.specs.Source.{IsClass, IsArray, IsRowOf, IsDeclared, AreTypes, element_descriptor}
-use Rattle.objects.specs.Rewriting.{helped}
+use Rattle.objects.specs.semantics.Program.{Declared, Holds, Words, Elements, Row, Field, Program, row_at, field_at}
+use Rattle.objects.specs.typing.TypeOrder.{object_class, IsWithin, classes_from, is_class_name, is_array, is_class_above, is_ended, without_last, named_by, element_class, descriptor_of, is_element_within, is_array_within}
+use Rattle.objects.specs.typing.Typing.{begins, has_elements, direct_superclass}
+use Rattle.objects.specs.typing.Source.{IsClass, IsArray, IsRowOf, IsDeclared, AreTypes, element_descriptor}
+use Rattle.objects.specs.rewriting.Rewriting.{helped}
 use Rattle.objects.proofs.Places.{get_front}
 use Rattle.objects.proofs.WordTypes.{IsIntType}
 use Rattle.objects.proofs.Order.{Among, either, first, later, plain_name, Above, by_class, class_row, object_top, above_order, array_above, by_found, free_second, free_is}

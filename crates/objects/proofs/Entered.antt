@@ -11,12 +11,12 @@ use Rattle.jmodel.specs.declared.typing.VType.TheVariants as type
 use Rattle.objects.specs.declared.op.Slot.{Slot}
 use Rattle.objects.specs.declared.op.Slot.TheVariants.{Context, Empty}
 use Rattle.objects.specs.declared.op.Op.{Op}
-use Rattle.objects.specs.Value.{slots_of}
-use Rattle.objects.specs.Program.{Method, Program}
-use Rattle.objects.specs.Step.{Took, take_args}
-use Rattle.objects.specs.Typing.{Types, Table, types_at, first_types, first_locals, is_constructor, KeepsAt, IsTyping}
-use Rattle.objects.specs.Source.{IsSourceMethod, AreArguments}
-use Rattle.objects.specs.Rewriting.{is_stray, more_locals}
+use Rattle.objects.specs.semantics.Value.{slots_of}
+use Rattle.objects.specs.semantics.Program.{Method, Program}
+use Rattle.objects.specs.semantics.Step.{Took, take_args}
+use Rattle.objects.specs.typing.Typing.{Types, Table, types_at, first_types, first_locals, is_constructor, KeepsAt, IsTyping}
+use Rattle.objects.specs.typing.Source.{IsSourceMethod, AreArguments}
+use Rattle.objects.specs.rewriting.Rewriting.{is_stray, more_locals}
 use Rattle.objects.proofs.Agreeing.{agree_start}
 use Rattle.objects.proofs.Alike.{Stands}
 use Rattle.objects.proofs.Moved.{pushed_on, takes_back}

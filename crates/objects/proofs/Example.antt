@@ -4,9 +4,9 @@ use Rattle.std.specs.Prelude.{pos, negsuc, [], ◌∷◌, Option, Some, None, tr
 use Rattle.jmodel.specs.declared.value.Value.TheVariants.{Int, Long, Ref}
 use Rattle.jmodel.specs.declared.value.Answer.{Answer}
 use Rattle.jmodel.specs.declared.value.Answer.TheVariants.{Returned, Threw, Budget, Heap}
-use Rattle.objects.specs.Region.{Region}
-use Rattle.objects.specs.State.{Object, State}
-use Rattle.objects.specs.Call.{Direct, Ended, direct, call_start}
+use Rattle.objects.specs.semantics.Region.{Region}
+use Rattle.objects.specs.semantics.State.{Object, State}
+use Rattle.objects.specs.semantics.Call.{Direct, Ended, direct, call_start}
 use Rattle.objects.proofs.ExampleProgram.{program}
 
 -- the object of the static fields of A, and the text

@@ -3,14 +3,14 @@ use Rattle.std.proofs.Common.{◌≡◌, ℕ, ◌+◌, ◌-◌, ◌*◌, ◌^◌
 use Rattle.std.specs.Prelude.{pos, negsuc, List, [], ◌∷◌, ◌++◌, Some, None, codes, replicate}
 use Rattle.jmodel.specs.declared.value.Value.TheVariants.{Int}
 use Rattle.jmodel.specs.declared.value.Answer.TheVariants.{Returned, Threw, Spent}
-use Rattle.objects.specs.Program.{Program}
-use Rattle.objects.specs.Attempt.{Bounds, Reply, Gives, Refuses, Run, Ended, run, run_start, access}
-use Rattle.objects.specs.Rewriting.{rewritten}
+use Rattle.objects.specs.semantics.Program.{Program}
+use Rattle.objects.specs.rewriting.Attempt.{Bounds, Reply, Gives, Refuses, Run, Ended, run, run_start, access}
+use Rattle.objects.specs.rewriting.Rewriting.{rewritten}
 use Rattle.objects.proofs.ExampleProgram.{program}
 use Rattle.objects.proofs.ExampleTables.{tables}
 use Rattle.objects.proofs.Example.{region, state_with, an_a}
-use Rattle.objects.specs.Call.{call_start}
-use Rattle.objects.specs.Traps.{traps, traps_met}
+use Rattle.objects.specs.semantics.Call.{call_start}
+use Rattle.objects.specs.semantics.Traps.{traps, traps_met}
 
 abbrev code : Program
 code = rewritten program tables

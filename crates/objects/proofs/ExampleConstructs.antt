@@ -6,12 +6,12 @@ use Rattle.jmodel.specs.declared.class_file.Constant.TheVariants as constants
 use Rattle.jmodel.specs.declared.class_file.Handler.{Handler}
 use Rattle.jmodel.specs.declared.refusal.Refusal.{Refusal}
 use Rattle.jmodel.specs.declared.refusal.Refusal.TheVariants.{UnknownClass, Construct}
-use Rattle.jmodel.specs.ClassFile.{Attribute, Member, Pool, ClassFile, code_spelling}
-use Rattle.jmodel.specs.DescriptorReading.{element_rest, type_rest, type_of, types_at, result_of, signature_of, is_field_descriptor}
-use Rattle.jmodel.specs.Reading.{number_at, run_at, items_at}
-use Rattle.jmodel.specs.ClassReading.{attributes_at, handlers_at, handler_at, body_at, code_at}
-use Rattle.jmodel.specs.InstructionReading.{signed_at, target_at, array_type_at, entry_operand_at, interface_at, dimensions_at, jump_at, wide_at, parts_at, instrs_at, targets_fit, instrs_of}
-use Rattle.objects.specs.Constructs.{construct_fault}
+use Rattle.jmodel.specs.format.ClassFile.{Attribute, Member, Pool, ClassFile, code_spelling}
+use Rattle.jmodel.specs.format.DescriptorReading.{element_rest, type_rest, type_of, types_at, result_of, signature_of, is_field_descriptor}
+use Rattle.jmodel.specs.format.Reading.{number_at, run_at, items_at}
+use Rattle.jmodel.specs.format.ClassReading.{attributes_at, handlers_at, handler_at, body_at, code_at}
+use Rattle.jmodel.specs.format.InstructionReading.{signed_at, target_at, array_type_at, entry_operand_at, interface_at, dimensions_at, jump_at, wide_at, parts_at, instrs_at, targets_fit, instrs_of}
+use Rattle.objects.specs.linking.Constructs.{construct_fault}
 
 -- ---- the folder
 

@@ -7,8 +7,8 @@ use Rattle.jmodel.specs.declared.class_file.Constant.TheVariants as constants
 use Rattle.jmodel.specs.declared.instruction.Operands.{Operands}
 use Rattle.jmodel.specs.declared.instruction.Operands.TheVariants as operands
 use Rattle.jmodel.specs.declared.instruction.Instr.{Instr}
-use Rattle.jmodel.specs.ClassFile.{Pool, ClassFile}
-use Rattle.jmodel.specs.DescriptorReading.{element_rest, type_rest, type_of, types_at, result_of, signature_of, is_field_descriptor}
+use Rattle.jmodel.specs.format.ClassFile.{Pool, ClassFile}
+use Rattle.jmodel.specs.format.DescriptorReading.{element_rest, type_rest, type_of, types_at, result_of, signature_of, is_field_descriptor}
 use Rattle.objects.specs.declared.op.Sort.TheVariants as sort
 use Rattle.objects.specs.declared.op.Width.TheVariants as width
 use Rattle.objects.specs.declared.op.WordType.TheVariants as word
@@ -22,9 +22,9 @@ use Rattle.objects.specs.declared.op.Conversion.TheVariants.{IntToByte, IntToSho
 use Rattle.objects.specs.declared.op.Test.TheVariants.{Equal, LessOrEqual, GreaterOrEqual}
 use Rattle.objects.specs.declared.op.StackOp.TheVariants.{Nop, Swap, Dup2X2}
 use Rattle.objects.specs.declared.op.Catches.TheVariants.{Conflict, Any, Of}
-use Rattle.objects.specs.LibraryClasses.{library_rows}
-use Rattle.objects.specs.Layout.{array_row, class_row, fields_of, primitive_arrays}
-use Rattle.objects.specs.Decoding.{Symbols, meaning, catch_of}
+use Rattle.objects.specs.linking.LibraryClasses.{library_rows}
+use Rattle.objects.specs.linking.Layout.{array_row, class_row, fields_of, primitive_arrays}
+use Rattle.objects.specs.linking.Decoding.{Symbols, meaning, catch_of}
 
 -- ---- opcodes without operands
 

@@ -3,17 +3,17 @@ use Rattle.std.proofs.Common.{◌≡◌, ℕ, List, [], ◌∷◌, Option, Some,
 use Rattle.std.specs.Prelude.{pos, codes, map, option_map}
 use Rattle.jmodel.specs.declared.class_file.Constant.TheVariants.{Utf8, Class}
 use Rattle.jmodel.specs.declared.refusal.Refusal.TheVariants.{DoubledClass, UnknownClass, BadSuper, Circular, ReservedName, Construct}
-use Rattle.jmodel.specs.ClassFile.{Member, Pool, ClassFile, code_spelling}
-use Rattle.jmodel.specs.DescriptorReading.{element_rest, type_rest, type_of, types_at, result_of, signature_of, is_field_descriptor}
-use Rattle.jmodel.specs.Reading.{number_at, run_at, items_at}
-use Rattle.jmodel.specs.ClassReading.{attributes_at, handlers_at, body_at, code_at}
-use Rattle.jmodel.specs.InstructionReading.{entry_operand_at, parts_at, instrs_at, targets_fit, instrs_of}
-use Rattle.jmodel.specs.Mark.{retries_in, all_annotations}
-use Rattle.jmodel.specs.Superclasses.{own_name}
-use Rattle.jmodel.specs.Classes.{Declared}
-use Rattle.objects.specs.Resolution.{ancestry, resolved_field, resolved_method}
-use Rattle.objects.specs.ClassesFaults.{reserved_class, supers_fault, members_fault}
-use Rattle.objects.specs.Linking.{linking, linking_files}
+use Rattle.jmodel.specs.format.ClassFile.{Member, Pool, ClassFile, code_spelling}
+use Rattle.jmodel.specs.format.DescriptorReading.{element_rest, type_rest, type_of, types_at, result_of, signature_of, is_field_descriptor}
+use Rattle.jmodel.specs.format.Reading.{number_at, run_at, items_at}
+use Rattle.jmodel.specs.format.ClassReading.{attributes_at, handlers_at, body_at, code_at}
+use Rattle.jmodel.specs.format.InstructionReading.{entry_operand_at, parts_at, instrs_at, targets_fit, instrs_of}
+use Rattle.jmodel.specs.format.Mark.{retries_in, all_annotations}
+use Rattle.objects.specs.linking.Members.{own_name}
+use Rattle.objects.specs.linking.Classes.{Declared}
+use Rattle.objects.specs.linking.Resolution.{ancestry, resolved_field, resolved_method}
+use Rattle.objects.specs.linking.ClassesFaults.{reserved_class, supers_fault, members_fault}
+use Rattle.objects.specs.linking.Linking.{linking, linking_files}
 
 -- ---- classes
 

@@ -6,19 +6,19 @@ use Rattle.jmodel.specs.declared.value.Value.{Value}
 use Rattle.jmodel.specs.declared.value.Value.TheVariants.{Int, Long}
 use Rattle.jmodel.specs.declared.value.Answer.{Answer}
 use Rattle.jmodel.specs.declared.value.Answer.TheVariants.{Returned, Threw, Heap}
-use Rattle.jmodel.specs.ClassFile.{ClassFile}
-use Rattle.jmodel.specs.AnnotationReading.{run_at as annotation_run_at, u1_at, u2_at, text_at as annotation_text_at, items_at as annotation_items_at, counted_at, items_until, counted_until, pair_at as annotation_pair_at, annotation_at, mark_pair_at, top_annotation_at, annotations_of}
-use Rattle.jmodel.specs.ClassFileReading.{magic_at, version_at, class_index_at, this_at, interfaces_at, head_at, descriptor_fits, member_head_at, field_at, method_attribute_at, method_attributes_at, method_at, members_at, parts_at as file_parts_at, distinct, distinct_members, class_file_of}
-use Rattle.jmodel.specs.ClassReading.{attribute_at, attributes_at, handler_at, handlers_at, body_at, code_at}
-use Rattle.jmodel.specs.DescriptorReading.{element_rest, type_rest, is_field_descriptor, type_of, types_at, result_of, signature_of}
-use Rattle.jmodel.specs.InstructionReading.{signed_at, target_at, signed_operand_at, array_type_at, local_at, increment_at, entry_operand_at, interface_at, dimensions_at, jump_at, wide_at as instr_wide_at, parts_at as instr_parts_at, instrs_at, targets_fit, instrs_of}
-use Rattle.jmodel.specs.Mark.{all_annotations, retries_in}
-use Rattle.jmodel.specs.PoolReading.{text_at as pool_text_at, word_at, wide_at as pool_wide_at, index_at, pair_at as pool_pair_at, tagged_at, constant_at, scan_at, entries_at, utf8_at, class_at, name_and_type_at, member_fits, name_fits, pair_fits, text_fits, all_fit, pool_at}
-use Rattle.jmodel.specs.Reading.{run_at, number_at, items_at}
-use Rattle.objects.specs.Program.{Program}
-use Rattle.objects.specs.Call.{Direct, Ended, direct, call_start}
-use Rattle.objects.specs.Layout.{opening_state}
-use Rattle.objects.specs.Linking.{linking}
+use Rattle.jmodel.specs.format.ClassFile.{ClassFile}
+use Rattle.jmodel.specs.format.AnnotationReading.{run_at as annotation_run_at, u1_at, u2_at, text_at as annotation_text_at, items_at as annotation_items_at, counted_at, items_until, counted_until, pair_at as annotation_pair_at, annotation_at, mark_pair_at, top_annotation_at, annotations_of}
+use Rattle.jmodel.specs.format.ClassFileReading.{magic_at, version_at, class_index_at, this_at, interfaces_at, head_at, descriptor_fits, member_head_at, field_at, method_attribute_at, method_attributes_at, method_at, members_at, parts_at as file_parts_at, distinct, distinct_members, class_file_of}
+use Rattle.jmodel.specs.format.ClassReading.{attribute_at, attributes_at, handler_at, handlers_at, body_at, code_at}
+use Rattle.jmodel.specs.format.DescriptorReading.{element_rest, type_rest, is_field_descriptor, type_of, types_at, result_of, signature_of}
+use Rattle.jmodel.specs.format.InstructionReading.{signed_at, target_at, signed_operand_at, array_type_at, local_at, increment_at, entry_operand_at, interface_at, dimensions_at, jump_at, wide_at as instr_wide_at, parts_at as instr_parts_at, instrs_at, targets_fit, instrs_of}
+use Rattle.jmodel.specs.format.Mark.{all_annotations, retries_in}
+use Rattle.jmodel.specs.format.PoolReading.{text_at as pool_text_at, word_at, wide_at as pool_wide_at, index_at, pair_at as pool_pair_at, tagged_at, constant_at, scan_at, entries_at, utf8_at, class_at, name_and_type_at, member_fits, name_fits, pair_fits, text_fits, all_fit, pool_at}
+use Rattle.jmodel.specs.format.Reading.{run_at, number_at, items_at}
+use Rattle.objects.specs.semantics.Program.{Program}
+use Rattle.objects.specs.semantics.Call.{Direct, Ended, direct, call_start}
+use Rattle.objects.specs.linking.Layout.{opening_state}
+use Rattle.objects.specs.linking.Linking.{linking}
 
 abbrev read : List (List ℕ) → Result (List ClassFile) Refusal
 read [] = Ok []

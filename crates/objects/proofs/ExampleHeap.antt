@@ -2,12 +2,12 @@
 use Rattle.std.proofs.Common.{◌≡◌, ℕ, ◌+◌, ◌*◌, ◌^◌, ◌/◌, ◌%◌, ◌<◌, ◌≤◌, length, Some, None, Bool, true, false, refl, subst, arith}
 use Rattle.std.specs.Prelude.{nat_eq, codes, if◌then◌else◌}
 use Rattle.std.proofs.lemmas.Bool.Decides.{nat_tests}
-use Rattle.jmodel.specs.History.{Words}
-use Rattle.objects.specs.State.{Object, State}
-use Rattle.objects.specs.Meaning.{IsLaid, IsInRegion, IsTyped, IsHeap, Represents}
+use Rattle.jmodel.specs.history.History.{Words}
+use Rattle.objects.specs.semantics.State.{Object, State}
+use Rattle.objects.specs.history.Meaning.{IsLaid, IsInRegion, IsTyped, IsHeap, Represents}
 use Rattle.objects.proofs.ExampleProgram.{class_a, static_base, static_words, program}
 use Rattle.objects.proofs.Example.{base, a_text, an_a, state_with}
-use Rattle.objects.specs.LibraryClasses.{object, under}
+use Rattle.objects.specs.linking.LibraryClasses.{object, under}
 
 abbrev state : State
 state = state_with an_a

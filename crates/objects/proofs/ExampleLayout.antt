@@ -3,14 +3,14 @@ use Rattle.std.proofs.Common.{◌≡◌, ℕ, ◌*◌, ◌^◌, List, [], ◌∷
 use Rattle.std.specs.Prelude.{pos, negsuc, codes, map, option_map, false}
 use Rattle.jmodel.specs.declared.value.Value.TheVariants.{Int, Ref}
 use Rattle.jmodel.specs.declared.class_file.Constant.TheVariants.{Utf8, Class, Text, Integer}
-use Rattle.jmodel.specs.ClassFile.{Attribute, Member, Pool, ClassFile}
-use Rattle.jmodel.specs.DescriptorReading.{type_of}
-use Rattle.jmodel.specs.Superclasses.{own_name}
-use Rattle.jmodel.specs.Classes.{Declared as DeclaredMember}
+use Rattle.jmodel.specs.format.ClassFile.{Attribute, Member, Pool, ClassFile}
+use Rattle.jmodel.specs.format.DescriptorReading.{type_of}
+use Rattle.objects.specs.linking.Members.{own_name}
+use Rattle.objects.specs.linking.Classes.{Declared as DeclaredMember}
 use Rattle.objects.specs.declared.op.WordType.TheVariants as word
-use Rattle.objects.specs.Program.{Declared, Words, Field}
-use Rattle.objects.specs.Resolution.{special_method}
-use Rattle.objects.specs.Layout.{name_read, class_row, base_rows, array_row, class_instances, fields_of, texts_of, text_places, fixed_words, opening_words, opening_state}
+use Rattle.objects.specs.semantics.Program.{Declared, Words, Field}
+use Rattle.objects.specs.linking.Resolution.{special_method}
+use Rattle.objects.specs.linking.Layout.{name_read, class_row, base_rows, array_row, class_instances, fields_of, texts_of, text_places, fixed_words, opening_words, opening_state}
 
 abbrev pool : List ℕ → List ℕ → Pool
 pool name super =

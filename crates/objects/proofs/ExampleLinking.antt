@@ -7,24 +7,24 @@ use Rattle.jmodel.specs.declared.value.Answer.TheVariants.{Returned}
 use Rattle.jmodel.specs.declared.typing.VType.TheVariants as type
 use Rattle.jmodel.specs.declared.class_file.Constant.TheVariants.{Utf8, Class, Text, NameAndType}
 use Rattle.jmodel.specs.declared.class_file.Constant.TheVariants as constants
-use Rattle.jmodel.specs.ClassFile.{Member, Pool, ClassFile, code_spelling}
-use Rattle.jmodel.specs.DescriptorReading.{element_rest, type_rest, type_of, types_at, result_of, signature_of, is_field_descriptor}
-use Rattle.jmodel.specs.Reading.{number_at, run_at, items_at}
-use Rattle.jmodel.specs.ClassReading.{attributes_at, handlers_at, body_at, code_at}
-use Rattle.jmodel.specs.InstructionReading.{signed_at, entry_operand_at, signed_operand_at, parts_at, instrs_at, targets_fit, instrs_of}
-use Rattle.jmodel.specs.Mark.{retries_in, all_annotations}
+use Rattle.jmodel.specs.format.ClassFile.{Member, Pool, ClassFile, code_spelling}
+use Rattle.jmodel.specs.format.DescriptorReading.{element_rest, type_rest, type_of, types_at, result_of, signature_of, is_field_descriptor}
+use Rattle.jmodel.specs.format.Reading.{number_at, run_at, items_at}
+use Rattle.jmodel.specs.format.ClassReading.{attributes_at, handlers_at, body_at, code_at}
+use Rattle.jmodel.specs.format.InstructionReading.{signed_at, entry_operand_at, signed_operand_at, parts_at, instrs_at, targets_fit, instrs_of}
+use Rattle.jmodel.specs.format.Mark.{retries_in, all_annotations}
 use Rattle.objects.specs.declared.op.Sort.TheVariants as sort
 use Rattle.objects.specs.declared.op.WordType.TheVariants as word
 use Rattle.objects.specs.declared.op.Dispatch.TheVariants as dispatch
 use Rattle.objects.specs.declared.op.Op.TheVariants as op
 use Rattle.objects.specs.declared.op.StackOp.TheVariants.{Dup, Pop}
-use Rattle.objects.specs.Program.{Declared, Words, Elements, Row, Method, Program}
-use Rattle.objects.specs.LibraryClasses.{object, library_rows}
-use Rattle.objects.specs.Region.{Region}
-use Rattle.objects.specs.State.{Object}
-use Rattle.objects.specs.Call.{Direct, Ended, direct, call_start}
-use Rattle.objects.specs.Layout.{opening_words, opening_state}
-use Rattle.objects.specs.Linking.{linking}
+use Rattle.objects.specs.semantics.Program.{Declared, Words, Elements, Row, Method, Program}
+use Rattle.objects.specs.linking.LibraryClasses.{object, library_rows}
+use Rattle.objects.specs.semantics.Region.{Region}
+use Rattle.objects.specs.semantics.State.{Object}
+use Rattle.objects.specs.semantics.Call.{Direct, Ended, direct, call_start}
+use Rattle.objects.specs.linking.Layout.{opening_words, opening_state}
+use Rattle.objects.specs.linking.Linking.{linking}
 
 -- class A { static A s; int x; static { s = new A(); Object o = new A[1]; o = "hi"; } A() { super(); x = 7; } }
 abbrev pub pool : Pool

@@ -16,9 +16,9 @@ use Rattle.objects.specs.declared.op.ContextCall.TheVariants.{Init, BeforeRead, 
 use Rattle.objects.specs.declared.op.Catch.{Catch}
 use Rattle.objects.specs.declared.op.Catches.{Catches}
 use Rattle.objects.specs.declared.op.Catches.TheVariants.{Conflict, Any, Of}
-use Rattle.objects.specs.Program.{Method, Program, method_at}
-use Rattle.objects.specs.Typing.{Types}
-use Rattle.objects.specs.Rewriting.{rewritten, getter, setter, duplicate, element_getter, element_setter, duplicate_name, with_context, block_of, wrapper_method}
+use Rattle.objects.specs.semantics.Program.{Method, Program, method_at}
+use Rattle.objects.specs.typing.Typing.{Types}
+use Rattle.objects.specs.rewriting.Rewriting.{rewritten, getter, setter, duplicate, element_getter, element_setter, duplicate_name, with_context, block_of, wrapper_method}
 use Rattle.objects.proofs.ExampleProgram.{program}
 use Rattle.objects.proofs.ExampleTables.{tables}
 

@@ -13,8 +13,8 @@ use Rattle.objects.specs.declared.op.Conversion.{Conversion}
 use Rattle.objects.specs.declared.op.Conversion.TheVariants.{IntToByte, IntToChar, IntToShort, IntToLong, LongToInt}
 use Rattle.objects.specs.declared.op.StackOp.{StackOp}
 use Rattle.objects.specs.declared.op.StackOp.TheVariants.{DupX1, DupX2, Dup2, Dup2X1, Dup2X2, Swap}
-use Rattle.objects.specs.WordTypes.{narrowed}
-use Rattle.objects.specs.Step.{Frame, Did, Does, Wrong, binary, shifted, distance, divided, unary, compared, converted, rearranged, switched}
+use Rattle.objects.specs.semantics.WordTypes.{narrowed}
+use Rattle.objects.specs.semantics.Step.{Frame, Did, Does, Wrong, binary, shifted, shift_distance, divided, unary, compared, converted, rearranged, switched}
 
 -- the least and the greatest int, and the least long
 abbrev least : ℤ
@@ -69,16 +69,16 @@ absolute : unary width.Int Absolute (negsuc 4) ≡ pos 5
 absolute = refl
 
 -- five bits of the distance count, or six
-far_shift : shifted width.Int Left (pos 1) (distance width.Int (pos 33)) ≡ pos 2
+far_shift : shifted width.Int Left (pos 1) (shift_distance width.Int (pos 33)) ≡ pos 2
 far_shift = refl
 
-far_long_shift : shifted width.Long Left (pos 1) (distance width.Long (pos 65)) ≡ pos 2
+far_long_shift : shifted width.Long Left (pos 1) (shift_distance width.Long (pos 65)) ≡ pos 2
 far_long_shift = refl
 
-back_shift : shifted width.Int Left (pos 1) (distance width.Int (negsuc 0)) ≡ least
+back_shift : shifted width.Int Left (pos 1) (shift_distance width.Int (negsuc 0)) ≡ least
 back_shift = refl
 
-back_long_shift : shifted width.Long Left (pos 1) (distance width.Long (negsuc 0)) ≡ least_long
+back_long_shift : shifted width.Long Left (pos 1) (shift_distance width.Long (negsuc 0)) ≡ least_long
 back_long_shift = refl
 
 signed_shift : shifted width.Int Right (negsuc 7) 1 ≡ negsuc 3

@@ -14,8 +14,8 @@ use Rattle.objects.specs.declared.op.Binary.TheVariants.{Add}
 use Rattle.objects.specs.declared.op.Conversion.TheVariants.{LongToInt}
 use Rattle.objects.specs.declared.op.StackOp.TheVariants.{Dup, Pop}
 use Rattle.objects.specs.declared.op.Catches.TheVariants.{Of}
-use Rattle.objects.specs.LibraryClasses.{object, runtime_exception, library_rows}
-use Rattle.objects.specs.Program.{Declared, Words, Elements, Row, Field, Method, Program}
+use Rattle.objects.specs.linking.LibraryClasses.{object, runtime_exception, library_rows}
+use Rattle.objects.specs.semantics.Program.{Declared, Words, Elements, Row, Field, Method, Program}
 
 abbrev pub ints : Declared
 ints = record { word = word.Int; class = [] }

@@ -1,16 +1,16 @@
 -- The rewritten class and the helper, linked, are what the rewriting makes of the program: method by method.
 use Rattle.std.proofs.Common.{◌≡◌, ℕ, List, [], ◌∷◌, Option, refl}
 use Rattle.std.specs.Prelude.{Bool, true, false, map}
-use Rattle.jmodel.specs.ClassFile.{Member, ClassFile}
-use Rattle.jmodel.specs.Classes.{full_name}
-use Rattle.jmodel.specs.DescriptorReading.{element_rest, type_rest, type_of, types_at, result_of, signature_of, is_field_descriptor}
-use Rattle.jmodel.specs.Reading.{number_at, run_at, items_at}
-use Rattle.jmodel.specs.ClassReading.{attributes_at, handlers_at, handler_at, body_at, code_at}
-use Rattle.jmodel.specs.InstructionReading.{signed_at, target_at, jump_at, local_at, entry_operand_at, signed_operand_at, parts_at, instrs_at, targets_fit, instrs_of}
-use Rattle.jmodel.specs.Mark.{retries_in, all_annotations}
-use Rattle.objects.specs.Program.{Method, method_at}
-use Rattle.objects.specs.Rewriting.{rewritten}
-use Rattle.objects.specs.Relinking.{all_members, rewritten_meaning}
+use Rattle.jmodel.specs.format.ClassFile.{Member, ClassFile}
+use Rattle.objects.specs.linking.Classes.{full_name}
+use Rattle.jmodel.specs.format.DescriptorReading.{element_rest, type_rest, type_of, types_at, result_of, signature_of, is_field_descriptor}
+use Rattle.jmodel.specs.format.Reading.{number_at, run_at, items_at}
+use Rattle.jmodel.specs.format.ClassReading.{attributes_at, handlers_at, handler_at, body_at, code_at}
+use Rattle.jmodel.specs.format.InstructionReading.{signed_at, target_at, jump_at, local_at, entry_operand_at, signed_operand_at, parts_at, instrs_at, targets_fit, instrs_of}
+use Rattle.jmodel.specs.format.Mark.{retries_in, all_annotations}
+use Rattle.objects.specs.semantics.Program.{Method, method_at}
+use Rattle.objects.specs.rewriting.Rewriting.{rewritten}
+use Rattle.objects.specs.rewriting.Relinking.{all_members, rewritten_meaning}
 use Rattle.objects.proofs.ExampleLinking.{program}
 use Rattle.objects.proofs.ExampleLinking as original
 use Rattle.objects.proofs.ExampleRewritten.{class_a, helper}

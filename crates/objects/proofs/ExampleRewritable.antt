@@ -1,9 +1,9 @@
 -- The example's tables have types as typing reads them, and its methods can be rewritten by them, so its rewriting is typed.
 use Rattle.std.proofs.Common.{◌≡◌, ℕ, zero, suc, List, [], ◌∷◌, Some, true, refl, subst}
 use Rattle.std.specs.Prelude.{slice_get}
-use Rattle.objects.specs.Program.{Method, has_code, method_at}
-use Rattle.objects.specs.Typing.{Table}
-use Rattle.objects.specs.TypingLaw.{IsRewritable}
+use Rattle.objects.specs.semantics.Program.{Method, has_code, method_at}
+use Rattle.objects.specs.typing.Typing.{Table}
+use Rattle.objects.specs.laws.TypingLaw.{IsRewritable}
 use Rattle.objects.proofs.ExampleProgram.{program}
 use Rattle.objects.proofs.ExampleTables.{tables}
 use Rattle.objects.proofs.ReadTests.{passes_from, passed}

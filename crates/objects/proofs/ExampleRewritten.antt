@@ -3,7 +3,7 @@ use Rattle.std.specs.Prelude.{ℕ, pos, List, [], ◌∷◌, codes}
 use Rattle.jmodel.specs.declared.class_file.Constant.TheVariants.{Utf8, Class, Text, Integer, NameAndType}
 use Rattle.jmodel.specs.declared.class_file.Constant.TheVariants as constants
 use Rattle.jmodel.specs.declared.class_file.Handler.{Handler}
-use Rattle.jmodel.specs.ClassFile.{Attribute, Member, Pool, ClassFile, code_spelling}
+use Rattle.jmodel.specs.format.ClassFile.{Attribute, Member, Pool, ClassFile, code_spelling}
 
 -- a method: of the index of Code, its flags, the indexes of its name and descriptor, the places of its stack and its locals
 abbrev coded : (attribute flags name descriptor most locals : ℕ) → List ℕ → List Handler → Member

@@ -5,11 +5,11 @@ use Rattle.std.specs.List.{AllByRecursion, list_all}
 use Rattle.std.proofs.lemmas.Bool.Decides.{nat_tests}
 use Rattle.jmodel.specs.declared.class_file.Constant.TheVariants as constants
 use Rattle.jmodel.specs.declared.class_file.FieldType.TheVariants as field
-use Rattle.jmodel.specs.ClassFile.{Code}
-use Rattle.jmodel.specs.ClassRules.{IsTwoBytes, IsTextByte, IsConstant, IsPool, AreAttributes, IsField, IsMethod, IsSameMember, IsClassFile}
-use Rattle.jmodel.specs.Descriptor.{IsClassName, IsFieldDescriptor, IsMethodDescriptor}
-use Rattle.objects.specs.LinkingLaw.{AreRead}
-use Rattle.objects.specs.Source.{IsSource}
+use Rattle.jmodel.specs.format.ClassFile.{Code}
+use Rattle.jmodel.specs.format.ClassRules.{IsTwoBytes, IsTextByte, IsConstant, IsPool, AreAttributes, IsField, IsMethod, IsSameMember, IsClassFile}
+use Rattle.jmodel.specs.format.Descriptor.{IsClassName, IsFieldDescriptor, IsMethodDescriptor}
+use Rattle.objects.specs.laws.LinkingLaw.{AreRead}
+use Rattle.objects.specs.typing.Source.{IsSource}
 use Rattle.objects.proofs.SourceProof.{source_law}
 use Rattle.objects.proofs.ExampleLinking.{pool, initialiser, constructor, class_a, program, links}
 

@@ -2,7 +2,7 @@
 use Rattle.std.specs.Prelude.{List, [], ◌∷◌, Option, Some, Bool, true, false, codes}
 use Rattle.jmodel.specs.declared.typing.VType.{VType}
 use Rattle.jmodel.specs.declared.typing.VType.TheVariants.{Int, Long, Second, Ref, Uninit, UninitThis, Top}
-use Rattle.objects.specs.Typing.{Types, Table}
+use Rattle.objects.specs.typing.Typing.{Types, Table}
 
 abbrev before : Bool → (locals stack : List VType) → Option Types
 before built l s = Some (record { locals = l; stack = s; built = built })

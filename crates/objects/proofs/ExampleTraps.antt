@@ -16,9 +16,9 @@ use Rattle.objects.specs.declared.op.Division.TheVariants.{Quotient}
 use Rattle.objects.specs.declared.op.StackOp.TheVariants.{Pop}
 use Rattle.objects.specs.declared.op.Catch.{Catch}
 use Rattle.objects.specs.declared.op.Catches.TheVariants.{Any, Of}
-use Rattle.objects.specs.Program.{Method, Program, is_instance, selected}
-use Rattle.objects.specs.State.{State}
-use Rattle.objects.specs.Call.{Direct, Ended, direct, call_start}
+use Rattle.objects.specs.semantics.Program.{Method, Program, is_instance, selected}
+use Rattle.objects.specs.semantics.State.{State}
+use Rattle.objects.specs.semantics.Call.{Direct, Ended, direct, call_start}
 use Rattle.objects.proofs.ExampleProgram.{program, make, methods}
 use Rattle.objects.proofs.Example.{region, state_with, no_object, an_a, a_b}
 

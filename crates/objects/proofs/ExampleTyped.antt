@@ -10,13 +10,13 @@ use Rattle.objects.specs.declared.op.Dispatch.{Dispatch}
 use Rattle.objects.specs.declared.op.Dispatch.TheVariants as dispatch
 use Rattle.objects.specs.declared.op.Op.TheVariants.{Constant, ReturnValue}
 use Rattle.objects.specs.declared.op.Sort.TheVariants as sort
-use Rattle.objects.specs.Program.{Field, Row, Method, Program, has_code, method_at, row_at}
-use Rattle.objects.specs.LibraryClasses.{object, runtime_exception, library_rows}
-use Rattle.objects.specs.TypeOrder.{object_class}
-use Rattle.objects.specs.Typing.{Table, IsTyping, arguments}
-use Rattle.objects.specs.TypingLaw.{IsTypedProgram}
-use Rattle.objects.specs.Rewriting.{with_context}
-use Rattle.objects.specs.Source.{IsReadName, IsClass, IsDeclared, AreTypes, IsSourceMethod, AreNamed, IsSource}
+use Rattle.objects.specs.semantics.Program.{Field, Row, Method, Program, has_code, method_at, row_at}
+use Rattle.objects.specs.linking.LibraryClasses.{object, runtime_exception, library_rows}
+use Rattle.objects.specs.typing.TypeOrder.{object_class}
+use Rattle.objects.specs.typing.Typing.{Table, IsTyping, arguments}
+use Rattle.objects.specs.laws.TypingLaw.{IsTypedProgram}
+use Rattle.objects.specs.rewriting.Rewriting.{with_context}
+use Rattle.objects.specs.typing.Source.{IsReadName, IsClass, IsDeclared, AreTypes, IsSourceMethod, AreNamed, IsSource}
 use Rattle.objects.proofs.LibraryRows.{IsRow, AreRows, row_of, class_row, for_any, IsReadIn, library, traps, conflict, context, string}
 use Rattle.objects.proofs.ArrayRows.{references_within, primitives_within}
 use Rattle.objects.proofs.Checking.{checked}

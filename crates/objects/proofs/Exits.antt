@@ -14,8 +14,8 @@ use Rattle.objects.specs.declared.op.StackOp.{StackOp}
 use Rattle.objects.specs.declared.op.StackOp.TheVariants.{Nop, Pop, Pop2, Dup, DupX1, DupX2, Dup2, Dup2X1, Dup2X2, Swap}
 use Rattle.objects.specs.declared.op.Op.{Op}
 use Rattle.objects.specs.declared.op.Op.TheVariants as op
-use Rattle.objects.specs.Program.{Row, Field, Method, Program, method_at, field_at, row_at}
-use Rattle.objects.specs.Typing.{is_received, value_places, argument_places, Types, Table, types_at, Flow, Leads, Wrong, with_stack, leaves, ends, if_so, on, on_each, on_int, on_number, on_reference, on_top, on_one, on_two, is_one, is_reference, local_in, int_in, long_at, field_in, method_in, row_in, loads, rearranged, converted, on_array, fits_elements, element_types, is_within, puts, exits, returns, result_types, flow, Covers, KeepsFlow, KeepsAt, IsTyping, AreWithin, stack_types, object_class, throwable_class, name_read, results, stored_types}
+use Rattle.objects.specs.semantics.Program.{Row, Field, Method, Program, method_at, field_at, row_at}
+use Rattle.objects.specs.typing.Typing.{is_received, value_places, argument_places, Types, Table, types_at, Flow, Leads, Wrong, with_stack, leaves, ends, if_so, on, on_each, on_int, on_number, on_reference, on_top, on_one, on_two, is_one, is_reference, local_in, int_in, long_at, field_in, method_in, row_in, loads, rearranged, converted, on_array, fits_elements, element_types, is_within, puts, exits, returns, result_types, flow, Covers, KeepsFlow, KeepsAt, IsTyping, AreWithin, stack_types, object_class, throwable_class, name_read, results, stored_types}
 
 -- where an instruction goes on
 abbrev pub exits_of : ℕ → Op → List ℕ

@@ -5,14 +5,15 @@ use Rattle.std.proofs.lemmas.Grind.{reverse_onto}
 use Rattle.std.proofs.lemmas.List.{length-reverse, length-map}
 use Rattle.std.proofs.lemmas.List.Sums.{sum_by-cons, sum_by-take-le}
 use Rattle.std.proofs.lemmas.List.Concat.{length-flat_map}
-use Rattle.jmodel.specs.ClassFile.{ClassFile}
-use Rattle.jmodel.specs.Layout.{is_static, statics, has_base, base_words, base_of}
-use Rattle.jmodel.specs.Superclasses.{class_named, super_name, with_above, upward, lineage}
-use Rattle.jmodel.proofs.ClassesTaken.{filter_few}
-use Rattle.objects.specs.Program.{Field}
-use Rattle.objects.specs.Layout.{own_words, words_upward, fields_of}
-use Rattle.objects.specs.Source.{IsBased}
-use Rattle.objects.specs.LinkingLaw.{AreRead}
+use Rattle.jmodel.specs.format.ClassFile.{ClassFile}
+use Rattle.objects.specs.linking.Members.{is_static, statics}
+use Rattle.objects.specs.linking.StaticBases.{has_base, base_words, base_of}
+use Rattle.objects.specs.linking.Superclasses.{class_named, super_name, with_above, upward, lineage}
+use Rattle.objects.proofs.TakenLaws.{filter_few}
+use Rattle.objects.specs.semantics.Program.{Field}
+use Rattle.objects.specs.linking.Layout.{own_words, words_upward, fields_of}
+use Rattle.objects.specs.typing.Source.{IsBased}
+use Rattle.objects.specs.laws.LinkingLaw.{AreRead}
 use Rattle.objects.proofs.Items.{IsAt, later, either_part}
 use Rattle.objects.proofs.AsRead.{is_file}
 use Rattle.objects.proofs.ResolvedMembers.{lineage_in}

@@ -2,9 +2,9 @@
 use Rattle.std.proofs.Common.{◌≡◌, ℕ, zero, suc, ◌+◌, ◌-◌, ◌≤◌, List, [], ◌∷◌, ◌++◌, length, replicate, Bool, true, false, refl, sym, ap, subst, ◌∙◌, arith, append_assoc, append-nil}
 use Rattle.jmodel.specs.declared.typing.VType.{VType}
 use Rattle.jmodel.specs.declared.typing.VType.TheVariants.{Int, Long, Second, Ref, UninitThis, Top}
-use Rattle.objects.specs.Typing.{first_locals}
-use Rattle.objects.specs.Source.{AreParameters, AreParametersAfter}
-use Rattle.objects.specs.Rewriting.{more_locals}
+use Rattle.objects.specs.typing.Typing.{first_locals}
+use Rattle.objects.specs.typing.Source.{AreParameters, AreParametersAfter}
+use Rattle.objects.specs.rewriting.Rewriting.{more_locals}
 use Rattle.objects.proofs.CopiedLocals.{context, after, copied}
 use Rattle.objects.proofs.CopiedStores.{is_parted, extra, with_copies}
 use Rattle.objects.proofs.MovedTypes.{all_named, AreFixed, fixed_all, fixed_before, fixed_parameters}

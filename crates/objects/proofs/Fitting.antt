@@ -15,7 +15,7 @@ use Rattle.objects.specs.declared.op.Division.{Division}
 use Rattle.objects.specs.declared.op.Division.TheVariants.{Quotient, Remainder}
 use Rattle.objects.specs.declared.op.Unary.{Unary}
 use Rattle.objects.specs.declared.op.Unary.TheVariants.{Negate, Absolute}
-use Rattle.objects.specs.Step.{bits, binary, shifted, divided, unary, compared}
+use Rattle.objects.specs.semantics.Step.{bits, binary, shifted, divided, unary, compared}
 
 -- a number of a width
 abbrev pub Fits : Width → ℤ → Type 0

@@ -5,21 +5,22 @@ use Rattle.std.specs.List.{AllByRecursion}
 use Rattle.jmodel.specs.declared.class_file.FieldType.{FieldType}
 use Rattle.jmodel.specs.declared.class_file.FieldType.TheVariants as types
 use Rattle.jmodel.specs.declared.refusal.Refusal.TheVariants.{UnknownClass}
-use Rattle.jmodel.specs.ClassFile.{ClassFile}
-use Rattle.jmodel.specs.Descriptor.{is_array_name, field_descriptor, IsElement as IsElementType, IsArrayName}
-use Rattle.jmodel.specs.DescriptorReading.{brackets, type_of}
-use Rattle.jmodel.specs.Superclasses.{own_name, class_named}
-use Rattle.jmodel.specs.Classes.{doubled_class}
-use Rattle.objects.specs.Program.{Row, Field, Method, Program}
-use Rattle.objects.specs.LibraryMethods.{is_library}
-use Rattle.objects.specs.TypeOrder.{object_class, context_class, is_class_name, descriptor_of}
-use Rattle.objects.specs.Resolution.{is_interface, is_known}
-use Rattle.objects.specs.Constructs.{reference_name, unknown_core, unknown_in}
-use Rattle.objects.specs.ClassesFaults.{supers_fault}
-use Rattle.objects.specs.LinkingLaw.{IsUpward}
-use Rattle.jmodel.specs.Layout.{has_base}
-use Rattle.objects.specs.TypeOrder as typing
-use Rattle.objects.specs.Layout.{array_over, nameless, base_rows, static_words, array_row, primitive_arrays, class_instances}
+use Rattle.jmodel.specs.format.ClassFile.{ClassFile}
+use Rattle.jmodel.specs.format.Descriptor.{is_array_name, field_descriptor, IsElement as IsElementType, IsArrayName}
+use Rattle.jmodel.specs.format.DescriptorReading.{brackets, type_of}
+use Rattle.objects.specs.linking.Members.{own_name}
+use Rattle.objects.specs.linking.Superclasses.{class_named}
+use Rattle.objects.specs.linking.Classes.{doubled_class}
+use Rattle.objects.specs.semantics.Program.{Row, Field, Method, Program}
+use Rattle.objects.specs.linking.LibraryMethods.{is_library}
+use Rattle.objects.specs.typing.TypeOrder.{object_class, context_class, is_class_name, descriptor_of}
+use Rattle.objects.specs.linking.Resolution.{is_interface, is_known}
+use Rattle.objects.specs.linking.Constructs.{reference_name, unknown_core, unknown_in}
+use Rattle.objects.specs.linking.ClassesFaults.{supers_fault}
+use Rattle.objects.specs.laws.LinkingLaw.{IsUpward}
+use Rattle.objects.specs.linking.StaticBases.{has_base}
+use Rattle.objects.specs.typing.TypeOrder as typing
+use Rattle.objects.specs.linking.Layout.{array_over, nameless, base_rows, static_words, array_row, primitive_arrays, class_instances}
 use Rattle.objects.proofs.ArrayTypes.{IsKnown, plain, interface, library, known_read}
 use Rattle.objects.proofs.ClassTypes.{IsAboveAs}
 use Rattle.objects.proofs.ArrayElements.{IsNameIn, IsKnownIn, IsElement, letter, of_class, of_array, IsHeld, class_type, class_held, array_held}

@@ -2,22 +2,23 @@
 use Rattle.std.proofs.Common.{◌≡◌, ◌⊎◌, inl, inr, ℕ, zero, suc, ◌+◌, List, [], ◌∷◌, ◌++◌, length, map, Some, None, Bool, true, false, not, refl, sym, ap, ◌∙◌, arith}
 use Rattle.std.specs.Prelude.{slice_get, filter, find, bytes_eq, if◌then◌else◌}
 use Rattle.std.specs.List.{AllByRecursion}
-use Rattle.jmodel.specs.ClassFile.{Member, ClassFile}
-use Rattle.jmodel.specs.Layout.{is_static, base_of}
-use Rattle.jmodel.specs.Superclasses.{own_name, class_named, super_name}
-use Rattle.jmodel.specs.Classes.{doubled_class}
-use Rattle.objects.specs.Program.{Declared, Row, Field, Method, Program, row_at, field_at}
-use Rattle.objects.specs.LibraryClasses.{library_rows}
-use Rattle.objects.specs.LibraryMethods.{is_library}
-use Rattle.objects.specs.TypeOrder.{context_class, conflict_class, is_class_name}
-use Rattle.objects.specs.Resolution.{is_interface, holds_of}
-use Rattle.objects.specs.Constructs.{is_floating}
-use Rattle.objects.specs.ClassesFaults.{supers_fault}
-use Rattle.objects.specs.LinkingLaw.{IsUpward}
-use Rattle.objects.specs.Source.{IsDeclared, AreTypes}
-use Rattle.objects.specs.Layout.{class_row, declared_as, field_type, own_words, words_upward, field_record, if_not, fields_behind, class_fields, fields_from, fields_of}
+use Rattle.jmodel.specs.format.ClassFile.{Member, ClassFile}
+use Rattle.objects.specs.linking.Members.{is_static, own_name}
+use Rattle.objects.specs.linking.StaticBases.{base_of}
+use Rattle.objects.specs.linking.Superclasses.{class_named, super_name}
+use Rattle.objects.specs.linking.Classes.{doubled_class}
+use Rattle.objects.specs.semantics.Program.{Declared, Row, Field, Method, Program, row_at, field_at}
+use Rattle.objects.specs.linking.LibraryClasses.{library_rows}
+use Rattle.objects.specs.linking.LibraryMethods.{is_library}
+use Rattle.objects.specs.typing.TypeOrder.{context_class, conflict_class, is_class_name}
+use Rattle.objects.specs.linking.Resolution.{is_interface, holds_of}
+use Rattle.objects.specs.linking.Constructs.{is_floating}
+use Rattle.objects.specs.linking.ClassesFaults.{supers_fault}
+use Rattle.objects.specs.laws.LinkingLaw.{IsUpward}
+use Rattle.objects.specs.typing.Source.{IsDeclared, AreTypes}
+use Rattle.objects.specs.linking.Layout.{class_row, declared_as, field_type, own_words, words_upward, field_record, if_not, fields_behind, class_fields, fields_from, fields_of}
 use Rattle.objects.proofs.Places.{get_back}
-use Rattle.jmodel.specs.Layout.{library as library_names}
+use Rattle.objects.specs.linking.Library.{library as library_names}
 use Rattle.objects.proofs.ClassRows.{find_back, found_at, found_by_name, is_row}
 use Rattle.objects.proofs.LibraryRows.{IsRow, traps, conflict, context, string}
 use Rattle.objects.proofs.ClassTypes.{new_to_library, none_found, words_step, is_class}

@@ -5,16 +5,15 @@ use Rattle.std.specs.List.{AllByRecursion, list_any}
 use Rattle.std.specs.Option.{option_or}
 use Rattle.jmodel.specs.declared.refusal.Refusal.{Refusal}
 use Rattle.jmodel.specs.declared.refusal.Refusal.TheVariants.{DoubledClass}
-use Rattle.jmodel.specs.ClassFile.{ClassFile}
-use Rattle.jmodel.specs.ClassRules.{IsClassFile}
-use Rattle.jmodel.specs.Layout.{library}
-use Rattle.jmodel.specs.Superclasses.{own_name}
-use Rattle.jmodel.specs.Classes.{is_before, placed, in_order, doubled_among, doubled_class}
-use Rattle.jmodel.specs.ClassesLinking.{first_fault}
-use Rattle.jmodel.specs.Linking.{unless}
-use Rattle.objects.specs.Program.{Program}
-use Rattle.objects.specs.ClassesFaults.{reserved_fault, reserved_class}
-use Rattle.objects.specs.LinkingLaw.{AreRead, FilesLaw}
+use Rattle.jmodel.specs.format.ClassFile.{ClassFile}
+use Rattle.jmodel.specs.format.ClassRules.{IsClassFile}
+use Rattle.objects.specs.linking.Library.{library}
+use Rattle.objects.specs.linking.Members.{own_name}
+use Rattle.objects.specs.linking.Classes.{is_before, placed, in_order, doubled_among, doubled_class}
+use Rattle.objects.specs.linking.Faults.{first_fault, unless}
+use Rattle.objects.specs.semantics.Program.{Program}
+use Rattle.objects.specs.linking.ClassesFaults.{reserved_fault, reserved_class}
+use Rattle.objects.specs.laws.LinkingLaw.{AreRead, FilesLaw}
 use Rattle.objects.proofs.ClassRows.{swapped, new_head, any_later}
 use Rattle.objects.proofs.ClassTypes.{each_none}
 use Rattle.objects.proofs.SourceProof.{source_law}

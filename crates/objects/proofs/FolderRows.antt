@@ -2,19 +2,20 @@
 use Rattle.std.proofs.Common.{◌≡◌, ◌⊎◌, ℕ, zero, suc, ◌+◌, List, [], ◌∷◌, ◌++◌, map, Some, None, Bool, true, false, refl, sym, ap, subst, ◌∙◌, arith, inl, inr}
 use Rattle.std.specs.Prelude.{slice_get, filter, ◌==◌}
 use Rattle.std.specs.List.{AllByRecursion}
-use Rattle.jmodel.specs.ClassFile.{ClassFile}
-use Rattle.jmodel.specs.DescriptorReading.{type_of}
-use Rattle.jmodel.specs.Layout.{has_base}
-use Rattle.jmodel.specs.Superclasses.{own_name, class_named}
-use Rattle.jmodel.specs.Classes.{doubled_class}
-use Rattle.objects.specs.Program.{Declared, Row, Field, Method, Program, row_at}
-use Rattle.objects.specs.LibraryClasses.{library_rows}
-use Rattle.objects.specs.TypeOrder.{object_class, context_class, is_class_name}
-use Rattle.objects.specs.TypeOrder as typing
-use Rattle.objects.specs.Resolution.{is_interface}
-use Rattle.objects.specs.ClassesFaults.{supers_fault}
-use Rattle.objects.specs.LinkingLaw.{IsUpward}
-use Rattle.objects.specs.Layout.{nameless, class_row, base_rows, array_row, static_words, primitive_arrays}
+use Rattle.jmodel.specs.format.ClassFile.{ClassFile}
+use Rattle.jmodel.specs.format.DescriptorReading.{type_of}
+use Rattle.objects.specs.linking.StaticBases.{has_base}
+use Rattle.objects.specs.linking.Members.{own_name}
+use Rattle.objects.specs.linking.Superclasses.{class_named}
+use Rattle.objects.specs.linking.Classes.{doubled_class}
+use Rattle.objects.specs.semantics.Program.{Declared, Row, Field, Method, Program, row_at}
+use Rattle.objects.specs.linking.LibraryClasses.{library_rows}
+use Rattle.objects.specs.typing.TypeOrder.{object_class, context_class, is_class_name}
+use Rattle.objects.specs.typing.TypeOrder as typing
+use Rattle.objects.specs.linking.Resolution.{is_interface}
+use Rattle.objects.specs.linking.ClassesFaults.{supers_fault}
+use Rattle.objects.specs.laws.LinkingLaw.{IsUpward}
+use Rattle.objects.specs.linking.Layout.{nameless, class_row, base_rows, array_row, static_words, primitive_arrays}
 use Rattle.objects.proofs.LibraryRows.{IsRow, row_of, library}
 use Rattle.objects.proofs.ClassTypes.{class_row_is, nameless_row_is}
 use Rattle.objects.proofs.ArrayElements.{IsElement, letter, IsHeld, array_row_is}

@@ -1,10 +1,10 @@
 -- The types of a folder's program keep the rules of source.
 use Rattle.std.proofs.Common.{◌≡◌, List, ◌++◌, map, sym, subst, ◌∙◌, append_assoc}
-use Rattle.objects.specs.Program.{Row}
-use Rattle.objects.specs.LibraryClasses.{library_rows}
-use Rattle.objects.specs.Source.{AreTypes}
-use Rattle.objects.specs.Layout.{class_row, base_rows, array_row, primitive_arrays, made_arrays, fields_of}
-use Rattle.objects.specs.LinkingLaw.{TypesLaw}
+use Rattle.objects.specs.semantics.Program.{Row}
+use Rattle.objects.specs.linking.LibraryClasses.{library_rows}
+use Rattle.objects.specs.typing.Source.{AreTypes}
+use Rattle.objects.specs.linking.Layout.{class_row, base_rows, array_row, primitive_arrays, made_arrays, fields_of}
+use Rattle.objects.specs.laws.LinkingLaw.{TypesLaw}
 use Rattle.objects.proofs.Upward.{upward_law}
 use Rattle.objects.proofs.MadeArrays.{all_made}
 use Rattle.objects.proofs.FolderArrays.{arrays_known}

@@ -5,8 +5,8 @@ use Rattle.std.proofs.lemmas.List.{length-set}
 use Rattle.std.proofs.lemmas.Option.{slice_get_within}
 use Rattle.jmodel.specs.declared.typing.VType.{VType}
 use Rattle.jmodel.specs.declared.typing.VType.TheVariants.{Long, Second, Top}
-use Rattle.objects.specs.TypeOrder.{IsLocals}
-use Rattle.objects.specs.Typing.{freed, freed_by}
+use Rattle.objects.specs.typing.TypeOrder.{IsLocals}
+use Rattle.objects.specs.typing.Typing.{freed, freed_by}
 use Rattle.objects.proofs.Moved.{get_set_same, get_set_other}
 use Rattle.objects.proofs.CopiedLongs.{IsWhole, whole}
 

@@ -7,21 +7,21 @@ use Rattle.jmodel.specs.declared.value.Value.{Value}
 use Rattle.jmodel.specs.declared.typing.VType.{VType}
 use Rattle.jmodel.specs.declared.value.Answer.{Answer}
 use Rattle.jmodel.specs.declared.value.Answer.TheVariants.{Returned, Threw}
-use Rattle.jmodel.specs.History.{Words, overlaid, Agrees}
+use Rattle.jmodel.specs.history.History.{Words, overlaid, Agrees}
 use Rattle.objects.specs.declared.op.Slot.{Slot}
 use Rattle.objects.specs.declared.op.Slot.TheVariants.{Ref}
 use Rattle.objects.specs.declared.op.Phase.TheVariants.{Open}
-use Rattle.objects.specs.Program.{Row, Method, Program, name_at, is_counted}
-use Rattle.objects.specs.Region.{Region}
-use Rattle.objects.specs.State.{State}
-use Rattle.objects.specs.Step.{Frames, Asked, next, received, catch_at, unwinds}
-use Rattle.objects.specs.Call.{Direct, direct, next_direct, call_start}
-use Rattle.objects.specs.Call as call
-use Rattle.objects.specs.Attempt.{Log, answered, written, recorded, Reply, Gives, Refuses, Bounds, Meter, Run, On, next_run, unwound, refused, followed, throws}
-use Rattle.objects.specs.Meaning.{Represents}
-use Rattle.objects.specs.Typing.{Table}
-use Rattle.objects.specs.TypingLaw.{IsTypedProgram}
-use Rattle.objects.specs.Law.{IsOnWay, Matched, state_of}
+use Rattle.objects.specs.semantics.Program.{Row, Method, Program, name_at, is_counted}
+use Rattle.objects.specs.semantics.Region.{Region}
+use Rattle.objects.specs.semantics.State.{State}
+use Rattle.objects.specs.semantics.Step.{Frames, Asked, next, received, catch_at, unwinds}
+use Rattle.objects.specs.semantics.Call.{Direct, direct, next_direct, call_start}
+use Rattle.objects.specs.semantics.Call as call
+use Rattle.objects.specs.rewriting.Attempt.{Log, answered, written, recorded, Reply, Gives, Refuses, Bounds, Meter, Run, On, next_run, unwound, refused, followed, throws}
+use Rattle.objects.specs.history.Meaning.{Represents}
+use Rattle.objects.specs.typing.Typing.{Table}
+use Rattle.objects.specs.laws.TypingLaw.{IsTypedProgram}
+use Rattle.objects.specs.laws.Law.{IsOnWay, Matched, state_of}
 use Rattle.objects.proofs.Frames.{frame}
 use Rattle.objects.proofs.Inner.{IsAdded, IsInnerOp}
 use Rattle.objects.proofs.Above.{AboveCall, InsideCall, IsInnerAsked}

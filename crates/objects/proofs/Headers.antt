@@ -2,9 +2,9 @@
 use Rattle.std.proofs.Common.{◌≡◌, ℕ, ◌^◌, ◌<◌, List, Bool, true, false, arith}
 use Rattle.std.proofs.lemmas.Nat.{div-mul-add, mod-mul-add}
 use Rattle.jmodel.specs.declared.value.Value.{Value}
-use Rattle.objects.specs.Program.{Holds, Words, Elements, Program}
-use Rattle.objects.specs.State.{Object, State, header, length_of, type_in, length_in}
-use Rattle.objects.specs.Meaning.{IsTyped, IsHolding}
+use Rattle.objects.specs.semantics.Program.{Holds, Words, Elements, Program}
+use Rattle.objects.specs.semantics.State.{Object, State, header, length_of, type_in, length_in}
+use Rattle.objects.specs.history.Meaning.{IsTyped, IsHolding}
 
 length_below : (P : Program) (τ : State) (h : Holds) (array : Bool) (vs : List Value) (t : ℕ) → IsHolding P τ h array vs → length_of (record { type = t; array = array; values = vs }) < 2 ^ 32
 length_below P τ (Words ds) false vs t h = omega arith

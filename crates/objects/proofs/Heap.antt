@@ -13,11 +13,11 @@ use Rattle.jmodel.specs.declared.value.Value.TheVariants as value
 use Rattle.objects.specs.declared.op.Place.{Place}
 use Rattle.objects.specs.declared.op.WordType.{WordType}
 use Rattle.objects.specs.declared.op.WordType.TheVariants as word
-use Rattle.objects.specs.Program.{Declared, Holds, Words, Elements, Row, Field, Program, row_at}
-use Rattle.objects.specs.TypeOrder.{string_class}
-use Rattle.objects.specs.Region.{Region, next_reference, has_words}
-use Rattle.objects.specs.State.{Object, State, value_at, value_held, type_at, put, words_of, with_object, first_of, object_of}
-use Rattle.objects.specs.Meaning.{IsInRegion, IsObjectOf, IsReferenceTo, IsValueOf, IsHeld, AreHeld, IsHolding, IsTyped, HasBase, IsFieldHeld, IsHeap}
+use Rattle.objects.specs.semantics.Program.{Declared, Holds, Words, Elements, Row, Field, Program, row_at}
+use Rattle.objects.specs.typing.TypeOrder.{string_class}
+use Rattle.objects.specs.semantics.Region.{Region, next_reference, has_words}
+use Rattle.objects.specs.semantics.State.{Object, State, value_at, value_held, type_at, put, words_of, with_object, first_word, object_of}
+use Rattle.objects.specs.history.Meaning.{IsInRegion, IsObjectOf, IsReferenceTo, IsValueOf, IsHeld, AreHeld, IsHolding, IsTyped, HasBase, IsFieldHeld, IsHeap}
 pub use Rattle.objects.proofs.Room.{HasWords, words_there}
 
 pub one_or : (r q : ℕ) → (r ≡ q) ⊎ (r ≢ q)
@@ -112,7 +112,7 @@ values_set P σ (u ∷ ds) [] i d v h e f = absurd h
 values_set P σ (u ∷ ds) (w ∷ vs) zero d v h e f = let s : d ≡ u = cc in (subst (λ (d : Declared). IsHeld P σ d v) s f, h.1)
 values_set P σ (u ∷ ds) (w ∷ vs) (suc i) d v h e f = (h.0, values_set P σ ds vs i d v h.1 e f)
 
-first_fits : (P : Program) (σ : State) (c : List ℕ) (t : WordType) → IsHeld P σ (record { word = t; class = c }) (first_of (record { word = t; class = c }))
+first_fits : (P : Program) (σ : State) (c : List ℕ) (t : WordType) → IsHeld P σ (record { word = t; class = c }) (first_word (record { word = t; class = c }))
 first_fits P σ c word.Reference = tt
 first_fits P σ c word.Long = omega arith
 first_fits P σ c word.Boolean = omega arith
@@ -121,11 +121,11 @@ first_fits P σ c word.Char = omega arith
 first_fits P σ c word.Short = omega arith
 first_fits P σ c word.Int = omega arith
 
-firsts_fit : (P : Program) (σ : State) (ds : List Declared) → AreHeld P σ ds (map first_of ds)
+firsts_fit : (P : Program) (σ : State) (ds : List Declared) → AreHeld P σ ds (map first_word ds)
 firsts_fit P σ [] = tt
 firsts_fit P σ (d ∷ ds) = (first_fits P σ d.class d.word, firsts_fit P σ ds)
 
-copies_fit : (P : Program) (σ : State) (d : Declared) (n : ℕ) → AllByRecursion (IsHeld P σ d) (replicate n (first_of d))
+copies_fit : (P : Program) (σ : State) (d : Declared) (n : ℕ) → AllByRecursion (IsHeld P σ d) (replicate n (first_word d))
 copies_fit P σ d zero = tt
 copies_fit P σ d (suc n) = (first_fits P σ d.class d.word, copies_fit P σ d n)
 
@@ -339,4 +339,4 @@ object_fits P τ t n r is lt = record { row = r; is = ap (row_at P) (object_type
   where
     by : (x : Holds) → IsHolding P τ x (object_of t n (record r { holds = x })).array (object_of t n (record r { holds = x })).values
     by (Words ds) = firsts_fit P τ ds
-    by (Elements d name) = let e = length-replicate n (first_of d) in (omega (arith, e, lt), copies_fit P τ d n)
+    by (Elements d name) = let e = length-replicate n (first_word d) in (omega (arith, e, lt), copies_fit P τ d n)

@@ -26,9 +26,9 @@ use Rattle.objects.specs.declared.op.Use.{Use}
 use Rattle.objects.specs.declared.op.Use.TheVariants.{Selects, Implements, Indexes}
 use Rattle.objects.specs.declared.op.Doing.{Doing}
 use Rattle.objects.specs.declared.op.Doing.TheVariants.{Invoke, Head, Ask}
-use Rattle.objects.specs.Value.{kept_by, word_of}
-use Rattle.objects.specs.Program.{Field, Method, Program, method_at, field_at, has_code, selected, is_counted}
-use Rattle.objects.specs.Step.{Frame, Did, Does, Wrong, with_stack, on_top, int_in, on_int, ref_in, on_ref, second_in, long_in, on_long, on_number, context_in, on_context, loaded_in, on_loaded, object_in, on_value, sort_of, on_word, slot_in, field_in, number_in, static_in, method_in, place_in, element_in, not_null, if_object, throws, divides, branches, loads, set_local, set_long, stores, without, over_object, runs, sized, calls, does, inner}
+use Rattle.objects.specs.semantics.Value.{kept_by, word_of}
+use Rattle.objects.specs.semantics.Program.{Field, Method, Program, method_at, field_at, has_code, selected, is_counted}
+use Rattle.objects.specs.semantics.Step.{Frame, Did, Does, Wrong, with_stack, on_top, int_in, on_int, ref_in, on_ref, second_in, long_in, on_long, on_number, context_in, on_context, loaded_in, on_loaded, object_in, on_value, sort_of, on_word, slot_in, field_in, number_in, static_in, method_in, place_in, element_in, not_null, if_object, throws, divides, branches, loads, set_local, set_long, stores, without, over_object, runs, sized, context_calls, does, inner}
 
 module _ (Q : Program) (first : ℕ) where
   -- a method that was added
@@ -221,7 +221,7 @@ module _ (Q : Program) (first : ℕ) where
     stores_in sort.Reference i g e = top g.stack _ (λ v s. an_object v _ (one_set _ i _ (with_stack g s) e))
     stores_in sort.Long i g e = long g.stack _ (λ x s. long_set _ i x (with_stack g s) e)
 
-    called : (c : ContextCall) → IsInnerCall c → (g : Frame) → g.method ≡ m → IsInnerDid (calls c g)
+    called : (c : ContextCall) → IsInnerCall c → (g : Frame) → g.method ≡ m → IsInnerDid (context_calls c g)
     called call.BeforeRead a g e = long g.stack _ (λ i s. ref s _ (λ o s. context s _ (λ s. some o (with_stack g s) _ e (place o _ _ (λ p. (e, tt))))))
     called (call.OnRead t) a g e = long g.stack _ (λ i s. loaded s _ (λ s. ref s _ (λ o s. context s _ (λ s. place o _ _ (λ p. (e, tt))))))
     called (call.OnWrite t) a g e = long g.stack _ (λ i s. a_word t s _ (λ v s. ref s _ (λ o s. context s _ (λ s. some o (with_stack g s) _ e (place o (cast_unsigned w64 i) (λ p. Does (Ask (request.Write p (word_of v))) (with_stack g s)) (λ p. (e, tt)))))))

@@ -5,7 +5,7 @@ use Rattle.std.specs.List.{AllByRecursion, flat_map, list_any, list_all, positio
 use Rattle.std.proofs.lemmas.Bool.Decides.{nat_tests}
 use Rattle.std.proofs.lemmas.Option.{slice_get-get_or}
 use Rattle.std.proofs.lemmas.List.Quantifiers.{position-Some}
-use Rattle.jmodel.specs.Decoding.{in_front, each}
+use Rattle.objects.specs.linking.Each.{in_front, each}
 
 -- it stands at a place
 abbrev pub IsAt : {A : Type 0} → List A → A → Type 0

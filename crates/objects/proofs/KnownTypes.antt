@@ -3,10 +3,10 @@ use Rattle.std.proofs.Common.{◌≡◌, ℕ, List, [], ◌∷◌, ◌++◌, dro
 use Rattle.std.specs.Prelude.{codes, bytes_eq, if◌then◌else◌}
 use Rattle.std.proofs.lemmas.Slice.Eq.{bytes_eq-Decides}
 use Rattle.jmodel.specs.declared.typing.VType.TheVariants.{Ref}
-use Rattle.objects.specs.Program.{Declared, Row, Program}
-use Rattle.objects.specs.TypeOrder.{object_class, throwable_class, conflict_class, conflict_classes, from_class, IsWithin, is_array, is_element_within, element_class, without_last, classes_from, class_read, element_read, name_read, read_in}
-use Rattle.objects.specs.Typing.{has_references}
-use Rattle.objects.specs.Source.{IsClass, AreTypes, IsReadName, IsKnownName}
+use Rattle.objects.specs.semantics.Program.{Declared, Row, Program}
+use Rattle.objects.specs.typing.TypeOrder.{object_class, throwable_class, conflict_class, conflict_classes, from_class, IsWithin, is_array, is_element_within, element_class, without_last, classes_from, class_read, element_read, name_read, read_in}
+use Rattle.objects.specs.typing.Typing.{has_references}
+use Rattle.objects.specs.typing.Source.{IsClass, AreTypes, IsReadName, IsKnownName}
 use Rattle.objects.proofs.Order.{Among, either, first, later, plain_name, Above, by_class, class_row, object_top, array_above, by_found, free_is}
 use Rattle.objects.proofs.Elements.{inner_name, never, Shape, shape, shaped, deeper, under_object, class, same, Within, within, is_within_by, arrays, object, classes}
 use Rattle.objects.proofs.ReadTypes.{class_is_read, object_is_read, among_own, lines, elements_read}

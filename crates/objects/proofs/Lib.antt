@@ -148,3 +148,9 @@ pub mod CleanOps
 pub mod NarrowestTypes
 pub mod CastNames
 pub mod Returns
+pub mod TakenLaws
+pub mod InstrNumbers
+pub mod Narrow
+pub mod Fetching
+pub mod StaticBases
+pub mod Ascending

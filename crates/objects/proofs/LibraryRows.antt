@@ -6,10 +6,10 @@ use Rattle.std.proofs.lemmas.Slice.Eq.{bytes_eq-Decides}
 use Rattle.jmodel.specs.declared.typing.VType.TheVariants as type
 use Rattle.objects.specs.declared.op.Trap.{Trap}
 use Rattle.objects.specs.declared.op.Trap.TheVariants.{Arithmetic, NullPointer, ArrayIndex, ArrayStore, NegativeArraySize, ClassCast, AbstractMethod, IncompatibleClassChange}
-use Rattle.objects.specs.Program.{Row, Field, Method, Program, row_at, is_instance}
-use Rattle.objects.specs.LibraryClasses.{under, object, throwable, exception, error, runtime_exception, index_out_of_bounds, linkage_error, class_change_error, library_rows}
-use Rattle.objects.specs.TypeOrder.{string_class, context_class, conflict_class, conflict_classes, from_class, classes_from, is_within, IsWithin, name_read}
-use Rattle.objects.specs.Source.{IsRowOf, IsTrapClass, IsKnownName}
+use Rattle.objects.specs.semantics.Program.{Row, Field, Method, Program, row_at, is_instance}
+use Rattle.objects.specs.linking.LibraryClasses.{under, object, throwable, exception, error, runtime_exception, index_out_of_bounds, linkage_error, class_change_error, library_rows}
+use Rattle.objects.specs.typing.TypeOrder.{string_class, context_class, conflict_class, conflict_classes, from_class, classes_from, is_within, IsWithin, name_read}
+use Rattle.objects.specs.typing.Source.{IsRowOf, IsTrapClass, IsKnownName}
 
 -- ---- lists of names
 

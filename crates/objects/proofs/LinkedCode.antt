@@ -13,29 +13,29 @@ use Rattle.jmodel.specs.declared.instruction.Operands.{Operands}
 use Rattle.jmodel.specs.declared.instruction.Operands.TheVariants as operands
 use Rattle.jmodel.specs.declared.instruction.Instr.{Instr}
 use Rattle.jmodel.specs.declared.value.Value.TheVariants as value
-use Rattle.jmodel.specs.ClassFile.{ClassFile}
-use Rattle.jmodel.specs.Pool.{entry, string, class_name, field_name, member_name}
-use Rattle.jmodel.specs.ClassRules.{IsConstant}
-use Rattle.jmodel.specs.Constants.{as_int}
-use Rattle.jmodel.specs.Classes.{Declared}
-use Rattle.jmodel.specs.ClassesTaken.{index_of}
-use Rattle.jmodel.specs.Coded.{Coded, decoded}
-use Rattle.jmodel.specs.Decoding.{number_at, each, table_cases}
-use Rattle.jmodel.proofs.Numbers.{IsSmallNumber, IsSmallInstr}
+use Rattle.jmodel.specs.format.ClassFile.{ClassFile}
+use Rattle.jmodel.specs.format.Pool.{entry, string, class_name, field_name, member_name}
+use Rattle.jmodel.specs.format.ClassRules.{IsConstant}
+use Rattle.jmodel.specs.format.Constants.{as_int}
+use Rattle.objects.specs.linking.Classes.{Declared}
+use Rattle.objects.specs.linking.Taken.{index_of}
+use Rattle.objects.specs.linking.Code.{Coded, decoded, number_at, table_cases}
+use Rattle.objects.specs.linking.Each.{each}
+use Rattle.objects.proofs.InstrNumbers.{IsSmallNumber, IsSmallInstr}
 use Rattle.objects.specs.declared.op.Op.{Op}
 use Rattle.objects.specs.declared.op.Op.TheVariants as op
 use Rattle.objects.specs.declared.op.Catch.{Catch}
 use Rattle.objects.specs.declared.op.Catches.{Catches}
 use Rattle.objects.specs.declared.op.Catches.TheVariants.{Conflict, Any, Of}
-use Rattle.objects.specs.Program.{Method, Program}
-use Rattle.objects.specs.TypeOrder.{conflict_class}
-use Rattle.objects.specs.LibraryMethods.{is_library}
-use Rattle.objects.specs.Constructs.{unknown_in, catch_fault}
-use Rattle.objects.specs.Layout.{rows, texts_of, places_from, made_arrays}
-use Rattle.objects.specs.Decoding.{Symbols, is_among, number_op, pushed_op, text_op, ldc_op, pool_op, meaning, op_of, ops_of, end_at, catches_named, catches_of, make_catch, catch_of, primitive_array, new_array, field_op, call_op, class_op}
-use Rattle.objects.specs.Linking.{taken_methods, original_symbols}
-use Rattle.objects.specs.Source.{IsSourceOp, IsSourceCatch, IsSourceCatches, AreTypes}
-use Rattle.objects.specs.LinkingLaw.{AreRead}
+use Rattle.objects.specs.semantics.Program.{Method, Program}
+use Rattle.objects.specs.typing.TypeOrder.{conflict_class}
+use Rattle.objects.specs.linking.LibraryMethods.{is_library}
+use Rattle.objects.specs.linking.Constructs.{unknown_in, catch_fault}
+use Rattle.objects.specs.linking.Layout.{rows, texts_of, places_from, made_arrays}
+use Rattle.objects.specs.linking.Decoding.{Symbols, is_among, number_op, pushed_op, text_op, ldc_op, pool_op, meaning, op_of, ops_of, end_at, catches_named, catches_of, make_catch, catch_of, primitive_array, new_array, field_op, call_op, class_op}
+use Rattle.objects.specs.linking.Linking.{taken_methods, original_symbols}
+use Rattle.objects.specs.typing.Source.{IsSourceOp, IsSourceCatch, IsSourceCatches, AreTypes}
+use Rattle.objects.specs.laws.LinkingLaw.{AreRead}
 use Rattle.objects.proofs.Items.{IsAt, item, placed, from_each, all_items}
 use Rattle.objects.proofs.AsRead.{entry_at, is_file, no_conflict}
 use Rattle.objects.proofs.DeclaredMembers.{of_methods}

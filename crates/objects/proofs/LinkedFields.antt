@@ -3,17 +3,18 @@ use Rattle.std.proofs.Common.{◌≡◌, inl, inr, ℕ, zero, suc, ◌+◌, ◌*
 use Rattle.std.specs.Prelude.{slice_get, position, bytes_eq, sum_by, ◌&&◌, if◌then◌else◌}
 use Rattle.std.proofs.lemmas.Slice.Eq.{bytes_eq-Decides}
 use Rattle.std.proofs.lemmas.List.Sums.{sum_by-cons}
-use Rattle.jmodel.specs.ClassFile.{Member, ClassFile}
-use Rattle.jmodel.specs.Pool.{utf8}
-use Rattle.jmodel.specs.Layout.{is_static, base_of, text_or_none}
-use Rattle.jmodel.specs.Superclasses.{class_named, super_name, with_above, upward}
-use Rattle.jmodel.specs.Classes.{Declared, full_name}
-use Rattle.objects.specs.Program.{Field, Program, field_at}
-use Rattle.objects.specs.Resolution.{is_interface}
-use Rattle.objects.specs.Decoding.{is_field_of}
-use Rattle.objects.specs.Constructs.{is_floating}
-use Rattle.objects.specs.Layout.{field_type, words_upward, field_record, if_not, fields_behind, class_fields, fields_from, fields_of}
-use Rattle.objects.specs.LinkingLaw.{AreRead}
+use Rattle.jmodel.specs.format.ClassFile.{Member, ClassFile}
+use Rattle.jmodel.specs.format.Pool.{utf8, text_or_none}
+use Rattle.objects.specs.linking.Members.{is_static}
+use Rattle.objects.specs.linking.StaticBases.{base_of}
+use Rattle.objects.specs.linking.Superclasses.{class_named, super_name, with_above, upward}
+use Rattle.objects.specs.linking.Classes.{Declared, full_name}
+use Rattle.objects.specs.semantics.Program.{Field, Program, field_at}
+use Rattle.objects.specs.linking.Resolution.{is_interface}
+use Rattle.objects.specs.linking.Decoding.{is_field_of}
+use Rattle.objects.specs.linking.Constructs.{is_floating}
+use Rattle.objects.specs.linking.Layout.{field_type, words_upward, field_record, if_not, fields_behind, class_fields, fields_from, fields_of}
+use Rattle.objects.specs.laws.LinkingLaw.{AreRead}
 use Rattle.objects.proofs.Items.{IsAt, later, either_part, in_front_part, in_back_part, placed, places}
 use Rattle.objects.proofs.DeclaredMembers.{same_class, same_field}
 use Rattle.objects.proofs.Links.{IsLinkedTo}

@@ -8,34 +8,34 @@ use Rattle.jmodel.specs.declared.class_file.FieldType.{FieldType}
 use Rattle.jmodel.specs.declared.refusal.Refusal.{Refusal}
 use Rattle.jmodel.specs.declared.typing.VType.{VType}
 use Rattle.jmodel.specs.declared.typing.VType.TheVariants as type
-use Rattle.jmodel.specs.ClassFile.{ClassFile}
-use Rattle.jmodel.specs.Pool.{utf8}
-use Rattle.jmodel.specs.ClassRules.{IsMethod}
-use Rattle.jmodel.specs.Descriptor.{Signature, IsMethodDescriptor}
-use Rattle.jmodel.specs.DescriptorReading.{signature_of}
-use Rattle.jmodel.specs.Layout.{is_static, text_or_none}
-use Rattle.jmodel.specs.Linking.{is_reserved, mark_fault}
-use Rattle.jmodel.specs.Reading.{◌>>=◌}
-use Rattle.jmodel.specs.Superclasses.{own_name}
-use Rattle.jmodel.specs.Classes.{Declared as DeclaredMember, methods_in, full_name}
-use Rattle.jmodel.specs.Coded.{Coded, decoded}
-use Rattle.jmodel.specs.Decoding.{each}
+use Rattle.jmodel.specs.format.ClassFile.{ClassFile}
+use Rattle.jmodel.specs.format.Pool.{utf8, text_or_none}
+use Rattle.jmodel.specs.format.ClassRules.{IsMethod}
+use Rattle.jmodel.specs.format.Descriptor.{Signature, IsMethodDescriptor}
+use Rattle.jmodel.specs.format.DescriptorReading.{signature_of}
+use Rattle.objects.specs.linking.Members.{is_static, own_name}
+use Rattle.objects.specs.linking.Reserved.{is_reserved}
+use Rattle.objects.specs.linking.Faults.{mark_fault}
+use Rattle.jmodel.specs.format.Reading.{◌>>=◌}
+use Rattle.objects.specs.linking.Classes.{Declared as DeclaredMember, methods_in, full_name}
+use Rattle.objects.specs.linking.Code.{Coded, decoded}
+use Rattle.objects.specs.linking.Each.{each}
 use Rattle.objects.specs.declared.op.WordType.{WordType}
 use Rattle.objects.specs.declared.op.WordType.TheVariants as word
 use Rattle.objects.specs.declared.op.Dispatch.{Dispatch}
 use Rattle.objects.specs.declared.op.Dispatch.TheVariants as dispatch
 use Rattle.objects.specs.declared.op.Op.{Op}
 use Rattle.objects.specs.declared.op.Catch.{Catch}
-use Rattle.objects.specs.Program.{Declared, Method, Program, method_at}
-use Rattle.objects.specs.TypeOrder.{context_class, name_read, place_types}
-use Rattle.objects.specs.Typing.{is_constructor, arguments}
-use Rattle.objects.specs.Rewriting.{as_result, before_end, context_type, with_context}
-use Rattle.objects.specs.Resolution.{is_abstract_member}
-use Rattle.objects.specs.Layout.{rows, made_arrays, class_read, declared_as, word_kind, referred}
-use Rattle.objects.specs.Decoding.{Symbols, ops_of, catch_of}
-use Rattle.objects.specs.Linking.{is_exact, dispatch_of, receiver_types, parameter_types, result_type, Body, no_body, with_catches, coded_body, body_of, method_with, has_no_code, decoded_member, taken_methods, original_symbols}
-use Rattle.objects.specs.Source.{AreTypes, IsReadType, AreParameters, IsResult, HasObject, HasCode, IsSourceOp, IsSourceCatch, IsSourceMethod, AreNamed}
-use Rattle.objects.specs.LinkingLaw.{AreRead, IsUpward}
+use Rattle.objects.specs.semantics.Program.{Declared, Method, Program, method_at}
+use Rattle.objects.specs.typing.TypeOrder.{context_class, name_read, place_types}
+use Rattle.objects.specs.typing.Typing.{is_constructor, arguments}
+use Rattle.objects.specs.rewriting.Rewriting.{as_result, before_end, context_type, with_context}
+use Rattle.objects.specs.linking.Resolution.{is_abstract_member}
+use Rattle.objects.specs.linking.Layout.{rows, made_arrays, class_read, declared_as, word_kind, referred}
+use Rattle.objects.specs.linking.Decoding.{Symbols, ops_of, catch_of}
+use Rattle.objects.specs.linking.Linking.{is_exact, dispatch_of, receiver_types, parameter_types, result_type, Body, no_body, with_catches, coded_body, body_of, method_with, has_no_code, decoded_member, taken_methods, original_symbols}
+use Rattle.objects.specs.typing.Source.{AreTypes, IsReadType, AreParameters, IsResult, HasObject, HasCode, IsSourceOp, IsSourceCatch, IsSourceMethod, AreNamed}
+use Rattle.objects.specs.laws.LinkingLaw.{AreRead, IsUpward}
 use Rattle.objects.proofs.Items.{IsAt, item, each_many}
 use Rattle.objects.proofs.AsRead.{is_file, unreserved}
 use Rattle.objects.proofs.Flags.{abstract_by}

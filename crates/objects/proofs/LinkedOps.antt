@@ -7,7 +7,8 @@ use Rattle.std.proofs.lemmas.Bool.Decides.{nat_tests}
 use Rattle.std.proofs.lemmas.Int.{ints}
 use Rattle.jmodel.specs.declared.instruction.Instr.{Instr}
 use Rattle.jmodel.specs.declared.value.Value.TheVariants as value
-use Rattle.jmodel.specs.Decoding.{number_at, each, numbered_case}
+use Rattle.objects.specs.linking.Code.{number_at, numbered_case}
+use Rattle.objects.specs.linking.Each.{each}
 use Rattle.objects.specs.declared.op.Sort.TheVariants as sort
 use Rattle.objects.specs.declared.op.Width.{Width}
 use Rattle.objects.specs.declared.op.Width.TheVariants as width
@@ -19,9 +20,9 @@ use Rattle.objects.specs.declared.op.Division.TheVariants as division
 use Rattle.objects.specs.declared.op.Unary.TheVariants as unary
 use Rattle.objects.specs.declared.op.Conversion.TheVariants as conversion
 use Rattle.objects.specs.declared.op.StackOp.TheVariants as stack
-use Rattle.objects.specs.Program.{Method, Program}
-use Rattle.objects.specs.Source.{IsSourceOp}
-use Rattle.objects.specs.Decoding.{is_among, constant_op, short_local_op, element_type, element_op, stack_op, arithmetic_of, arithmetic_op, conversion_op, leaving_op, simple_op, local_op, wide_op, test_of, jump_to, jump_op, switch_to, switch_op}
+use Rattle.objects.specs.semantics.Program.{Method, Program}
+use Rattle.objects.specs.typing.Source.{IsSourceOp}
+use Rattle.objects.specs.linking.Decoding.{is_among, constant_op, short_local_op, element_type, element_op, stack_op, arithmetic_of, arithmetic_op, conversion_op, leaving_op, simple_op, local_op, wide_op, test_of, jump_to, jump_op, switch_to, switch_op}
 use Rattle.objects.proofs.Items.{placed, from_each, all_items}
 
 -- ---- forms

@@ -6,27 +6,28 @@ use Rattle.std.proofs.lemmas.Slice.Eq.{bytes_eq-Decides}
 use Rattle.std.proofs.lemmas.Bool.Decides.{Decides-eqb}
 use Rattle.jmodel.specs.declared.class_file.FieldType.{FieldType}
 use Rattle.jmodel.specs.declared.class_file.FieldType.TheVariants as field
-use Rattle.jmodel.specs.ClassFile.{ClassFile}
-use Rattle.jmodel.specs.Descriptor.{is_array_name, field_descriptor, IsClassName, IsElement as IsElementType, IsReferenceName, IsFieldType, Signature, result_descriptor, DescribesMethod, IsFieldDescriptor}
-use Rattle.jmodel.specs.DescriptorReading.{type_of, signature_of}
-use Rattle.jmodel.specs.Linking.{has_part, is_reserved}
-use Rattle.jmodel.specs.Superclasses.{own_name, class_named}
+use Rattle.jmodel.specs.format.ClassFile.{ClassFile}
+use Rattle.jmodel.specs.format.Descriptor.{is_array_name, field_descriptor, IsClassName, IsElement as IsElementType, IsReferenceName, IsFieldType, Signature, result_descriptor, DescribesMethod, IsFieldDescriptor}
+use Rattle.jmodel.specs.format.DescriptorReading.{type_of, signature_of}
+use Rattle.objects.specs.linking.Reserved.{has_part, is_reserved}
+use Rattle.objects.specs.linking.Members.{own_name}
+use Rattle.objects.specs.linking.Superclasses.{class_named}
 use Rattle.const_pool.proofs.Types.{of_type}
 use Rattle.const_pool.proofs.Signatures.{signature_found}
 use Rattle.objects.specs.declared.op.WordType.{WordType}
 use Rattle.objects.specs.declared.op.WordType.TheVariants as word
-use Rattle.objects.specs.LibraryClasses.{library_rows}
-use Rattle.objects.specs.LibraryMethods.{is_library}
-use Rattle.objects.specs.Program.{Row, Program}
-use Rattle.objects.specs.TypeOrder.{object_class, context_class, is_array, is_class_name, read_in, place_types}
-use Rattle.objects.specs.TypeOrder as typing
-use Rattle.objects.specs.Typing.{result_types}
-use Rattle.objects.specs.Rewriting.{as_result}
-use Rattle.objects.specs.Resolution.{is_interface, holds_of}
-use Rattle.objects.specs.ClassesFaults.{supers_fault}
-use Rattle.objects.specs.Layout.{rows, class_row, class_read, descriptor_read, name_read, word_kind, referred, declared_as, made_arrays}
-use Rattle.objects.specs.Source.{AreTypes, IsReadName, IsReadType, IsReadWord}
-use Rattle.objects.specs.LinkingLaw.{AreRead}
+use Rattle.objects.specs.linking.LibraryClasses.{library_rows}
+use Rattle.objects.specs.linking.LibraryMethods.{is_library}
+use Rattle.objects.specs.semantics.Program.{Row, Program}
+use Rattle.objects.specs.typing.TypeOrder.{object_class, context_class, is_array, is_class_name, read_in, place_types}
+use Rattle.objects.specs.typing.TypeOrder as typing
+use Rattle.objects.specs.typing.Typing.{result_types}
+use Rattle.objects.specs.rewriting.Rewriting.{as_result}
+use Rattle.objects.specs.linking.Resolution.{is_interface, holds_of}
+use Rattle.objects.specs.linking.ClassesFaults.{supers_fault}
+use Rattle.objects.specs.linking.Layout.{rows, class_row, class_read, descriptor_read, name_read, word_kind, referred, declared_as, made_arrays}
+use Rattle.objects.specs.typing.Source.{AreTypes, IsReadName, IsReadType, IsReadWord}
+use Rattle.objects.specs.laws.LinkingLaw.{AreRead}
 use Rattle.objects.proofs.Items.{IsAt, item, found}
 use Rattle.objects.proofs.AsRead.{class_names, no_context}
 use Rattle.objects.proofs.ClassTypes.{new_to_library}

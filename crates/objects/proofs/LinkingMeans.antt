@@ -5,29 +5,28 @@ use Rattle.std.specs.List.{AllByRecursion, flat_map}
 use Rattle.jmodel.specs.declared.class_file.Handler.{Handler}
 use Rattle.jmodel.specs.declared.instruction.Instr.{Instr}
 use Rattle.jmodel.specs.declared.refusal.Refusal.{Refusal}
-use Rattle.jmodel.specs.ClassFile.{Pool, ClassFile}
-use Rattle.jmodel.specs.Pool.{utf8, class_name}
-use Rattle.jmodel.specs.ClassRules.{IsMethod}
-use Rattle.jmodel.specs.Descriptor.{Signature, IsMethodDescriptor}
-use Rattle.jmodel.specs.DescriptorReading.{signature_of}
-use Rattle.jmodel.specs.Instruction.{is_start, places_of_handler}
-use Rattle.jmodel.specs.Layout.{text_or_none}
-use Rattle.jmodel.specs.Linking.{unless}
-use Rattle.jmodel.specs.Reading.{◌>>=◌}
-use Rattle.jmodel.specs.Classes.{Declared}
-use Rattle.jmodel.specs.Coded.{Coded, decoded}
-use Rattle.jmodel.specs.Decoding.{number_at, each}
+use Rattle.jmodel.specs.format.ClassFile.{Pool, ClassFile}
+use Rattle.jmodel.specs.format.Pool.{utf8, class_name, text_or_none}
+use Rattle.jmodel.specs.format.ClassRules.{IsMethod}
+use Rattle.jmodel.specs.format.Descriptor.{Signature, IsMethodDescriptor}
+use Rattle.jmodel.specs.format.DescriptorReading.{signature_of}
+use Rattle.jmodel.specs.format.Instruction.{is_start, places_of_handler}
+use Rattle.objects.specs.linking.Faults.{unless}
+use Rattle.jmodel.specs.format.Reading.{◌>>=◌}
+use Rattle.objects.specs.linking.Classes.{Declared}
+use Rattle.objects.specs.linking.Code.{Coded, decoded, number_at}
+use Rattle.objects.specs.linking.Each.{each}
 use Rattle.const_pool.proofs.Signatures.{signature_again}
 use Rattle.objects.specs.declared.op.Op.{Op}
 use Rattle.objects.specs.declared.op.Catch.{Catch}
 use Rattle.objects.specs.declared.op.Catches.{Catches}
 use Rattle.objects.specs.declared.op.Catches.TheVariants.{Any}
-use Rattle.objects.specs.Program.{Method, Program}
-use Rattle.objects.specs.Layout.{rows, fields_of, text_places}
-use Rattle.objects.specs.Decoding.{Symbols, op_of, ops_of, end_at, catches_named, catches_of, make_catch, catch_of}
-use Rattle.objects.specs.Linking.{with_catches, coded_body, body_of, receiver_types, parameter_types, method_with, signature_in, shaped, method_of, decoded_member, all_decoded, taken_methods, original_symbols, linked_methods, program_with, constructs_fault}
-use Rattle.objects.specs.ClassesFaults.{supers_fault, marks_fault, members_fault}
-use Rattle.objects.specs.LinkingLaw.{AreRead, MeaningLaw}
+use Rattle.objects.specs.semantics.Program.{Method, Program}
+use Rattle.objects.specs.linking.Layout.{rows, fields_of, text_places}
+use Rattle.objects.specs.linking.Decoding.{Symbols, op_of, ops_of, end_at, catches_named, catches_of, make_catch, catch_of}
+use Rattle.objects.specs.linking.Linking.{with_catches, coded_body, body_of, receiver_types, parameter_types, method_with, signature_in, shaped, method_of, decoded_member, all_decoded, taken_methods, original_symbols, linked_methods, program_with, constructs_fault}
+use Rattle.objects.specs.linking.ClassesFaults.{supers_fault, marks_fault, members_fault}
+use Rattle.objects.specs.laws.LinkingLaw.{AreRead, MeaningLaw}
 use Rattle.objects.proofs.Items.{IsAt, item, all_items, of_zip}
 use Rattle.objects.proofs.AsRead.{is_file}
 use Rattle.objects.proofs.DeclaredMembers.{of_methods}

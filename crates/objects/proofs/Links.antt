@@ -3,16 +3,16 @@ use Rattle.std.proofs.Common.{◌≡◌, ℕ, zero, suc, ◌<◌, List, [], ◌�
 use Rattle.std.specs.Prelude.{slice_get, zip, option_map, option_and_then}
 use Rattle.std.proofs.lemmas.Option.{slice_get-get_or}
 use Rattle.jmodel.specs.declared.refusal.Refusal.{Refusal}
-use Rattle.jmodel.specs.ClassFile.{ClassFile}
-use Rattle.jmodel.specs.Reading.{◌>>=◌}
-use Rattle.jmodel.specs.Classes.{Declared}
-use Rattle.jmodel.specs.Coded.{Coded}
-use Rattle.jmodel.specs.Descriptor.{Signature}
-use Rattle.jmodel.specs.Linking.{unless}
-use Rattle.objects.specs.Program.{Method, Program, method_at}
-use Rattle.objects.specs.ClassesFaults.{supers_fault, marks_fault, members_fault}
-use Rattle.objects.specs.Layout.{rows, fields_of, text_places}
-use Rattle.objects.specs.Linking.{Body, receiver_types, parameter_types, body_of, method_with, signature_in, shaped, method_of, decoded_member, all_decoded, taken_methods, original_symbols, linked_methods, program_with, constructs_fault, linking}
+use Rattle.jmodel.specs.format.ClassFile.{ClassFile}
+use Rattle.jmodel.specs.format.Reading.{◌>>=◌}
+use Rattle.objects.specs.linking.Classes.{Declared}
+use Rattle.objects.specs.linking.Code.{Coded}
+use Rattle.jmodel.specs.format.Descriptor.{Signature}
+use Rattle.objects.specs.linking.Faults.{unless}
+use Rattle.objects.specs.semantics.Program.{Method, Program, method_at}
+use Rattle.objects.specs.linking.ClassesFaults.{supers_fault, marks_fault, members_fault}
+use Rattle.objects.specs.linking.Layout.{rows, fields_of, text_places}
+use Rattle.objects.specs.linking.Linking.{Body, receiver_types, parameter_types, body_of, method_with, signature_in, shaped, method_of, decoded_member, all_decoded, taken_methods, original_symbols, linked_methods, program_with, constructs_fault, linking}
 use Rattle.objects.proofs.Items.{from_each, each_many, of_zip}
 
 -- ---- lists of results

@@ -3,8 +3,8 @@ use Rattle.std.proofs.Common.{◌≡◌, ◌-◌, ◌≤◌, List, [], ◌∷◌
 use Rattle.std.proofs.lemmas.List.{length-replicate}
 use Rattle.jmodel.specs.declared.typing.VType.{VType}
 use Rattle.jmodel.specs.declared.typing.VType.TheVariants.{Top}
-use Rattle.objects.specs.Program.{Method, Program}
-use Rattle.objects.specs.Typing.{Table, is_constructor, first_locals, first_types, IsTyping}
+use Rattle.objects.specs.semantics.Program.{Method, Program}
+use Rattle.objects.specs.typing.Typing.{Table, is_constructor, first_locals, first_types, IsTyping}
 
 pub first_many : (b : Bool) (ts : List VType) → length (first_locals b ts) ≡ length ts
 first_many true [] = refl

@@ -9,22 +9,22 @@ use Rattle.jmodel.specs.declared.value.Value.{Value}
 use Rattle.jmodel.specs.declared.value.Answer.TheVariants.{Spent}
 use Rattle.jmodel.specs.declared.typing.VType.{VType}
 use Rattle.jmodel.specs.declared.typing.VType.TheVariants as type
-use Rattle.jmodel.specs.History.{Words}
+use Rattle.jmodel.specs.history.History.{Words}
 use Rattle.objects.specs.declared.op.Slot.{Slot}
 use Rattle.objects.specs.declared.op.Slot.TheVariants.{Context, Empty}
 use Rattle.objects.specs.declared.op.Phase.TheVariants.{Open, Ready}
 use Rattle.objects.specs.declared.op.Dispatch.TheVariants as dispatch
-use Rattle.objects.specs.Value.{slots_of}
-use Rattle.objects.specs.Program.{Method, Program, is_counted, method_at}
-use Rattle.objects.specs.State.{State}
-use Rattle.objects.specs.Step.{Frames, catch_at}
-use Rattle.objects.specs.Attempt.{Log, Reply, Bounds, Meter, Run, On, set_back, begun, count_of, run, run_start}
-use Rattle.objects.specs.Meaning.{Represents}
-use Rattle.objects.specs.Typing.{Table}
-use Rattle.objects.specs.TypingLaw.{IsTypedProgram}
-use Rattle.objects.specs.Source.{AreArguments}
-use Rattle.objects.specs.Law.{Matched}
-use Rattle.objects.specs.Rewriting.{rewritten, duplicate, spare_locals}
+use Rattle.objects.specs.semantics.Value.{slots_of}
+use Rattle.objects.specs.semantics.Program.{Method, Program, is_counted, method_at}
+use Rattle.objects.specs.semantics.State.{State}
+use Rattle.objects.specs.semantics.Step.{Frames, catch_at}
+use Rattle.objects.specs.rewriting.Attempt.{Log, Reply, Bounds, Meter, Run, On, set_back, begun, count_of, run, run_start}
+use Rattle.objects.specs.history.Meaning.{Represents}
+use Rattle.objects.specs.typing.Typing.{Table}
+use Rattle.objects.specs.laws.TypingLaw.{IsTypedProgram}
+use Rattle.objects.specs.typing.Source.{AreArguments}
+use Rattle.objects.specs.laws.Law.{Matched}
+use Rattle.objects.specs.rewriting.Rewriting.{rewritten, duplicate, spare_locals}
 use Rattle.objects.proofs.Frames.{frame}
 use Rattle.objects.proofs.Moved.{get_set_same, get_set_other}
 use Rattle.objects.proofs.Inner.{IsAdded, IsInnerOp}

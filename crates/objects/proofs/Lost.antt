@@ -8,7 +8,7 @@ use Rattle.std.proofs.lemmas.Option.{slice_get_within}
 use Rattle.jmodel.specs.declared.value.Value.{Value}
 use Rattle.jmodel.specs.declared.value.Answer.{Answer}
 use Rattle.jmodel.specs.declared.typing.VType.{VType}
-use Rattle.jmodel.specs.declared.op.Access.{Access}
+use Rattle.jmodel.specs.declared.access.Access.{Access}
 use Rattle.objects.specs.declared.op.Slot.{Slot}
 use Rattle.objects.specs.declared.op.Slot.TheVariants.{Int, Long, Second, Ref, Context, Loaded}
 use Rattle.objects.specs.declared.op.Sort.{Sort}
@@ -24,13 +24,13 @@ use Rattle.objects.specs.declared.op.Request.{Request}
 use Rattle.objects.specs.declared.op.Request.TheVariants as request
 use Rattle.objects.specs.declared.op.Asking.{Asking as Wanted}
 use Rattle.objects.specs.declared.op.Asking.TheVariants as asking
-use Rattle.objects.specs.Value.{pushed, value_of}
-use Rattle.objects.specs.Program.{Row, Method, Program, row_at, is_counted}
-use Rattle.objects.specs.Region.{next_reference}
-use Rattle.objects.specs.State.{Object, type_in, object_of}
-use Rattle.objects.specs.Step.{Frames, Did, Does, Wrong, Asked, Asks, Fails, step, on_did, set_local, set_long, stores, catch_at, unwinds, told, next, received, resumed}
-use Rattle.objects.specs.Attempt.{Log, access, answered, written, recorded, Reply, Gives, Refuses, Bounds, Meter, Run, On, Asking, Ended, Stuck, next_run, unwound, set_back, with_turns, with_depth, class_of, threw_of, on_thrown, on_made, on_header, makes, made, followed, on_head, heads, on_raise, throws, on_commit, on_request, on_asked, address}
-use Rattle.objects.specs.Rewriting.{result_sort, spare_locals}
+use Rattle.objects.specs.semantics.Value.{pushed, value_of}
+use Rattle.objects.specs.semantics.Program.{Row, Method, Program, row_at, is_counted}
+use Rattle.objects.specs.semantics.Region.{next_reference}
+use Rattle.objects.specs.semantics.State.{Object, type_in, object_of}
+use Rattle.objects.specs.semantics.Step.{Frames, Did, Does, Wrong, Asked, Asks, Fails, step, on_did, set_local, set_long, stores, catch_at, unwinds, told, next, received, resumed}
+use Rattle.objects.specs.rewriting.Attempt.{Log, access, answered, written, recorded, Reply, Gives, Refuses, Bounds, Meter, Run, On, Asking, Ended, Stuck, next_run, unwound, set_back, with_turns, with_depth, class_of, threw_of, on_thrown, on_made, on_header, makes, made, followed, on_head, heads, on_raise, throws, on_commit, on_request, on_asked, address}
+use Rattle.objects.specs.rewriting.Rewriting.{result_sort, spare_locals}
 use Rattle.objects.proofs.Frames.{frame}
 use Rattle.objects.proofs.Moved.{get_set_same, get_set_other}
 use Rattle.objects.proofs.Inner.{IsAdded, IsInnerOp, IsInnerUse, IsInnerRequest}

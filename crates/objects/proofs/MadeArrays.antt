@@ -6,17 +6,17 @@ use Rattle.std.specs.Option.{option_or}
 use Rattle.std.proofs.lemmas.Bool.Decides.{Decides-eqb}
 use Rattle.jmodel.specs.declared.refusal.Refusal.{Refusal}
 use Rattle.jmodel.specs.declared.instruction.Instr.{Instr}
-use Rattle.jmodel.specs.ClassFile.{Pool, ClassFile}
-use Rattle.jmodel.specs.Pool.{class_name}
-use Rattle.jmodel.specs.Classes.{Declared as DeclaredMember, is_before}
-use Rattle.jmodel.specs.ClassesTaken.{index_of}
-use Rattle.jmodel.specs.ClassesLinking.{first_fault}
-use Rattle.jmodel.specs.Coded.{Coded, decoded}
-use Rattle.objects.specs.Constructs.{named_class, unknown_in, kind_fault, first_kinds, instr_fault, place_fault, catch_fault, code_construct, whole_fault, construct_fault}
-use Rattle.jmodel.specs.Descriptor.{is_array_name, IsArrayName}
-use Rattle.objects.specs.LinkingLaw.{IsFormed}
-use Rattle.objects.specs.Linking.{taken_methods, constructs_fault}
-use Rattle.objects.specs.Layout.{with_text, in_text_order, array_over, some_array, made_by, made_in, made_arrays}
+use Rattle.jmodel.specs.format.ClassFile.{Pool, ClassFile}
+use Rattle.jmodel.specs.format.Pool.{class_name}
+use Rattle.objects.specs.linking.Classes.{Declared as DeclaredMember, is_before}
+use Rattle.objects.specs.linking.Taken.{index_of}
+use Rattle.objects.specs.linking.Faults.{first_fault}
+use Rattle.objects.specs.linking.Code.{Coded, decoded}
+use Rattle.objects.specs.linking.Constructs.{named_class, unknown_in, kind_fault, first_kinds, instr_fault, place_fault, catch_fault, code_construct, whole_fault, construct_fault}
+use Rattle.jmodel.specs.format.Descriptor.{is_array_name, IsArrayName}
+use Rattle.objects.specs.laws.LinkingLaw.{IsFormed}
+use Rattle.objects.specs.linking.Linking.{taken_methods, constructs_fault}
+use Rattle.objects.specs.linking.Layout.{with_text, in_text_order, array_over, some_array, made_by, made_in, made_arrays}
 
 -- ---- lists
 

@@ -1,7 +1,7 @@
 -- Where an attempt makes an object, the original method makes the same one: what each step makes, and what shows that a step makes none.
 use Rattle.std.proofs.Common.{◌≡◌, ◌≢◌, ℕ, zero, suc, ◌+◌, List, [], ◌∷◌, length, Some, Bool, true, false, refl, sym, ap, subst, ◌∙◌, arith}
 use Rattle.jmodel.specs.declared.value.Value.{Value}
-use Rattle.jmodel.specs.declared.op.Access.{Access}
+use Rattle.jmodel.specs.declared.access.Access.{Access}
 use Rattle.objects.specs.declared.op.Made.{Made}
 use Rattle.objects.specs.declared.op.Made.TheVariants.{Pushed, Raised}
 use Rattle.jmodel.specs.declared.value.Answer.{Answer}
@@ -9,18 +9,18 @@ use Rattle.objects.specs.declared.op.Phase.{Phase}
 use Rattle.objects.specs.declared.op.Phase.TheVariants.{Ready, Open, Doomed, Closed}
 use Rattle.objects.specs.declared.op.Asking.{Asking as Wanted}
 use Rattle.objects.specs.declared.op.Asking.TheVariants as asking
-use Rattle.objects.specs.Program.{Row, Program, row_at, is_instance}
-use Rattle.objects.specs.Region.{next_reference, has_words}
-use Rattle.objects.specs.State.{Object, State, header, type_in, words_of, object_of}
+use Rattle.objects.specs.semantics.Program.{Row, Program, row_at, is_instance}
+use Rattle.objects.specs.semantics.Region.{next_reference, has_words}
+use Rattle.objects.specs.semantics.State.{Object, State, header, type_in, words_of, object_of}
 use Rattle.objects.specs.declared.op.Use.{Use}
 use Rattle.objects.specs.declared.op.Use.TheVariants.{Casts}
 use Rattle.objects.specs.declared.op.Request.{Request}
 use Rattle.objects.specs.declared.op.Trap.TheVariants.{ClassCast}
-use Rattle.objects.specs.Step.{Frames, Asked, Asks, Fails, step, unwinds, or_trap, advanced}
-use Rattle.objects.specs.Call.{Direct, direct, call_start}
-use Rattle.objects.specs.Call as call
-use Rattle.objects.specs.Attempt.{Log, access, Reply, Gives, Refuses, Bounds, Meter, Run, On, Asking, Ended, Stuck, next_run, unwound, on_thrown, on_made, on_head, on_commit, followed, with_turns, answered, written, recorded}
-use Rattle.objects.specs.Law.{state_of}
+use Rattle.objects.specs.semantics.Step.{Frames, Asked, Asks, Fails, step, unwinds, or_trap, advanced}
+use Rattle.objects.specs.semantics.Call.{Direct, direct, call_start}
+use Rattle.objects.specs.semantics.Call as call
+use Rattle.objects.specs.rewriting.Attempt.{Log, access, Reply, Gives, Refuses, Bounds, Meter, Run, On, Asking, Ended, Stuck, next_run, unwound, on_thrown, on_made, on_head, on_commit, followed, with_turns, answered, written, recorded}
+use Rattle.objects.specs.laws.Law.{state_of}
 use Rattle.objects.proofs.Replies.{Leads, SameLogs}
 
 -- what an open attempt's next step asks

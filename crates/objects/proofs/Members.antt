@@ -6,7 +6,7 @@ use Rattle.jmodel.specs.declared.value.Value.{Value}
 use Rattle.jmodel.specs.declared.value.Value.TheVariants as value
 use Rattle.jmodel.specs.declared.typing.VType.{VType}
 use Rattle.jmodel.specs.declared.typing.VType.TheVariants as type
-use Rattle.jmodel.specs.History.{Words, overlaid, Agrees}
+use Rattle.jmodel.specs.history.History.{Words, overlaid, Agrees}
 use Rattle.objects.specs.declared.op.Slot.{Slot}
 use Rattle.objects.specs.declared.op.Slot.TheVariants.{Int, Long, Second, Ref, Context, Loaded}
 use Rattle.objects.specs.declared.op.Sort.{Sort}
@@ -25,27 +25,27 @@ use Rattle.objects.specs.declared.op.Element.TheVariants as element
 use Rattle.objects.specs.declared.op.Trap.TheVariants.{NullPointer, ClassCast, ArrayIndex, ArrayStore}
 use Rattle.objects.specs.declared.op.Request.TheVariants as request
 use Rattle.objects.specs.declared.op.Asking.TheVariants as asking
-use Rattle.objects.specs.Library.{trap_type}
-use Rattle.objects.specs.TypeOrder.{object_class, element_class, IsWithin}
+use Rattle.objects.specs.linking.Library.{trap_type}
+use Rattle.objects.specs.typing.TypeOrder.{object_class, element_class, IsWithin}
 use Rattle.objects.proofs.Elements.{order}
-use Rattle.objects.specs.Value.{word_of, value_of, pushed, kept_by, slots_of}
-use Rattle.objects.specs.Program.{Declared, Holds, Row, Field, Method, Program, field_at, op_at, row_at, is_counted, is_instance}
-use Rattle.objects.specs.Region.{Region}
-use Rattle.objects.specs.State.{Object, length_of, State, put, type_in, length_in}
-use Rattle.objects.specs.Meaning.{IsHeap}
+use Rattle.objects.specs.semantics.Value.{word_of, value_of, pushed, kept_by, slots_of}
+use Rattle.objects.specs.semantics.Program.{Declared, Holds, Row, Field, Method, Program, field_at, op_at, row_at, is_counted, is_instance}
+use Rattle.objects.specs.semantics.Region.{Region}
+use Rattle.objects.specs.semantics.State.{Object, length_of, State, put, type_in, length_in}
+use Rattle.objects.specs.history.Meaning.{IsHeap}
 use Rattle.objects.specs.declared.op.Doing.TheVariants as doing
-use Rattle.objects.specs.Step.{Frame, Frames, Did, Does, Asked, Asks, Fails, step, on_did, on_int, on_value, on_ref, sort_of, not_null, inner, advanced, resumed, catch_at, unwinds, told, or_trap, in_bounds, has_address, element_place, element_name, kept_in, stored}
-use Rattle.objects.specs.Call.{Direct, direct, next_direct}
-use Rattle.objects.specs.Call as call
-use Rattle.objects.specs.Attempt.{Log, access, address, answered, written, recorded, Reply, Gives, Refuses, Bounds, Meter, Run, On, next_run, on_look, on_read, on_write, on_head}
-use Rattle.objects.specs.Attempt as attempt
-use Rattle.objects.specs.Typing.{Types, Table, types_at}
-use Rattle.objects.specs.TypingLaw.{IsTypedProgram}
-use Rattle.objects.specs.Law.{IsOnWay, state_of}
+use Rattle.objects.specs.semantics.Step.{Frame, Frames, Did, Does, Asked, Asks, Fails, step, on_did, on_int, on_value, on_ref, sort_of, not_null, inner, advanced, resumed, catch_at, unwinds, told, or_trap, in_bounds, has_address, element_place, element_name, kept_in, stored}
+use Rattle.objects.specs.semantics.Call.{Direct, direct, next_direct}
+use Rattle.objects.specs.semantics.Call as call
+use Rattle.objects.specs.rewriting.Attempt.{Log, access, address, answered, written, recorded, Reply, Gives, Refuses, Bounds, Meter, Run, On, next_run, on_look, on_read, on_write, on_head}
+use Rattle.objects.specs.rewriting.Attempt as attempt
+use Rattle.objects.specs.typing.Typing.{Types, Table, types_at}
+use Rattle.objects.specs.laws.TypingLaw.{IsTypedProgram}
+use Rattle.objects.specs.laws.Law.{IsOnWay, state_of}
 use Rattle.objects.specs.declared.op.Use.{Use}
 use Rattle.objects.specs.declared.op.Trap.{Trap}
-use Rattle.objects.specs.Source.{IsBase, IsBased, IsSourceField, IsSourceOp, IsSourceMethod}
-use Rattle.objects.specs.Rewriting.{Typed, array_under, helped, after_load, places_of, element_getter, element_setter, element_getter_method, element_setter_method, getter_method, setter_method, static_getter, static_setter, field_getter, field_setter, duplicate_code, block_len_of, block_at, duplicate, getter, setter, cast_of}
+use Rattle.objects.specs.typing.Source.{IsBase, IsBased, IsSourceField, IsSourceOp, IsSourceMethod}
+use Rattle.objects.specs.rewriting.Rewriting.{Typed, array_under, helped, after_load, word_places, element_getter, element_setter, element_getter_method, element_setter_method, getter_method, setter_method, static_getter, static_setter, field_getter, field_setter, duplicate_code, block_len_of, block_at, duplicate, getter, setter, cast_of}
 use Rattle.objects.proofs.Frames.{frame}
 use Rattle.objects.proofs.Fields.{each_at}
 use Rattle.objects.proofs.Alike.{Stands}
@@ -871,7 +871,7 @@ module _ (P : Program) (Ts : List Table) (S : IsTypedProgram P Ts) (Q : Program)
     -- an element that is written
     module _ (t1 : WordType) (e : slice_get k.ops pc ≡ Some (op.StoreElement t1)) where
       abbrev under2 : Option VType
-      under2 = array_under (1 + places_of t1) (types_at T pc)
+      under2 = array_under (1 + word_places t1) (types_at T pc)
 
       abbrev th2 : WordType
       th2 = helped under2 t1
@@ -968,11 +968,11 @@ module _ (P : Program) (Ts : List Table) (S : IsTypedProgram P Ts) (Q : Program)
               subst (λ (x : Asked). Goal n (attempt.followed x M w j)) (sym toldQ)
               (goal.more n _ (traps_at (op.StoreElement t1) e in_block2 s1 s1 g2 4 (element_setter_method th2) storer refl lows local2 y j agrees ArrayIndex refl F3))
 
-          element_is2 : IsElementOf P (array_under (1 + places_of t1) (Some here.types)) t1 H1.about.declared
-          element_is2 = subst (λ (h : Types). IsElementOf P (array_under (1 + places_of t1) (Some h)) t1 H1.about.declared) (types_this (op.StoreElement t1) e s1 _ H1.about.at) (at_this (op.StoreElement t1) e s1 (λ o h. IsIndexedAt P o h H1.about.declared) H1.about.at)
+          element_is2 : IsElementOf P (array_under (1 + word_places t1) (Some here.types)) t1 H1.about.declared
+          element_is2 = subst (λ (h : Types). IsElementOf P (array_under (1 + word_places t1) (Some h)) t1 H1.about.declared) (types_this (op.StoreElement t1) e s1 _ H1.about.at) (at_this (op.StoreElement t1) e s1 (λ o h. IsIndexedAt P o h H1.about.declared) H1.about.at)
 
           word_is2 : H1.about.declared.word ≡ th2
-          word_is2 = element_is2.are.word_is ∙ ap (λ (u : Option VType). helped u t1) (sym (ap (array_under (1 + places_of t1)) here.there ∙ element_is2.under))
+          word_is2 = element_is2.are.word_is ∙ ap (λ (u : Option VType). helped u t1) (sym (ap (array_under (1 + word_places t1)) here.there ∙ element_is2.under))
 
           module _ (is : in_bounds i (length_of array2) ≡ true) (near : has_address (element_place (suc o) i) ≡ true) where
             abbrev place2 : Place

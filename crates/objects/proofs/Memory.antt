@@ -7,12 +7,12 @@ use Rattle.std.proofs.lemmas.Bool.Decides.{nat_tests}
 use Rattle.std.proofs.lemmas.Nat.{div-mul-add, mod-mul-add, div-add-mod'}
 use Rattle.jmodel.specs.declared.value.Value.{Value}
 use Rattle.objects.specs.declared.op.Place.{Place}
-use Rattle.objects.specs.Value.{word_of}
-use Rattle.objects.specs.Program.{Program}
-use Rattle.objects.specs.State.{Object, State, value_held, put, header}
-use Rattle.objects.specs.Attempt.{Log, access, address}
-use Rattle.jmodel.specs.History.{Words, overlaid}
-use Rattle.objects.specs.Meaning.{AreLaid, IsLaid, IsHeap, Represents}
+use Rattle.objects.specs.semantics.Value.{word_of}
+use Rattle.objects.specs.semantics.Program.{Program}
+use Rattle.objects.specs.semantics.State.{Object, State, value_held, put, header}
+use Rattle.objects.specs.rewriting.Attempt.{Log, access, address}
+use Rattle.jmodel.specs.history.History.{Words, overlaid}
+use Rattle.objects.specs.history.Meaning.{AreLaid, IsLaid, IsHeap, Represents}
 use Rattle.objects.proofs.Heap.{one_or, IsHeldAt, held_at, inside, written_object, whole, before}
 
 -- a write keeps the header

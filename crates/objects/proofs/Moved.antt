@@ -6,7 +6,7 @@ use Rattle.std.proofs.lemmas.Nat.{mod-mul-add}
 use Rattle.std.proofs.lemmas.Int.{to_z-of_z}
 use Rattle.objects.specs.declared.op.Slot.{Slot}
 use Rattle.objects.specs.declared.op.Slot.TheVariants.{Int, Long, Second, Ref, Context, Empty}
-use Rattle.objects.specs.Step.{Taken, Took, TooFew, take_args}
+use Rattle.objects.specs.semantics.Step.{Taken, Took, TooFew, take_args}
 
 abbrev pub FitsInt : ℤ → Type 0
 FitsInt x = FitsSigned w32 x

@@ -8,10 +8,10 @@ use Rattle.jmodel.specs.declared.typing.VType.{VType}
 use Rattle.jmodel.specs.declared.typing.VType.TheVariants.{Int, Long, Second, Null, Ref, Uninit, UninitThis, Top}
 use Rattle.objects.specs.declared.op.WordType.{WordType}
 use Rattle.objects.specs.declared.op.WordType.TheVariants as word
-use Rattle.objects.specs.Program.{Program}
-use Rattle.objects.specs.TypeOrder.{IsWithin, AreWithin, IsLocalsAfter, IsStackUnder, stack_types}
-use Rattle.objects.specs.Typing.{freed, freed_by, become, is_uninit, result_types}
-use Rattle.objects.specs.Source.{AreParametersAfter, IsResult}
+use Rattle.objects.specs.semantics.Program.{Program}
+use Rattle.objects.specs.typing.TypeOrder.{IsWithin, AreWithin, IsLocalsAfter, IsStackUnder, stack_types}
+use Rattle.objects.specs.typing.Typing.{freed, freed_by, become, is_uninit, result_types}
+use Rattle.objects.specs.typing.Source.{AreParametersAfter, IsResult}
 use Rattle.objects.proofs.Agreeing.{IsOneKind}
 use Rattle.objects.proofs.Places.{get_map}
 use Rattle.objects.proofs.CopiedLocals.{context, before, after, copied}

@@ -7,22 +7,22 @@ use Rattle.std.proofs.lemmas.Slice.Eq.{bytes_eq-Decides}
 use Rattle.jmodel.specs.declared.class_file.Constant.{Constant}
 use Rattle.jmodel.specs.declared.class_file.Constant.TheVariants as constants
 use Rattle.jmodel.specs.declared.instruction.Instr.{Instr}
-use Rattle.jmodel.specs.ClassFile.{Pool, ClassFile}
-use Rattle.jmodel.specs.Pool.{entry, MemberName, field_in, member_in, field_name, member_name}
-use Rattle.jmodel.specs.DescriptorReading.{type_of}
-use Rattle.jmodel.specs.Layout.{is_static, text_or_none}
-use Rattle.jmodel.specs.Superclasses.{class_named}
-use Rattle.jmodel.specs.Classes.{Declared, methods_in, full_name}
-use Rattle.jmodel.specs.ClassesTaken.{index_of, invoked}
-use Rattle.objects.specs.TypeOrder.{context_class}
-use Rattle.objects.specs.LibraryMethods.{is_library, throwables, is_like, is_library_constructor, is_library_function, is_library_method}
-use Rattle.objects.specs.Resolution.{is_interface, holds_of, is_in_folder, resolved_field, resolved_method}
-use Rattle.objects.specs.Constructs.{accessed, is_floating, is_float_op, is_float_array, is_float_constant, is_float_field, is_float_method, pushed, is_unresolved, is_outside_field, is_library_call, is_misused, is_bad_access, is_bad_call, is_elsewhere}
-use Rattle.jmodel.specs.Linking.{widened}
-use Rattle.objects.specs.Layout.{field_type, fields_of}
-use Rattle.objects.specs.Decoding.{Symbols, is_among, is_field_of, field_number, is_get_context}
-use Rattle.objects.specs.Linking.{original_symbols}
-use Rattle.objects.specs.LinkingLaw.{AreRead}
+use Rattle.jmodel.specs.format.ClassFile.{Pool, ClassFile}
+use Rattle.jmodel.specs.format.Pool.{entry, MemberName, field_in, member_in, field_name, member_name, text_or_none}
+use Rattle.jmodel.specs.format.DescriptorReading.{type_of}
+use Rattle.objects.specs.linking.Members.{is_static}
+use Rattle.objects.specs.linking.Superclasses.{class_named}
+use Rattle.objects.specs.linking.Classes.{Declared, methods_in, full_name}
+use Rattle.objects.specs.linking.Taken.{index_of, invoked}
+use Rattle.objects.specs.typing.TypeOrder.{context_class}
+use Rattle.objects.specs.linking.LibraryMethods.{is_library, throwables, is_like, is_library_constructor, is_library_function, is_library_method}
+use Rattle.objects.specs.linking.Resolution.{is_interface, holds_of, is_in_folder, resolved_field, resolved_method}
+use Rattle.objects.specs.linking.Constructs.{accessed, is_floating, is_float_op, is_float_array, is_float_constant, is_float_field, is_float_method, entry_pushed, is_unresolved, is_outside_field, is_library_call, is_misused, is_bad_access, is_bad_call, is_elsewhere}
+use Rattle.objects.specs.linking.Code.{widened}
+use Rattle.objects.specs.linking.Layout.{field_type, fields_of}
+use Rattle.objects.specs.linking.Decoding.{Symbols, is_among, is_field_of, field_number, is_get_context}
+use Rattle.objects.specs.linking.Linking.{original_symbols}
+use Rattle.objects.specs.laws.LinkingLaw.{AreRead}
 use Rattle.objects.proofs.Items.{IsAt}
 use Rattle.objects.proofs.AsRead.{not_named, no_context}
 use Rattle.objects.proofs.DeclaredMembers.{HasName}
@@ -128,8 +128,8 @@ module _ (cs : List ClassFile) (read : AreRead cs) (d : Declared) (i : Instr) (c
 
       kept : is_float_field n ≡ false
       kept =
-          let a = neither (is_float_op (widened i.op i.operands) || is_float_array i.op i.operands || holds_of is_float_constant (pushed d.class.pool i) || holds_of is_float_field (accessed d.class.pool i)) (holds_of is_float_method (invoked d.class.pool i)) clean.float in
-          let b = neither (is_float_op (widened i.op i.operands) || is_float_array i.op i.operands || holds_of is_float_constant (pushed d.class.pool i)) (holds_of is_float_field (accessed d.class.pool i)) a.0 in
+          let a = neither (is_float_op (widened i.op i.operands) || is_float_array i.op i.operands || holds_of is_float_constant (entry_pushed d.class.pool i) || holds_of is_float_field (accessed d.class.pool i)) (holds_of is_float_method (invoked d.class.pool i)) clean.float in
+          let b = neither (is_float_op (widened i.op i.operands) || is_float_array i.op i.operands || holds_of is_float_constant (entry_pushed d.class.pool i)) (holds_of is_float_field (accessed d.class.pool i)) a.0 in
           at is_float_field b.1
 
       some : (o : Option Declared) → resolved_field cs n ≡ o → (is_in_folder cs n.class && not (is_some o)) ≡ false → is_some o ≡ true

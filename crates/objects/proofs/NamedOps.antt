@@ -4,26 +4,26 @@ use Rattle.std.specs.Prelude.{◌==◌, if◌then◌else◌, bytes_eq, codes, op
 use Rattle.std.specs.Option.{option_or}
 use Rattle.jmodel.specs.declared.instruction.Instr.{Instr}
 use Rattle.jmodel.specs.declared.value.Value.TheVariants as value
-use Rattle.jmodel.specs.ClassFile.{ClassFile}
-use Rattle.jmodel.specs.Pool.{MemberName}
-use Rattle.jmodel.specs.Layout.{base_of, text_or_none}
-use Rattle.jmodel.specs.Classes.{Declared, full_name}
-use Rattle.jmodel.specs.ClassesTaken.{invoked}
+use Rattle.jmodel.specs.format.ClassFile.{ClassFile}
+use Rattle.jmodel.specs.format.Pool.{MemberName, text_or_none}
+use Rattle.objects.specs.linking.StaticBases.{base_of}
+use Rattle.objects.specs.linking.Classes.{Declared, full_name}
+use Rattle.objects.specs.linking.Taken.{invoked}
 use Rattle.objects.specs.declared.op.Op.{Op}
 use Rattle.objects.specs.declared.op.Op.TheVariants as op
 use Rattle.objects.specs.declared.op.Binary.TheVariants.{Minimum, Maximum}
 use Rattle.objects.specs.declared.op.Unary.TheVariants.{Absolute}
-use Rattle.objects.specs.Program.{Method, Program}
-use Rattle.objects.specs.TypeOrder.{context_class}
-use Rattle.objects.specs.Typing.{is_constructor}
-use Rattle.objects.specs.LibraryMethods.{is_library_constructor, is_library_function}
-use Rattle.objects.specs.Resolution.{special_method}
-use Rattle.objects.specs.Constructs.{accessed}
-use Rattle.objects.specs.Layout.{class_read}
-use Rattle.objects.specs.Decoding.{Symbols, field_number, number_of, method_number, added_address, is_base, get_static_op, field_op, width_in, function_op, is_get_context, static_call_op, parameter_places, special_call_op, interface_call_op, virtual_call_op, call_op}
-use Rattle.objects.specs.Linking.{original_symbols}
-use Rattle.objects.specs.Source.{IsSourceOp, HasField, HasMethod, HasVirtual, HasStatic}
-use Rattle.objects.specs.LinkingLaw.{AreRead}
+use Rattle.objects.specs.semantics.Program.{Method, Program}
+use Rattle.objects.specs.typing.TypeOrder.{context_class}
+use Rattle.objects.specs.typing.Typing.{is_constructor}
+use Rattle.objects.specs.linking.LibraryMethods.{is_library_constructor, is_library_function}
+use Rattle.objects.specs.linking.Resolution.{special_method}
+use Rattle.objects.specs.linking.Constructs.{accessed}
+use Rattle.objects.specs.linking.Layout.{class_read}
+use Rattle.objects.specs.linking.Decoding.{Symbols, field_number, number_of, method_number, added_address, is_base, get_static_op, field_op, width_in, function_op, is_get_context, static_call_op, parameter_places, special_call_op, interface_call_op, virtual_call_op, call_op}
+use Rattle.objects.specs.linking.Linking.{original_symbols}
+use Rattle.objects.specs.typing.Source.{IsSourceOp, HasField, HasMethod, HasVirtual, HasStatic}
+use Rattle.objects.specs.laws.LinkingLaw.{AreRead}
 use Rattle.objects.proofs.CleanCode.{IsClean}
 use Rattle.objects.proofs.Links.{IsLinkedTo}
 use Rattle.objects.proofs.ResolvedMembers.{HasMember, special_resolves, numbered, static_member, over_member}

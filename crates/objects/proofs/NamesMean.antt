@@ -10,29 +10,28 @@ use Rattle.jmodel.specs.declared.class_file.Constant.TheVariants as constants
 use Rattle.jmodel.specs.declared.instruction.EntryKind.{EntryKind}
 use Rattle.jmodel.specs.declared.instruction.EntryKind.TheVariants as kind
 use Rattle.jmodel.specs.declared.instruction.Instr.{Instr}
-use Rattle.jmodel.specs.ClassFile.{Pool, ClassFile}
-use Rattle.jmodel.specs.Pool.{entry, utf8, name_in, class_name, string_in, string, pair, MemberName, named, field_in, member_in, field_name, member_name}
-use Rattle.jmodel.specs.ClassRules.{IsConstant, IsMethodPair, IsFieldPair}
-use Rattle.jmodel.specs.DescriptorReading.{type_rest, element_rest, is_field_descriptor, type_of, types_at, result_of, signature_of}
-use Rattle.jmodel.specs.Instruction.{is_of_kind, is_kind_in, is_entry, places_in, argument_places}
-use Rattle.jmodel.specs.Layout.{is_static}
-use Rattle.jmodel.specs.Superclasses.{own_name, super_name, lineage}
-use Rattle.jmodel.specs.Classes.{Declared, methods_in}
-use Rattle.jmodel.specs.ClassesTaken.{index_of, invoked}
-use Rattle.jmodel.specs.Coded.{Coded, decoded}
+use Rattle.jmodel.specs.format.ClassFile.{Pool, ClassFile}
+use Rattle.jmodel.specs.format.Pool.{entry, utf8, name_in, class_name, string_in, string, pair, MemberName, named, field_in, member_in, field_name, member_name}
+use Rattle.jmodel.specs.format.ClassRules.{IsConstant, IsMethodPair, IsFieldPair}
+use Rattle.jmodel.specs.format.DescriptorReading.{type_rest, element_rest, is_field_descriptor, type_of, types_at, result_of, signature_of}
+use Rattle.jmodel.specs.format.Instruction.{is_of_kind, is_kind_in, is_entry, places_in, argument_places}
+use Rattle.objects.specs.linking.Members.{is_static, own_name}
+use Rattle.objects.specs.linking.Superclasses.{super_name, lineage}
+use Rattle.objects.specs.linking.Classes.{Declared, methods_in}
+use Rattle.objects.specs.linking.Taken.{index_of, invoked}
+use Rattle.objects.specs.linking.Code.{Coded, decoded, widened}
 use Rattle.objects.specs.declared.op.Op.{Op}
 use Rattle.objects.specs.declared.op.Op.TheVariants as op
 use Rattle.objects.specs.declared.op.Binary.TheVariants.{Minimum, Maximum}
 use Rattle.objects.specs.declared.op.Unary.TheVariants.{Absolute}
-use Rattle.objects.specs.LibraryMethods.{throwables, is_like, is_library_constructor, is_library_function}
-use Rattle.objects.specs.TypeOrder.{context_class}
-use Rattle.objects.specs.Resolution.{holds_of, has_name, is_private, is_selected_by, selected_from, from_above, is_properly_above, resolved_method, special_method}
-use Rattle.objects.specs.Constructs.{accessed, is_float_op, is_float_array, is_float_constant, is_float_field, is_float_method, pushed, is_class_constant, is_elsewhere}
-use Rattle.objects.specs.Layout.{class_read}
-use Rattle.objects.specs.Decoding.{Symbols, is_among, field_number, number_of, method_number, get_static_op, field_op, width_in, function_op, is_get_context, static_call_op, parameter_places, special_call_op, interface_call_op, context_call, virtual_call_op, call_op, pushed_op, text_op, ldc_op}
-use Rattle.objects.specs.Linking.{taken_methods, original_symbols}
-use Rattle.objects.specs.LinkingLaw.{AreRead}
-use Rattle.jmodel.specs.Linking.{widened}
+use Rattle.objects.specs.linking.LibraryMethods.{throwables, is_like, is_library_constructor, is_library_function}
+use Rattle.objects.specs.typing.TypeOrder.{context_class}
+use Rattle.objects.specs.linking.Resolution.{holds_of, has_name, is_private, is_selected_by, selected_from, from_above, is_properly_above, resolved_method, special_method}
+use Rattle.objects.specs.linking.Constructs.{accessed, is_float_op, is_float_array, is_float_constant, is_float_field, is_float_method, entry_pushed, is_class_constant, is_elsewhere}
+use Rattle.objects.specs.linking.Layout.{class_read}
+use Rattle.objects.specs.linking.Decoding.{Symbols, is_among, field_number, number_of, method_number, get_static_op, field_op, width_in, function_op, is_get_context, static_call_op, parameter_places, special_call_op, interface_call_op, context_call, virtual_call_op, call_op, pushed_op, text_op, ldc_op}
+use Rattle.objects.specs.linking.Linking.{taken_methods, original_symbols}
+use Rattle.objects.specs.laws.LinkingLaw.{AreRead}
 use Rattle.objects.proofs.Items.{IsAt, item, found}
 use Rattle.objects.proofs.AsRead.{entry_at, is_file}
 use Rattle.objects.proofs.DeclaredMembers.{HasName, of_methods, name_of_member}
@@ -323,17 +322,17 @@ module _ (cs : List ClassFile) (read : AreRead cs) (d : Declared) (taken : IsAt 
 
   -- ---- constants
 
-  among_loads : (j : ℕ) (c : Constant) → is_among 18 20 i.op ≡ true → index_of i.operands ≡ Some j → entry d.class.pool j ≡ Some c → pushed d.class.pool i ≡ Some c
+  among_loads : (j : ℕ) (c : Constant) → is_among 18 20 i.op ≡ true → index_of i.operands ≡ Some j → entry d.class.pool j ≡ Some c → entry_pushed d.class.pool i ≡ Some c
   among_loads j c a f g = ap (λ b. if b then option_and_then (entry d.class.pool) (index_of i.operands) else None) a ∙ ap (option_and_then (entry d.class.pool)) f ∙ g
 
-  no_float : (c : Constant) → pushed d.class.pool i ≡ Some c → is_float_constant c ≡ false
+  no_float : (c : Constant) → entry_pushed d.class.pool i ≡ Some c → is_float_constant c ≡ false
   no_float c e =
-      let a = neither (is_float_op (widened i.op i.operands) || is_float_array i.op i.operands || holds_of is_float_constant (pushed d.class.pool i) || holds_of is_float_field (accessed d.class.pool i)) (holds_of is_float_method (invoked d.class.pool i)) clean.float in
-      let b = neither (is_float_op (widened i.op i.operands) || is_float_array i.op i.operands || holds_of is_float_constant (pushed d.class.pool i)) (holds_of is_float_field (accessed d.class.pool i)) a.0 in
-      let c = neither (is_float_op (widened i.op i.operands) || is_float_array i.op i.operands) (holds_of is_float_constant (pushed d.class.pool i)) b.0 in
+      let a = neither (is_float_op (widened i.op i.operands) || is_float_array i.op i.operands || holds_of is_float_constant (entry_pushed d.class.pool i) || holds_of is_float_field (accessed d.class.pool i)) (holds_of is_float_method (invoked d.class.pool i)) clean.float in
+      let b = neither (is_float_op (widened i.op i.operands) || is_float_array i.op i.operands || holds_of is_float_constant (entry_pushed d.class.pool i)) (holds_of is_float_field (accessed d.class.pool i)) a.0 in
+      let c = neither (is_float_op (widened i.op i.operands) || is_float_array i.op i.operands) (holds_of is_float_constant (entry_pushed d.class.pool i)) b.0 in
       ap (holds_of is_float_constant) (sym e) ∙ c.1
 
-  no_literal : (c : Constant) → pushed d.class.pool i ≡ Some c → is_class_constant c ≡ false
+  no_literal : (c : Constant) → entry_pushed d.class.pool i ≡ Some c → is_class_constant c ≡ false
   no_literal c e = ap (holds_of is_class_constant) (sym e) ∙ clean.class_literal
 
   text_means : (j : ℕ) (c : Constant) → entry d.class.pool j ≡ Some c → is_some (string_in d.class.pool c) ≡ true → Means (ldc_op s j)

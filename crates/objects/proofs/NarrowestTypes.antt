@@ -8,10 +8,10 @@ use Rattle.objects.specs.declared.op.Op.{Op}
 use Rattle.objects.specs.declared.op.Catch.{Catch}
 use Rattle.objects.specs.declared.op.Catches.{Catches}
 use Rattle.objects.specs.declared.op.Catches.TheVariants.{Conflict, Any, Of}
-use Rattle.objects.specs.Program.{Method, Program}
-use Rattle.objects.specs.TypeOrder.{throwable_class, conflict_class, name_read, IsWithin, AreWithin}
-use Rattle.objects.specs.Typing.{Types, Table, types_at, Flow, Leads, Wrong, flow, first_locals, first_types, is_constructor, caught_type, Covers, AreCaught, KeepsFlow, KeepsAt, IsTypedAt, IsTyping, IsNarrowest}
-use Rattle.objects.specs.Source.{AreTypes, IsSourceOp, IsSourceMethod, IsSource}
+use Rattle.objects.specs.semantics.Program.{Method, Program}
+use Rattle.objects.specs.typing.TypeOrder.{throwable_class, conflict_class, name_read, IsWithin, AreWithin}
+use Rattle.objects.specs.typing.Typing.{Types, Table, types_at, Flow, Leads, Wrong, flow, first_locals, first_types, is_constructor, caught_type, Covers, AreCaught, KeepsFlow, KeepsAt, IsTypedAt, IsTyping, IsNarrowest}
+use Rattle.objects.specs.typing.Source.{AreTypes, IsSourceOp, IsSourceMethod, IsSource}
 use Rattle.objects.proofs.Fields.{each_at}
 use Rattle.objects.proofs.MovedTypes.{map_long}
 use Rattle.objects.proofs.KnownTypes.{thrown_known}

@@ -5,13 +5,13 @@ use Rattle.std.specs.List.{AllByRecursion}
 use Rattle.jmodel.specs.declared.value.Value.{Value}
 use Rattle.objects.specs.declared.op.WordType.{WordType}
 use Rattle.objects.specs.declared.op.WordType.TheVariants as word
-use Rattle.objects.specs.Value.{word_of}
-use Rattle.objects.specs.Program.{Declared, Holds, Words as HoldsWords, Elements, Row, Program}
-use Rattle.objects.specs.Region.{Region, next_reference}
-use Rattle.objects.specs.State.{Object, State, header, words_of, with_object, first_of, object_of}
-use Rattle.objects.specs.Attempt.{Log, access}
-use Rattle.jmodel.specs.History.{Words, overlaid}
-use Rattle.objects.specs.Meaning.{AreLaid, IsLaid, IsHeap, Represents}
+use Rattle.objects.specs.semantics.Value.{word_of}
+use Rattle.objects.specs.semantics.Program.{Declared, Holds, Words as HoldsWords, Elements, Row, Program}
+use Rattle.objects.specs.semantics.Region.{Region, next_reference}
+use Rattle.objects.specs.semantics.State.{Object, State, header, words_of, with_object, first_word, object_of}
+use Rattle.objects.specs.rewriting.Attempt.{Log, access}
+use Rattle.jmodel.specs.history.History.{Words, overlaid}
+use Rattle.objects.specs.history.Meaning.{AreLaid, IsLaid, IsHeap, Represents}
 use Rattle.objects.proofs.Heap.{one_or, HasWords, fits_region, in_region, in_place, used_here, used_more, whole_new, apart_from}
 use Rattle.objects.proofs.Memory.{laid_same, same_region, overlaid_here, overlaid_there}
 
@@ -19,7 +19,7 @@ use Rattle.objects.proofs.Memory.{laid_same, same_region, overlaid_here, overlai
 abbrev pub IsZero : Value → Type 0
 IsZero v = word_of v ≡ 0
 
-first_zero : (c : List ℕ) (t : WordType) → IsZero (first_of (record { word = t; class = c }))
+first_zero : (c : List ℕ) (t : WordType) → IsZero (first_word (record { word = t; class = c }))
 first_zero c word.Reference = refl
 first_zero c word.Long = refl
 first_zero c word.Boolean = refl
@@ -28,11 +28,11 @@ first_zero c word.Char = refl
 first_zero c word.Short = refl
 first_zero c word.Int = refl
 
-firsts_zero : (ds : List Declared) → AllByRecursion IsZero (map first_of ds)
+firsts_zero : (ds : List Declared) → AllByRecursion IsZero (map first_word ds)
 firsts_zero [] = tt
 firsts_zero (d ∷ ds) = (first_zero d.class d.word, firsts_zero ds)
 
-copies_zero : (d : Declared) (n : ℕ) → AllByRecursion IsZero (replicate n (first_of d))
+copies_zero : (d : Declared) (n : ℕ) → AllByRecursion IsZero (replicate n (first_word d))
 copies_zero d zero = tt
 copies_zero d (suc n) = (first_zero d.class d.word, copies_zero d n)
 

@@ -7,9 +7,9 @@ use Rattle.jmodel.specs.declared.instruction.EntryKind.{EntryKind}
 use Rattle.jmodel.specs.declared.instruction.EntryKind.TheVariants as kind
 use Rattle.jmodel.specs.declared.instruction.Form.{Form}
 use Rattle.jmodel.specs.declared.instruction.Form.TheVariants as form
-use Rattle.jmodel.specs.Instruction.{table, row_of, form_of}
-use Rattle.objects.specs.Constructs.{is_float_op}
-use Rattle.objects.specs.Decoding.{is_among, simple_op, local_op, wide_op, jump_to}
+use Rattle.jmodel.specs.format.Instruction.{table, row_of, form_of}
+use Rattle.objects.specs.linking.Constructs.{is_float_op}
+use Rattle.objects.specs.linking.Decoding.{is_among, simple_op, local_op, wide_op, jump_to}
 use Rattle.objects.proofs.Flags.{all_below, passes_below}
 
 -- ---- opcodes are few

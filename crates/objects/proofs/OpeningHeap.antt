@@ -13,22 +13,24 @@ use Rattle.jmodel.specs.declared.class_file.Constant.TheVariants as constants
 use Rattle.jmodel.specs.declared.class_file.FieldType.{FieldType}
 use Rattle.jmodel.specs.declared.class_file.FieldType.TheVariants as field
 use Rattle.jmodel.specs.declared.typing.VType.TheVariants as type
-use Rattle.jmodel.specs.ClassFile.{Attribute, Member, Pool, ClassFile}
-use Rattle.jmodel.specs.ClassRules.{IsConstant, is_named}
-use Rattle.jmodel.specs.Constants.{as_int, integer_in, long_in, named_entry, pair_number, constant_of, int_value, long_value}
-use Rattle.jmodel.specs.Layout.{library, is_static, statics, has_base, base_of, bases_end, base_type}
-use Rattle.jmodel.specs.Superclasses.{super_name}
-use Rattle.jmodel.proofs.Opening.{IsRest, all_rest, next_rest}
+use Rattle.jmodel.specs.format.ClassFile.{Attribute, Member, Pool, ClassFile}
+use Rattle.jmodel.specs.format.ClassRules.{IsConstant, is_named}
+use Rattle.jmodel.specs.format.Constants.{as_int, integer_in, long_in, named_entry, pair_number, constant_of, int_value, long_value}
+use Rattle.objects.specs.linking.Library.{library}
+use Rattle.objects.specs.linking.Members.{is_static, statics}
+use Rattle.objects.specs.linking.StaticBases.{has_base, base_of, bases_end, base_type}
+use Rattle.objects.specs.linking.Superclasses.{super_name}
+use Rattle.objects.proofs.StaticBases.{IsRest, all_rest, next_rest}
 use Rattle.objects.specs.declared.op.WordType.TheVariants as word
-use Rattle.objects.specs.LibraryClasses.{library_rows, under, object}
-use Rattle.objects.specs.Program.{Declared, Row, Field, Program, row_at}
-use Rattle.objects.specs.TypeOrder.{string_class, IsWithin}
-use Rattle.objects.specs.State.{Object, State}
-use Rattle.objects.specs.Resolution.{is_interface}
-use Rattle.objects.specs.Constructs.{is_floating}
-use Rattle.objects.specs.Layout.{rows, class_row, base_rows, array_row, primitive_arrays, made_arrays, nameless, static_words, referred, declared_as, field_type, words_upward, field_record, if_not, fields_behind, class_fields, fields_from, fields_of, texts_of, places_from, text_places, text_place, fixed_words, constant_text, int_or_zero, first_value, opening_value, statics_object, text_object, text_at, base_at, first_of, opening_state}
-use Rattle.objects.specs.Meaning.{IsObjectOf, IsReferenceTo, IsHeld, AreHeld, IsTyped, HasBase, IsFieldHeld}
-use Rattle.objects.specs.LinkingLaw.{AreRead}
+use Rattle.objects.specs.linking.LibraryClasses.{library_rows, under, object}
+use Rattle.objects.specs.semantics.Program.{Declared, Row, Field, Program, row_at}
+use Rattle.objects.specs.typing.TypeOrder.{string_class, IsWithin}
+use Rattle.objects.specs.semantics.State.{Object, State}
+use Rattle.objects.specs.linking.Resolution.{is_interface}
+use Rattle.objects.specs.linking.Constructs.{is_floating}
+use Rattle.objects.specs.linking.Layout.{rows, class_row, base_rows, array_row, primitive_arrays, made_arrays, nameless, static_words, referred, declared_as, field_type, words_upward, field_record, if_not, fields_behind, class_fields, fields_from, fields_of, texts_of, places_from, text_places, text_place, fixed_words, constant_text, int_or_zero, first_value, opening_value, statics_object, text_object, text_at, base_at, either, opening_state}
+use Rattle.objects.specs.history.Meaning.{IsObjectOf, IsReferenceTo, IsHeld, AreHeld, IsTyped, HasBase, IsFieldHeld}
+use Rattle.objects.specs.laws.LinkingLaw.{AreRead}
 use Rattle.objects.proofs.Items.{IsAt, item, all_items, placed}
 use Rattle.objects.proofs.Places.{get_back, get_front, get_map}
 use Rattle.objects.proofs.AsRead.{entry_at, is_file}
@@ -106,7 +108,7 @@ module _ (cs : List ClassFile) (P : Program) (read : AreRead cs) (rows_are : P.t
           let high : nat_lt (bases_end cs + i) (fixed_words cs) ≡ true = let h : bases_end cs + i < bases_end cs + length (texts_of cs) = omega (arith, less) in grind (arith, nat_tests) in
           rw (low, high) refl
 
-      go : (b : Option Object) → base_at cs 0 cs (bases_end cs + i) ≡ b → first_of b (text_at cs (bases_end cs + i)) ≡ Some text_object
+      go : (b : Option Object) → base_at cs 0 cs (bases_end cs + i) ≡ b → either b (text_at cs (bases_end cs + i)) ≡ Some text_object
       go (Some o) e = absurd (bases_below (bases_end cs + i) (omega arith) o e)
       go None e = here
 

@@ -3,15 +3,15 @@ use Rattle.std.proofs.Common.{◌≡◌, inl, inr, ℕ, ◌+◌, ◌/◌, ◌%�
 use Rattle.std.proofs.lemmas.Bool.Decides.{nat_tests}
 use Rattle.std.proofs.Math.Nat.{mod-eq_of_lt, div-eq_of_lt}
 use Rattle.std.proofs.lemmas.List.{length-map}
-use Rattle.jmodel.specs.ClassFile.{ClassFile}
-use Rattle.jmodel.specs.Layout.{statics}
+use Rattle.jmodel.specs.format.ClassFile.{ClassFile}
+use Rattle.objects.specs.linking.Members.{statics}
 use Rattle.jmodel.specs.declared.typing.VType.TheVariants as type
-use Rattle.objects.specs.Program.{Program}
-use Rattle.objects.specs.TypeOrder.{string_class, IsWithin}
-use Rattle.objects.specs.State.{Object}
-use Rattle.objects.specs.Layout.{rows, fixed_words, opening_state}
-use Rattle.objects.specs.Meaning.{IsInRegion}
-use Rattle.objects.specs.LinkingLaw.{OpeningLaw}
+use Rattle.objects.specs.semantics.Program.{Program}
+use Rattle.objects.specs.typing.TypeOrder.{string_class, IsWithin}
+use Rattle.objects.specs.semantics.State.{Object}
+use Rattle.objects.specs.linking.Layout.{rows, fixed_words, opening_state}
+use Rattle.objects.specs.history.Meaning.{IsInRegion}
+use Rattle.objects.specs.laws.LinkingLaw.{OpeningLaw}
 use Rattle.objects.proofs.Links.{links}
 use Rattle.objects.proofs.ReadNames.{class_reads}
 use Rattle.objects.proofs.SourceProof.{source_law}

@@ -3,15 +3,16 @@ use Rattle.std.proofs.Common.{◌≡◌, ◌⊎◌, inl, inr, ℕ, zero, suc, �
 use Rattle.std.specs.Prelude.{if◌then◌else◌, ◌&&◌}
 use Rattle.std.proofs.lemmas.Bool.Decides.{nat_tests}
 use Rattle.std.proofs.lemmas.List.{length-map}
-use Rattle.jmodel.specs.ClassFile.{ClassFile}
-use Rattle.jmodel.specs.History.{Words}
+use Rattle.jmodel.specs.format.ClassFile.{ClassFile}
+use Rattle.jmodel.specs.history.History.{Words}
 use Rattle.jmodel.specs.declared.value.Value.{Value}
-use Rattle.jmodel.specs.Layout.{statics, has_base, base_words, base_of, bases_end, at_address}
-use Rattle.jmodel.proofs.Opening.{IsRest, all_rest, next_rest, base_after, base_last, base_below, words_with}
-use Rattle.objects.specs.Value.{word_of}
-use Rattle.objects.specs.State.{Object, State, header}
-use Rattle.objects.specs.Layout.{statics_object, text_object, texts_of, base_at, text_at, first_of, fixed_words, opening_state, object_image, base_images, opening_words}
-use Rattle.objects.specs.Meaning.{AreLaid, IsLaid}
+use Rattle.objects.specs.linking.Members.{statics}
+use Rattle.objects.specs.linking.StaticBases.{has_base, base_words, base_of, bases_end, at_address}
+use Rattle.objects.proofs.StaticBases.{IsRest, all_rest, next_rest, base_after, base_last, base_below, words_with}
+use Rattle.objects.specs.semantics.Value.{word_of}
+use Rattle.objects.specs.semantics.State.{Object, State, header}
+use Rattle.objects.specs.linking.Layout.{statics_object, text_object, texts_of, base_at, text_at, either, fixed_words, opening_state, object_image, base_images, opening_words}
+use Rattle.objects.specs.history.Meaning.{AreLaid, IsLaid}
 
 read_behind : (xs ys : List ℕ) (i : ℕ) → slice_index (xs ++ ys) (length xs + i) ≡ slice_index ys i
 read_behind [] ys i = let e : 0 + i ≡ i = omega arith in ap (slice_index ys) e
@@ -172,7 +173,7 @@ module _ (cs : List ClassFile) where
   seen_here n d ds h some =
       let own : nat_eq (base_of cs n) (base_of cs n) ≡ true = grind (arith, nat_tests) in
       let here : (has_base d && nat_eq (base_of cs n) (base_of cs n)) ≡ true = rw (some, own) refl in
-      ap (λ (o : Option Object). first_of o (text_at cs (base_of cs n)))
+      ap (λ (o : Option Object). either o (text_at cs (base_of cs n)))
       (h (base_of cs n) (omega arith) ∙ ap (λ b. if b then Some (statics_object cs n d) else base_at cs (suc n) ds (base_of cs n)) here)
 
   -- ---- texts
@@ -195,7 +196,7 @@ module _ (cs : List ClassFile) where
   pub object_known : (r : ℕ) (o : Object) → state.objects r ≡ Some o → Known 0 cs r o ⊎ IsText r o
   object_known r o e = go (base_at cs 0 cs r) refl e
     where
-      go : (b : Option Object) → base_at cs 0 cs r ≡ b → first_of b (text_at cs r) ≡ Some o → Known 0 cs r o ⊎ IsText r o
+      go : (b : Option Object) → base_at cs 0 cs r ≡ b → either b (text_at cs r) ≡ Some o → Known 0 cs r o ⊎ IsText r o
       go (Some p) f g = inl (known_all r o (f ∙ g))
       go None f g = inr (text_known r o g)
 
@@ -252,7 +253,7 @@ module _ (cs : List ClassFile) where
   pub apart : (r q : ℕ) (o p : Object) → state.objects r ≡ Some o → state.objects q ≡ Some p → r < q → r + length o.values < q
   apart r q o p e f less = go (base_at cs 0 cs r) refl (base_at cs 0 cs q) refl e f
     where
-      go : (a : Option Object) → base_at cs 0 cs r ≡ a → (b : Option Object) → base_at cs 0 cs q ≡ b → first_of a (text_at cs r) ≡ Some o → first_of b (text_at cs q) ≡ Some p → r + length o.values < q
+      go : (a : Option Object) → base_at cs 0 cs r ≡ a → (b : Option Object) → base_at cs 0 cs q ≡ b → either a (text_at cs r) ≡ Some o → either b (text_at cs q) ≡ Some p → r + length o.values < q
       go (Some x) a (Some y) b e f = apart_from 0 cs (all_rest cs) lies_first r q o p (a ∙ e) (b ∙ f) less
       go (Some x) a None b e f =
           let k = known_all r o (a ∙ e) in

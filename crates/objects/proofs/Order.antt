@@ -3,9 +3,9 @@ use Rattle.std.proofs.Common.{◌≡◌, ℕ, zero, suc, ◌≤◌, List, [], �
 use Rattle.std.specs.Prelude.{slice_get, find, bytes_eq, ◌||◌, ◌==◌, not, if◌then◌else◌}
 use Rattle.std.specs.List.{list_any}
 use Rattle.std.proofs.lemmas.Slice.Eq.{bytes_eq-Decides}
-use Rattle.objects.specs.Program.{Declared, Holds, Words, Elements, Row, Program, row_at}
-use Rattle.objects.specs.TypeOrder.{object_class, conflict_classes, classes_from, from_class, above_in, is_class_name, is_array}
-use Rattle.objects.specs.Source.{IsUnder, IsClass, IsRowOf, AreTypes}
+use Rattle.objects.specs.semantics.Program.{Declared, Holds, Words, Elements, Row, Program, row_at}
+use Rattle.objects.specs.typing.TypeOrder.{object_class, conflict_classes, classes_from, from_class, above_in, is_class_name, is_array}
+use Rattle.objects.specs.typing.Source.{IsUnder, IsClass, IsRowOf, AreTypes}
 
 abbrev pub Among : List ℕ → List (List ℕ) → Type 0
 Among n ns = list_any (bytes_eq n) ns ≡ true

@@ -3,10 +3,10 @@ use Rattle.std.proofs.Common.{◌≡◌, ◌≢◌, ℕ, zero, suc, ◌+◌, ◌
 use Rattle.std.specs.Prelude.{slice_get, slice_set}
 use Rattle.jmodel.specs.declared.typing.VType.{VType}
 use Rattle.jmodel.specs.declared.typing.VType.TheVariants.{Long, Second, Top}
-use Rattle.objects.specs.Program.{Program}
-use Rattle.objects.specs.TypeOrder.{IsWithin, AreWithin, IsLocals}
-use Rattle.objects.specs.Typing.{freed, freed_by}
-use Rattle.objects.specs.Rewriting.{moved, moved_long}
+use Rattle.objects.specs.semantics.Program.{Program}
+use Rattle.objects.specs.typing.TypeOrder.{IsWithin, AreWithin, IsLocals}
+use Rattle.objects.specs.typing.Typing.{freed, freed_by}
+use Rattle.objects.specs.rewriting.Rewriting.{moved, moved_long}
 use Rattle.objects.proofs.Heap.{one_or}
 use Rattle.objects.proofs.Agreeing.{set_same}
 use Rattle.objects.proofs.Places.{get_back}

@@ -8,9 +8,9 @@ use Rattle.objects.specs.declared.op.WordType.{WordType}
 use Rattle.objects.specs.declared.op.WordType.TheVariants as word
 use Rattle.objects.specs.declared.op.Op.{Op}
 use Rattle.objects.specs.declared.op.Op.TheVariants.{Throw, LoadElement}
-use Rattle.objects.specs.Program.{Field, Method, Program, is_code, has_code}
-use Rattle.objects.specs.Typing.{Types, Table, types_at}
-use Rattle.objects.specs.Rewriting.{getter, setter, duplicate, element_getter, element_setter, helper_place, getter_method, setter_method, element_getter_method, element_setter_method, helper_methods, accessors, Typed, typed_from, after_load, array_under, block, block_of, block_len, block_len_of, block_at, blocks, duplicate_code, duplicate_method, abstracted, duplicates, wrapper_method, old_method, next_id, old_methods, rewritten}
+use Rattle.objects.specs.semantics.Program.{Field, Method, Program, is_code, has_code}
+use Rattle.objects.specs.typing.Typing.{Types, Table, types_at}
+use Rattle.objects.specs.rewriting.Rewriting.{getter, setter, duplicate, element_getter, element_setter, helper_place, getter_method, setter_method, element_getter_method, element_setter_method, helper_methods, accessors, Typed, typed_from, after_load, array_under, block, block_of, block_len, block_len_of, block_at, blocks, duplicate_code, duplicate_method, abstracted, duplicates, wrapper_method, old_method, next_id, old_methods, rewritten}
 
 -- items of lists
 pub get_back : {A : Type 0} (xs ys : List A) (i : ℕ) → slice_get (xs ++ ys) (length xs + i) ≡ slice_get ys i

@@ -3,17 +3,18 @@ use Rattle.std.proofs.Common.{◌≡◌, ◌≢◌, ◌⊎◌, inl, inr, ℕ, su
 use Rattle.std.specs.Prelude.{slice_get, bytes_eq, codes, ◌==◌, ◌&&◌, ◌||◌, if◌then◌else◌}
 use Rattle.std.specs.List.{AllByRecursion}
 use Rattle.std.proofs.lemmas.Slice.Eq.{bytes_eq-Decides}
-use Rattle.jmodel.specs.ClassFile.{ClassFile}
-use Rattle.jmodel.specs.Superclasses.{own_name, class_named}
-use Rattle.objects.specs.Program.{Declared, Words, Row, Program, row_at}
-use Rattle.objects.specs.LibraryClasses.{library_rows}
-use Rattle.objects.specs.LibraryMethods.{is_library}
-use Rattle.objects.specs.TypeOrder.{object_class, context_class, is_array, is_class_name, without_last, is_ended, is_class_above, is_element_within, element_read, IsWithin}
-use Rattle.objects.specs.TypeOrder as typing
-use Rattle.objects.specs.Resolution.{is_interface, holds_of}
-use Rattle.objects.specs.Layout.{rows, class_row, base_rows, array_row, primitive_arrays, made_arrays, nameless, static_words, words_upward, class_read, descriptor_read}
-use Rattle.objects.specs.Source.{IsClass, IsRowOf, AreTypes, IsReadName}
-use Rattle.objects.specs.LinkingLaw.{AreRead}
+use Rattle.jmodel.specs.format.ClassFile.{ClassFile}
+use Rattle.objects.specs.linking.Members.{own_name}
+use Rattle.objects.specs.linking.Superclasses.{class_named}
+use Rattle.objects.specs.semantics.Program.{Declared, Words, Row, Program, row_at}
+use Rattle.objects.specs.linking.LibraryClasses.{library_rows}
+use Rattle.objects.specs.linking.LibraryMethods.{is_library}
+use Rattle.objects.specs.typing.TypeOrder.{object_class, context_class, is_array, is_class_name, without_last, is_ended, is_class_above, is_element_within, element_read, IsWithin}
+use Rattle.objects.specs.typing.TypeOrder as typing
+use Rattle.objects.specs.linking.Resolution.{is_interface, holds_of}
+use Rattle.objects.specs.linking.Layout.{rows, class_row, base_rows, array_row, primitive_arrays, made_arrays, nameless, static_words, words_upward, class_read, descriptor_read}
+use Rattle.objects.specs.typing.Source.{IsClass, IsRowOf, AreTypes, IsReadName}
+use Rattle.objects.specs.laws.LinkingLaw.{AreRead}
 use Rattle.objects.proofs.Items.{IsAt, item, either_part, in_front_part, in_back_part, of_map, into_map}
 use Rattle.objects.proofs.AsRead.{named_as, class_names}
 use Rattle.objects.proofs.ArrayTypes.{without_end, ended}

@@ -7,12 +7,12 @@ use Rattle.jmodel.specs.declared.typing.VType.{VType}
 use Rattle.jmodel.specs.declared.typing.VType.TheVariants.{Ref, UninitThis}
 use Rattle.objects.specs.declared.op.Op.{Op}
 use Rattle.objects.specs.declared.op.Op.TheVariants.{PutField}
-use Rattle.objects.specs.Program.{Field, Method, Program, field_at}
-use Rattle.objects.specs.TypeOrder.{is_within, name_read}
-use Rattle.objects.specs.Typing.{Types, Table, types_at}
-use Rattle.objects.specs.Source.{IsKnownName, IsKnownType}
-use Rattle.objects.specs.TypingLaw.{IsRewritable}
-use Rattle.objects.specs.Rewriting.{places_of}
+use Rattle.objects.specs.semantics.Program.{Field, Method, Program, field_at}
+use Rattle.objects.specs.typing.TypeOrder.{is_within, name_read}
+use Rattle.objects.specs.typing.Typing.{Types, Table, types_at}
+use Rattle.objects.specs.typing.Source.{IsKnownName, IsKnownType}
+use Rattle.objects.specs.laws.TypingLaw.{IsRewritable}
+use Rattle.objects.specs.rewriting.Rewriting.{word_places}
 
 both : (a b : Bool) → (a && b) ≡ true → (a ≡ true) × (b ≡ true)
 both true b e = (refl, e)
@@ -53,7 +53,7 @@ module _ (P : Program) where
     where
       by : Option Field → Bool
       by None = true
-      by (Some f) = not (is_this (slice_get h.stack (places_of f.declared.word)))
+      by (Some f) = not (is_this (slice_get h.stack (word_places f.declared.word)))
   is_late o h = true
 
   abbrev pub passes_from : ℕ → Method → Table → Bool
@@ -94,7 +94,7 @@ module _ (P : Program) where
       at : (pc : ℕ) (h : Types) → types_at T pc ≡ Some h → Passes k pc h
       at pc h t = let z : 0 + pc ≡ pc = omega arith in subst (λ (i : ℕ). Passes k i h) z (passes_at 0 k T e pc h t)
 
-      stored : (n : ℕ) (c : List ℕ) (h : Types) (f : Field) (o : Option Op) → o ≡ Some (PutField n c) → field_at P n ≡ Some f → slice_get h.stack (places_of f.declared.word) ≡ Some UninitThis → is_late o h ≡ true → ⊥
+      stored : (n : ℕ) (c : List ℕ) (h : Types) (f : Field) (o : Option Op) → o ≡ Some (PutField n c) → field_at P n ≡ Some f → slice_get h.stack (word_places f.declared.word) ≡ Some UninitThis → is_late o h ≡ true → ⊥
       stored n c h f o is there this late =
           let put : is_late (Some (PutField n c)) h ≡ true = subst (λ (o : Option Op). is_late o h ≡ true) is late in
           let no : is_late (Some (PutField n c)) h ≡ false = rw (there, this) refl in

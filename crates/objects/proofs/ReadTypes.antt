@@ -5,10 +5,10 @@ use Rattle.std.specs.List.{AllByRecursion, list_any}
 use Rattle.std.proofs.lemmas.Bool.Decides.{nat_tests}
 use Rattle.jmodel.specs.declared.typing.VType.{VType}
 use Rattle.jmodel.specs.declared.typing.VType.TheVariants.{Int, Long, Second, Null, Ref, Uninit, UninitThis, Top}
-use Rattle.objects.specs.Program.{Declared, Row, Field, Program, field_at}
-use Rattle.objects.specs.TypeOrder.{object_class, throwable_class, context_class, conflict_class, IsWithin, AreWithin, is_array, is_element_within, element_class, without_last, classes_from, above_in, class_read, name_read, read_in}
-use Rattle.objects.specs.Typing.{has_references}
-use Rattle.objects.specs.Source.{IsUnder, IsClass, AreTypes, IsReadName, IsReadType, IsKnownName, IsKnownType}
+use Rattle.objects.specs.semantics.Program.{Declared, Row, Field, Program, field_at}
+use Rattle.objects.specs.typing.TypeOrder.{object_class, throwable_class, context_class, conflict_class, IsWithin, AreWithin, is_array, is_element_within, element_class, without_last, classes_from, above_in, class_read, name_read, read_in}
+use Rattle.objects.specs.typing.Typing.{has_references}
+use Rattle.objects.specs.typing.Source.{IsUnder, IsClass, AreTypes, IsReadName, IsReadType, IsKnownName, IsKnownType}
 use Rattle.objects.proofs.Order.{Among, first, later, plain_name, Above, by_class, class_row, by_found}
 use Rattle.objects.proofs.Elements.{inner_name, never, Shape, shape, shaped, deeper, under_object, class, same, Within, within, is_within_by, arrays, object, classes}
 

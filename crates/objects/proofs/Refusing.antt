@@ -11,12 +11,12 @@ use Rattle.objects.specs.declared.op.Op.TheVariants as op
 use Rattle.objects.specs.declared.op.Catch.{Catch}
 use Rattle.objects.specs.declared.op.Phase.TheVariants.{Ready, Doomed}
 use Rattle.objects.specs.declared.op.Asking.TheVariants as asking
-use Rattle.objects.specs.Program.{Method, Program, method_at}
-use Rattle.objects.specs.Typing.{Table}
-use Rattle.objects.specs.Source.{IsSourceCatch}
-use Rattle.objects.specs.Step.{Frame, Frames, Asks, at, with_stack, find_catch, catch_at, unwinds, takes as taken}
-use Rattle.objects.specs.Attempt.{Log, Reply, Bounds, Meter, Run, On, next_run, unwound, set_back}
-use Rattle.objects.specs.Rewriting.{Typed, block_at, moved_catch, duplicate_code, rewritten}
+use Rattle.objects.specs.semantics.Program.{Method, Program, method_at}
+use Rattle.objects.specs.typing.Typing.{Table}
+use Rattle.objects.specs.typing.Source.{IsSourceCatch}
+use Rattle.objects.specs.semantics.Step.{Frame, Frames, Asks, at, with_stack, find_catch, catch_at, unwinds, takes as taken}
+use Rattle.objects.specs.rewriting.Attempt.{Log, Reply, Bounds, Meter, Run, On, next_run, unwound, set_back}
+use Rattle.objects.specs.rewriting.Rewriting.{Typed, block_at, moved_catch, duplicate_code, rewritten}
 use Rattle.objects.proofs.Frames.{frame}
 use Rattle.objects.proofs.Places.{has_stub, blocks_most}
 use Rattle.objects.proofs.Inner.{IsAdded}

@@ -14,13 +14,13 @@ use Rattle.objects.specs.declared.op.Made.{Made}
 use Rattle.objects.specs.declared.op.Made.TheVariants.{Pushed, Raised}
 use Rattle.objects.specs.declared.op.Use.{Use}
 use Rattle.objects.specs.declared.op.Use.TheVariants.{Indexes}
-use Rattle.jmodel.specs.declared.op.Access.{Access}
-use Rattle.objects.specs.Program.{Row, Method, Program, method_at, row_at}
-use Rattle.objects.specs.Step.{Frames, Asked, Asks, Fails, step, unwinds, told}
-use Rattle.objects.specs.Region.{has_words}
-use Rattle.objects.specs.State.{Object, type_in, length_in, words_of, object_of}
-use Rattle.objects.specs.Attempt.{Log, Reply, Gives, Refuses, Bounds, Meter, Run, On, Asking, Ended, Stuck, with_turns, with_depth, class_of, threw_of, begun, unwound, on_thrown, on_made, on_header, makes, made, followed, on_head, heads, answered, on_raise, throws, count_of, on_request, on_asked, next_run, run, starts, run_start}
-use Rattle.objects.specs.RegionLaw.{IsTaking, RegionLaw}
+use Rattle.jmodel.specs.declared.access.Access.{Access}
+use Rattle.objects.specs.semantics.Program.{Row, Method, Program, method_at, row_at}
+use Rattle.objects.specs.semantics.Step.{Frames, Asked, Asks, Fails, step, unwinds, told}
+use Rattle.objects.specs.semantics.Region.{has_words}
+use Rattle.objects.specs.semantics.State.{Object, type_in, length_in, words_of, object_of}
+use Rattle.objects.specs.rewriting.Attempt.{Log, Reply, Gives, Refuses, Bounds, Meter, Run, On, Asking, Ended, Stuck, with_turns, with_depth, class_of, threw_of, begun, unwound, on_thrown, on_made, on_header, makes, made, followed, on_head, heads, answered, on_raise, throws, count_of, on_request, on_asked, next_run, run, starts, run_start}
+use Rattle.objects.specs.laws.RegionLaw.{IsTaking, RegionLaw}
 use Rattle.objects.proofs.Room.{words_there}
 
 module _ (P : Program) (B : Bounds) where

@@ -1,7 +1,7 @@
 -- What holds of a run after each list of replies.
 use Rattle.std.proofs.Common.{◌≡◌, ℕ, zero, suc, ◌≤◌, List, [], ◌∷◌, length, refl, subst, sym, arith}
-use Rattle.objects.specs.Program.{Program}
-use Rattle.objects.specs.Attempt.{Log, Reply, Bounds, Meter, Run, On, Asking, Ended, Stuck, next_run, run}
+use Rattle.objects.specs.semantics.Program.{Program}
+use Rattle.objects.specs.rewriting.Attempt.{Log, Reply, Bounds, Meter, Run, On, Asking, Ended, Stuck, next_run, run}
 
 -- a run that goes on has written and read what another has
 abbrev pub SameLogs : Run → Run → Type 0

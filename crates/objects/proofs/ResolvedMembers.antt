@@ -5,17 +5,17 @@ use Rattle.std.specs.List.{flat_map}
 use Rattle.std.proofs.lemmas.Slice.Eq.{bytes_eq-Decides}
 use Rattle.std.proofs.lemmas.Option.{slice_get_within}
 use Rattle.jmodel.specs.declared.name.MethodName.{MethodName}
-use Rattle.jmodel.specs.ClassFile.{Member, ClassFile}
-use Rattle.jmodel.specs.Pool.{MemberName}
-use Rattle.jmodel.specs.Layout.{is_static}
-use Rattle.jmodel.specs.Superclasses.{own_name, class_named, super_name, with_above, upward, lineage}
-use Rattle.jmodel.specs.Classes.{Declared, declared_in, methods_in, full_name}
+use Rattle.jmodel.specs.format.ClassFile.{Member, ClassFile}
+use Rattle.jmodel.specs.format.Pool.{MemberName}
+use Rattle.objects.specs.linking.Members.{is_static, own_name}
+use Rattle.objects.specs.linking.Superclasses.{class_named, super_name, with_above, upward, lineage}
+use Rattle.objects.specs.linking.Classes.{Declared, declared_in, methods_in, full_name}
 use Rattle.objects.specs.declared.op.Dispatch.TheVariants as dispatch
-use Rattle.objects.specs.Program.{Method, Program, method_at}
-use Rattle.objects.specs.Resolution.{is_abstract_member, interface_names, names_above, all_upward, ancestry, has_name, fields_in, method_way, resolved_field, resolved_method, is_selected_by, selected_from, from_above, special_method, is_properly_above, is_private}
-use Rattle.objects.specs.Decoding.{is_method, number_of}
-use Rattle.objects.specs.Linking.{is_exact, dispatch_of, taken_methods, original_symbols}
-use Rattle.objects.specs.LinkingLaw.{AreRead}
+use Rattle.objects.specs.semantics.Program.{Method, Program, method_at}
+use Rattle.objects.specs.linking.Resolution.{is_abstract_member, interface_names, names_above, all_upward, ancestry, has_name, fields_in, method_way, resolved_field, resolved_method, is_selected_by, selected_from, from_above, special_method, is_properly_above, is_private}
+use Rattle.objects.specs.linking.Decoding.{is_method, number_of}
+use Rattle.objects.specs.linking.Linking.{is_exact, dispatch_of, taken_methods, original_symbols}
+use Rattle.objects.specs.laws.LinkingLaw.{AreRead}
 use Rattle.objects.proofs.Items.{IsAt, either_part, of_flat, at_map, into_map, into_flat, found, placed}
 use Rattle.objects.proofs.AsRead.{named_as}
 use Rattle.objects.proofs.DeclaredMembers.{HasName, of_methods, of_fields, name_of_member, same_method}

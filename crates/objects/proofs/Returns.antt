@@ -2,11 +2,11 @@
 use Rattle.std.proofs.Common.{◌≡◌, ℕ, zero, suc, [], ◌∷◌, false, refl, sym, ◌∙◌, ap, subst, inl, inr}
 use Rattle.jmodel.specs.declared.value.Answer.{Answer}
 use Rattle.jmodel.specs.declared.value.Answer.TheVariants.{Returned}
-use Rattle.objects.specs.Program.{Program}
-use Rattle.objects.specs.Region.{Region}
-use Rattle.objects.specs.State.{State}
-use Rattle.objects.specs.Call.{Direct, Ended, next_direct, direct, kept, call_start, Calls}
-use Rattle.objects.specs.Opening.{first_region, Fails, is_return, ReturnLaw}
+use Rattle.objects.specs.semantics.Program.{Program}
+use Rattle.objects.specs.semantics.Region.{Region}
+use Rattle.objects.specs.semantics.State.{State}
+use Rattle.objects.specs.semantics.Call.{Direct, Ended, next_direct, direct, kept, call_start, Calls}
+use Rattle.objects.specs.semantics.Opening.{first_region, Fails, is_return, ReturnLaw}
 
 -- a call that has ended stays as it is
 stays : (P : Program) (G : Region) (n : ℕ) (x : Answer) (σ : State) → direct P G n (Ended x σ) ≡ Ended x σ

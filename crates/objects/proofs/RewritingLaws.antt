@@ -3,18 +3,18 @@ use Rattle.std.proofs.Common.{◌≡◌, ℕ, ℤ, List, Some, refl, sym, ap, su
 use Rattle.std.specs.Prelude.{slice_get}
 use Rattle.jmodel.specs.declared.value.Value.{Value}
 use Rattle.jmodel.specs.declared.value.Answer.{Answer}
-use Rattle.jmodel.specs.History.{Entry, Words, overlaid, Agrees, memory_after, used_after}
+use Rattle.jmodel.specs.history.History.{Entry, Words, overlaid, Agrees, memory_after, used_after}
 use Rattle.objects.specs.declared.op.Dispatch.TheVariants as dispatch
-use Rattle.objects.specs.Program.{Method, Program}
-use Rattle.objects.specs.State.{State}
-use Rattle.objects.specs.Call.{Calls, kept}
-use Rattle.objects.specs.Attempt.{Log, Reply, Bounds, Run, On, Asking, Ended, Stuck, run, run_start, Runs}
-use Rattle.objects.specs.Meaning.{Represents, region_of}
-use Rattle.objects.specs.Source.{AreArguments}
-use Rattle.objects.specs.Typing.{Table}
-use Rattle.objects.specs.TypingLaw.{IsTypedProgram}
-use Rattle.objects.specs.Rewriting.{rewritten}
-use Rattle.objects.specs.Law.{TellsOf, Simulation, Soundness, SnapshotSoundness, IsOnWay, Matched, Prefix}
+use Rattle.objects.specs.semantics.Program.{Method, Program}
+use Rattle.objects.specs.semantics.State.{State}
+use Rattle.objects.specs.semantics.Call.{Calls, kept}
+use Rattle.objects.specs.rewriting.Attempt.{Log, Reply, Bounds, Run, On, Asking, Ended, Stuck, run, run_start, Runs}
+use Rattle.objects.specs.history.Meaning.{Represents, region_of}
+use Rattle.objects.specs.typing.Source.{AreArguments}
+use Rattle.objects.specs.typing.Typing.{Table}
+use Rattle.objects.specs.laws.TypingLaw.{IsTypedProgram}
+use Rattle.objects.specs.rewriting.Rewriting.{rewritten}
+use Rattle.objects.specs.laws.Law.{TellsOf, Simulation, Soundness, SnapshotSoundness, IsOnWay, Matched, Prefix}
 use Rattle.objects.proofs.Sound.{IsSound, HasEnded}
 use Rattle.objects.proofs.SerialProof.{serial_of}
 use Rattle.objects.proofs.Simulated.{simulated}

@@ -8,12 +8,12 @@ use Rattle.objects.specs.declared.op.Dispatch.TheVariants as dispatch
 use Rattle.objects.specs.declared.op.WordType.{WordType}
 use Rattle.objects.specs.declared.op.WordType.TheVariants as word
 use Rattle.objects.specs.declared.op.Op.{Op}
-use Rattle.objects.specs.Program.{Field, Method, Program, is_code, has_code}
-use Rattle.objects.specs.TypeOrder.{object_class, throwable_class, context_class, conflict_class, IsWithin}
-use Rattle.objects.specs.Typing.{Table, result_types, is_constructor, IsTypable}
-use Rattle.objects.specs.Source.{IsReadName, IsReadWord, IsSourceField, IsSourceMethod, IsBased, HasCode, AreTypes}
-use Rattle.objects.specs.TypingLaw.{IsTypedProgram}
-use Rattle.objects.specs.Rewriting.{accessors, element_getter_method, element_setter_method, helper_methods, typed_from, abstracted, duplicate_code, duplicate_method, duplicates, old_method, next_id, old_methods, rewritten}
+use Rattle.objects.specs.semantics.Program.{Field, Method, Program, is_code, has_code}
+use Rattle.objects.specs.typing.TypeOrder.{object_class, throwable_class, context_class, conflict_class, IsWithin}
+use Rattle.objects.specs.typing.Typing.{Table, result_types, is_constructor, IsTypable}
+use Rattle.objects.specs.typing.Source.{IsReadName, IsReadWord, IsSourceField, IsSourceMethod, IsBased, HasCode, AreTypes}
+use Rattle.objects.specs.laws.TypingLaw.{IsTypedProgram}
+use Rattle.objects.specs.rewriting.Rewriting.{accessors, element_getter_method, element_setter_method, helper_methods, typed_from, abstracted, duplicate_code, duplicate_method, duplicates, old_method, next_id, old_methods, rewritten}
 use Rattle.objects.proofs.Fields.{each_at}
 use Rattle.objects.proofs.Added.{all_append, all_at}
 use Rattle.objects.proofs.Places.{rewrites}

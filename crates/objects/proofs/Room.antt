@@ -1,7 +1,7 @@
 -- What a region has room for.
 use Rattle.std.proofs.Common.{◌≡◌, ℕ, ◌+◌, ◌^◌, ◌<◌, ◌≤◌, true, arith}
 use Rattle.std.proofs.lemmas.Bool.Decides.{nat_tests}
-use Rattle.objects.specs.Region.{Region, next_reference, has_words}
+use Rattle.objects.specs.semantics.Region.{Region, next_reference, has_words}
 
 -- a region has n words more
 pub record HasWords (G : Region) (used n : ℕ) : Type 0 where

@@ -22,14 +22,14 @@ use Rattle.objects.specs.declared.op.Use.TheVariants.{Casts, Indexes}
 use Rattle.objects.specs.declared.op.Made.TheVariants.{Raised}
 use Rattle.objects.specs.declared.op.Trap.TheVariants.{NullPointer}
 use Rattle.objects.specs.declared.op.Asking.TheVariants as asking
-use Rattle.objects.specs.Library.{trap_type}
-use Rattle.objects.specs.Value.{word_of, pushed, kept_by, slots_of}
-use Rattle.objects.specs.Program.{Declared, Field, Method, Program}
-use Rattle.objects.specs.TypeOrder.{object_class, place_types}
-use Rattle.objects.specs.Step.{Frame, Frames, Asks, step, unwinds, inner, sort_of}
-use Rattle.objects.specs.Attempt.{Log, Reply, Bounds, Meter, On, next_run, on_look, on_read, on_write, on_head}
-use Rattle.objects.specs.Rewriting.{context, places_of, distance, cast_of, plain_load, static_getter, static_setter, field_getter, field_setter, element_getter_method, element_setter_method}
-use Rattle.objects.specs.Source.{IsBase, IsBased}
+use Rattle.objects.specs.linking.Library.{trap_type}
+use Rattle.objects.specs.semantics.Value.{word_of, pushed, kept_by, slots_of}
+use Rattle.objects.specs.semantics.Program.{Declared, Field, Method, Program}
+use Rattle.objects.specs.typing.TypeOrder.{object_class, place_types}
+use Rattle.objects.specs.semantics.Step.{Frame, Frames, Asks, step, unwinds, inner, sort_of}
+use Rattle.objects.specs.rewriting.Attempt.{Log, Reply, Bounds, Meter, On, next_run, on_look, on_read, on_write, on_head}
+use Rattle.objects.specs.rewriting.Rewriting.{context, word_places, distance, cast_of, plain_load, static_getter, static_setter, field_getter, field_setter, element_getter_method, element_setter_method}
+use Rattle.objects.specs.typing.Source.{IsBase, IsBased}
 use Rattle.objects.proofs.Frames.{frame}
 use Rattle.objects.proofs.Places.{HasAt, has_rest}
 use Rattle.objects.proofs.Wrapper.{value_sort}
@@ -77,7 +77,7 @@ cast_cases d code = by d.word
     by word.Long = inl refl
 
 -- how many places a word's value has
-places_fact : (t : WordType) (v : Value) → value_sort v ≡ sort_of t → places_of t ≡ length (slots_of v)
+places_fact : (t : WordType) (v : Value) → value_sort v ≡ sort_of t → word_places t ≡ length (slots_of v)
 places_fact word.Boolean (value.Int x) e = refl
 places_fact word.Byte (value.Int x) e = refl
 places_fact word.Char (value.Int x) e = refl
@@ -164,7 +164,7 @@ module _ (Q : Program) (B : Bounds) (dn a : ℕ) (dm : Method) (is : slice_get Q
           → Leads Q B 6 (On Open (frame dn a l (pushed v s) ∷ fs) m w r) (On Open (frame g 4 (slots_of v ++ Context ∷ []) (Second ∷ Long (far f) ∷ pushed v (Ref (suc o) ∷ Context ∷ [])) ∷ caller ∷ fs) m w r)
       static_put v e = by v (sym e) (places_fact f.declared.word v e) (takes_fact f.declared.word f.declared.class v e)
         where
-          by : (v : Value) → sort_of f.declared.word ≡ value_sort v → places_of f.declared.word ≡ length (slots_of v) → length (place_types f.declared ++ context ∷ []) ≡ suc (length (slots_of v))
+          by : (v : Value) → sort_of f.declared.word ≡ value_sort v → word_places f.declared.word ≡ length (slots_of v) → length (place_types f.declared ++ context ∷ []) ≡ suc (length (slots_of v))
               → Leads Q B 6 (On Open (frame dn a l (pushed v s) ∷ fs) m w r) (On Open (frame g 4 (slots_of v ++ Context ∷ []) (Second ∷ Long (far f) ∷ pushed v (Ref (suc o) ∷ Context ∷ [])) ∷ caller ∷ fs) m w r)
           by (value.Int x) t p k =
               ((refl, refl), λ v1. (simp (is, at.0, here) (refl, refl), λ v2. (simp (is, at.0, at.1.0, here, h, k) (refl, refl), λ v3. (simp (is, at.0, at.1.0, here, h, k, p) (refl, refl), λ v4. (simp (is, at.0, at.1.0, here, h, k, p) (refl, refl), λ v5. (simp (is, at.0, at.1.0, here, h, k, p, t) (refl, refl), λ v6. simp (is, at.0, at.1.0, here, h, k, p, t)))))))
@@ -206,7 +206,7 @@ module _ (Q : Program) (B : Bounds) (dn a : ℕ) (dm : Method) (is : slice_get Q
         → Leads Q B 6 (On Open (frame dn a l (pushed v (Ref o ∷ s)) ∷ fs) m w r) (On Open (frame g 4 (Ref o ∷ slots_of v ++ Context ∷ []) (Second ∷ Long (far f) ∷ pushed v (Ref o ∷ Context ∷ [])) ∷ caller ∷ fs) m w r)
     field_put v e o = by v (sym e) (places_fact f.declared.word v e) (takes_fact f.declared.word f.declared.class v e)
       where
-        by : (v : Value) → sort_of f.declared.word ≡ value_sort v → places_of f.declared.word ≡ length (slots_of v) → length (place_types f.declared ++ context ∷ []) ≡ suc (length (slots_of v))
+        by : (v : Value) → sort_of f.declared.word ≡ value_sort v → word_places f.declared.word ≡ length (slots_of v) → length (place_types f.declared ++ context ∷ []) ≡ suc (length (slots_of v))
             → Leads Q B 6 (On Open (frame dn a l (pushed v (Ref o ∷ s)) ∷ fs) m w r) (On Open (frame g 4 (Ref o ∷ slots_of v ++ Context ∷ []) (Second ∷ Long (far f) ∷ pushed v (Ref o ∷ Context ∷ [])) ∷ caller ∷ fs) m w r)
         by (value.Int x) t p k =
             ((refl, refl), λ v1. (simp (is, at.0, here) (refl, refl), λ v2. (simp (is, at.0, at.1.0, here, h, k) (refl, refl), λ v3. (simp (is, at.0, at.1.0, here, h, k, p) (refl, refl), λ v4. (simp (is, at.0, at.1.0, here, h, k, p) (refl, refl), λ v5. (simp (is, at.0, at.1.0, here, h, k, p, t) (refl, refl), λ v6. simp (is, at.0, at.1.0, here, h, k, p, t)))))))
@@ -265,7 +265,7 @@ module _ (Q : Program) (B : Bounds) (dn a : ℕ) (dm : Method) (is : slice_get Q
         → Leads Q B 6 (On Open (frame dn a l (pushed v (Int i ∷ Ref o ∷ s)) ∷ fs) m w r) (On Open (frame g 4 (Ref o ∷ Int i ∷ slots_of v ++ Context ∷ []) (Int i ∷ pushed v (Ref o ∷ Context ∷ [])) ∷ element_caller ∷ fs) m w r)
     element_put v e o = by v (sym e) (places_fact t v e) (takes_fact t object_class v e)
       where
-        by : (v : Value) → sort_of t ≡ value_sort v → places_of t ≡ length (slots_of v) → length (place_types (record { word = t; class = object_class }) ++ context ∷ []) ≡ suc (length (slots_of v))
+        by : (v : Value) → sort_of t ≡ value_sort v → word_places t ≡ length (slots_of v) → length (place_types (record { word = t; class = object_class }) ++ context ∷ []) ≡ suc (length (slots_of v))
             → Leads Q B 6 (On Open (frame dn a l (pushed v (Int i ∷ Ref o ∷ s)) ∷ fs) m w r) (On Open (frame g 4 (Ref o ∷ Int i ∷ slots_of v ++ Context ∷ []) (Int i ∷ pushed v (Ref o ∷ Context ∷ [])) ∷ element_caller ∷ fs) m w r)
         by (value.Int x) y p k =
             ((refl, refl), λ v1. (simp (is, at.0, here) (refl, refl), λ v2. (simp (is, at.0, at.1.0, here, h, k) (refl, refl), λ v3. (simp (is, at.0, at.1.0, here, h, k, p) (refl, refl), λ v4. (simp (is, at.0, at.1.0, here, h, k, p) (refl, refl), λ v5. (simp (is, at.0, at.1.0, here, h, k, p, y) (refl, refl), λ v6. simp (is, at.0, at.1.0, here, h, k, p, y)))))))

@@ -11,17 +11,17 @@ use Rattle.objects.specs.declared.op.Dispatch.{Dispatch}
 use Rattle.objects.specs.declared.op.Dispatch.TheVariants as dispatch
 use Rattle.objects.specs.declared.op.Request.TheVariants as request
 use Rattle.objects.specs.declared.op.Asking.TheVariants as asking
-use Rattle.objects.specs.Value.{slots_of}
-use Rattle.objects.specs.Program.{Row, Method, Program, has_code, op_at, method_at, row_at, name_at}
-use Rattle.objects.specs.Region.{Region, next_reference, has_words}
-use Rattle.objects.specs.State.{Object, State, type_at, put, words_of, length_of, with_object, object_of}
-use Rattle.objects.specs.Meaning.{IsHeap}
-use Rattle.objects.specs.Step.{Frames, Asked, Asks, Fails, started, acts, step, told}
-use Rattle.objects.specs.Call.{Direct, On, Asking, Ended, Stuck, next_direct, direct, call_start, turned, followed, on_asked, on_made}
-use Rattle.objects.specs.Call as call
-use Rattle.objects.specs.Source.{IsSourceOp, IsSourceMethod, HasObject, AreArguments}
-use Rattle.objects.specs.Typing.{types_at, Types, Table, flow, first_locals, is_constructor, KeepsAt}
-use Rattle.objects.specs.TypingLaw.{HasTyping, IsTypedProgram, IsSafe, TypedSafety}
+use Rattle.objects.specs.semantics.Value.{slots_of}
+use Rattle.objects.specs.semantics.Program.{Row, Method, Program, has_code, op_at, method_at, row_at, name_at}
+use Rattle.objects.specs.semantics.Region.{Region, next_reference, has_words}
+use Rattle.objects.specs.semantics.State.{Object, State, type_at, put, words_of, length_of, with_object, object_of}
+use Rattle.objects.specs.history.Meaning.{IsHeap}
+use Rattle.objects.specs.semantics.Step.{Frames, Asked, Asks, Fails, started, acts, step, told}
+use Rattle.objects.specs.semantics.Call.{Direct, On, Asking, Ended, Stuck, next_direct, direct, call_start, turned, followed, on_asked, on_made}
+use Rattle.objects.specs.semantics.Call as call
+use Rattle.objects.specs.typing.Source.{IsSourceOp, IsSourceMethod, HasObject, AreArguments}
+use Rattle.objects.specs.typing.Typing.{types_at, Types, Table, flow, first_locals, is_constructor, KeepsAt}
+use Rattle.objects.specs.laws.TypingLaw.{HasTyping, IsTypedProgram, IsSafe, TypedSafety}
 use Rattle.objects.proofs.Fields.{each_at}
 use Rattle.objects.proofs.Frames.{frame}
 use Rattle.objects.proofs.Heap.{type_of, held_at, put_keeps, HasWords, words_there, new_keeps, new_here, heap_with_object, object_type, object_fits}

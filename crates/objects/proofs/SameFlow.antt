@@ -13,12 +13,12 @@ use Rattle.objects.specs.declared.op.Op.TheVariants as op
 use Rattle.objects.specs.declared.op.Catch.{Catch}
 use Rattle.objects.specs.declared.op.Catches.{Catches}
 use Rattle.objects.specs.declared.op.Catches.TheVariants.{Conflict, Any, Of}
-use Rattle.objects.specs.Program.{Field, Method, Program, method_at, field_at, has_code}
-use Rattle.objects.specs.TypeOrder.{object_class, throwable_class, string_class, is_element_within, is_reference_within, is_within, IsWithin, AreWithin, element_read, name_read, stack_types}
-use Rattle.objects.specs.Typing.{is_received, argument_places, value_places, Types, Table, FitsIn, Flow, Leads, Wrong, if_so, on, on_each, on_int, on_number, on_top, field_in, method_in, stored_types, is_constructor, arguments, results, calls, special, constructs, puts, returns, flow, Covers, caught_type, AreCaught, KeepsFlow, KeepsAt, IsTyping, IsTypable}
-use Rattle.objects.specs.Source.{IsSourceOp, IsSourceMethod}
-use Rattle.objects.specs.TypingLaw.{IsTypedProgram}
-use Rattle.objects.specs.Rewriting.{accessors, duplicates, wrapper_method, old_method, old_methods, rewritten}
+use Rattle.objects.specs.semantics.Program.{Field, Method, Program, method_at, field_at, has_code}
+use Rattle.objects.specs.typing.TypeOrder.{object_class, throwable_class, string_class, is_element_within, is_reference_within, is_within, IsWithin, AreWithin, element_read, name_read, stack_types}
+use Rattle.objects.specs.typing.Typing.{is_received, argument_places, value_places, Types, Table, FitsIn, Flow, Leads, Wrong, if_so, on, on_each, on_int, on_number, on_top, field_in, method_in, stored_types, is_constructor, arguments, results, calls, special, constructs, puts, returns, flow, Covers, caught_type, AreCaught, KeepsFlow, KeepsAt, IsTyping, IsTypable}
+use Rattle.objects.specs.typing.Source.{IsSourceOp, IsSourceMethod}
+use Rattle.objects.specs.laws.TypingLaw.{IsTypedProgram}
+use Rattle.objects.specs.rewriting.Rewriting.{accessors, duplicates, wrapper_method, old_method, old_methods, rewritten}
 use Rattle.objects.proofs.Fields.{each_at}
 use Rattle.objects.proofs.Places.{old_at, get_front}
 

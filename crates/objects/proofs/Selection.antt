@@ -8,10 +8,10 @@ use Rattle.std.proofs.lemmas.Bool.Decides.{same_from_decides}
 use Rattle.objects.specs.declared.op.Dispatch.TheVariants as dispatch
 use Rattle.objects.specs.declared.op.Op.{Op}
 use Rattle.objects.specs.declared.op.Op.TheVariants.{Throw}
-use Rattle.objects.specs.Program.{Field, Method, Program, method_at, row_at, is_selectable, overrides, or_else, first_in, lineage_in, is_code, has_code, runnable, selected_by, selected}
-use Rattle.objects.specs.Typing.{Table}
-use Rattle.objects.specs.Source.{AreNamed}
-use Rattle.objects.specs.Rewriting.{duplicate, getter_method, setter_method, accessors, helper_methods, Typed, typed_from, duplicate_name, with_context, duplicate_code, duplicate_method, abstracted, blocks, duplicates, old_method, next_id, old_methods, rewritten}
+use Rattle.objects.specs.semantics.Program.{Field, Method, Program, method_at, row_at, is_selectable, overrides, or_else, first_in, lineage_in, is_code, has_code, runnable, selected_by, selected}
+use Rattle.objects.specs.typing.Typing.{Table}
+use Rattle.objects.specs.typing.Source.{AreNamed}
+use Rattle.objects.specs.rewriting.Rewriting.{duplicate, getter_method, setter_method, accessors, helper_methods, Typed, typed_from, duplicate_name, with_context, duplicate_code, duplicate_method, abstracted, blocks, duplicates, old_method, next_id, old_methods, rewritten}
 use Rattle.objects.proofs.Contexts.{with_context_told}
 use Rattle.objects.proofs.Places.{get_back, get_front, old_length, accessors_length}
 

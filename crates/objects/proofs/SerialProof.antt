@@ -3,11 +3,11 @@ use Rattle.std.proofs.Common.{◌≡◌, ℕ, List, [], ◌∷◌, Bool, true, f
 use Rattle.std.specs.Prelude.{if◌then◌else◌}
 use Rattle.std.specs.List.{AllByRecursion}
 use Rattle.std.proofs.lemmas.Bool.Decides.{nat_tests}
-use Rattle.objects.specs.Program.{Program}
-use Rattle.objects.specs.State.{State}
-use Rattle.jmodel.specs.History.{Entry, Words, overlaid, AreEntries, used_with, used_after}
-use Rattle.objects.specs.Meaning.{Represents, Explains, ExplainsFrom}
-use Rattle.objects.specs.SerialLaw.{HasUsed, IsSerial}
+use Rattle.objects.specs.semantics.Program.{Program}
+use Rattle.objects.specs.semantics.State.{State}
+use Rattle.jmodel.specs.history.History.{Entry, Words, overlaid, AreEntries, used_with, used_after}
+use Rattle.objects.specs.history.Meaning.{Represents, Explains, ExplainsFrom}
+use Rattle.objects.specs.laws.SerialLaw.{HasUsed, IsSerial}
 
 -- the used words after an explained entry
 used_next : (P : Program) (size budget : ℕ) (e : Entry) (words : Words) (used : ℕ → ℕ) (σ : State) (x : ExplainsFrom P size budget e words σ)

@@ -4,19 +4,19 @@ use Rattle.std.specs.Prelude.{slice_get, nat_eq, option_map}
 use Rattle.std.specs.List.{AllByRecursion}
 use Rattle.jmodel.specs.declared.value.Value.{Value}
 use Rattle.jmodel.specs.declared.typing.VType.{VType}
-use Rattle.jmodel.specs.History.{Words}
+use Rattle.jmodel.specs.history.History.{Words}
 use Rattle.objects.specs.declared.op.Slot.{Slot}
 use Rattle.objects.specs.declared.op.Op.{Op}
 use Rattle.objects.specs.declared.op.Op.TheVariants as op
-use Rattle.objects.specs.Program.{Method, Program, is_counted, method_at, selected}
-use Rattle.objects.specs.State.{State}
-use Rattle.objects.specs.Step.{catch_at}
+use Rattle.objects.specs.semantics.Program.{Method, Program, is_counted, method_at, selected}
+use Rattle.objects.specs.semantics.State.{State}
+use Rattle.objects.specs.semantics.Step.{catch_at}
 use Rattle.objects.specs.declared.op.Phase.TheVariants.{Open}
-use Rattle.objects.specs.Attempt.{Bounds, Run, On}
-use Rattle.objects.specs.Typing.{Table}
-use Rattle.objects.specs.TypingLaw.{IsTypedProgram}
-use Rattle.objects.specs.Source.{IsSourceOp}
-use Rattle.objects.specs.Rewriting.{block_at, duplicate, duplicate_method}
+use Rattle.objects.specs.rewriting.Attempt.{Bounds, Run, On}
+use Rattle.objects.specs.typing.Typing.{Table}
+use Rattle.objects.specs.laws.TypingLaw.{IsTypedProgram}
+use Rattle.objects.specs.typing.Source.{IsSourceOp}
+use Rattle.objects.specs.rewriting.Rewriting.{block_at, duplicate, duplicate_method}
 use Rattle.objects.proofs.Fields.{each_at}
 use Rattle.objects.proofs.Inner.{IsAdded, IsInnerOp}
 use Rattle.objects.proofs.Frames.{frame}

@@ -6,32 +6,32 @@ use Rattle.std.specs.List.{AllByRecursion}
 use Rattle.jmodel.specs.declared.value.Value.{Value}
 use Rattle.jmodel.specs.declared.typing.VType.{VType}
 use Rattle.jmodel.specs.declared.value.Answer.TheVariants.{Returned, Threw, Budget, Depth, Heap}
-use Rattle.jmodel.specs.History.{Words, overlaid, Agrees}
+use Rattle.jmodel.specs.history.History.{Words, overlaid, Agrees}
 use Rattle.objects.specs.declared.op.Slot.{Slot}
 use Rattle.objects.specs.declared.op.Slot.TheVariants.{Ref}
 use Rattle.objects.specs.declared.op.Op.{Op}
 use Rattle.objects.specs.declared.op.Phase.TheVariants.{Open}
 use Rattle.objects.specs.declared.op.Asking.TheVariants as asking
-use Rattle.objects.specs.Value.{pushed}
+use Rattle.objects.specs.semantics.Value.{pushed}
 use Rattle.objects.specs.declared.op.Use.{Use}
 use Rattle.objects.specs.declared.op.Made.{Made}
 use Rattle.objects.specs.declared.op.Made.TheVariants.{Pushed, Raised}
-use Rattle.objects.specs.Program.{Row, Method, Program, is_counted, is_instance, name_at, row_at}
-use Rattle.objects.specs.Region.{Region, next_reference, has_words}
-use Rattle.objects.specs.State.{Object, State, header, words_of, with_object, object_of, type_at, length_of, type_in, length_in}
-use Rattle.objects.specs.Meaning.{IsHeap, IsTyped}
-use Rattle.objects.specs.Step.{step, Frames, Did, Asked, Asks, next, received, advanced, resumed, truth, or_trap, goes as goes_to, gives, on_did, catch_at, unwinds, told}
-use Rattle.objects.specs.Call.{Direct, direct, next_direct, on_asked, turned}
-use Rattle.objects.specs.Call as call
-use Rattle.objects.specs.Attempt.{Log, access, Reply, Bounds, Meter, Run, On, Asking, Ended, Stuck, next_run, with_turns, refused}
-use Rattle.objects.specs.Attempt as attempt
-use Rattle.objects.specs.Typing.{Table, types_at}
-use Rattle.objects.specs.TypingLaw.{IsTypedProgram}
-use Rattle.objects.specs.Rewriting.{Typed, block_len_of, block_at, duplicate}
+use Rattle.objects.specs.semantics.Program.{Row, Method, Program, is_counted, is_instance, name_at, row_at}
+use Rattle.objects.specs.semantics.Region.{Region, next_reference, has_words}
+use Rattle.objects.specs.semantics.State.{Object, State, header, words_of, with_object, object_of, type_at, length_of, type_in, length_in}
+use Rattle.objects.specs.history.Meaning.{IsHeap, IsTyped}
+use Rattle.objects.specs.semantics.Step.{step, Frames, Did, Asked, Asks, next, received, advanced, resumed, truth, or_trap, goes as goes_to, gives, on_did, catch_at, unwinds, told}
+use Rattle.objects.specs.semantics.Call.{Direct, direct, next_direct, on_asked, turned}
+use Rattle.objects.specs.semantics.Call as call
+use Rattle.objects.specs.rewriting.Attempt.{Log, access, Reply, Bounds, Meter, Run, On, Asking, Ended, Stuck, next_run, with_turns, refused}
+use Rattle.objects.specs.rewriting.Attempt as attempt
+use Rattle.objects.specs.typing.Typing.{Table, types_at}
+use Rattle.objects.specs.laws.TypingLaw.{IsTypedProgram}
+use Rattle.objects.specs.rewriting.Rewriting.{Typed, block_len_of, block_at, duplicate}
 use Rattle.objects.proofs.Frames.{frame}
 use Rattle.objects.specs.declared.op.Use.TheVariants.{Casts, Tests, Measures}
 use Rattle.objects.specs.declared.op.Trap.TheVariants.{ClassCast}
-use Rattle.objects.specs.Library.{trap_type}
+use Rattle.objects.specs.linking.Library.{trap_type}
 use Rattle.objects.proofs.Alike.{Stands, IsSimpleUse, IsGivenAs, Alike, neither, goes, jumps, gives as gives_as, traps, makes, raises, heads}
 use Rattle.objects.proofs.Inner.{IsAdded, IsInnerOp, IsInnerUse}
 use Rattle.objects.proofs.Lost.{IsSet}
@@ -45,7 +45,7 @@ use Rattle.objects.proofs.Headers.{header_type, header_length}
 use Rattle.objects.proofs.Heap.{KeepsTypes, object_at, type_of, used_with, used_without, new_keeps, new_here, heap_with_object, object_type, object_fits}
 use Rattle.objects.proofs.Objects.{object_zero, represents_header}
 use Rattle.objects.proofs.TypedFrames.{AreTyped, ThrownFine, IsThrown, Throws, MadeFine, MakesFine, Fine, Heads, NoHeads, AsksFine, keeps_same}
-use Rattle.objects.specs.Law.{IsOnWay, state_of}
+use Rattle.objects.specs.laws.Law.{IsOnWay, state_of}
 use Rattle.objects.proofs.Makes.{open_asks, run_asks, used_in, IsSynced, heads_synced, raises_synced}
 use Rattle.objects.proofs.Goals.{Reaches, SoFar, Here, StandsFor, IsGoal, out, back, threw, Continues, reaches_next}
 

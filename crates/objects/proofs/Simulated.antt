@@ -3,21 +3,21 @@ use Rattle.std.proofs.Common.{◌≡◌, ℕ, ℤ, zero, suc, ◌+◌, ◌≤◌
 use Rattle.std.specs.Prelude.{slice_get, nat_eq, option_map}
 use Rattle.std.specs.List.{AllByRecursion, flat_map}
 use Rattle.jmodel.specs.declared.value.Value.{Value}
-use Rattle.jmodel.specs.History.{Words}
+use Rattle.jmodel.specs.history.History.{Words}
 use Rattle.objects.specs.declared.op.Slot.{Slot}
 use Rattle.objects.specs.declared.op.Op.{Op}
 use Rattle.objects.specs.declared.op.Dispatch.TheVariants as dispatch
 use Rattle.objects.specs.declared.op.Phase.TheVariants.{Open}
-use Rattle.objects.specs.Value.{slots_of}
-use Rattle.objects.specs.Program.{Method, Program, is_counted, is_counted_in, method_at, has_code, is_code, selected}
-use Rattle.objects.specs.State.{State}
-use Rattle.objects.specs.Step.{Frames, catch_at}
-use Rattle.objects.specs.Attempt.{Log, Reply, Bounds, Meter, Run, On, run, run_start}
-use Rattle.objects.specs.Meaning.{Represents}
-use Rattle.objects.specs.Typing.{Table}
-use Rattle.objects.specs.TypingLaw.{IsTypedProgram, HasTyping}
-use Rattle.objects.specs.Source.{HasCode, AreArguments}
-use Rattle.objects.specs.Rewriting.{rewritten, duplicate, wrapper_method, conflict_at}
+use Rattle.objects.specs.semantics.Value.{slots_of}
+use Rattle.objects.specs.semantics.Program.{Method, Program, is_counted, is_counted_in, method_at, has_code, is_code, selected}
+use Rattle.objects.specs.semantics.State.{State}
+use Rattle.objects.specs.semantics.Step.{Frames, catch_at}
+use Rattle.objects.specs.rewriting.Attempt.{Log, Reply, Bounds, Meter, Run, On, run, run_start}
+use Rattle.objects.specs.history.Meaning.{Represents}
+use Rattle.objects.specs.typing.Typing.{Table}
+use Rattle.objects.specs.laws.TypingLaw.{IsTypedProgram, HasTyping}
+use Rattle.objects.specs.typing.Source.{HasCode, AreArguments}
+use Rattle.objects.specs.rewriting.Rewriting.{rewritten, duplicate, wrapper_method, conflict_at}
 use Rattle.objects.proofs.Inner.{IsAdded, IsInnerOp}
 use Rattle.objects.proofs.Added.{IsCopy, added_at}
 use Rattle.objects.proofs.Selection.{duplicate_is, selected_moved}

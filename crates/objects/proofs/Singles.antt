@@ -4,22 +4,22 @@ use Rattle.std.specs.Prelude.{slice_get, nat_eq}
 use Rattle.std.specs.List.{AllByRecursion}
 use Rattle.jmodel.specs.declared.value.Value.{Value}
 use Rattle.jmodel.specs.declared.typing.VType.{VType}
-use Rattle.jmodel.specs.History.{Words}
+use Rattle.jmodel.specs.history.History.{Words}
 use Rattle.objects.specs.declared.op.Slot.{Slot}
 use Rattle.objects.specs.declared.op.Op.{Op}
 use Rattle.objects.specs.declared.op.Op.TheVariants as op
 use Rattle.objects.specs.declared.op.Phase.TheVariants.{Open}
-use Rattle.objects.specs.Program.{Method, Program, is_counted, op_at}
-use Rattle.objects.specs.State.{State}
-use Rattle.objects.specs.Step.{Frames, does, on_did, step, catch_at}
-use Rattle.objects.specs.Call as call
-use Rattle.objects.specs.Attempt.{Log, Reply, Bounds, Meter, Run, On, next_run}
-use Rattle.objects.specs.Attempt as attempt
-use Rattle.objects.specs.Typing.{Types, Table, types_at}
-use Rattle.objects.specs.TypingLaw.{IsTypedProgram}
+use Rattle.objects.specs.semantics.Program.{Method, Program, is_counted, op_at}
+use Rattle.objects.specs.semantics.State.{State}
+use Rattle.objects.specs.semantics.Step.{Frames, does, on_did, step, catch_at}
+use Rattle.objects.specs.semantics.Call as call
+use Rattle.objects.specs.rewriting.Attempt.{Log, Reply, Bounds, Meter, Run, On, next_run}
+use Rattle.objects.specs.rewriting.Attempt as attempt
+use Rattle.objects.specs.typing.Typing.{Types, Table, types_at}
+use Rattle.objects.specs.laws.TypingLaw.{IsTypedProgram}
 use Rattle.objects.proofs.LocalRoom.{has_room}
-use Rattle.objects.specs.Source.{IsSourceOp}
-use Rattle.objects.specs.Rewriting.{Typed, block_len_of, block_at, block_of, duplicate, duplicate_code}
+use Rattle.objects.specs.typing.Source.{IsSourceOp}
+use Rattle.objects.specs.rewriting.Rewriting.{Typed, block_len_of, block_at, block_of, duplicate, duplicate_code}
 use Rattle.objects.proofs.Frames.{frame}
 use Rattle.objects.proofs.Fields.{each_at}
 use Rattle.objects.proofs.Alike.{Stands, IsSimple, image, simple_alike}

@@ -13,13 +13,13 @@ use Rattle.objects.specs.declared.op.Slot.TheVariants as slot
 use Rattle.objects.specs.declared.op.WordType.{WordType}
 use Rattle.objects.specs.declared.op.WordType.TheVariants as word
 use Rattle.objects.specs.declared.op.Op.TheVariants as op
-use Rattle.objects.specs.Value.{slots_of, pushed}
-use Rattle.objects.specs.Program.{Method, Program}
-use Rattle.objects.specs.TypeOrder.{stack_types, IsWithin, AreWithin}
-use Rattle.objects.specs.State.{State, type_at}
-use Rattle.objects.specs.Meaning.{IsObjectOf, IsReferenceTo, IsValueOf}
-use Rattle.objects.specs.Source.{AreParametersAfter, AreArguments, AreTypes}
-use Rattle.objects.specs.Typing.{freed_by, become, is_uninit, result_types}
+use Rattle.objects.specs.semantics.Value.{slots_of, pushed}
+use Rattle.objects.specs.semantics.Program.{Method, Program}
+use Rattle.objects.specs.typing.TypeOrder.{stack_types, IsWithin, AreWithin}
+use Rattle.objects.specs.semantics.State.{State, type_at}
+use Rattle.objects.specs.history.Meaning.{IsObjectOf, IsReferenceTo, IsValueOf}
+use Rattle.objects.specs.typing.Source.{AreParametersAfter, AreArguments, AreTypes}
+use Rattle.objects.specs.typing.Typing.{freed_by, become, is_uninit, result_types}
 use Rattle.objects.proofs.WordTypes.{number_fits}
 use Rattle.objects.proofs.Elements.{order}
 use Rattle.objects.proofs.Heap.{KeepsTypes, object_kept, reference_kept}

@@ -7,22 +7,22 @@ use Rattle.jmodel.specs.declared.value.Value.{Value}
 use Rattle.jmodel.specs.declared.value.Answer.{Answer}
 use Rattle.jmodel.specs.declared.value.Answer.TheVariants.{Spent}
 use Rattle.jmodel.specs.declared.typing.VType.{VType}
-use Rattle.jmodel.specs.declared.op.Access.{Access}
-use Rattle.jmodel.specs.History.{Words, overlaid, Agrees}
+use Rattle.jmodel.specs.declared.access.Access.{Access}
+use Rattle.jmodel.specs.history.History.{Words, overlaid, Agrees}
 use Rattle.objects.specs.declared.op.Slot.{Slot}
 use Rattle.objects.specs.declared.op.Phase.TheVariants.{Ready}
-use Rattle.objects.specs.Program.{Method, Program, is_counted}
-use Rattle.objects.specs.Region.{Region}
-use Rattle.objects.specs.State.{State}
-use Rattle.objects.specs.Step.{Frames, catch_at, unwinds}
-use Rattle.objects.specs.Call.{Direct, direct, call_start, kept}
-use Rattle.objects.specs.Call as call
-use Rattle.objects.specs.Attempt.{Log, access, answered, written, recorded, Reply, Gives, Refuses, Bounds, Meter, Run, On, Asking, Ended, Stuck, next_run, unwound, set_back}
-use Rattle.objects.specs.Meaning.{Represents}
-use Rattle.objects.specs.Typing.{Table}
-use Rattle.objects.specs.TypingLaw.{IsTypedProgram}
-use Rattle.objects.specs.Rewriting.{rewritten}
-use Rattle.objects.specs.Law.{IsOnWay, Matched}
+use Rattle.objects.specs.semantics.Program.{Method, Program, is_counted}
+use Rattle.objects.specs.semantics.Region.{Region}
+use Rattle.objects.specs.semantics.State.{State}
+use Rattle.objects.specs.semantics.Step.{Frames, catch_at, unwinds}
+use Rattle.objects.specs.semantics.Call.{Direct, direct, call_start, kept}
+use Rattle.objects.specs.semantics.Call as call
+use Rattle.objects.specs.rewriting.Attempt.{Log, access, answered, written, recorded, Reply, Gives, Refuses, Bounds, Meter, Run, On, Asking, Ended, Stuck, next_run, unwound, set_back}
+use Rattle.objects.specs.history.Meaning.{Represents}
+use Rattle.objects.specs.typing.Typing.{Table}
+use Rattle.objects.specs.laws.TypingLaw.{IsTypedProgram}
+use Rattle.objects.specs.rewriting.Rewriting.{rewritten}
+use Rattle.objects.specs.laws.Law.{IsOnWay, Matched}
 use Rattle.objects.proofs.Frames.{frame}
 use Rattle.objects.proofs.Inner.{IsAdded, IsInnerOp}
 use Rattle.objects.proofs.Added.{IsCopy}

@@ -11,23 +11,23 @@ use Rattle.jmodel.specs.declared.value.Answer.TheVariants.{Returned, Threw}
 use Rattle.jmodel.specs.declared.typing.VType.{VType}
 use Rattle.jmodel.specs.declared.typing.VType.TheVariants as type
 use Rattle.objects.specs.declared.op.Sort.TheVariants as sort
-use Rattle.jmodel.specs.History.{Words, overlaid}
+use Rattle.jmodel.specs.history.History.{Words, overlaid}
 use Rattle.objects.specs.declared.op.Slot.{Slot}
 use Rattle.objects.specs.declared.op.Slot.TheVariants.{Int, Long, Second, Ref}
 use Rattle.objects.specs.declared.op.Phase.TheVariants.{Open, Ready, Closed}
-use Rattle.objects.specs.Value.{pushed}
-use Rattle.objects.specs.Program.{Method, Program, is_counted, method_at, name_at}
-use Rattle.objects.specs.Region.{Region}
-use Rattle.objects.specs.State.{State}
-use Rattle.objects.specs.Step.{Frames, catch_at, next, received, resumed}
-use Rattle.objects.specs.Call.{Direct, direct, next_direct, starts, call_start, kept}
-use Rattle.objects.specs.Call as call
-use Rattle.objects.specs.Attempt.{Log, Reply, Gives, Refuses, Bounds, Meter, Run, On, Ended, next_run, set_back, on_commit, class_of}
-use Rattle.objects.specs.Meaning.{Represents}
-use Rattle.objects.specs.Typing.{Table}
-use Rattle.objects.specs.TypingLaw.{IsTypedProgram}
-use Rattle.objects.specs.Rewriting.{rewritten, result_sort, spare_locals}
-use Rattle.objects.specs.Law.{state_of}
+use Rattle.objects.specs.semantics.Value.{pushed}
+use Rattle.objects.specs.semantics.Program.{Method, Program, is_counted, method_at, name_at}
+use Rattle.objects.specs.semantics.Region.{Region}
+use Rattle.objects.specs.semantics.State.{State}
+use Rattle.objects.specs.semantics.Step.{Frames, catch_at, next, received, resumed}
+use Rattle.objects.specs.semantics.Call.{Direct, direct, next_direct, starts, call_start, kept}
+use Rattle.objects.specs.semantics.Call as call
+use Rattle.objects.specs.rewriting.Attempt.{Log, Reply, Gives, Refuses, Bounds, Meter, Run, On, Ended, next_run, set_back, on_commit, class_of}
+use Rattle.objects.specs.history.Meaning.{Represents}
+use Rattle.objects.specs.typing.Typing.{Table}
+use Rattle.objects.specs.laws.TypingLaw.{IsTypedProgram}
+use Rattle.objects.specs.rewriting.Rewriting.{rewritten, result_sort, spare_locals}
+use Rattle.objects.specs.laws.Law.{state_of}
 use Rattle.objects.proofs.Frames.{frame}
 use Rattle.objects.proofs.Moved.{get_set_same, get_set_other}
 use Rattle.objects.proofs.Inner.{IsAdded, IsInnerOp}

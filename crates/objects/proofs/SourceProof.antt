@@ -2,16 +2,15 @@
 use Rattle.std.proofs.Common.{◌≡◌, ℕ, List, Some, None, refl, sym, ap, subst}
 use Rattle.std.specs.Prelude.{IsSomeAnd, Option}
 use Rattle.std.specs.List.{AllByRecursion}
-use Rattle.jmodel.specs.ClassFile.{ClassFile}
-use Rattle.jmodel.specs.Pool.{utf8}
-use Rattle.jmodel.specs.Descriptor.{IsFieldDescriptor}
-use Rattle.jmodel.specs.Layout.{text_or_none}
-use Rattle.jmodel.specs.Classes.{Declared}
-use Rattle.objects.specs.Program.{Field, Program}
-use Rattle.objects.specs.Layout.{rows, text_places, fields_of, made_arrays}
-use Rattle.objects.specs.Linking.{taken_methods}
-use Rattle.objects.specs.Source.{AreTypes, IsReadWord, IsSourceField, IsSourceMethod, IsSource}
-use Rattle.objects.specs.LinkingLaw.{IsFormed, AreFaultless, IsUpward, AreRead, SourceLaw}
+use Rattle.jmodel.specs.format.ClassFile.{ClassFile}
+use Rattle.jmodel.specs.format.Pool.{utf8, text_or_none}
+use Rattle.jmodel.specs.format.Descriptor.{IsFieldDescriptor}
+use Rattle.objects.specs.linking.Classes.{Declared}
+use Rattle.objects.specs.semantics.Program.{Field, Program}
+use Rattle.objects.specs.linking.Layout.{rows, text_places, fields_of, made_arrays}
+use Rattle.objects.specs.linking.Linking.{taken_methods}
+use Rattle.objects.specs.typing.Source.{AreTypes, IsReadWord, IsSourceField, IsSourceMethod, IsSource}
+use Rattle.objects.specs.laws.LinkingLaw.{IsFormed, AreFaultless, IsUpward, AreRead, SourceLaw}
 use Rattle.objects.proofs.Items.{IsAt, item, all_items}
 use Rattle.objects.proofs.AsRead.{formed, is_file, unreserved, no_context, no_conflict, class_names}
 use Rattle.objects.proofs.Upward.{upward_law}

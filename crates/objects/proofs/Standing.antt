@@ -6,15 +6,15 @@ use Rattle.std.proofs.lemmas.Option.{slice_get_within}
 use Rattle.std.proofs.lemmas.Nat.{div-mul-add, mod-mul-add}
 use Rattle.jmodel.specs.declared.value.Value.{Value}
 use Rattle.jmodel.specs.declared.value.Value.TheVariants as value
-use Rattle.jmodel.specs.History.{Words}
+use Rattle.jmodel.specs.history.History.{Words}
 use Rattle.objects.specs.declared.op.Place.{Place}
 use Rattle.objects.specs.declared.op.WordType.{WordType}
 use Rattle.objects.specs.declared.op.WordType.TheVariants as word
-use Rattle.objects.specs.Value.{word_of, value_of}
-use Rattle.objects.specs.Program.{Program}
-use Rattle.objects.specs.State.{Object, State, value_held, length_of, header, type_in, length_in}
-use Rattle.objects.specs.Attempt.{address}
-use Rattle.objects.specs.Meaning.{IsValueOf, Represents}
+use Rattle.objects.specs.semantics.Value.{word_of, value_of}
+use Rattle.objects.specs.semantics.Program.{Program}
+use Rattle.objects.specs.semantics.State.{Object, State, value_held, length_of, header, type_in, length_in}
+use Rattle.objects.specs.rewriting.Attempt.{address}
+use Rattle.objects.specs.history.Meaning.{IsValueOf, Represents}
 use Rattle.objects.proofs.WordTypes.{word_back, long_back}
 use Rattle.objects.proofs.Heap.{held_at}
 use Rattle.objects.proofs.Memory.{word_at}

@@ -15,19 +15,19 @@ use Rattle.objects.specs.declared.op.Made.{Made}
 use Rattle.objects.specs.declared.op.Request.TheVariants as request
 use Rattle.objects.specs.declared.op.Asking.{Asking as Wanted}
 use Rattle.objects.specs.declared.op.Asking.TheVariants as asking
-use Rattle.objects.specs.Value.{word_of, value_of, pushed}
-use Rattle.objects.specs.Program.{Row, Program, row_at, is_instance}
-use Rattle.objects.specs.TypeOrder.{IsWithin}
-use Rattle.objects.specs.Step.{Frames, Asked, Asks, step, advanced, resumed, told}
-use Rattle.objects.specs.Region.{Region, next_reference, has_words}
-use Rattle.objects.specs.State.{Object, State, put, length_of, header, type_in, length_in, words_of, with_object, object_of}
-use Rattle.objects.specs.Call.{Direct, next_direct, on_asked, on_asking, got, set_at, headed, on_raise, throws, made, followed}
-use Rattle.objects.specs.Call as call
-use Rattle.objects.specs.Attempt.{Log, address, access}
-use Rattle.jmodel.specs.History.{Words, overlaid}
-use Rattle.objects.specs.Meaning.{IsValueOf, IsReferenceTo, IsObjectOf, IsHeap, Represents}
-use Rattle.objects.specs.Typing.{Table}
-use Rattle.objects.specs.TypingLaw.{IsTypedProgram}
+use Rattle.objects.specs.semantics.Value.{word_of, value_of, pushed}
+use Rattle.objects.specs.semantics.Program.{Row, Program, row_at, is_instance}
+use Rattle.objects.specs.typing.TypeOrder.{IsWithin}
+use Rattle.objects.specs.semantics.Step.{Frames, Asked, Asks, step, advanced, resumed, told}
+use Rattle.objects.specs.semantics.Region.{Region, next_reference, has_words}
+use Rattle.objects.specs.semantics.State.{Object, State, put, length_of, header, type_in, length_in, words_of, with_object, object_of}
+use Rattle.objects.specs.semantics.Call.{Direct, next_direct, on_asked, on_asking, got, set_at, headed, on_raise, throws, made, followed}
+use Rattle.objects.specs.semantics.Call as call
+use Rattle.objects.specs.rewriting.Attempt.{Log, address, access}
+use Rattle.jmodel.specs.history.History.{Words, overlaid}
+use Rattle.objects.specs.history.Meaning.{IsValueOf, IsReferenceTo, IsObjectOf, IsHeap, Represents}
+use Rattle.objects.specs.typing.Typing.{Table}
+use Rattle.objects.specs.laws.TypingLaw.{IsTypedProgram}
 use Rattle.objects.proofs.Heap.{object_at, HasWords, has_words_there, heap_with_object, object_fits}
 use Rattle.objects.proofs.Memory.{word_at, represents_write}
 use Rattle.objects.proofs.Objects.{object_zero, represents_header}

@@ -3,9 +3,9 @@ use Rattle.std.proofs.Common.{◌≡◌, ℕ, ℤ, List, [], ◌∷◌, map, Boo
 use Rattle.std.specs.Prelude.{if◌then◌else◌}
 use Rattle.std.specs.List.{AllByRecursion}
 use Rattle.std.specs.Ordering.{int_eq}
-use Rattle.objects.specs.Step.{switched}
-use Rattle.objects.specs.Typing.{exits}
-use Rattle.objects.specs.Rewriting.{moved_cases}
+use Rattle.objects.specs.semantics.Step.{switched}
+use Rattle.objects.specs.typing.Typing.{exits}
+use Rattle.objects.specs.rewriting.Rewriting.{moved_cases}
 
 -- what all exits of a switch have, the place has where it goes
 pub switched_has : (P : ℕ → Type 0) (other : ℕ) (cases : List (ℤ × ℕ)) (x : ℤ) → P other → AllByRecursion (λ (c : ℤ × ℕ). P c.1) cases → P (switched other cases x)

@@ -5,15 +5,15 @@ use Rattle.std.specs.List.{AllByRecursion}
 use Rattle.jmodel.specs.declared.value.Value.{Value}
 use Rattle.jmodel.specs.declared.value.Answer.{Answer}
 use Rattle.jmodel.specs.declared.typing.VType.{VType}
-use Rattle.jmodel.specs.History.{Words, Agrees}
+use Rattle.jmodel.specs.history.History.{Words, Agrees}
 use Rattle.objects.specs.declared.op.Slot.{Slot}
 use Rattle.objects.specs.declared.op.Phase.TheVariants.{Open}
-use Rattle.objects.specs.Program.{Method, Program, is_counted}
-use Rattle.objects.specs.State.{State}
-use Rattle.objects.specs.Step.{Frames, catch_at}
-use Rattle.objects.specs.Attempt.{Log, Bounds, Meter, Run, On, Asking, Ended, Stuck}
-use Rattle.objects.specs.Typing.{Table}
-use Rattle.objects.specs.TypingLaw.{IsTypedProgram}
+use Rattle.objects.specs.semantics.Program.{Method, Program, is_counted}
+use Rattle.objects.specs.semantics.State.{State}
+use Rattle.objects.specs.semantics.Step.{Frames, catch_at}
+use Rattle.objects.specs.rewriting.Attempt.{Log, Bounds, Meter, Run, On, Asking, Ended, Stuck}
+use Rattle.objects.specs.typing.Typing.{Table}
+use Rattle.objects.specs.laws.TypingLaw.{IsTypedProgram}
 use Rattle.objects.proofs.Fields.{some_at}
 use Rattle.objects.proofs.Inner.{IsAdded, IsInnerOp}
 use Rattle.objects.proofs.Tied.{Tied, Callers, top, typed_code}
@@ -22,7 +22,7 @@ use Rattle.objects.proofs.Replies.{SameLogs}
 use Rattle.objects.proofs.Makes.{IsSynced, read_in, steps_synced, leads_synced}
 use Rattle.objects.proofs.Walking.{Serves}
 use Rattle.objects.proofs.Goals.{Here, IsGoal, EndsAs, out, back, threw}
-use Rattle.objects.specs.Law.{IsOnWay}
+use Rattle.objects.specs.laws.Law.{IsOnWay}
 
 module _ (P : Program) (Ts : List Table) (S : IsTypedProgram P Ts) (Q : Program) (B : Bounds) (mn : ℕ) (args : List Value) (ws : Words) (σ : State) (gives : Option VType) (c q z : ℕ) (slots : List Slot) (first_added : ℕ)
     (ops_inner : (m : ℕ) (k : Method) → IsAdded Q first_added m → slice_get Q.methods m ≡ Some k → AllByRecursion (IsInnerOp Q first_added) k.ops) (uncounted : is_counted Q mn ≡ false) (catch : catch_at Q mn (q + 1) 0 ≡ Some z)

@@ -10,23 +10,22 @@ use Rattle.jmodel.specs.declared.instruction.Instr.{Instr}
 use Rattle.jmodel.specs.declared.mark.Atomic.{Atomic}
 use Rattle.jmodel.specs.declared.mark.AnnotationFault.{AnnotationFault}
 use Rattle.jmodel.specs.declared.mark.AnnotationFault.TheVariants.{Bad, Retries}
-use Rattle.jmodel.specs.ClassFile.{Member, Pool, ClassFile}
-use Rattle.jmodel.specs.Pool.{MemberName, utf8}
-use Rattle.jmodel.specs.ClassRules.{same_text}
-use Rattle.jmodel.specs.Layout.{is_static, text_or_none}
-use Rattle.jmodel.specs.Mark.{mark_of}
-use Rattle.jmodel.specs.Name.{printed}
-use Rattle.jmodel.specs.Superclasses.{own_name, super_name, with_above, lineage}
-use Rattle.jmodel.specs.Classes.{Declared, declared_in, methods_in, full_name}
-use Rattle.jmodel.specs.Coded.{Coded, decoded, attempts_in, mark_retries, is_initialiser, retries_of, is_root}
-use Rattle.jmodel.specs.ClassesTaken.{invoked, is_taken_by, is_named_by, code_calls, calls, is_found, is_taken}
-use Rattle.jmodel.specs.Linking.{may_be_marked, fault_in, mark_fault}
-use Rattle.jmodel.specs.Decoding.{name_of}
-use Rattle.jmodel.proofs.ClassesTaken.{all_rounds}
-use Rattle.objects.specs.Resolution.{holds_of, is_in_folder, interface_names, ancestry, has_name, method_way, resolved_method}
-use Rattle.objects.specs.Constructs.{has_flag, is_misused, is_bad_call}
-use Rattle.objects.specs.Linking.{has_no_code, taken_methods, constructs_fault}
-use Rattle.objects.specs.LinkingLaw.{AreRead, IsUpward}
+use Rattle.jmodel.specs.format.ClassFile.{Member, Pool, ClassFile}
+use Rattle.jmodel.specs.format.Pool.{MemberName, utf8, text_or_none}
+use Rattle.jmodel.specs.format.ClassRules.{same_text}
+use Rattle.objects.specs.linking.Members.{is_static, own_name, name_of}
+use Rattle.jmodel.specs.format.Mark.{mark_of}
+use Rattle.jmodel.specs.format.Name.{printed}
+use Rattle.objects.specs.linking.Superclasses.{super_name, with_above, lineage}
+use Rattle.objects.specs.linking.Classes.{Declared, declared_in, methods_in, full_name}
+use Rattle.objects.specs.linking.Code.{Coded, decoded, attempts_in, mark_retries, is_initialiser, retries_of, is_root}
+use Rattle.objects.specs.linking.Taken.{invoked, is_taken_by, is_named_by, code_calls, calls, is_found, is_taken}
+use Rattle.objects.specs.linking.Faults.{may_be_marked, fault_in, mark_fault}
+use Rattle.objects.proofs.TakenLaws.{all_rounds}
+use Rattle.objects.specs.linking.Resolution.{holds_of, is_in_folder, interface_names, ancestry, has_name, method_way, resolved_method}
+use Rattle.objects.specs.linking.Constructs.{has_flag, is_misused, is_bad_call}
+use Rattle.objects.specs.linking.Linking.{has_no_code, taken_methods, constructs_fault}
+use Rattle.objects.specs.laws.LinkingLaw.{AreRead, IsUpward}
 use Rattle.objects.proofs.Items.{IsAt, item, of_filter, any_item, found, finds, of_map, into_map, into_flat}
 use Rattle.objects.proofs.Flags.{static_bit, not_abstract, has_code_by}
 use Rattle.objects.proofs.ClassRows.{find_front}

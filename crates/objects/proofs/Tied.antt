@@ -9,12 +9,12 @@ use Rattle.objects.specs.declared.op.Catch.{Catch}
 use Rattle.objects.specs.declared.op.Op.{Op}
 use Rattle.objects.specs.declared.op.Op.TheVariants as op
 use Rattle.objects.specs.declared.op.Asking.TheVariants as asking
-use Rattle.objects.specs.Program.{Method, Program, method_at, has_code, is_counted, is_counted_in}
-use Rattle.objects.specs.Typing.{Types, Table, types_at, Flow, Leads, Wrong, is_guarded, AreCaught, flow, KeepsFlow, KeepsAt, IsTyping}
-use Rattle.objects.specs.TypingLaw.{IsTypedProgram}
-use Rattle.objects.specs.Source.{IsSourceMethod}
-use Rattle.objects.specs.Step.{Frame, Frames, Asked, Asks, goes, takes, find_catch, catch_at, caught, unwinds, depth}
-use Rattle.objects.specs.Rewriting.{Typed, typed_from, block_len_of, block_at, duplicate, duplicate_code}
+use Rattle.objects.specs.semantics.Program.{Method, Program, method_at, has_code, is_counted, is_counted_in}
+use Rattle.objects.specs.typing.Typing.{Types, Table, types_at, Flow, Leads, Wrong, is_guarded, AreCaught, flow, KeepsFlow, KeepsAt, IsTyping}
+use Rattle.objects.specs.laws.TypingLaw.{IsTypedProgram}
+use Rattle.objects.specs.typing.Source.{IsSourceMethod}
+use Rattle.objects.specs.semantics.Step.{Frame, Frames, Asked, Asks, goes, takes, find_catch, catch_at, caught, unwinds, depth}
+use Rattle.objects.specs.rewriting.Rewriting.{Typed, typed_from, block_len_of, block_at, duplicate, duplicate_code}
 use Rattle.objects.proofs.Frames.{frame}
 use Rattle.objects.proofs.Fields.{each_at}
 use Rattle.objects.proofs.Places.{Rewrites, typed_at, typed_length, has_duplicate}

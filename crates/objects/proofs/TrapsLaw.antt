@@ -4,27 +4,27 @@ use Rattle.std.proofs.lemmas.Bool.{cases_lt}
 use Rattle.std.specs.Prelude.{slice_get}
 use Rattle.jmodel.specs.declared.value.Value.{Value}
 use Rattle.jmodel.specs.declared.value.Answer.{Answer}
-use Rattle.jmodel.specs.History.{Words, Agrees}
+use Rattle.jmodel.specs.history.History.{Words, Agrees}
 use Rattle.objects.specs.declared.op.Dispatch.TheVariants as dispatch
 use Rattle.objects.specs.declared.op.Made.{Made}
 use Rattle.objects.specs.declared.op.Made.TheVariants.{Pushed, Raised}
 use Rattle.objects.specs.declared.op.Phase.TheVariants.{Ready, Open, Doomed, Closed}
 use Rattle.objects.specs.declared.op.Asking.TheVariants as asking
-use Rattle.objects.specs.Program.{Row, Method, Program, row_at, method_at}
-use Rattle.objects.specs.Region.{Region, has_words}
-use Rattle.objects.specs.State.{State, words_of, object_of}
-use Rattle.objects.specs.Step.{Frames, Asks, Fails, step}
-use Rattle.objects.specs.Call.{Direct, direct, next_direct, call_start, Calls}
-use Rattle.objects.specs.Call as call
-use Rattle.objects.specs.Attempt.{Log, Reply, Bounds, Meter, Run, On, Asking, Ended, Stuck, next_run, run, run_start, on_asked}
-use Rattle.objects.specs.Attempt as attempt
-use Rattle.objects.specs.Meaning.{Represents}
-use Rattle.objects.specs.Source.{AreArguments}
-use Rattle.objects.specs.Typing.{Table}
-use Rattle.objects.specs.TypingLaw.{IsTypedProgram}
-use Rattle.objects.specs.Rewriting.{rewritten}
-use Rattle.objects.specs.Traps.{trap_in, trap_of, traps, trap_at, traps_of, traps_met, IsOpen, Begins}
-use Rattle.objects.specs.Law.{state_of, MeetsFirst, PrefixTraps}
+use Rattle.objects.specs.semantics.Program.{Row, Method, Program, row_at, method_at}
+use Rattle.objects.specs.semantics.Region.{Region, has_words}
+use Rattle.objects.specs.semantics.State.{State, words_of, object_of}
+use Rattle.objects.specs.semantics.Step.{Frames, Asks, Fails, step}
+use Rattle.objects.specs.semantics.Call.{Direct, direct, next_direct, call_start, Calls}
+use Rattle.objects.specs.semantics.Call as call
+use Rattle.objects.specs.rewriting.Attempt.{Log, Reply, Bounds, Meter, Run, On, Asking, Ended, Stuck, next_run, run, run_start, on_asked}
+use Rattle.objects.specs.rewriting.Attempt as attempt
+use Rattle.objects.specs.history.Meaning.{Represents}
+use Rattle.objects.specs.typing.Source.{AreArguments}
+use Rattle.objects.specs.typing.Typing.{Table}
+use Rattle.objects.specs.laws.TypingLaw.{IsTypedProgram}
+use Rattle.objects.specs.rewriting.Rewriting.{rewritten}
+use Rattle.objects.specs.semantics.Traps.{trap_in, trap_of, traps, trap_at, traps_of, traps_met, IsOpen, Begins}
+use Rattle.objects.specs.laws.Law.{state_of, MeetsFirst, PrefixTraps}
 use Rattle.objects.proofs.Caught.{row_moved}
 use Rattle.objects.proofs.Places.{rewrites}
 use Rattle.objects.proofs.Safety.{IsFine, run_fine, call_fine}

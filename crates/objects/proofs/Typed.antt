@@ -39,19 +39,19 @@ use Rattle.objects.specs.declared.op.Element.TheVariants as element
 use Rattle.objects.specs.declared.op.Request.TheVariants as request
 use Rattle.objects.specs.declared.op.Doing.TheVariants as doing
 use Rattle.objects.specs.declared.op.Asking.TheVariants as asking
-use Rattle.objects.specs.WordTypes.{narrowed}
-use Rattle.objects.specs.Value.{pushed, kept_by}
-use Rattle.objects.specs.Program.{Declared, Holds, Words, Elements, Row, Field, Method, Program, method_at, field_at, row_at, is_instance, is_counted, is_counted_in, has_code, is_code, is_selectable, overrides, first_in, or_else, lineage_in, runnable, selected, selected_by}
-use Rattle.objects.specs.TypeOrder.{object_class, throwable_class, string_class, is_array, element_class, name_read, stack_types, is_within, IsWithin}
-use Rattle.objects.specs.State.{Object, State, value_held, type_at, put, length_of}
-use Rattle.objects.specs.Meaning.{IsObjectOf, IsReferenceTo, IsValueOf, IsHeld, IsTyped, IsHolding, HasBase, IsFieldHeld, IsHeap}
-use Rattle.objects.specs.Step.{Frame, Frames, Did, Does, Asked, Asks, at, next, received, does, on_top, on_int, on_ref, on_long, on_number, on_value, on_word, int_in, ref_in, long_in, second_in, object_in, slot_in, number_in, field_in, static_in, method_in, inner, sort_of, not_null, if_object, throws, receiver, over_object, runs, sized, holds, same, switched, distance, numbered, converted, divides, branches, loads, stores, set_local, set_long, rearranged, without, Took, take_args, goes, enters, invokes, trapped, found, gives, on_did, truth, or_trap, enters_found, stored, kept_in, element_name, has_address, if_addressed, told}
-use Rattle.objects.specs.Source.{CanMake, HasField, HasMethod, HasVirtual, HasObject, HasCode, IsSourceOp, IsSourceCatches, IsSourceCatch, IsSourceMethod, AreTypes, IsTrapClass, IsArray}
-use Rattle.objects.specs.Source as source
-use Rattle.objects.specs.Typing.{freed, freed_by, Types, Table, types_at, FitsIn, Flow, Leads, Wrong, flow, first_types, first_locals, is_constructor, arguments, results, result_types, number_types, become, is_uninit, built_as, this_built, new_class, is_named, direct_superclass, constructs, is_one, is_reference, Covers, caught_type, is_guarded, AreCaught, KeepsFlow, KeepsAt, IsTypedAt, IsTyping, fits_elements, element_types, stored_types}
-use Rattle.objects.specs.Typing as typed
-use Rattle.objects.specs.TypingLaw.{HasTyping, IsTypedProgram}
-use Rattle.objects.specs.Rewriting.{places_of, helped}
+use Rattle.objects.specs.semantics.WordTypes.{narrowed}
+use Rattle.objects.specs.semantics.Value.{pushed, kept_by}
+use Rattle.objects.specs.semantics.Program.{Declared, Holds, Words, Elements, Row, Field, Method, Program, method_at, field_at, row_at, is_instance, is_counted, is_counted_in, has_code, is_code, is_selectable, overrides, first_in, or_else, lineage_in, runnable, selected, selected_by}
+use Rattle.objects.specs.typing.TypeOrder.{object_class, throwable_class, string_class, is_array, element_class, name_read, stack_types, is_within, IsWithin}
+use Rattle.objects.specs.semantics.State.{Object, State, value_held, type_at, put, length_of}
+use Rattle.objects.specs.history.Meaning.{IsObjectOf, IsReferenceTo, IsValueOf, IsHeld, IsTyped, IsHolding, HasBase, IsFieldHeld, IsHeap}
+use Rattle.objects.specs.semantics.Step.{Frame, Frames, Did, Does, Asked, Asks, at, next, received, does, on_top, on_int, on_ref, on_long, on_number, on_value, on_word, int_in, ref_in, long_in, second_in, object_in, slot_in, number_in, field_in, static_in, method_in, inner, sort_of, not_null, if_object, throws, receiver, over_object, runs, sized, holds, same, switched, shift_distance, numbered, converted, divides, branches, loads, stores, set_local, set_long, rearranged, without, Took, take_args, goes, enters, invokes, trapped, found, gives, on_did, truth, or_trap, enters_found, stored, kept_in, element_name, has_address, if_addressed, told}
+use Rattle.objects.specs.typing.Source.{CanMake, HasField, HasMethod, HasVirtual, HasObject, HasCode, IsSourceOp, IsSourceCatches, IsSourceCatch, IsSourceMethod, AreTypes, IsTrapClass, IsArray}
+use Rattle.objects.specs.typing.Source as source
+use Rattle.objects.specs.typing.Typing.{freed, freed_by, Types, Table, types_at, FitsIn, Flow, Leads, Wrong, flow, first_types, first_locals, is_constructor, arguments, results, result_types, number_types, become, is_uninit, built_as, this_built, new_class, is_named, direct_superclass, constructs, is_one, is_reference, Covers, caught_type, is_guarded, AreCaught, KeepsFlow, KeepsAt, IsTypedAt, IsTyping, fits_elements, element_types, stored_types}
+use Rattle.objects.specs.typing.Typing as typed
+use Rattle.objects.specs.laws.TypingLaw.{HasTyping, IsTypedProgram}
+use Rattle.objects.specs.rewriting.Rewriting.{word_places, helped}
 use Rattle.objects.proofs.Places.{get_back}
 use Rattle.objects.proofs.Switched.{exit_has}
 use Rattle.objects.proofs.Fields.{each_at, some_at, all_set, found_at}
@@ -366,7 +366,7 @@ module _ (P : Program) (Ts : List Table) (S : IsTypedProgram P Ts) (size : ℕ) 
   on_int_at (t ∷ ts) s j d h p e = absurd e
 
   on_value_at : (t : WordType) (c : List ℕ) (ts : List VType) (s : List Slot) (j : List VType → Flow) (d : Value → List Slot → Did) → Has ts s
-      → ((zs : List VType) (v : Value) (us : List VType) (r : List Slot) → ts ≡ zs ++ us → length zs ≡ places_of t → IsSorted c (sort_of t) v → Has us r → Keeps (j us) → DidFine (d v r))
+      → ((zs : List VType) (v : Value) (us : List VType) (r : List Slot) → ts ≡ zs ++ us → length zs ≡ word_places t → IsSorted c (sort_of t) v → Has us r → Keeps (j us) → DidFine (d v r))
       → Keeps (typed.on_each P (stack_types (record { word = t; class = c })) ts j) → DidFine (on_value (sort_of t) s d)
   on_value_at t c ts s j d h p e = by t e p
     where
@@ -374,7 +374,7 @@ module _ (P : Program) (Ts : List Table) (S : IsTypedProgram P Ts) (size : ℕ) 
       one q e = on_fine_at Int ts s _ _ h (λ z v us r same hv hr e. int_slot v _ hv (λ x hx. q x z us r same hx hr e)) e
 
       by : (t : WordType) → Keeps (typed.on_each P (stack_types (record { word = t; class = c })) ts j)
-          → ((zs : List VType) (v : Value) (us : List VType) (r : List Slot) → ts ≡ zs ++ us → length zs ≡ places_of t → IsSorted c (sort_of t) v → Has us r → Keeps (j us) → DidFine (d v r)) → DidFine (on_value (sort_of t) s d)
+          → ((zs : List VType) (v : Value) (us : List VType) (r : List Slot) → ts ≡ zs ++ us → length zs ≡ word_places t → IsSorted c (sort_of t) v → Has us r → Keeps (j us) → DidFine (d v r)) → DidFine (on_value (sort_of t) s d)
       by word.Reference e p = on_fine_at (Ref c) ts s _ _ h (λ z v us r same hv hr e. ref_fine c v _ hv (λ o is ho. p (z ∷ []) (value.Ref o) us r same refl ho hr e)) e
       by word.Long e p = on_fine_at Second ts s _ _ h (λ y v us r same hv hr e. second_fine v _ hv (on_fine_at Long us r _ _ hr (λ z v vs q next hv hq e.
           long_fine v _ hv (λ x hx. p (y ∷ z ∷ []) (value.Long x) vs q (same ∙ ap (λ (us : List VType). y ∷ us) next) refl hx hq e)) e)) e
@@ -1171,8 +1171,8 @@ module _ (P : Program) (Ts : List Table) (S : IsTypedProgram P Ts) (size : ℕ) 
         → DidFine (on_value (sort_of t) s (λ v s. on_int s (λ i s. on_ref s (λ o s. not_null o (here l s) (Does (doing.Head o (Indexes i (element.Store v))) (here l s))))))
     store_element_fine t s hs at_op e = on_value_at t object_class h.stack s _ _ hs (λ zs v us r first many hv hr e. on_int_at us r _ _ hr (λ i vs r one hr e. on_array_fine vs r _ _ hr (λ u o ws r two array hr e. not_null_fine o r _ (λ past.
         let a = array past in
-        let place : 1 + places_of t ≡ length zs + 1 = omega (arith, many) in
-        let under : slice_get h.stack (1 + places_of t) ≡ Some (Ref a.0) = ap (slice_get h.stack) place ∙ ap (λ (ts : List VType). slice_get ts (length zs + 1)) (first ∙ ap (λ (us : List VType). zs ++ us) (one ∙ ap (λ (us : List VType). Int ∷ us) (two ∙ ap (λ (u : VType). u ∷ ws) a.1))) ∙ get_back zs _ 1 in
+        let place : 1 + word_places t ≡ length zs + 1 = omega (arith, many) in
+        let under : slice_get h.stack (1 + word_places t) ≡ Some (Ref a.0) = ap (slice_get h.stack) place ∙ ap (λ (ts : List VType). slice_get ts (length zs + 1)) (first ∙ ap (λ (us : List VType). zs ++ us) (one ∙ ap (λ (us : List VType). Int ∷ us) (two ∙ ap (λ (u : VType). u ∷ ws) a.1))) ∙ get_back zs _ 1 in
         let e1 = subst (λ (u : VType). Keeps (typed.if_so (fits_elements t u) (typed.leaves pc h ws))) a.1 e in
         if_so_fine (typed.has_elements t a.0) _ (DidFine (Does (doing.Head o (Indexes i (element.Store v))) (here l r))) (λ has e.
         index_fine t a.0 o i (element.Store v) r a.2 has a.3 (λ d are. at_here _ (op.StoreElement t) at_op (record { name = a.0; under = under; are = are }) r) (λ p y.
@@ -1282,7 +1282,7 @@ module _ (P : Program) (Ts : List Table) (S : IsTypedProgram P Ts) (size : ℕ) 
     op_fine (op.Stack r) at_op src s hs e = rearranged_fine r s hs e
     op_fine (op.Binary b x) at_op src s hs e =
         on_number_fine b h.stack s _ _ hs (λ y us r hy hr e. on_number_fine b us r _ _ hr (λ z us r hz hr e. goes_next _ l _ e hl (numbered_types b _ us r (binary_fits b x z y hz hy) hr)) e) e
-    op_fine (op.Shift b x) at_op src s hs e = on_int_fine h.stack s _ _ hs (λ y us r hy hr e. on_number_fine b us r _ _ hr (λ z us r hz hr e. goes_next _ l _ e hl (numbered_types b _ us r (shifted_fits b x z (distance b y) hz) hr)) e) e
+    op_fine (op.Shift b x) at_op src s hs e = on_int_fine h.stack s _ _ hs (λ y us r hy hr e. on_number_fine b us r _ _ hr (λ z us r hz hr e. goes_next _ l _ e hl (numbered_types b _ us r (shifted_fits b x z (shift_distance b y) hz) hr)) e) e
     op_fine (op.Divide b d) at_op src s hs e = on_number_fine b h.stack s _ _ hs (λ y us r hy hr e. on_number_fine b us r _ _ hr (λ x us r hx hr e. divides_fine (int_eq y (pos 0)) b d x y us r s hx hy hr e) e) e
     op_fine (op.Unary b u) at_op src s hs e = on_number_fine b h.stack s _ _ hs (λ x us r hx hr e. goes_next _ l _ e hl (numbered_types b _ us r (unary_fits b u x hx) hr)) e
     op_fine (op.Convert c) at_op src s hs e = converted_fine c s hs e

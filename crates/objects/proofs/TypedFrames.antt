@@ -20,16 +20,16 @@ use Rattle.objects.specs.declared.op.Asking.TheVariants as asking
 use Rattle.objects.specs.declared.op.Catch.{Catch}
 use Rattle.objects.specs.declared.op.Catches.{Catches}
 use Rattle.objects.specs.declared.op.Catches.TheVariants.{Conflict, Any, Of}
-use Rattle.objects.specs.Value.{pushed}
-use Rattle.objects.specs.Program.{Declared, Elements, Row, Field, Method, Program, op_at, method_at, field_at, row_at}
-use Rattle.objects.specs.TypeOrder.{throwable_class, name_read, IsWithin}
-use Rattle.objects.specs.State.{Object, State, value_held, type_at, put, length_of}
-use Rattle.objects.specs.Meaning.{IsHeld, IsReferenceTo, IsHeap}
-use Rattle.objects.specs.Step.{Frame, Frames, Asked, Asks, Fails, with_stack, at, next, started, received, takes, find_catch, catch_at, caught, goes, unwinds, told, advanced, resumed}
-use Rattle.objects.specs.Source.{IsSourceCatches, IsSourceCatch, IsSourceMethod}
-use Rattle.objects.specs.Typing.{Types, Table, types_at, Flow, Leads, Wrong, first_types, first_locals, is_constructor, Covers, caught_type, AreCaught, KeepsFlow}
-use Rattle.objects.specs.TypingLaw.{HasTyping, IsTypedProgram}
-use Rattle.objects.specs.Rewriting.{places_of, array_under}
+use Rattle.objects.specs.semantics.Value.{pushed}
+use Rattle.objects.specs.semantics.Program.{Declared, Elements, Row, Field, Method, Program, op_at, method_at, field_at, row_at}
+use Rattle.objects.specs.typing.TypeOrder.{throwable_class, name_read, IsWithin}
+use Rattle.objects.specs.semantics.State.{Object, State, value_held, type_at, put, length_of}
+use Rattle.objects.specs.history.Meaning.{IsHeld, IsReferenceTo, IsHeap}
+use Rattle.objects.specs.semantics.Step.{Frame, Frames, Asked, Asks, Fails, with_stack, at, next, started, received, takes, find_catch, catch_at, caught, goes, unwinds, told, advanced, resumed}
+use Rattle.objects.specs.typing.Source.{IsSourceCatches, IsSourceCatch, IsSourceMethod}
+use Rattle.objects.specs.typing.Typing.{Types, Table, types_at, Flow, Leads, Wrong, first_types, first_locals, is_constructor, Covers, caught_type, AreCaught, KeepsFlow}
+use Rattle.objects.specs.laws.TypingLaw.{HasTyping, IsTypedProgram}
+use Rattle.objects.specs.rewriting.Rewriting.{word_places, array_under}
 use Rattle.objects.proofs.Fields.{each_at}
 use Rattle.objects.proofs.Elements.{AreElements}
 use Rattle.objects.proofs.Frames.{frame}
@@ -77,7 +77,7 @@ pub record IsElementOf (P : Program) (u : Option VType) (t : WordType) (d : Decl
 -- the type of an element that an instruction goes to
 abbrev pub IsIndexedAt : Program → Op → Types → Declared → Type 0
 IsIndexedAt P (op.LoadElement t) h d = IsElementOf P (array_under 1 (Some h)) t d
-IsIndexedAt P (op.StoreElement t) h d = IsElementOf P (array_under (1 + places_of t) (Some h)) t d
+IsIndexedAt P (op.StoreElement t) h d = IsElementOf P (array_under (1 + word_places t) (Some h)) t d
 IsIndexedAt P o h d = ⊥
 
 -- the type of the word that an instruction reads

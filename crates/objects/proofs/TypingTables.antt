@@ -5,9 +5,9 @@ use Rattle.std.specs.List.{AllByRecursion}
 use Rattle.std.proofs.lemmas.Option.{slice_get_within}
 use Rattle.jmodel.specs.declared.typing.VType.{VType}
 use Rattle.objects.specs.declared.op.Op.{Op}
-use Rattle.objects.specs.Program.{Method, Program}
-use Rattle.objects.specs.TypeOrder.{AreWithin, IsLocals, IsStack}
-use Rattle.objects.specs.Typing.{Types, Table, types_at, Leads, flow, first_types, is_constructor, Covers, AreCaught, KeepsFlow, KeepsAt, IsTypedAt, IsTyping, IsTypable}
+use Rattle.objects.specs.semantics.Program.{Method, Program}
+use Rattle.objects.specs.typing.TypeOrder.{AreWithin, IsLocals, IsStack}
+use Rattle.objects.specs.typing.Typing.{Types, Table, types_at, Leads, flow, first_types, is_constructor, Covers, AreCaught, KeepsFlow, KeepsAt, IsTypedAt, IsTyping, IsTypable}
 use Rattle.objects.proofs.Places.{HasAt, has_rest}
 
 -- types of a frame of the method

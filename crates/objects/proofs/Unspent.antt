@@ -10,11 +10,11 @@ use Rattle.objects.specs.declared.op.Place.{Place}
 use Rattle.objects.specs.declared.op.Request.TheVariants.{Get, Put}
 use Rattle.objects.specs.declared.op.Asking.{Asking as Wanted}
 use Rattle.objects.specs.declared.op.Asking.TheVariants.{Go, Turn, Enter, Return, Throw, Raise, Make, Head, Ask}
-use Rattle.objects.specs.Program.{Row, Method, Program, method_at, row_at, name_at}
-use Rattle.objects.specs.Step.{Frames, Asked, Asks, Fails, step, unwinds, told}
-use Rattle.objects.specs.Region.{Region, has_words}
-use Rattle.objects.specs.State.{Object, State, value_held, words_of, length_of, object_of, type_at}
-use Rattle.objects.specs.Call.{Direct, On, Asking, Ended, Stuck, turned, entered, got, set_at, threw_of, on_thrown, throws, on_raise, on_made, makes, made, followed, headed, on_asking, on_asked, next_direct, direct, starts, call_start}
+use Rattle.objects.specs.semantics.Program.{Row, Method, Program, method_at, row_at, name_at}
+use Rattle.objects.specs.semantics.Step.{Frames, Asked, Asks, Fails, step, unwinds, told}
+use Rattle.objects.specs.semantics.Region.{Region, has_words}
+use Rattle.objects.specs.semantics.State.{Object, State, value_held, words_of, length_of, object_of, type_at}
+use Rattle.objects.specs.semantics.Call.{Direct, On, Asking, Ended, Stuck, turned, entered, got, set_at, threw_of, on_thrown, throws, on_raise, on_made, makes, made, followed, headed, on_asking, on_asked, next_direct, direct, starts, call_start}
 
 abbrev pub IsUnspent : Direct → Type 0
 IsUnspent (Ended x σ) = x ≢ Spent

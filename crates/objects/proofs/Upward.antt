@@ -7,13 +7,14 @@ use Rattle.std.proofs.lemmas.Bool.Decides.{nat_tests}
 use Rattle.std.proofs.lemmas.List.Folds.{list_any-append}
 use Rattle.std.proofs.lemmas.Slice.Eq.{bytes_eq-Decides}
 use Rattle.jmodel.specs.declared.refusal.Refusal.{Refusal}
-use Rattle.jmodel.specs.ClassFile.{ClassFile}
-use Rattle.jmodel.specs.Superclasses.{own_name, class_named, super_name, with_above, upward}
-use Rattle.jmodel.specs.ClassesLinking.{first_fault}
-use Rattle.objects.specs.Resolution.{interface_names, names_above, all_upward, ancestry, is_above_itself}
-use Rattle.objects.specs.ClassesFaults.{super_fault, circle_fault, supers_fault}
-use Rattle.objects.specs.LinkingLaw.{IsUpward}
-use Rattle.jmodel.proofs.ClassesTaken.{Within, Same, or_right, same_size, filter_few}
+use Rattle.jmodel.specs.format.ClassFile.{ClassFile}
+use Rattle.objects.specs.linking.Members.{own_name}
+use Rattle.objects.specs.linking.Superclasses.{class_named, super_name, with_above, upward}
+use Rattle.objects.specs.linking.Faults.{first_fault}
+use Rattle.objects.specs.linking.Resolution.{interface_names, names_above, all_upward, ancestry, is_above_itself}
+use Rattle.objects.specs.linking.ClassesFaults.{super_fault, circle_fault, supers_fault}
+use Rattle.objects.specs.laws.LinkingLaw.{IsUpward}
+use Rattle.objects.proofs.TakenLaws.{Within, Same, or_right, same_size, filter_few}
 
 -- ---- texts and lists
 

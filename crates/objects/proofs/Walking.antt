@@ -5,20 +5,20 @@ use Rattle.std.specs.List.{AllByRecursion}
 use Rattle.jmodel.specs.declared.value.Value.{Value}
 use Rattle.jmodel.specs.declared.value.Answer.{Answer}
 use Rattle.jmodel.specs.declared.typing.VType.{VType}
-use Rattle.jmodel.specs.History.{Words}
+use Rattle.jmodel.specs.history.History.{Words}
 use Rattle.objects.specs.declared.op.Slot.{Slot}
 use Rattle.objects.specs.declared.op.Op.{Op}
 use Rattle.objects.specs.declared.op.Phase.TheVariants.{Open}
-use Rattle.objects.specs.Program.{Method, Program, is_counted}
-use Rattle.objects.specs.Region.{Region}
-use Rattle.objects.specs.State.{State}
-use Rattle.objects.specs.Step.{Frames, catch_at}
-use Rattle.objects.specs.Call.{Direct, direct, call_start}
-use Rattle.objects.specs.Call as call
-use Rattle.objects.specs.Attempt.{Log, Bounds, Meter, Run, On}
-use Rattle.objects.specs.Typing.{Table}
-use Rattle.objects.specs.TypingLaw.{IsTypedProgram}
-use Rattle.objects.specs.Rewriting.{block_at}
+use Rattle.objects.specs.semantics.Program.{Method, Program, is_counted}
+use Rattle.objects.specs.semantics.Region.{Region}
+use Rattle.objects.specs.semantics.State.{State}
+use Rattle.objects.specs.semantics.Step.{Frames, catch_at}
+use Rattle.objects.specs.semantics.Call.{Direct, direct, call_start}
+use Rattle.objects.specs.semantics.Call as call
+use Rattle.objects.specs.rewriting.Attempt.{Log, Bounds, Meter, Run, On}
+use Rattle.objects.specs.typing.Typing.{Table}
+use Rattle.objects.specs.laws.TypingLaw.{IsTypedProgram}
+use Rattle.objects.specs.rewriting.Rewriting.{block_at}
 use Rattle.objects.proofs.Frames.{frame}
 use Rattle.objects.proofs.Fields.{some_at}
 use Rattle.objects.proofs.Alike.{Stands}

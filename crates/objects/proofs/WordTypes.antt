@@ -6,7 +6,7 @@ use Rattle.std.proofs.lemmas.Nat.{mod-mul-add}
 use Rattle.std.proofs.lemmas.Int.{ints, to_z-of_z}
 use Rattle.objects.specs.declared.op.WordType.{WordType}
 use Rattle.objects.specs.declared.op.WordType.TheVariants as word
-use Rattle.objects.specs.WordTypes.{IsNumberOf, narrowed}
+use Rattle.objects.specs.semantics.WordTypes.{IsNumberOf, narrowed}
 use Rattle.objects.proofs.Moved.{narrow}
 
 -- a type of ints

@@ -18,12 +18,12 @@ use Rattle.objects.specs.declared.op.Op.{Op}
 use Rattle.objects.specs.declared.op.Op.TheVariants.{Load, InvokeStatic}
 use Rattle.objects.specs.declared.op.Phase.TheVariants.{Ready, Open, Doomed, Closed}
 use Rattle.objects.specs.declared.op.Asking.TheVariants.{Go}
-use Rattle.objects.specs.Program.{Method, Program}
-use Rattle.objects.specs.Value.{pushed, slots_of}
-use Rattle.objects.specs.Step.{Asks, step, on_did, stores, unwinds, find_catch}
-use Rattle.objects.specs.Source.{AreArguments}
-use Rattle.objects.specs.Attempt.{Log, Reply, Bounds, Meter, On, Ended, Stuck, next_run, count_of, begun, on_commit, set_back, class_of}
-use Rattle.objects.specs.Rewriting.{result_sort, invoke, load_all, entry_code, begin_code, end_code, conflict_code, exception_code, conflict_at, duplicate, wrapper_method}
+use Rattle.objects.specs.semantics.Program.{Method, Program}
+use Rattle.objects.specs.semantics.Value.{pushed, slots_of}
+use Rattle.objects.specs.semantics.Step.{Asks, step, on_did, stores, unwinds, find_catch}
+use Rattle.objects.specs.typing.Source.{AreArguments}
+use Rattle.objects.specs.rewriting.Attempt.{Log, Reply, Bounds, Meter, On, Ended, Stuck, next_run, count_of, begun, on_commit, set_back, class_of}
+use Rattle.objects.specs.rewriting.Rewriting.{result_sort, invoke, load_all, entry_code, begin_code, end_code, conflict_code, exception_code, conflict_at, duplicate, wrapper_method}
 use Rattle.objects.proofs.Frames.{frame}
 use Rattle.objects.proofs.Places.{HasAt, has_all}
 use Rattle.objects.proofs.Moved.{pushed_on}

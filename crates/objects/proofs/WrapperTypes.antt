@@ -13,13 +13,13 @@ use Rattle.objects.specs.declared.op.Op.TheVariants as op
 use Rattle.objects.specs.declared.op.ContextCall.TheVariants as asked
 use Rattle.objects.specs.declared.op.Test.TheVariants.{Equal}
 use Rattle.objects.specs.declared.op.Catches.TheVariants.{Conflict, Any}
-use Rattle.objects.specs.Program.{Method, Program, has_code}
-use Rattle.objects.specs.TypeOrder.{throwable_class, context_class, conflict_class, name_read, AreWithin, IsWithin, IsLocals, IsLocalsAfter, IsStack, is_within}
-use Rattle.objects.specs.Typing.{Types, Table, types_at, Flow, Leads, flow, leaves, if_so, on_each, on_top, arguments, result_types, first_types, is_constructor, Covers, AreCaught, IsTypedAt, IsTypable}
+use Rattle.objects.specs.semantics.Program.{Method, Program, has_code}
+use Rattle.objects.specs.typing.TypeOrder.{throwable_class, context_class, conflict_class, name_read, AreWithin, IsWithin, IsLocals, IsLocalsAfter, IsStack, is_within}
+use Rattle.objects.specs.typing.Typing.{Types, Table, types_at, Flow, Leads, flow, leaves, if_so, on_each, on_top, arguments, result_types, first_types, is_constructor, Covers, AreCaught, IsTypedAt, IsTypable}
 use Rattle.objects.specs.declared.op.Dispatch.{Dispatch}
 use Rattle.objects.specs.declared.op.Dispatch.TheVariants as dispatch
-use Rattle.objects.specs.Source.{AreParameters, AreParametersAfter, IsResult, HasObject}
-use Rattle.objects.specs.Rewriting.{spare_locals, duplicate, duplicate_name, duplicate_code, duplicate_method, typed_from, wrapper_method, invoke, result_sort, load_all, entry_code, begin_code, end_code, conflict_code, exception_code, catch}
+use Rattle.objects.specs.typing.Source.{AreParameters, AreParametersAfter, IsResult, HasObject}
+use Rattle.objects.specs.rewriting.Rewriting.{spare_locals, duplicate, duplicate_name, duplicate_code, duplicate_method, typed_from, wrapper_method, invoke, result_sort, load_all, entry_code, begin_code, end_code, conflict_code, exception_code, catch}
 use Rattle.objects.proofs.Places.{HasAt, has_rest, has_duplicate, get_front, get_back}
 use Rattle.objects.proofs.TypingTables.{over, entry, Shape, FineFrom, fine_append, fine_typing, typed_here}
 

@@ -1,6 +1,6 @@
 //! Laws of the definitions: each function's contract is one, and its body does nothing.
-ghost use Rattle.objects.specs.TypingLaw.{TypedSafety, TypedRewriting, NarrowestIsKnown};
-ghost use Rattle.objects.specs.Law.{Simulation, Prefix, PrefixTraps, Soundness, SnapshotSoundness, Completion};
+ghost use Rattle.objects.specs.laws.TypingLaw.{TypedSafety, TypedRewriting, NarrowestIsKnown};
+ghost use Rattle.objects.specs.laws.Law.{Simulation, Prefix, PrefixTraps, Soundness, SnapshotSoundness, Completion};
 
 /// A program each of whose methods has a typing never gets stuck over a heap whose objects have values of their types, and keeps it so.
 pub fn typed_safety()

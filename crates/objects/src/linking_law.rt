@@ -1,6 +1,6 @@
 //! Laws of linking.
-ghost use Rattle.jmodel.specs.ClassesTaken.{TakenLaw};
-ghost use Rattle.objects.specs.LinkingLaw.{FilesLaw, MeaningLaw, OpeningLaw, SourceLaw, TypesLaw, UpwardLaw};
+ghost use Rattle.objects.specs.linking.Taken.{TakenLaw};
+ghost use Rattle.objects.specs.laws.LinkingLaw.{FilesLaw, MeaningLaw, OpeningLaw, SourceLaw, TypesLaw, UpwardLaw};
 
 /// Where classes have no fault of what stands above them, no count of steps cuts a way upward short: above a class stand its superclass, and what
 /// stands above that, and so with its interfaces.

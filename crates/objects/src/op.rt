@@ -1,6 +1,7 @@
 //! Instructions by kind, with every name resolved (JVM Specification, Java SE 7, chapter 6). Places in code are counted
 //! in instructions, from 0.
-use jmodel::{Bytes, Cases, Value};
+use crate::switch::Cases;
+use jmodel::{Bytes, Value};
 
 /// One place of a frame, among its locals or on its operand stack (JVM Specification, Java SE 7, section 2.6). A long
 /// takes two.

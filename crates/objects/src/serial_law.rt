@@ -1,7 +1,7 @@
 //! The law that ties a history to calls made one after another, and what a call takes of its region.
-ghost use Rattle.objects.specs.Opening.{ReturnLaw};
-ghost use Rattle.objects.specs.RegionLaw.{RegionLaw};
-ghost use Rattle.objects.specs.SerialLaw.{SerialLaw};
+ghost use Rattle.objects.specs.semantics.Opening.{ReturnLaw};
+ghost use Rattle.objects.specs.laws.RegionLaw.{RegionLaw};
+ghost use Rattle.objects.specs.laws.SerialLaw.{SerialLaw};
 
 /// Along a legal list of explained entries, the original methods, called one after another from the opening state, give
 /// each entry's answer, and the last words stand for the last state.

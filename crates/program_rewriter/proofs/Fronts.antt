@@ -1,6 +1,6 @@
 -- The bytes of descriptors.
 use Rattle.std.proofs.Common.{◌≡◌, ℕ, zero, suc, ◌+◌, List, [], ◌∷◌, length, take, refl, ap, arith}
-use Rattle.objects.specs.TypeOrder.{without_last}
+use Rattle.objects.specs.typing.TypeOrder.{without_last}
 
 -- all bytes but the last
 pub front_is : (b : List ℕ) (n : ℕ) → n + 1 ≡ length b → take n b ≡ without_last b

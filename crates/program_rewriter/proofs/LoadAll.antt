@@ -4,7 +4,7 @@ use Rattle.std.proofs.lemmas.List.{append-nil, drop_all}
 use Rattle.jmodel.specs.declared.typing.VType.{VType}
 use Rattle.jmodel.specs.declared.typing.VType.TheVariants as type
 use Rattle.objects.specs.declared.op.Op.{Op}
-use Rattle.objects.specs.Rewriting.{load_all}
+use Rattle.objects.specs.rewriting.Rewriting.{load_all}
 use Rattle.program_rewriter.specs.Loads.{one_load}
 
 -- the load of the first, and those of the others

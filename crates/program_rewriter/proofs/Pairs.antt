@@ -1,7 +1,7 @@
 -- The accessors of fields, as a loop collects them.
 use Rattle.std.proofs.Common.{◌≡◌, ℕ, suc, ◌+◌, ◌<◌, List, [], ◌∷◌, ◌++◌, length, drop, get_or, sym, ap, ◌∙◌, append_assoc, add-one, drop-cons}
-use Rattle.objects.specs.Program.{Field, Method}
-use Rattle.objects.specs.Rewriting.{getter_method, setter_method, accessors}
+use Rattle.objects.specs.semantics.Program.{Field, Method}
+use Rattle.objects.specs.rewriting.Rewriting.{getter_method, setter_method, accessors}
 
 -- those of one more field
 pub accessors_go_on : (front all : List Method) (fs : List Field) (i : ℕ) (f : Field) → i < length fs → f ≡ get_or fs i f → front ++ accessors i (drop i fs) ≡ all

@@ -9,11 +9,11 @@ use Rattle.objects.specs.declared.op.Op.TheVariants.{Throw}
 use Rattle.objects.specs.declared.op.Dispatch.{Dispatch}
 use Rattle.objects.specs.declared.op.Catch.{Catch}
 use Rattle.objects.specs.declared.op.Catches.TheVariants.{Conflict}
-use Rattle.objects.specs.Program.{Method, Program, is_code}
-use Rattle.objects.specs.Typing.{Table}
-use Rattle.objects.specs.Rewriting.{abstracted, typed_from, block_at, catch, moved_catch, is_stray, more_locals, duplicate_code, duplicate_method, context}
+use Rattle.objects.specs.semantics.Program.{Method, Program, is_code}
+use Rattle.objects.specs.typing.Typing.{Table}
+use Rattle.objects.specs.rewriting.Rewriting.{abstracted, typed_from, block_at, catch, moved_catch, is_stray, more_locals, duplicate_code, duplicate_method, context}
 use Rattle.member_code.specs.Names.{duplicate_named}
-use Rattle.object_hierarchy.specs.declared.program.Body.{Body}
+use Rattle.hierarchy.specs.declared.program.Body.{Body}
 use Rattle.program_rewriter.specs.Bodies.{HasBody}
 use Rattle.program_rewriter.specs.Places.{starts_from, start_of}
 use Rattle.program_rewriter.specs.Blocks.{blocks_from}

@@ -6,8 +6,8 @@ use Rattle.objects.specs.declared.op.Test.{Test}
 use Rattle.objects.specs.declared.op.WordType.{WordType}
 use Rattle.objects.specs.declared.op.Op.{Op}
 use Rattle.objects.specs.declared.op.Op.TheVariants as op
-use Rattle.objects.specs.Program.{Program}
-use Rattle.objects.specs.Typing.{Types}
+use Rattle.objects.specs.semantics.Program.{Program}
+use Rattle.objects.specs.typing.Typing.{Types}
 use Rattle.program_rewriter.specs.Copied.{frame_copy, jump_copy, heap_copy, owned_copy}
 use Rattle.program_rewriter.specs.Blocks.{moved_op, access_block, call_block}
 

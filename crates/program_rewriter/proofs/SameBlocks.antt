@@ -2,9 +2,9 @@
 use Rattle.std.proofs.Common.{◌≡◌, ℕ, Option, refl}
 use Rattle.objects.specs.declared.op.Op.{Op}
 use Rattle.objects.specs.declared.op.Op.TheVariants as op
-use Rattle.objects.specs.Program.{Program}
-use Rattle.objects.specs.Typing.{Types}
-use Rattle.objects.specs.Rewriting.{block_of}
+use Rattle.objects.specs.semantics.Program.{Program}
+use Rattle.objects.specs.typing.Typing.{Types}
+use Rattle.objects.specs.rewriting.Rewriting.{block_of}
 use Rattle.program_rewriter.specs.Blocks.{call_block}
 
 pub blocks_are_same : (P : Program) (p most : ℕ) (at : ℕ → ℕ) (h : Option Types) (o : Op) → call_block P p most at h o ≡ block_of P p most at h o

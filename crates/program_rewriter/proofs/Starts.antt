@@ -4,9 +4,9 @@ use Rattle.std.specs.List.{flat_map}
 use Rattle.std.proofs.lemmas.List.Sums.{sum_by-cons}
 use Rattle.std.proofs.Math.Path.{fun_ext}
 use Rattle.objects.specs.declared.op.Op.{Op}
-use Rattle.objects.specs.Program.{Program}
-use Rattle.objects.specs.Typing.{Table, types_at}
-use Rattle.objects.specs.Rewriting.{typed_from, block, block_of, block_len, block_len_of, block_at, blocks}
+use Rattle.objects.specs.semantics.Program.{Program}
+use Rattle.objects.specs.typing.Typing.{Table, types_at}
+use Rattle.objects.specs.rewriting.Rewriting.{typed_from, block, block_of, block_len, block_len_of, block_at, blocks}
 use Rattle.program_rewriter.specs.Places.{starts_from, start_of}
 use Rattle.program_rewriter.specs.Blocks.{blocks_from}
 

@@ -2,11 +2,11 @@
 use Rattle.std.proofs.Common.{◌≡◌, ℕ, zero, suc, ◌+◌, ◌<◌, List, [], ◌∷◌, ◌++◌, length, take, get_or, Result, Ok, Err, Some, Bool, true, refl, sym, ap, ◌∙◌, subst, arith, add-one}
 use Rattle.std.specs.Prelude.{slice_get, IfOk}
 use Rattle.std.specs.List.{AllByRecursion, AllZip}
-use Rattle.objects.specs.Program.{Method, Program, has_code}
-use Rattle.objects.specs.Source.{IsSource, IsSourceMethod}
-use Rattle.objects.specs.Typing.{Types, Table, IsTypable}
-use Rattle.objects.specs.Rewriting.{duplicate_method, duplicates}
-use Rattle.object_verifier.specs.Answer.{TakesRead}
+use Rattle.objects.specs.semantics.Program.{Method, Program, has_code}
+use Rattle.objects.specs.typing.Source.{IsSource, IsSourceMethod}
+use Rattle.objects.specs.typing.Typing.{Types, Table, IsTypable}
+use Rattle.objects.specs.rewriting.Rewriting.{duplicate_method, duplicates}
+use Rattle.verifier.specs.Answer.{TakesRead}
 use Rattle.program_typing.specs.Tables.{IsTableOf, IsTypedFor, IsTypedOrBare}
 use Rattle.program_typing.specs.Typed.{IsUntyped}
 use Rattle.program_rewriter.specs.Rewritten.{IsDuplicateAt, AreDuplicates}

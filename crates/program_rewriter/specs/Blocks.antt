@@ -3,9 +3,9 @@ use Rattle.std.specs.Prelude.{ℕ, suc, ◌+◌, List, [], ◌∷◌, ◌++◌, 
 use Rattle.objects.specs.declared.op.Sort.TheVariants as sort
 use Rattle.objects.specs.declared.op.Op.{Op}
 use Rattle.objects.specs.declared.op.Op.TheVariants as op
-use Rattle.objects.specs.Program.{Program}
-use Rattle.objects.specs.Typing.{Types, Table, types_at}
-use Rattle.objects.specs.Rewriting.{getter, setter, duplicate, moved, moved_to, moved_cases, array_under, element_load, element_store, places_of, block_of}
+use Rattle.objects.specs.semantics.Program.{Program}
+use Rattle.objects.specs.typing.Typing.{Types, Table, types_at}
+use Rattle.objects.specs.rewriting.Rewriting.{getter, setter, duplicate, moved, moved_to, moved_cases, array_under, element_load, element_store, word_places, block_of}
 
 -- one that moves within the method, or stays
 abbrev pub moved_op : ℕ → ℕ → (ℕ → ℕ) → Op → List Op
@@ -27,7 +27,7 @@ access_block P p most at h (op.PutStatic f) = op.Load sort.Reference p ∷ op.In
 access_block P p most at h (op.GetField f c) = op.Load sort.Reference p ∷ op.InvokeStatic (getter P f) ∷ []
 access_block P p most at h (op.PutField f c) = op.Load sort.Reference p ∷ op.InvokeStatic (setter P f) ∷ []
 access_block P p most at h (op.LoadElement t) = element_load P p t (array_under 1 h)
-access_block P p most at h (op.StoreElement t) = element_store P p t (array_under (1 + places_of t) h)
+access_block P p most at h (op.StoreElement t) = element_store P p t (array_under (1 + word_places t) h)
 access_block P p most at h o = moved_op p most at o
 
 -- one that calls

@@ -1,7 +1,7 @@
 -- The code of a method, and its parameters.
 use Rattle.std.specs.Prelude.{◌≡◌, length}
-use Rattle.object_hierarchy.specs.declared.program.Body.{Body}
-use Rattle.objects.specs.Program.{Method}
+use Rattle.hierarchy.specs.declared.program.Body.{Body}
+use Rattle.objects.specs.semantics.Program.{Method}
 
 -- a method has this code
 pub record HasBody (k : Method) (b : Body) : Type 0 where

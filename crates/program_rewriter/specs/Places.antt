@@ -1,8 +1,8 @@
 -- Where the blocks of a duplicate begin, as a table.
 use Rattle.std.specs.Prelude.{ℕ, zero, suc, ◌+◌, List, [], ◌∷◌}
 use Rattle.objects.specs.declared.op.Op.{Op}
-use Rattle.objects.specs.Typing.{Table, types_at}
-use Rattle.objects.specs.Rewriting.{block_len_of}
+use Rattle.objects.specs.typing.Typing.{Table, types_at}
+use Rattle.objects.specs.rewriting.Rewriting.{block_len_of}
 
 -- The places of the blocks of instructions from one on, of which the first begins at a place; behind them the place after the last.
 abbrev pub starts_from : ℕ → ℕ → Table → List Op → List ℕ

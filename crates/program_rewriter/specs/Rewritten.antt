@@ -1,9 +1,9 @@
 -- What the rewriting of a program is.
 use Rattle.std.specs.Prelude.{◌≡◌, ◌++◌, ℕ, List, slice_get, Some}
 use Rattle.std.specs.List.{AllZip}
-use Rattle.objects.specs.Program.{Method, Program}
-use Rattle.objects.specs.Typing.{Table}
-use Rattle.objects.specs.Rewriting.{old_methods, accessors, duplicate_method, duplicates, helper_methods, rewritten}
+use Rattle.objects.specs.semantics.Program.{Method, Program}
+use Rattle.objects.specs.typing.Typing.{Table}
+use Rattle.objects.specs.rewriting.Rewriting.{old_methods, accessors, duplicate_method, duplicates, helper_methods, rewritten}
 use Rattle.program_typing.specs.Tables.{IsTableOf, AreTables}
 
 -- the duplicate of the method with a number, by its table

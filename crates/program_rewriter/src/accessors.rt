@@ -1,6 +1,6 @@
 //! Accessors: for each field a getter and a setter, which read and write it over the context.
 ghost use Rattle.std.specs.Prelude.{◌≡◌, ◌∷◌, [], ◌++◌, IfOk, OnOk};
-ghost use Rattle.objects.specs.Rewriting.{distance as distance_op, static_getter as getter_of_static, static_setter as setter_of_static, field_getter as getter_of_field, field_setter as setter_of_field, getter_method as getter_for, setter_method as setter_for, accessors as accessors_from, context as context_place};
+ghost use Rattle.objects.specs.rewriting.Rewriting.{distance as distance_op, static_getter as getter_of_static, static_setter as setter_of_static, field_getter as getter_of_field, field_setter as setter_of_field, getter_method as getter_for, setter_method as setter_for, accessors as accessors_from, context as context_place};
 
 use crate::names::{
     field_getter_named, field_setter_named, static_getter_named, static_setter_named,
@@ -8,9 +8,9 @@ use crate::names::{
 use crate::shapes::{
     added, as_result, class_type, context_type, places_of, push_given, push_places,
 };
+use hierarchy::{Field, Method, Program};
 use jmodel::{NoMemory, VType, Value};
 use member_code::words::sort_of;
-use object_hierarchy::{Field, Method, Program};
 use objects::op::{ContextCall, Op, Sort};
 use std::alloc::{AllocError, Global};
 

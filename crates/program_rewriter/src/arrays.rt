@@ -1,10 +1,10 @@
 //! Types of arrays, as a table of types has them.
 ghost use Rattle.std.specs.Prelude.{◌≡◌, option_copied, bytes_eq, codes, not};
-ghost use Rattle.objects.specs.TypeOrder.{element_class as class_of_element, without_last as all_but_last, named_by as named_by_descriptor, object_class};
-ghost use Rattle.objects.specs.Rewriting.{array_under as type_under, helped as helped_by};
+ghost use Rattle.objects.specs.typing.TypeOrder.{element_class as class_of_element, without_last as all_but_last, named_by as named_by_descriptor, object_class};
+ghost use Rattle.objects.specs.rewriting.Rewriting.{array_under as type_under, helped as helped_by};
 
+use hierarchy::TypeEntry;
 use jmodel::VType;
-use object_hierarchy::TypeEntry;
 use objects::op::WordType;
 
 // All bytes but the last.

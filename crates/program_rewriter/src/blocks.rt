@@ -1,6 +1,6 @@
 //! The blocks of a duplicate: what stands there for each instruction.
 ghost use Rattle.std.specs.Prelude.{◌≡◌, ◌++◌, ◌∷◌, [], option_copied, IfOk, OnOk};
-ghost use Rattle.objects.specs.Rewriting.{after_load as after_loading, element_load as loading, element_store as storing, moved_cases as cases_moved, block_of};
+ghost use Rattle.objects.specs.rewriting.Rewriting.{after_load as after_loading, element_load as loading, element_store as storing, moved_cases as cases_moved, block_of};
 ghost use Rattle.program_rewriter.specs.Places.{start_of};
 ghost use Rattle.program_rewriter.specs.Blocks.{moved_op, access_block, call_block};
 
@@ -10,8 +10,9 @@ use crate::locals::{moved, moved_to};
 use crate::numbers::{duplicate, element_getter, element_setter, getter, setter};
 use crate::places::start_at;
 use crate::shapes::{places_of, push_cast};
-use jmodel::{Cases, NoMemory, VType, Value};
-use object_hierarchy::{Program, TypeEntry};
+use hierarchy::{Program, TypeEntry};
+use jmodel::{NoMemory, VType, Value};
+use objects::Cases;
 use objects::op::{Op, Sort, StackOp, WordType};
 use std::alloc::{AllocError, Global};
 

@@ -1,11 +1,11 @@
 //! Copies of the parts of a program.
 ghost use Rattle.std.specs.Prelude.{◌≡◌, option_copied, IfOk};
-ghost use Rattle.object_hierarchy.specs.Rows.{holds_of};
+ghost use Rattle.hierarchy.specs.Rows.{holds_of};
 ghost use Rattle.program_rewriter.specs.Bodies.{IsShaped};
 
 use crate::instructions::copy_op;
+use hierarchy::{Body, Declared, Field, Holds, Method, Row, Shape};
 use jmodel::{Bytes, MethodName, VType};
-use object_hierarchy::{Body, Declared, Field, Holds, Method, Row, Shape};
 use objects::op::{Catch, Catches, Op};
 use std::alloc::{AllocError, Global};
 

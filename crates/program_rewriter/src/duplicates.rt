@@ -1,6 +1,6 @@
 //! Duplicates: methods that take the context, read and write over it, and call duplicates.
 ghost use Rattle.std.specs.Prelude.{◌≡◌, ◌+◌, ◌++◌, [], ◌∷◌, length, map, IfOk};
-ghost use Rattle.objects.specs.Rewriting.{context as context_place, typed_from, moved_catch as moved_entry, catch as entry_of, duplicate_method};
+ghost use Rattle.objects.specs.rewriting.Rewriting.{context as context_place, typed_from, moved_catch as moved_entry, catch as entry_of, duplicate_method};
 ghost use Rattle.objects.specs.declared.op.Catches.TheVariants.{Conflict as OnConflict};
 ghost use Rattle.program_rewriter.specs.Places.{start_of};
 ghost use Rattle.program_rewriter.specs.Blocks.{blocks_from};
@@ -11,9 +11,9 @@ use crate::locals::more_locals;
 use crate::numbers::sum;
 use crate::places::{start_at, starts_of};
 use crate::shapes::context_type;
+use hierarchy::{Body, Method, Program, Shape, Typing};
 use jmodel::NoMemory;
 use member_code::names::duplicate_named;
-use object_hierarchy::{Body, Method, Program, Shape, Typing};
 use objects::op::{Catch, Catches, Op};
 use std::alloc::{AllocError, Global};
 
@@ -100,7 +100,7 @@ fn coded_body(
     })
 }
 
-ghost use Rattle.objects.specs.Rewriting.{duplicate_code};
+ghost use Rattle.objects.specs.rewriting.Rewriting.{duplicate_code};
 ghost use Rattle.program_rewriter.specs.Bodies.{HasBody, IsShaped};
 
 // The body of the duplicate of a method without code.

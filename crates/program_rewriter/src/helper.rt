@@ -1,13 +1,13 @@
 //! The helper of arrays: for each type of elements a method that reads an element, and one that writes one, over the context.
 ghost use Rattle.std.specs.Prelude.{◌≡◌, ◌∷◌, [], ◌++◌, IfOk, OnOk};
 ghost use Rattle.std.specs.List.{flat_map};
-ghost use Rattle.objects.specs.Rewriting.{any_of as any_word, plain_load as load_of_elements, element_getter_method as getter_of, element_setter_method as setter_of, helper_methods as methods_of_helper, array_type};
+ghost use Rattle.objects.specs.rewriting.Rewriting.{any_of as any_word, plain_load as load_of_elements, element_getter_method as getter_of, element_setter_method as setter_of, helper_methods as methods_of_helper, array_type};
 
 use crate::names::{array_of, load_named, store_named};
 use crate::shapes::{added, as_result, context_type, places_of, push_places};
+use hierarchy::{Declared, Method};
 use jmodel::{Bytes, NoMemory, VType};
 use member_code::words::sort_of;
-use object_hierarchy::{Declared, Method};
 use objects::op::{ContextCall, Op, Sort, WordType};
 use std::alloc::{AllocError, Global};
 

@@ -2,7 +2,7 @@
 ghost use Rattle.std.specs.Prelude.{◌≡◌, IfOk};
 ghost use Rattle.program_rewriter.specs.Copied.{frame_copy as copy_of_frame, jump_copy as copy_of_jump, heap_copy as copy_of_heap, owned_copy as copy_of_owned};
 
-use jmodel::Cases;
+use objects::Cases;
 use objects::op::Op;
 use std::alloc::{AllocError, Global};
 

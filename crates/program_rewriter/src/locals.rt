@@ -1,11 +1,11 @@
 //! Locals of duplicates. The context stands behind the parameters, and the other locals behind it.
 ghost use Rattle.std.specs.Prelude.{◌≡◌, ◌+◌, nat_eq, IfOk};
 ghost use Rattle.std.specs.List.{list_any};
-ghost use Rattle.objects.specs.Rewriting.{moved as moved_by, moved_to as moved_so, is_stray as is_stray_in, more_locals as more};
+ghost use Rattle.objects.specs.rewriting.Rewriting.{moved as moved_by, moved_to as moved_so, is_stray as is_stray_in, more_locals as more};
 
 use crate::numbers::sum;
+use hierarchy::Method;
 use jmodel::NoMemory;
-use object_hierarchy::Method;
 use objects::op::{Op, Sort};
 
 /// The local that stands for one of the original, where the context is the local `context`.

@@ -1,11 +1,11 @@
 //! Names of the methods that are added.
 ghost use Rattle.std.specs.Prelude.{◌≡◌, ◌++◌, codes, IfOk};
-ghost use Rattle.objects.specs.Rewriting.{context_type, helper_class, helper_letter as letter_of, array_type};
-ghost use Rattle.objects.specs.WordTypes.{type_descriptor as type_of};
+ghost use Rattle.objects.specs.rewriting.Rewriting.{context_type, helper_class, helper_letter as letter_of, array_type};
+ghost use Rattle.objects.specs.semantics.WordTypes.{type_descriptor as type_of};
 
+use hierarchy::Field;
 use jmodel::{Bytes, MethodName};
 use member_code::bytes::joined;
-use object_hierarchy::Field;
 use objects::op::WordType;
 use std::alloc::{AllocError, Global};
 

@@ -1,9 +1,9 @@
 //! Numbers of the methods that are added, behind the old ones.
 ghost use Rattle.std.specs.Prelude.{◌≡◌, ◌+◌, ◌*◌, IfOk};
-ghost use Rattle.objects.specs.Rewriting.{getter as number_of_getter, setter as number_of_setter, duplicate as number_of_duplicate, helper_place as place_in_helper, element_getter as number_of_load, element_setter as number_of_store};
+ghost use Rattle.objects.specs.rewriting.Rewriting.{getter as number_of_getter, setter as number_of_setter, duplicate as number_of_duplicate, helper_place as place_in_helper, element_getter as number_of_load, element_setter as number_of_store};
 
+use hierarchy::Program;
 use jmodel::NoMemory;
-use object_hierarchy::Program;
 use objects::op::WordType;
 
 /// A sum. What is counted is in memory, which holds no more than a number says.

@@ -1,12 +1,12 @@
 //! Where the blocks of a duplicate begin.
 ghost use Rattle.std.specs.Prelude.{◌≡◌, length, option_copied, IfOk};
-ghost use Rattle.objects.specs.Rewriting.{after_load as after_loading, block_len_of};
+ghost use Rattle.objects.specs.rewriting.Rewriting.{after_load as after_loading, block_len_of};
 ghost use Rattle.program_rewriter.specs.Places.{starts_from, start_of};
 
 use crate::arrays::{array_under, is_cast};
 use crate::numbers::sum;
+use hierarchy::{Method, TypeEntry, Typing};
 use jmodel::{NoMemory, VType};
-use object_hierarchy::{Method, TypeEntry, Typing};
 use objects::op::{Op, WordType};
 use std::alloc::Global;
 

@@ -1,7 +1,7 @@
 //! The rewriting of a program.
 ghost use Rattle.std.specs.Prelude.{◌≡◌, ◌<◌, length, slice_get, Some, IfOk};
 ghost use Rattle.std.specs.List.{AllByRecursion};
-ghost use Rattle.objects.specs.Source.{IsSource};
+ghost use Rattle.objects.specs.typing.Source.{IsSource};
 ghost use Rattle.program_typing.specs.Tables.{IsTypedOrBare};
 ghost use Rattle.program_rewriter.specs.Rewritten.{IsDuplicateAt, AreDuplicates, IsRewriting};
 
@@ -10,11 +10,11 @@ use crate::copies::{copy_fields, copy_rows};
 use crate::duplicates::duplicate_of;
 use crate::helper::helper_methods;
 use crate::wrappers::old_methods;
+use hierarchy::{Method, Program, Typing};
 use jmodel::NoMemory;
-use object_hierarchy::{Method, Program, Typing};
-use object_verifier::TypeEnd;
 use program_typing::table_of;
 use std::alloc::Global;
+use verifier::TypeEnd;
 
 // The table of the method with a number. It has one, so what is wanting is memory.
 fn typing_of(alloc: Global, program: &Program, number: usize) -> Result<Typing, NoMemory>
@@ -30,7 +30,7 @@ fn typing_of(alloc: Global, program: &Program, number: usize) -> Result<Typing, 
     }
 }
 
-ghost use Rattle.objects.specs.Program.{Method as JMethod};
+ghost use Rattle.objects.specs.semantics.Program.{Method as JMethod};
 ghost use Rattle.program_typing.specs.Tables.{IsTableOf};
 
 // The duplicate of the method with a number.

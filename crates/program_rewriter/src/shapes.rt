@@ -1,12 +1,12 @@
 //! Parts of the methods that are added: types of parameters and results, casts, and the method around its instructions.
 ghost use Rattle.std.specs.Prelude.{◌≡◌, ◌≤◌, ◌∷◌, [], ◌++◌, IfOk, OnOk};
-ghost use Rattle.objects.specs.Step.{sort_of as sort_of_word};
-ghost use Rattle.objects.specs.TypeOrder.{place_types as types_of_places};
-ghost use Rattle.objects.specs.Rewriting.{added as added_method, as_result as type_of_result, context as context_place, cast_to as casts_to, cast_of as casts_by, places_of as places_of_word};
+ghost use Rattle.objects.specs.semantics.Step.{sort_of as sort_of_word};
+ghost use Rattle.objects.specs.typing.TypeOrder.{place_types as types_of_places};
+ghost use Rattle.objects.specs.rewriting.Rewriting.{added as added_method, as_result as type_of_result, context as context_place, cast_to as casts_to, cast_of as casts_by, word_places as places_of_word};
 
+use hierarchy::{Body, Declared, Method, Shape};
 use jmodel::{Bytes, MethodName, VType};
 use member_code::words::sort_of;
-use object_hierarchy::{Body, Declared, Method, Shape};
 use objects::op::{Dispatch, Op, WordType};
 use std::alloc::{AllocError, Global};
 

@@ -1,6 +1,6 @@
 //! Wrappers: the loop of attempts that takes the place of the code of a marked method or a static initialiser.
 ghost use Rattle.std.specs.Prelude.{◌≡◌, ◌+◌, ◌++◌, [], ◌∷◌, pos, max, option_copied, IfOk, OnOk};
-ghost use Rattle.objects.specs.Rewriting.{load_all, result_sort as sort_of_result, spare_locals as spare, invoke as call_of, entry_code, body_code, end_code, conflict_code, exception_code, body_end, conflict_at, catch as entry_of, wrapper_method, old_method as old_of, old_methods as old_from, next_id as id_after};
+ghost use Rattle.objects.specs.rewriting.Rewriting.{load_all, result_sort as sort_of_result, spare_locals as spare, invoke as call_of, entry_code, body_code, end_code, conflict_code, exception_code, body_end, conflict_at, catch as entry_of, wrapper_method, old_method as old_of, old_methods as old_from, next_id as id_after};
 ghost use Rattle.objects.specs.declared.op.Catches.TheVariants.{Conflict as OnConflict, Any as OnAny};
 ghost use Rattle.std.specs.List.{AllByRecursion};
 ghost use Rattle.program_rewriter.specs.Loads.{one_load};
@@ -8,8 +8,8 @@ ghost use Rattle.program_rewriter.specs.Bodies.{IsShaped};
 
 use crate::copies::{copy_method, copy_name, copy_shape};
 use crate::numbers::{duplicate, sum};
+use hierarchy::{Body, Method, Program};
 use jmodel::{NoMemory, VType, Value};
-use object_hierarchy::{Body, Method, Program};
 use objects::op::{Catch, Catches, ContextCall, Dispatch, Op, Sort, StackOp, Test};
 use std::alloc::{AllocError, Global};
 

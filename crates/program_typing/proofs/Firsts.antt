@@ -5,8 +5,8 @@ use Rattle.std.specs.List.{AllByRecursion, AllZip}
 use Rattle.std.specs.Option.{option_or}
 use Rattle.std.proofs.lemmas.List.{take_all, take_more}
 use Rattle.std.proofs.lemmas.Option.{get_or_from_slice_get}
-use Rattle.objects.specs.Program.{Method, Program}
-use Rattle.objects.specs.Typing.{Table}
+use Rattle.objects.specs.semantics.Program.{Method, Program}
+use Rattle.objects.specs.typing.Typing.{Table}
 use Rattle.program_typing.specs.Early.{early_store}
 use Rattle.program_typing.specs.Tables.{IsTableOf, IsTypedOrBare}
 use Rattle.program_typing.specs.Typed.{IsUntyped, IsLate, IsFirstUntyped, IsFirstEarly, IsEarlyAmong, AreTyped}

@@ -2,7 +2,7 @@
 use Rattle.std.proofs.Common.{◌≡◌, ℕ, ◌<◌, List, length, Some, sym, ap, subst, ◌∙◌, get_or}
 use Rattle.std.specs.Prelude.{slice_get}
 use Rattle.std.proofs.lemmas.Option.{get_or_from_slice_get, slice_get-get_or}
-use Rattle.objects.specs.Program.{Method}
+use Rattle.objects.specs.semantics.Program.{Method}
 
 -- the method of a number is the one that is looked at
 pub the_method : (ms ns : List Method) (i : ℕ) (x : Method) → ms ≡ ns → x ≡ get_or ms i x → (k : Method) → slice_get ns i ≡ Some k → x ≡ k

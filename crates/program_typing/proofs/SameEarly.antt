@@ -5,10 +5,10 @@ use Rattle.jmodel.specs.declared.typing.VType.{VType}
 use Rattle.jmodel.specs.declared.typing.VType.TheVariants.{Int, Long, Second, Null, Ref, Uninit, UninitThis, Top}
 use Rattle.objects.specs.declared.op.Op.{Op}
 use Rattle.objects.specs.declared.op.Op.TheVariants as op
-use Rattle.objects.specs.Program.{Field, Method, Program, field_at, has_code}
-use Rattle.objects.specs.Rewriting.{places_of}
-use Rattle.objects.specs.TypeOrder.{IsWithin, AreWithin}
-use Rattle.objects.specs.Typing.{Types, Table, types_at}
+use Rattle.objects.specs.semantics.Program.{Field, Method, Program, field_at, has_code}
+use Rattle.objects.specs.rewriting.Rewriting.{word_places}
+use Rattle.objects.specs.typing.TypeOrder.{IsWithin, AreWithin}
+use Rattle.objects.specs.typing.Typing.{Types, Table, types_at}
 use Rattle.program_typing.specs.Early.{is_this, is_early_over, is_early, early_from, early_store}
 use Rattle.program_typing.specs.Tables.{IsNarrowTyping, IsTableFor, IsTableOf}
 
@@ -53,7 +53,7 @@ module _ (P : Program) (k : Method) (T U : Table) (a : IsNarrowTyping P k T) (b 
       let d = b.narrowest T a.typing pc g too in
       let up : c.types ≡ g = let there = c.there in cc in
       let down : d.types ≡ h = let there = d.there in cc in
-      let n = places_of f.declared.word in
+      let n = word_places f.declared.word in
       same_tests (is_this (slice_get h.stack n)) (is_this (slice_get g.stack n))
       (λ e. this_under P g.stack h.stack n (subst (λ (x : Types). AreWithin P g.stack x.stack) down d.fits.stack) e)
       (λ e. this_under P h.stack g.stack n (subst (λ (x : Types). AreWithin P h.stack x.stack) up c.fits.stack) e)

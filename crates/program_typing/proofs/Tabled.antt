@@ -1,11 +1,11 @@
 -- What the search for a typing answers, as the table of a method that has code.
 use Rattle.std.proofs.Common.{◌≡◌, ℕ, Some, Result, Ok, Err, true, subst, sym}
 use Rattle.std.specs.Prelude.{IfOk, IfErr}
-use Rattle.objects.specs.Program.{Method, Program, method_at, has_code}
-use Rattle.objects.specs.Typing.{Table}
-use Rattle.object_verifier.specs.declared.inference.TypeEnd.{TypeEnd}
-use Rattle.object_verifier.specs.declared.inference.TypeEnd.TheVariants as ends
-use Rattle.object_verifier.specs.Answer.{IsInferred, IsEnd}
+use Rattle.objects.specs.semantics.Program.{Method, Program, method_at, has_code}
+use Rattle.objects.specs.typing.Typing.{Table}
+use Rattle.verifier.specs.declared.inference.TypeEnd.{TypeEnd}
+use Rattle.verifier.specs.declared.inference.TypeEnd.TheVariants as ends
+use Rattle.verifier.specs.Answer.{IsInferred, IsEnd}
 use Rattle.program_typing.specs.Tables.{IsNarrowTyping, IsTableFor, IsTableOf}
 use Rattle.program_typing.specs.Typed.{EndsTable}
 

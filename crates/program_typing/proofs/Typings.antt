@@ -1,8 +1,8 @@
 -- Tables of types, and methods that have typings.
 use Rattle.std.proofs.Common.{List, [], ◌∷◌, Some, Bool, true, false}
 use Rattle.std.specs.List.{AllByRecursion, AllZip}
-use Rattle.objects.specs.Program.{Method, Program, has_code}
-use Rattle.objects.specs.Typing.{Table, IsTypable}
+use Rattle.objects.specs.semantics.Program.{Method, Program, has_code}
+use Rattle.objects.specs.typing.Typing.{Table, IsTypable}
 use Rattle.program_typing.specs.Tables.{IsNarrowTyping, IsTableFor, IsTableOf, IsTypedFor, IsTypedOrBare}
 
 narrow_typable : (P : Program) (k : Method) (T : Table) → IsNarrowTyping P k T → IsTypable P k

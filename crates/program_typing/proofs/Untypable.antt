@@ -5,8 +5,8 @@ use Rattle.std.specs.List.{AllByRecursion}
 use Rattle.objects.specs.declared.op.Op.{Op}
 use Rattle.objects.specs.declared.op.Catch.{Catch}
 use Rattle.jmodel.specs.declared.typing.VType.{VType}
-use Rattle.objects.specs.Program.{Method, Program}
-use Rattle.objects.specs.Typing.{Types, Table, Flow, Leads, Wrong, types_at, flow, Covers, AreCaught, KeepsFlow, KeepsAt, IsTypedAt, IsTypingUpTo, IsUntypableAt}
+use Rattle.objects.specs.semantics.Program.{Method, Program}
+use Rattle.objects.specs.typing.Typing.{Types, Table, Flow, Leads, Wrong, types_at, flow, Covers, AreCaught, KeepsFlow, KeepsAt, IsTypedAt, IsTypingUpTo, IsUntypableAt}
 
 -- a front of a list has the items of its places, and no others
 taken : {A : Type 0} (n : ℕ) (xs : List A) (i : ℕ) → i < n → slice_get (take n xs) i ≡ slice_get xs i

@@ -4,9 +4,9 @@ use Rattle.jmodel.specs.declared.typing.VType.{VType}
 use Rattle.jmodel.specs.declared.typing.VType.TheVariants.{UninitThis}
 use Rattle.objects.specs.declared.op.Op.{Op}
 use Rattle.objects.specs.declared.op.Op.TheVariants.{PutField}
-use Rattle.objects.specs.Program.{Field, Method, Program, field_at}
-use Rattle.objects.specs.Typing.{Types, Table, types_at}
-use Rattle.objects.specs.Rewriting.{places_of}
+use Rattle.objects.specs.semantics.Program.{Field, Method, Program, field_at}
+use Rattle.objects.specs.typing.Typing.{Types, Table, types_at}
+use Rattle.objects.specs.rewriting.Rewriting.{word_places}
 
 abbrev pub is_this : Option VType → Bool
 is_this (Some UninitThis) = true
@@ -14,7 +14,7 @@ is_this t = false
 
 -- the object lies under the value
 abbrev pub is_early_over : Option Field → Option Types → Bool
-is_early_over (Some f) (Some h) = is_this (slice_get h.stack (places_of f.declared.word))
+is_early_over (Some f) (Some h) = is_this (slice_get h.stack (word_places f.declared.word))
 is_early_over f h = false
 
 abbrev pub is_early : Program → Option Types → Op → Bool

@@ -1,8 +1,8 @@
 -- Tables of types for the methods of a program.
 use Rattle.std.specs.Prelude.{◌≡◌, List, [], Some, Bool, true, false}
 use Rattle.std.specs.List.{AllZip}
-use Rattle.objects.specs.Program.{Method, Program, has_code}
-use Rattle.objects.specs.Typing.{Table, IsTyping, IsTypable, IsNarrowest}
+use Rattle.objects.specs.semantics.Program.{Method, Program, has_code}
+use Rattle.objects.specs.typing.Typing.{Table, IsTyping, IsTypable, IsNarrowest}
 
 -- a typing of a method, and the narrowest
 pub record IsNarrowTyping (P : Program) (k : Method) (T : Table) : Type 0 where

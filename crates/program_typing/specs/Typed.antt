@@ -1,10 +1,10 @@
 -- What the typing of a whole program answers.
 use Rattle.std.specs.Prelude.{◌≡◌, ℕ, List, Option, Some, None, true, take, slice_get}
 use Rattle.std.specs.List.{AllByRecursion, AllZip}
-use Rattle.objects.specs.Program.{Method, Program, method_at, has_code}
-use Rattle.objects.specs.Typing.{Table, IsUntypableAt}
-use Rattle.object_verifier.specs.declared.inference.TypeEnd.{TypeEnd}
-use Rattle.object_verifier.specs.declared.inference.TypeEnd.TheVariants as ends
+use Rattle.objects.specs.semantics.Program.{Method, Program, method_at, has_code}
+use Rattle.objects.specs.typing.Typing.{Table, IsUntypableAt}
+use Rattle.verifier.specs.declared.inference.TypeEnd.{TypeEnd}
+use Rattle.verifier.specs.declared.inference.TypeEnd.TheVariants as ends
 use Rattle.program_typing.specs.declared.typed.TypeFault.{TypeFault}
 use Rattle.program_typing.specs.declared.typed.TypeFault.TheVariants.{Untypable, EarlyStore, NoMemory}
 use Rattle.program_typing.specs.Tables.{IsTableOf, AreTables, IsTypedOrBare}

@@ -1,11 +1,11 @@
 //! Stores to a field of an object that another constructor has not run over (JVM Specification, Java SE 7, section
 //! 4.10.1.4). An accessor takes an object that is built, so it can't make them.
 ghost use Rattle.std.specs.Prelude.{◌≡◌, option_copied};
-ghost use Rattle.objects.specs.Rewriting.{places_of as places_of_word};
+ghost use Rattle.objects.specs.rewriting.Rewriting.{word_places as places_of_word};
 ghost use Rattle.program_typing.specs.Early.{is_this as is_this_type, is_early_over as is_early_over_field, is_early as is_early_op, early_store as early_store_of};
 
+use hierarchy::{Field, Method, Program, TypeEntry, Typing};
 use jmodel::VType;
-use object_hierarchy::{Field, Method, Program, TypeEntry, Typing};
 use objects::op::{Op, WordType};
 
 /// How many places a value takes on the stack (JVM Specification, Java SE 7, section 2.6.1).

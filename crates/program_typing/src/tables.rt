@@ -1,14 +1,14 @@
 //! The table of types of a method.
 ghost use Rattle.std.specs.Prelude.{◌≡◌, ◌<◌, Some, IfOk, IfErr, length};
-ghost use Rattle.objects.specs.Program.{Method, method_at};
-ghost use Rattle.objects.specs.Source.{AreTypes};
-ghost use Rattle.object_verifier.specs.Answer.{TakesRead};
+ghost use Rattle.objects.specs.semantics.Program.{Method, method_at};
+ghost use Rattle.objects.specs.typing.Source.{AreTypes};
+ghost use Rattle.verifier.specs.Answer.{TakesRead};
 ghost use Rattle.program_typing.specs.Tables.{IsTableOf};
 ghost use Rattle.program_typing.specs.Typed.{EndsTable};
 
-use object_hierarchy::{Program, Typing};
-use object_verifier::{TypeEnd, infer};
+use hierarchy::{Program, Typing};
 use std::alloc::Global;
+use verifier::{TypeEnd, infer};
 
 /// The table of a program's method by its number: its narrowest typing (JVM Specification, Java SE 7, section 4.10.2), or
 /// an empty table where it has no code. Untypable, from a place on, is a method that has code and no typing.

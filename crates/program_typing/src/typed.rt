@@ -1,15 +1,15 @@
 //! The typing of each method of a program.
 ghost use Rattle.std.specs.Prelude.{◌≡◌, ◌<◌, Some, IfOk, IfErr, length, option_map};
-ghost use Rattle.objects.specs.Program.{Method as Form, method_at};
-ghost use Rattle.objects.specs.Source.{IsSource};
+ghost use Rattle.objects.specs.semantics.Program.{Method as Form, method_at};
+ghost use Rattle.objects.specs.typing.Source.{IsSource};
 ghost use Rattle.program_typing.specs.Early.{early_store as early_store_of};
 ghost use Rattle.program_typing.specs.Typed.{IsTyped, EndsTyped};
 
 use crate::early::early_store;
 use crate::tables::table_of;
-use object_hierarchy::{Program, Typing};
-use object_verifier::TypeEnd;
+use hierarchy::{Program, Typing};
 use std::alloc::Global;
+use verifier::TypeEnd;
 
 /// Why a program isn't typed. Methods go by their numbers, and places are counted in instructions.
 #[derive(Clone, Copy, Debug, PartialEq, Eq)]

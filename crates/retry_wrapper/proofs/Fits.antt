@@ -5,12 +5,12 @@ use Rattle.jmodel.specs.declared.name.MethodName.{MethodName}
 use Rattle.jmodel.specs.declared.class_file.Handler.{Handler}
 use Rattle.jmodel.specs.declared.refusal.Refusal.{Refusal}
 use Rattle.jmodel.specs.declared.refusal.Halt.{Halt}
-use Rattle.jmodel.specs.ClassFile.{Pool}
-use Rattle.jmodel.specs.Name.{printed}
-use Rattle.jmodel.specs.Reading.{Gives}
-use Rattle.jmodel.specs.Relocation.{Block, AreBlocks}
-use Rattle.objects.specs.Program.{Method}
-use Rattle.objects.specs.Rewriting.{spare_locals}
+use Rattle.jmodel.specs.format.ClassFile.{Pool}
+use Rattle.jmodel.specs.format.Name.{printed}
+use Rattle.jmodel.specs.format.Reading.{Gives}
+use Rattle.jmodel.specs.format.Relocation.{Block, AreBlocks}
+use Rattle.objects.specs.semantics.Program.{Method}
+use Rattle.objects.specs.rewriting.Rewriting.{spare_locals}
 use Rattle.member_code.specs.Growing.{Growth}
 use Rattle.member_code.specs.Names.{duplicate_named}
 use Rattle.member_code.specs.Coding.{of_method, laid_bytes}

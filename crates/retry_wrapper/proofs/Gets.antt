@@ -2,10 +2,10 @@
 use Rattle.std.proofs.Common.{◌≡◌, ℕ, ℤ, ◌<◌, List, length, Ok, refl, subst}
 use Rattle.std.specs.Prelude.{codes, pos}
 use Rattle.jmodel.specs.declared.name.MethodName.{MethodName}
-use Rattle.jmodel.specs.ClassFile.{Pool, Member}
-use Rattle.jmodel.specs.Reading.{◌>>=◌}
-use Rattle.objects.specs.Program.{Method}
-use Rattle.objects.specs.TypeOrder.{context_class, conflict_class}
+use Rattle.jmodel.specs.format.ClassFile.{Pool, Member}
+use Rattle.jmodel.specs.format.Reading.{◌>>=◌}
+use Rattle.objects.specs.semantics.Program.{Method}
+use Rattle.objects.specs.typing.TypeOrder.{context_class, conflict_class}
 use Rattle.const_pool.proofs.Takes.{bind_ok, ok_is}
 use Rattle.member_code.specs.Names.{duplicate_named}
 use Rattle.member_code.proofs.Grown.{Grown, grown_trans}

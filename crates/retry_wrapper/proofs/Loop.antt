@@ -6,15 +6,15 @@ use Rattle.std.proofs.lemmas.List.{append-nil}
 use Rattle.jmodel.specs.declared.typing.VType.{VType}
 use Rattle.jmodel.specs.declared.typing.VType.TheVariants as type
 use Rattle.jmodel.specs.declared.instruction.Instr.{Instr}
-use Rattle.jmodel.specs.ClassFile.{Pool}
-use Rattle.jmodel.specs.Instruction.{form_of, targets_of, FitPoolAs}
-use Rattle.jmodel.specs.Relocation.{Block, all_instrs, behind, size_at, place_of, IsShaped, ArePcs, AreBlocks, EachInstr}
+use Rattle.jmodel.specs.format.ClassFile.{Pool}
+use Rattle.jmodel.specs.format.Instruction.{form_of, targets_of, FitPoolAs}
+use Rattle.jmodel.specs.format.Relocation.{Block, all_instrs, behind, size_at, place_of, IsShaped, ArePcs, AreBlocks, EachInstr}
 use Rattle.objects.specs.declared.op.Sort.{Sort}
 use Rattle.objects.specs.declared.op.Sort.TheVariants as sort
 use Rattle.objects.specs.declared.op.Dispatch.{Dispatch}
 use Rattle.objects.specs.declared.op.Dispatch.TheVariants as dispatch
-use Rattle.objects.specs.Program.{Method}
-use Rattle.objects.specs.Rewriting.{result_sort}
+use Rattle.objects.specs.semantics.Program.{Method}
+use Rattle.objects.specs.rewriting.Rewriting.{result_sort}
 use Rattle.bytecode.specs.Relocated.{Fits, HaveInstrs}
 use Rattle.bytecode.proofs.BlockLaws.{all_cons, behind_append}
 use Rattle.bytecode.proofs.SizeLaws.{behind_over}

@@ -7,10 +7,11 @@ use Rattle.jmodel.specs.declared.typing.VType.{VType}
 use Rattle.jmodel.specs.declared.typing.VType.TheVariants as type
 use Rattle.jmodel.specs.declared.value.Value.TheVariants.{Int}
 use Rattle.jmodel.specs.declared.instruction.Instr.{Instr}
-use Rattle.jmodel.specs.Pool.{entry}
-use Rattle.jmodel.specs.Constants.{as_int, integer, integer_in}
-use Rattle.jmodel.specs.Decoding.{each, number_at}
-use Rattle.jmodel.specs.Relocation.{all_instrs, behind, put_at, retargeted, place_of, laid_to, relocated, moved, EachInstr, IsShaped}
+use Rattle.jmodel.specs.format.Pool.{entry}
+use Rattle.jmodel.specs.format.Constants.{as_int, integer, integer_in}
+use Rattle.objects.specs.linking.Each.{each}
+use Rattle.objects.specs.linking.Code.{number_at}
+use Rattle.jmodel.specs.format.Relocation.{all_instrs, behind, put_at, retargeted, place_of, laid_to, relocated, moved, EachInstr, IsShaped}
 use Rattle.objects.specs.declared.op.Sort.TheVariants as sort
 use Rattle.objects.specs.declared.op.Dispatch.{Dispatch}
 use Rattle.objects.specs.declared.op.Dispatch.TheVariants as dispatch
@@ -19,9 +20,9 @@ use Rattle.objects.specs.declared.op.Op.TheVariants as op
 use Rattle.objects.specs.declared.op.Test.TheVariants.{Equal}
 use Rattle.objects.specs.declared.op.ContextCall.TheVariants.{Init, Commit, Rollback}
 use Rattle.objects.specs.declared.op.Catches.TheVariants.{Conflict, Any}
-use Rattle.objects.specs.Program.{Method}
-use Rattle.objects.specs.Decoding.{Symbols, op_of, ops_of, catch_of}
-use Rattle.objects.specs.Rewriting.{load_all, result_sort, invoke, entry_code, begin_code, body_code, end_code, conflict_code, exception_code, body_end, conflict_at, catch}
+use Rattle.objects.specs.semantics.Program.{Method}
+use Rattle.objects.specs.linking.Decoding.{Symbols, op_of, ops_of, catch_of}
+use Rattle.objects.specs.rewriting.Rewriting.{load_all, result_sort, invoke, entry_code, begin_code, body_code, end_code, conflict_code, exception_code, body_end, conflict_at, catch}
 use Rattle.bytecode.specs.Relocated.{number_of}
 use Rattle.bytecode.proofs.LaidLaws.{place_is}
 use Rattle.member_code.specs.Instrs.{naming, jump, load, call_virtual}

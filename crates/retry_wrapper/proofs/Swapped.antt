@@ -2,13 +2,13 @@
 use Rattle.std.proofs.Common.{◌≡◌, ℕ, Bool, true, false, List, [], ◌∷◌, ◌++◌, Option, Some, Ok, refl, sym, ap, ◌∙◌, ℤ}
 use Rattle.std.specs.Prelude.{codes, find, filter, map, option_and_then, if◌then◌else◌, pos}
 use Rattle.std.specs.List.{AllByRecursion, list_any}
-use Rattle.jmodel.specs.ClassFile.{Attribute, Member, Pool}
-use Rattle.jmodel.specs.Pool.{utf8}
-use Rattle.jmodel.specs.ClassRules.{IsAttribute, is_named, named_attributes, same_text}
-use Rattle.jmodel.specs.ClassReading.{code_of}
-use Rattle.jmodel.specs.AnnotationReading.{◌>>=◌, value_at}
-use Rattle.jmodel.specs.Mark.{annotation_attributes, all_annotations, marked_retries, retries_in, answer}
-use Rattle.jmodel.specs.Coded.{attempts_in, mark_retries, is_initialiser, retries_of}
+use Rattle.jmodel.specs.format.ClassFile.{Attribute, Member, Pool}
+use Rattle.jmodel.specs.format.Pool.{utf8}
+use Rattle.jmodel.specs.format.ClassRules.{IsAttribute, is_named, named_attributes, same_text}
+use Rattle.jmodel.specs.format.ClassReading.{code_of}
+use Rattle.jmodel.specs.format.AnnotationReading.{◌>>=◌, value_at}
+use Rattle.jmodel.specs.format.Mark.{annotation_attributes, all_annotations, marked_retries, retries_in, answer}
+use Rattle.objects.specs.linking.Code.{attempts_in, mark_retries, is_initialiser, retries_of}
 use Rattle.member_code.proofs.Grown.{Grown, the_some, utf8_grown}
 use Rattle.member_code.proofs.Added.{same_text_is}
 use Rattle.retry_wrapper.specs.Wrappers.{with_bytes, with_code}

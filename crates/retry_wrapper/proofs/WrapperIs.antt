@@ -11,26 +11,26 @@ use Rattle.jmodel.specs.declared.refusal.Refusal.{Refusal}
 use Rattle.jmodel.specs.declared.typing.VType.{VType}
 use Rattle.jmodel.specs.declared.typing.VType.TheVariants as type
 use Rattle.jmodel.specs.declared.instruction.Instr.{Instr}
-use Rattle.jmodel.specs.ClassFile.{Member, Pool, ClassFile, Code, code_spelling}
-use Rattle.jmodel.specs.ClassRules.{IsCode}
-use Rattle.jmodel.specs.ClassReading.{code_of}
-use Rattle.jmodel.specs.Classes.{full_name}
-use Rattle.jmodel.specs.Coded.{Coded, code_in, retries_of}
-use Rattle.jmodel.specs.Constants.{as_int}
-use Rattle.jmodel.specs.Instruction.{SpellsInstrs}
-use Rattle.jmodel.specs.InstructionReading.{instrs_of}
-use Rattle.jmodel.specs.Name.{printed}
-use Rattle.jmodel.specs.Relocation.{Block, all_instrs, behind, place_of, relocated, relocate, moved, laid_out, far_block}
-use Rattle.jmodel.proofs.Moved.{narrow}
+use Rattle.jmodel.specs.format.ClassFile.{Member, Pool, ClassFile, Code, code_spelling}
+use Rattle.jmodel.specs.format.ClassRules.{IsCode}
+use Rattle.jmodel.specs.format.ClassReading.{code_of}
+use Rattle.objects.specs.linking.Classes.{full_name}
+use Rattle.objects.specs.linking.Code.{Coded, code_in, retries_of}
+use Rattle.jmodel.specs.format.Constants.{as_int}
+use Rattle.jmodel.specs.format.Instruction.{SpellsInstrs}
+use Rattle.jmodel.specs.format.InstructionReading.{instrs_of}
+use Rattle.jmodel.specs.format.Name.{printed}
+use Rattle.jmodel.specs.format.Relocation.{Block, all_instrs, behind, place_of, relocated, relocate, moved, laid_out, far_block}
+use Rattle.objects.proofs.Narrow.{narrow}
 use Rattle.objects.specs.declared.op.Dispatch.{Dispatch}
 use Rattle.objects.specs.declared.op.Op.{Op}
 use Rattle.objects.specs.declared.op.Catch.{Catch}
 use Rattle.objects.specs.declared.op.Catches.TheVariants.{Conflict, Any}
-use Rattle.objects.specs.Program.{Method, Program}
-use Rattle.objects.specs.Decoding.{Symbols}
-use Rattle.objects.specs.Linking.{receiver_types, parameter_types, result_type, dispatch_of, signature_in, shaped, decoded_member}
-use Rattle.objects.specs.Relinking.{decoded_or_none}
-use Rattle.objects.specs.Rewriting.{duplicate, spare_locals, body_end, conflict_at, catch, wrapper_method}
+use Rattle.objects.specs.semantics.Program.{Method, Program}
+use Rattle.objects.specs.linking.Decoding.{Symbols}
+use Rattle.objects.specs.linking.Linking.{receiver_types, parameter_types, result_type, dispatch_of, signature_in, shaped, decoded_member}
+use Rattle.objects.specs.rewriting.Relinking.{decoded_or_none}
+use Rattle.objects.specs.rewriting.Rewriting.{duplicate, spare_locals, body_end, conflict_at, catch, wrapper_method}
 use Rattle.const_pool.proofs.Takes.{bind_ok, guard_ok, ok_is}
 use Rattle.const_pool.proofs.Parts.{code_is_read}
 use Rattle.bytecode.proofs.LaidLaws.{spelled_is}

@@ -2,20 +2,20 @@
 use Rattle.std.specs.Prelude.{◌≡◌, ℕ, ℤ, ◌<◌, ◌++◌, length, Option, Some, Ok, true, false, slice_get, option_and_then, codes, FitsSigned}
 use Rattle.std.specs.Int.{w32}
 use Rattle.std.specs.List.{AllByRecursion, list_any}
-use Rattle.jmodel.specs.ClassFile.{Member, Pool, ClassFile}
-use Rattle.jmodel.specs.ClassRules.{IsAttribute, is_named}
-use Rattle.jmodel.specs.Pool.{MemberName}
-use Rattle.jmodel.specs.Classes.{full_name}
-use Rattle.jmodel.specs.Coded.{retries_of}
-use Rattle.jmodel.specs.Descriptor.{Signature}
-use Rattle.jmodel.specs.PoolAdding.{IsLonger}
+use Rattle.jmodel.specs.format.ClassFile.{Member, Pool, ClassFile}
+use Rattle.jmodel.specs.format.ClassRules.{IsAttribute, is_named}
+use Rattle.jmodel.specs.format.Pool.{MemberName}
+use Rattle.objects.specs.linking.Classes.{full_name}
+use Rattle.objects.specs.linking.Code.{retries_of}
+use Rattle.jmodel.specs.format.Descriptor.{Signature}
+use Rattle.jmodel.specs.format.PoolAdding.{IsLonger}
 use Rattle.objects.specs.declared.op.Dispatch.{Dispatch}
 use Rattle.objects.specs.declared.op.Dispatch.TheVariants as dispatch
 use Rattle.objects.specs.declared.op.Op.{Op}
-use Rattle.objects.specs.Program.{Method, Program}
-use Rattle.objects.specs.Decoding.{Symbols, static_call_op, special_call_op}
-use Rattle.objects.specs.Linking.{dispatch_of, receiver_types, parameter_types, result_type, signature_in, has_no_code}
-use Rattle.objects.specs.Rewriting.{duplicate, duplicate_name, with_context, invoke, wrapper_method}
+use Rattle.objects.specs.semantics.Program.{Method, Program}
+use Rattle.objects.specs.linking.Decoding.{Symbols, static_call_op, special_call_op}
+use Rattle.objects.specs.linking.Linking.{dispatch_of, receiver_types, parameter_types, result_type, signature_in, has_no_code}
+use Rattle.objects.specs.rewriting.Rewriting.{duplicate, duplicate_name, with_context, invoke, wrapper_method}
 use Rattle.member_code.specs.Meaning.{meaning}
 use Rattle.retry_wrapper.specs.Wrappers.{with_wrapper}
 

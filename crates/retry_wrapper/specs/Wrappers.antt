@@ -8,19 +8,19 @@ use Rattle.jmodel.specs.declared.name.MethodName.{MethodName}
 use Rattle.jmodel.specs.declared.instruction.Instr.{Instr}
 use Rattle.jmodel.specs.declared.typing.VType.{VType}
 use Rattle.jmodel.specs.declared.typing.VType.TheVariants as type
-use Rattle.jmodel.specs.ClassFile.{Attribute, Member, Pool, ClassFile}
-use Rattle.jmodel.specs.ClassRules.{is_named}
-use Rattle.jmodel.specs.Name.{printed}
-use Rattle.jmodel.specs.PoolAdding.{add_integer, add_class, add_method}
-use Rattle.jmodel.specs.Reading.{◌>>=◌}
-use Rattle.jmodel.specs.Relocation.{Block}
+use Rattle.jmodel.specs.format.ClassFile.{Attribute, Member, Pool, ClassFile}
+use Rattle.jmodel.specs.format.ClassRules.{is_named}
+use Rattle.jmodel.specs.format.Name.{printed}
+use Rattle.jmodel.specs.format.PoolAdding.{add_integer, add_class, add_method}
+use Rattle.jmodel.specs.format.Reading.{◌>>=◌}
+use Rattle.jmodel.specs.format.Relocation.{Block}
 use Rattle.objects.specs.declared.op.Sort.{Sort}
 use Rattle.objects.specs.declared.op.Sort.TheVariants as sort
 use Rattle.objects.specs.declared.op.Dispatch.{Dispatch}
 use Rattle.objects.specs.declared.op.Dispatch.TheVariants as dispatch
-use Rattle.objects.specs.Program.{Method}
-use Rattle.objects.specs.TypeOrder.{context_class, conflict_class}
-use Rattle.objects.specs.Rewriting.{result_sort, spare_locals}
+use Rattle.objects.specs.semantics.Program.{Method}
+use Rattle.objects.specs.typing.TypeOrder.{context_class, conflict_class}
+use Rattle.objects.specs.rewriting.Rewriting.{result_sort, spare_locals}
 use Rattle.member_code.specs.Growing.{Growth}
 use Rattle.member_code.specs.Names.{duplicate_named}
 use Rattle.member_code.specs.Instrs.{plain, naming, jump, load, store, give, call_static, call_special, call_virtual}

@@ -1,17 +1,17 @@
 //! The blocks of a wrapper: a loop of attempts.
 ghost use Rattle.std.specs.Prelude.{◌≡◌, ◌≤◌, ◌<◌, ◌++◌, [], ◌∷◌, IfOk, OnOk, length};
-ghost use Rattle.objects.specs.Rewriting.{result_sort as sort_of_result};
+ghost use Rattle.objects.specs.rewriting.Rewriting.{result_sort as sort_of_result};
 ghost use Rattle.member_code.specs.Instrs.{load as load_of, call_virtual as call_virtual_of, jump as jump_of};
 ghost use Rattle.member_code.specs.Coding.{block as block_of};
 ghost use Rattle.retry_wrapper.specs.Wrappers.{one_load, loads_from, call_duplicate as call_of_duplicate, entry_instrs, begin_instrs, body_instrs, commit_instrs, end_instrs, conflict_instrs, exception_instrs, wrapper_blocks as blocks_of_wrapper};
 
 use crate::wrappers::{Ending, Opening};
 use bytecode::{Block, Instr, opcodes};
+use hierarchy::Method;
 use jmodel::VType;
 use member_code::instrs::{
     call_special, call_static, call_virtual, give, jump, load, naming, plain, store,
 };
-use object_hierarchy::Method;
 use objects::op::{Dispatch, Sort};
 use std::alloc::{AllocError, Global};
 

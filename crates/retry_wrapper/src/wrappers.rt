@@ -1,20 +1,20 @@
 //! Wrappers: the loop of attempts that takes the place of the code of a marked method or a static initialiser.
 ghost use Rattle.std.specs.Prelude.{◌≡◌, ◌≤◌, ◌<◌, ◌+◌, [], None, pos, codes, map, max, length, IfOk, OnOk};
-ghost use Rattle.jmodel.specs.Reading.{Gives};
-ghost use Rattle.jmodel.specs.Relocation.{AreBlocks};
-ghost use Rattle.jmodel.specs.ClassRules.{is_named as named_so};
-ghost use Rattle.objects.specs.Rewriting.{spare_locals as spare};
+ghost use Rattle.jmodel.specs.format.Reading.{Gives};
+ghost use Rattle.jmodel.specs.format.Relocation.{AreBlocks};
+ghost use Rattle.jmodel.specs.format.ClassRules.{is_named as named_so};
+ghost use Rattle.objects.specs.rewriting.Rewriting.{spare_locals as spare};
 ghost use Rattle.member_code.specs.Growing.{Grows, Becomes};
 ghost use Rattle.retry_wrapper.specs.Wrappers.{few_arguments, few_wrappers, get_call, counts_of as counts, opening_of as opening, ending_of as ending, wrapper_blocks as blocks_of_wrapper, wrapper_handlers as entries_of_wrapper, wrapper_bytes as bytes_of_wrapper, with_bytes as with_these_bytes, with_code as with_this_code, wrapper_of as wrapper, with_wrapper};
 
 use crate::blocks::wrapper_blocks;
 use const_pool::{Attribute, ClassFile, Handler, Member, Pool};
+use hierarchy::Method;
 use jmodel::{Bytes, Halt, MethodName, Refusal, VType};
 use member_code::laying::bytes_of_method;
 use member_code::names::duplicate_named;
 use member_code::places::too_many;
 use member_code::words::add_context_method;
-use object_hierarchy::Method;
 use std::alloc::{AllocError, Global};
 
 /// What a wrapper names to begin an attempt.

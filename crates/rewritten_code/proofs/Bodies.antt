@@ -3,19 +3,19 @@ use Rattle.std.proofs.Common.{◌≡◌, ℕ, true, List, length, Option, Some, 
 use Rattle.std.specs.Prelude.{is_some, ◌==◌}
 use Rattle.jmodel.specs.declared.class_file.Handler.{Handler}
 use Rattle.jmodel.specs.declared.instruction.Instr.{Instr}
-use Rattle.jmodel.specs.ClassFile.{Pool, ClassFile}
-use Rattle.jmodel.specs.Pool.{MemberName, class_name, field_name, member_name}
-use Rattle.jmodel.specs.Classes.{Declared}
-use Rattle.jmodel.specs.ClassesTaken.{index_of}
-use Rattle.jmodel.specs.Coded.{Coded, decoded}
-use Rattle.jmodel.specs.Decoding.{number_at, each}
+use Rattle.jmodel.specs.format.ClassFile.{Pool, ClassFile}
+use Rattle.jmodel.specs.format.Pool.{MemberName, class_name, field_name, member_name}
+use Rattle.objects.specs.linking.Classes.{Declared}
+use Rattle.objects.specs.linking.Taken.{index_of}
+use Rattle.objects.specs.linking.Code.{Coded, decoded, number_at}
+use Rattle.objects.specs.linking.Each.{each}
 use Rattle.objects.specs.declared.op.Op.{Op}
 use Rattle.objects.specs.declared.op.Catch.{Catch}
 use Rattle.objects.specs.declared.op.Catches.{Catches}
 use Rattle.objects.specs.declared.op.Catches.TheVariants.{Any}
-use Rattle.objects.specs.Decoding.{Symbols, is_among, field_number, op_of, ops_of, end_at, catches_named, catches_of, make_catch, catch_of}
-use Rattle.objects.specs.Linking.{with_catches, coded_body, body_of, taken_methods, original_symbols, constructs_fault}
-use Rattle.objects.specs.LinkingLaw.{AreRead}
+use Rattle.objects.specs.linking.Decoding.{Symbols, is_among, field_number, op_of, ops_of, end_at, catches_named, catches_of, make_catch, catch_of}
+use Rattle.objects.specs.linking.Linking.{with_catches, coded_body, body_of, taken_methods, original_symbols, constructs_fault}
+use Rattle.objects.specs.laws.LinkingLaw.{AreRead}
 use Rattle.objects.proofs.Items.{IsAt, all_items}
 use Rattle.objects.proofs.CleanCode.{clean_code, taken_clean}
 use Rattle.objects.proofs.NamedMembers.{of_field, accessed_is, named_field}

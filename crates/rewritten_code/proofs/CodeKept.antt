@@ -12,17 +12,17 @@ use Rattle.jmodel.specs.declared.instruction.Form.TheVariants as form
 use Rattle.jmodel.specs.declared.instruction.Operands.TheVariants as operands
 use Rattle.jmodel.specs.declared.instruction.Instr.{Instr}
 use Rattle.jmodel.specs.declared.refusal.Refusal.{Refusal}
-use Rattle.jmodel.specs.ClassFile.{Attribute, Pool as Entries, Member, ClassFile, Code}
-use Rattle.jmodel.specs.Pool.{entry, utf8, class_name, member_name}
-use Rattle.jmodel.specs.ClassRules.{IsAttribute, IsHandler, IsCode, IsMethod, is_named, named_attributes, AreCodes}
-use Rattle.jmodel.specs.ClassReading.{code_of}
-use Rattle.jmodel.specs.Instruction.{form_of, is_kind_in, is_entry, places_in, argument_places}
-use Rattle.jmodel.specs.InstructionReading.{want, as_bad, entry_operand_at, is_count, interface_at, dimensions_at, operands_at, operands_as, parts_at, instr_at, instrs_at, instrs_of}
-use Rattle.jmodel.specs.Reading.{◌>>=◌, number_at, u2_at}
-use Rattle.jmodel.specs.Coded.{Coded, code_in, decoded, decoded_code, named_fault}
-use Rattle.jmodel.specs.Decoding.{name_of}
+use Rattle.jmodel.specs.format.ClassFile.{Attribute, Pool as Entries, Member, ClassFile, Code}
+use Rattle.jmodel.specs.format.Pool.{entry, utf8, class_name, member_name}
+use Rattle.jmodel.specs.format.ClassRules.{IsAttribute, IsHandler, IsCode, IsMethod, is_named, named_attributes, AreCodes}
+use Rattle.jmodel.specs.format.ClassReading.{code_of}
+use Rattle.jmodel.specs.format.Instruction.{form_of, is_kind_in, is_entry, places_in, argument_places}
+use Rattle.jmodel.specs.format.InstructionReading.{want, as_bad, entry_operand_at, is_count, interface_at, dimensions_at, operands_at, operands_as, parts_at, instr_at, instrs_at, instrs_of}
+use Rattle.jmodel.specs.format.Reading.{◌>>=◌, number_at, u2_at}
+use Rattle.objects.specs.linking.Code.{Coded, code_in, decoded, decoded_code, named_fault}
+use Rattle.objects.specs.linking.Members.{name_of}
 use Rattle.const_pool.proofs.Parts.{code_is_read}
-use Rattle.objects.specs.Linking.{has_no_code, decoded_member}
+use Rattle.objects.specs.linking.Linking.{has_no_code, decoded_member}
 use Rattle.objects.proofs.CodeRead.{coded_parts}
 use Rattle.member_code.proofs.Grown.{Grown, the_some, entry_grown, utf8_grown, class_grown, member_grown}
 use Rattle.rewritten_code.proofs.Kept.{Kept, kept_none, kept_refl, kept_then, Keeps, keeps_err, keeps_refl, keeps_then, keeps_when}

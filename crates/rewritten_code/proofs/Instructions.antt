@@ -8,14 +8,14 @@ use Rattle.jmodel.specs.declared.instruction.Operands.{Operands}
 use Rattle.jmodel.specs.declared.instruction.Operands.TheVariants as operands
 use Rattle.jmodel.specs.declared.instruction.Instr.{Instr}
 use Rattle.jmodel.specs.declared.value.Value.TheVariants as value
-use Rattle.jmodel.specs.Pool.{MemberName, entry, string_in, utf8, class_name, field_name, member_name}
+use Rattle.jmodel.specs.format.Pool.{MemberName, entry, string_in, utf8, class_name, field_name, member_name}
 use Rattle.objects.specs.declared.op.Op.{Op}
 use Rattle.objects.specs.declared.op.Op.TheVariants as op
-use Rattle.objects.specs.Program.{Row}
-use Rattle.objects.specs.TypeOrder.{context_class}
-use Rattle.objects.specs.LibraryMethods.{is_library_constructor, is_library_function}
-use Rattle.objects.specs.Layout.{class_read, type_number, array_over}
-use Rattle.objects.specs.Decoding.{Symbols, is_among, field_number, method_number, primitive_array, new_array, number_op, pushed_op, text_op, ldc_op, added_address, is_base, get_static_op, field_op, function_op, is_get_context, static_call_op, parameter_places, special_call_op, interface_call_op, context_call, virtual_call_op, call_op, class_op, pool_op, meaning}
+use Rattle.objects.specs.semantics.Program.{Row}
+use Rattle.objects.specs.typing.TypeOrder.{context_class}
+use Rattle.objects.specs.linking.LibraryMethods.{is_library_constructor, is_library_function}
+use Rattle.objects.specs.linking.Layout.{class_read, type_number, array_over}
+use Rattle.objects.specs.linking.Decoding.{Symbols, is_among, field_number, method_number, primitive_array, new_array, number_op, pushed_op, text_op, ldc_op, added_address, is_base, get_static_op, field_op, function_op, is_get_context, static_call_op, parameter_places, special_call_op, interface_call_op, context_call, virtual_call_op, call_op, class_op, pool_op, meaning}
 use Rattle.member_code.proofs.Grown.{Grown, entry_grown, utf8_grown, class_grown, field_grown, member_grown}
 use Rattle.objects.proofs.NamedMembers.{of_field}
 use Rattle.rewritten_names.specs.LeadsLaw.{IsOther, IsPlain, special_number}

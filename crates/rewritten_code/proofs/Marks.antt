@@ -5,15 +5,15 @@ use Rattle.std.specs.List.{AllByRecursion}
 use Rattle.jmodel.specs.declared.mark.Atomic.{Atomic}
 use Rattle.jmodel.specs.declared.mark.AnnotationFault.{AnnotationFault}
 use Rattle.jmodel.specs.declared.mark.AnnotationFault.TheVariants.{Bad, Retries}
-use Rattle.jmodel.specs.ClassFile.{Attribute, Pool, Member, ClassFile}
-use Rattle.jmodel.specs.Pool.{utf8}
-use Rattle.jmodel.specs.ClassRules.{IsAttribute, is_named, named_attributes}
-use Rattle.jmodel.specs.AnnotationRules.{integer_in, integer}
-use Rattle.jmodel.specs.Mark.{annotation_attributes, mark_of}
-use Rattle.jmodel.specs.Coded.{attempts_in, mark_retries, is_initialiser, retries_of}
-use Rattle.jmodel.specs.Linking.{fault_in, may_be_marked, mark_fault}
-use Rattle.jmodel.specs.Decoding.{name_of}
-use Rattle.jmodel.specs.Name.{printed}
+use Rattle.jmodel.specs.format.ClassFile.{Attribute, Pool, Member, ClassFile}
+use Rattle.jmodel.specs.format.Pool.{utf8}
+use Rattle.jmodel.specs.format.ClassRules.{IsAttribute, is_named, named_attributes}
+use Rattle.jmodel.specs.format.AnnotationRules.{integer_in, integer}
+use Rattle.jmodel.specs.format.Mark.{annotation_attributes, mark_of}
+use Rattle.objects.specs.linking.Code.{attempts_in, mark_retries, is_initialiser, retries_of}
+use Rattle.objects.specs.linking.Faults.{fault_in, may_be_marked, mark_fault}
+use Rattle.objects.specs.linking.Members.{name_of}
+use Rattle.jmodel.specs.format.Name.{printed}
 use Rattle.annotations.proofs.Kept.{mark_kept}
 use Rattle.member_code.proofs.Grown.{Grown, read_grown, utf8_grown}
 use Rattle.rewritten_code.proofs.CodeKept.{named_same}

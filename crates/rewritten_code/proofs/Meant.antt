@@ -4,18 +4,18 @@ use Rattle.std.specs.Prelude.{option_map, option_and_then}
 use Rattle.jmodel.specs.declared.name.MethodName.{MethodName}
 use Rattle.jmodel.specs.declared.refusal.Refusal.{Refusal}
 use Rattle.jmodel.specs.declared.typing.VType.{VType}
-use Rattle.jmodel.specs.ClassFile.{Member, ClassFile}
-use Rattle.jmodel.specs.Pool.{MemberName, member_name}
-use Rattle.jmodel.specs.ClassRules.{IsMethod}
-use Rattle.jmodel.specs.Classes.{Declared, full_name}
-use Rattle.jmodel.specs.Coded.{Coded, decoded, retries_of}
-use Rattle.jmodel.specs.Descriptor.{Signature}
+use Rattle.jmodel.specs.format.ClassFile.{Member, ClassFile}
+use Rattle.jmodel.specs.format.Pool.{MemberName, member_name}
+use Rattle.jmodel.specs.format.ClassRules.{IsMethod}
+use Rattle.objects.specs.linking.Classes.{Declared, full_name}
+use Rattle.objects.specs.linking.Code.{Coded, decoded, retries_of}
+use Rattle.jmodel.specs.format.Descriptor.{Signature}
 use Rattle.objects.specs.declared.op.Dispatch.{Dispatch}
-use Rattle.objects.specs.Program.{Method}
-use Rattle.objects.specs.Decoding.{Symbols}
-use Rattle.objects.specs.Linking.{Body, dispatch_of, receiver_types, parameter_types, result_type, body_of, method_with, signature_in, shaped, method_of, decoded_member, taken_methods, original_symbols, constructs_fault}
-use Rattle.objects.specs.LinkingLaw.{AreRead}
-use Rattle.objects.specs.Relinking.{decoded_or_none}
+use Rattle.objects.specs.semantics.Program.{Method}
+use Rattle.objects.specs.linking.Decoding.{Symbols}
+use Rattle.objects.specs.linking.Linking.{Body, dispatch_of, receiver_types, parameter_types, result_type, body_of, method_with, signature_in, shaped, method_of, decoded_member, taken_methods, original_symbols, constructs_fault}
+use Rattle.objects.specs.laws.LinkingLaw.{AreRead}
+use Rattle.objects.specs.rewriting.Relinking.{decoded_or_none}
 use Rattle.objects.proofs.Items.{IsAt}
 use Rattle.objects.proofs.Links.{IsMeant, meant}
 use Rattle.objects.proofs.LinkedMethods.{coded_or_not}

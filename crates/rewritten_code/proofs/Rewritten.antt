@@ -2,19 +2,18 @@
 use Rattle.std.proofs.Common.{◌≡◌, ℕ, zero, suc, List, [], ◌∷◌, ◌++◌, Some, None, true, refl, subst}
 use Rattle.std.specs.Prelude.{slice_get}
 use Rattle.std.specs.List.{AllZip}
-use Rattle.jmodel.specs.ClassFile.{Member, ClassFile}
-use Rattle.jmodel.specs.Layout.{text_or_none}
-use Rattle.jmodel.specs.Linking.{mark_fault}
-use Rattle.jmodel.specs.Pool.{MemberName, utf8}
-use Rattle.jmodel.specs.PoolAdding.{IsLonger}
-use Rattle.jmodel.specs.ClassRules.{IsMethod}
-use Rattle.jmodel.specs.Superclasses.{own_name}
-use Rattle.jmodel.specs.Classes.{Declared, declared_in, methods_in}
-use Rattle.objects.specs.Program.{Method, Program}
-use Rattle.objects.specs.Decoding.{Symbols}
-use Rattle.objects.specs.Linking.{original_symbols}
-use Rattle.objects.specs.LinkingLaw.{AreRead}
-use Rattle.objects.specs.Relinking.{rewritten_symbols}
+use Rattle.jmodel.specs.format.ClassFile.{Member, ClassFile}
+use Rattle.jmodel.specs.format.Pool.{text_or_none, MemberName, utf8}
+use Rattle.objects.specs.linking.Faults.{mark_fault}
+use Rattle.jmodel.specs.format.PoolAdding.{IsLonger}
+use Rattle.jmodel.specs.format.ClassRules.{IsMethod}
+use Rattle.objects.specs.linking.Members.{own_name}
+use Rattle.objects.specs.linking.Classes.{Declared, declared_in, methods_in}
+use Rattle.objects.specs.semantics.Program.{Method, Program}
+use Rattle.objects.specs.linking.Decoding.{Symbols}
+use Rattle.objects.specs.linking.Linking.{original_symbols}
+use Rattle.objects.specs.laws.LinkingLaw.{AreRead}
+use Rattle.objects.specs.rewriting.Relinking.{rewritten_symbols}
 use Rattle.objects.proofs.AsRead.{is_file, unreserved}
 use Rattle.objects.proofs.ClassTypes.{each_none}
 use Rattle.objects.proofs.DeclaredMembers.{HasName, of_methods, full_has_name}

@@ -4,21 +4,20 @@ use Rattle.std.specs.Prelude.{codes, if◌then◌else◌}
 use Rattle.std.specs.List.{AllByRecursion}
 use Rattle.jmodel.specs.declared.name.MethodName.{MethodName}
 use Rattle.jmodel.specs.declared.typing.VType.TheVariants as type
-use Rattle.jmodel.specs.ClassFile.{Member, ClassFile}
-use Rattle.jmodel.specs.ClassRules.{same_text, IsAttribute}
-use Rattle.jmodel.specs.Classes.{full_name}
-use Rattle.jmodel.specs.Descriptor.{Signature}
-use Rattle.jmodel.specs.DescriptorReading.{signature_of}
-use Rattle.jmodel.specs.Layout.{is_static, text_or_none}
-use Rattle.jmodel.specs.Linking.{is_reserved}
-use Rattle.jmodel.specs.Pool.{utf8}
-use Rattle.jmodel.specs.Superclasses.{own_name}
+use Rattle.jmodel.specs.format.ClassFile.{Member, ClassFile}
+use Rattle.jmodel.specs.format.ClassRules.{same_text, IsAttribute}
+use Rattle.objects.specs.linking.Classes.{full_name}
+use Rattle.jmodel.specs.format.Descriptor.{Signature}
+use Rattle.jmodel.specs.format.DescriptorReading.{signature_of}
+use Rattle.objects.specs.linking.Members.{is_static, own_name}
+use Rattle.jmodel.specs.format.Pool.{text_or_none, utf8}
+use Rattle.objects.specs.linking.Reserved.{is_reserved}
 use Rattle.objects.specs.declared.op.Dispatch.{Dispatch}
 use Rattle.objects.specs.declared.op.Dispatch.TheVariants as dispatch
-use Rattle.objects.specs.Resolution.{is_private, is_abstract_member}
-use Rattle.objects.specs.Layout.{class_read}
-use Rattle.objects.specs.Decoding.{Symbols}
-use Rattle.objects.specs.Linking.{dispatch_of, receiver_types, signature_in}
+use Rattle.objects.specs.linking.Resolution.{is_private, is_abstract_member}
+use Rattle.objects.specs.linking.Layout.{class_read}
+use Rattle.objects.specs.linking.Decoding.{Symbols}
+use Rattle.objects.specs.linking.Linking.{dispatch_of, receiver_types, signature_in}
 use Rattle.member_code.proofs.Grown.{Grown, utf8_grown}
 use Rattle.rewritten_names.specs.LeadsLaw.{IsOther}
 use Rattle.rewritten_code.specs.OldLaw.{member_in, IsSameHead}

@@ -6,16 +6,16 @@ use Rattle.std.proofs.lemmas.Slice.Eq.{bytes_eq-Decides}
 use Rattle.jmodel.specs.declared.class_file.FieldType.{FieldType}
 use Rattle.jmodel.specs.declared.class_file.FieldType.TheVariants as field
 use Rattle.jmodel.specs.declared.typing.VType.{VType}
-use Rattle.jmodel.specs.ClassFile.{ClassFile}
-use Rattle.jmodel.specs.Descriptor.{is_array_name, field_descriptor, IsElement, IsReferenceName, IsFieldType, Signature, result_descriptor, DescribesMethod}
-use Rattle.jmodel.specs.DescriptorReading.{signature_of}
-use Rattle.jmodel.specs.Linking.{has_part, is_reserved}
+use Rattle.jmodel.specs.format.ClassFile.{ClassFile}
+use Rattle.jmodel.specs.format.Descriptor.{is_array_name, field_descriptor, IsElement, IsReferenceName, IsFieldType, Signature, result_descriptor, DescribesMethod}
+use Rattle.jmodel.specs.format.DescriptorReading.{signature_of}
+use Rattle.objects.specs.linking.Reserved.{has_part, is_reserved}
 use Rattle.const_pool.proofs.Signatures.{signature_found}
-use Rattle.objects.specs.Program.{Declared}
-use Rattle.objects.specs.TypeOrder.{place_types}
-use Rattle.objects.specs.Rewriting.{helper_class, as_result}
-use Rattle.objects.specs.Layout.{class_read, descriptor_read, name_read, word_kind, declared_as}
-use Rattle.objects.specs.Linking.{parameter_types, result_type}
+use Rattle.objects.specs.semantics.Program.{Declared}
+use Rattle.objects.specs.typing.TypeOrder.{place_types}
+use Rattle.objects.specs.rewriting.Rewriting.{helper_class, as_result}
+use Rattle.objects.specs.linking.Layout.{class_read, descriptor_read, name_read, word_kind, declared_as}
+use Rattle.objects.specs.linking.Linking.{parameter_types, result_type}
 use Rattle.objects.proofs.ArrayTypes.{without_end}
 use Rattle.objects.proofs.LinkedTypes.{IsPart, part_in, found_part}
 use Rattle.rewritten_names.specs.LeadsLaw.{IsOther}

@@ -1,14 +1,14 @@
 -- What methods of original classes that keep their member records mean among rewritten classes.
 use Rattle.std.specs.Prelude.{◌≡◌, ℕ, List, [], ◌∷◌, ◌++◌, Some, true, slice_get}
-use Rattle.jmodel.specs.ClassFile.{Member, ClassFile}
-use Rattle.jmodel.specs.Classes.{Declared, full_name}
-use Rattle.jmodel.specs.Coded.{retries_of}
-use Rattle.jmodel.specs.Descriptor.{Signature}
-use Rattle.jmodel.specs.PoolAdding.{IsLonger}
-use Rattle.objects.specs.Program.{Method, Program}
-use Rattle.objects.specs.Decoding.{Symbols}
-use Rattle.objects.specs.Linking.{dispatch_of, receiver_types, parameter_types, result_type, signature_in, taken_methods, original_symbols}
-use Rattle.objects.specs.Relinking.{rewritten_symbols}
+use Rattle.jmodel.specs.format.ClassFile.{Member, ClassFile}
+use Rattle.objects.specs.linking.Classes.{Declared, full_name}
+use Rattle.objects.specs.linking.Code.{retries_of}
+use Rattle.jmodel.specs.format.Descriptor.{Signature}
+use Rattle.jmodel.specs.format.PoolAdding.{IsLonger}
+use Rattle.objects.specs.semantics.Program.{Method, Program}
+use Rattle.objects.specs.linking.Decoding.{Symbols}
+use Rattle.objects.specs.linking.Linking.{dispatch_of, receiver_types, parameter_types, result_type, signature_in, taken_methods, original_symbols}
+use Rattle.objects.specs.rewriting.Relinking.{rewritten_symbols}
 use Rattle.member_code.specs.Meaning.{meaning}
 use Rattle.rewritten_names.specs.LeadsLaw.{AreTexts}
 use Rattle.rewritten_names.specs.NamesLaw.{AreRewritten}

@@ -9,12 +9,12 @@ use Rattle.jmodel.specs.declared.class_file.Constant.{Constant}
 use Rattle.jmodel.specs.declared.class_file.Constant.TheVariants as constants
 use Rattle.jmodel.specs.declared.refusal.Refusal.{Refusal}
 use Rattle.jmodel.specs.declared.refusal.Refusal.TheVariants.{PoolFull}
-use Rattle.jmodel.specs.ClassFile.{Pool}
-use Rattle.jmodel.specs.Pool.{utf8, class_name, pair}
-use Rattle.jmodel.specs.Descriptor.{is_array_name, IsFieldDescriptor, IsMethodDescriptor}
-use Rattle.jmodel.specs.ClassRules.{IsTextByte, IsNameOf, IsFieldPair, IsMethodPair, IsConstant, is_wide, is_second, ArePlaced, IsPool}
-use Rattle.jmodel.specs.Reading.{◌>>=◌}
-use Rattle.jmodel.specs.PoolAdding.{full, put, first_or, means_text, means_class, means_pair, field_parts, method_parts, interface_method_parts, means_member, means_integer, means_long, add_text, add_integer, add_long, add_class, new_class, add_pair, new_pair, new_member, add_field, add_method, add_interface_method}
+use Rattle.jmodel.specs.format.ClassFile.{Pool}
+use Rattle.jmodel.specs.format.Pool.{utf8, class_name, pair}
+use Rattle.jmodel.specs.format.Descriptor.{is_array_name, IsFieldDescriptor, IsMethodDescriptor}
+use Rattle.jmodel.specs.format.ClassRules.{IsTextByte, IsNameOf, IsFieldPair, IsMethodPair, IsConstant, is_wide, is_second, ArePlaced, IsPool}
+use Rattle.jmodel.specs.format.Reading.{◌>>=◌}
+use Rattle.jmodel.specs.format.PoolAdding.{full, put, first_or, means_text, means_class, means_pair, field_parts, method_parts, interface_method_parts, means_member, means_integer, means_long, add_text, add_integer, add_long, add_class, new_class, add_pair, new_pair, new_member, add_field, add_method, add_interface_method}
 use Rattle.const_pool.proofs.Takes.{bind_ok, guard_ok, ok_is, fine}
 use Rattle.member_code.specs.Growing.{Growth, grow_from}
 use Rattle.member_code.proofs.Grown.{Grown, utf8_grown, class_grown, pair_grown}

@@ -7,13 +7,13 @@ use Rattle.std.proofs.lemmas.Int.{ints}
 use Rattle.jmodel.specs.declared.class_file.Constant.{Constant}
 use Rattle.jmodel.specs.declared.class_file.Constant.TheVariants as constants
 use Rattle.jmodel.specs.declared.mark.AnnotationFault.TheVariants.{Retries}
-use Rattle.jmodel.specs.ClassFile.{Member, Pool}
-use Rattle.jmodel.specs.ClassRules.{IsConstant}
-use Rattle.jmodel.specs.Annotation.{Pair, Annotation, Shape, Single, Value}
-use Rattle.jmodel.specs.AnnotationRules.{is_mark, is_retries, integer_in, integer, int_of, retries_of as said}
-use Rattle.jmodel.specs.AnnotationReading.{◌>>=◌, value_at}
-use Rattle.jmodel.specs.Mark.{annotation_attributes, all_annotations, marked_retries, retries_in, granted, answer}
-use Rattle.jmodel.specs.Coded.{attempts_in, mark_retries, is_initialiser, retries_of}
+use Rattle.jmodel.specs.format.ClassFile.{Member, Pool}
+use Rattle.jmodel.specs.format.ClassRules.{IsConstant}
+use Rattle.jmodel.specs.format.Annotation.{Pair, Annotation, Shape, Single, Value}
+use Rattle.jmodel.specs.format.AnnotationRules.{is_mark, is_retries, integer_in, integer, int_of, retries_of as said}
+use Rattle.jmodel.specs.format.AnnotationReading.{◌>>=◌, value_at}
+use Rattle.jmodel.specs.format.Mark.{annotation_attributes, all_annotations, marked_retries, retries_in, granted, answer}
+use Rattle.objects.specs.linking.Code.{attempts_in, mark_retries, is_initialiser, retries_of}
 
 fits_in : (pool : Pool) (k : Constant) (n : ℤ) → IsConstant pool k → integer_in k ≡ Some n → FitsSigned w32 n
 fits_in pool (constants.Integer x) n h e = let same : x ≡ n = cc in subst (λ (y : ℤ). FitsSigned w32 y) same h

@@ -2,9 +2,9 @@
 use Rattle.std.proofs.Common.{ℕ, ◌<◌, List, [], ◌∷◌, length, map}
 use Rattle.std.specs.Prelude.{◌^◌, IsSome}
 use Rattle.std.specs.List.{AllByRecursion}
-use Rattle.jmodel.specs.ClassFile.{Member, Pool, ClassFile}
-use Rattle.jmodel.specs.Pool.{class_name}
-use Rattle.jmodel.specs.ClassRules.{IsTwoBytes, IsPool, IsMember, IsField, IsMethod, AreDistinct, IsClassFile}
+use Rattle.jmodel.specs.format.ClassFile.{Member, Pool, ClassFile}
+use Rattle.jmodel.specs.format.Pool.{class_name}
+use Rattle.jmodel.specs.format.ClassRules.{IsTwoBytes, IsPool, IsMember, IsField, IsMethod, AreDistinct, IsClassFile}
 use Rattle.member_code.proofs.Grown.{Grown}
 use Rattle.rewritten_form.proofs.Lists.{all_as}
 use Rattle.rewritten_form.proofs.StillForms.{class_still, class_still_fits, attributes_still, member_still, method_still}

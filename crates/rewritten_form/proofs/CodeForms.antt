@@ -6,10 +6,10 @@ use Rattle.std.proofs.lemmas.List.{length-map}
 use Rattle.std.proofs.lemmas.List.Concat.{flat_map-cons}
 use Rattle.std.proofs.lemmas.Nat.{and_le_r, or_lt, and_or_apart, and_assoc}
 use Rattle.jmodel.specs.declared.class_file.Handler.{Handler}
-use Rattle.jmodel.specs.ClassFile.{u2, u4, handler, attributes, Attribute, Member, Pool, Code, code_spelling}
-use Rattle.jmodel.specs.Pool.{utf8}
-use Rattle.jmodel.specs.Descriptor.{IsMethodDescriptor}
-use Rattle.jmodel.specs.ClassRules.{IsTwoBytes, IsPool, IsAttribute, IsCode, is_named, named_attributes, has_no_code, AreCodes, IsMethod}
+use Rattle.jmodel.specs.format.ClassFile.{u2, u4, handler, attributes, Attribute, Member, Pool, Code, code_spelling}
+use Rattle.jmodel.specs.format.Pool.{utf8}
+use Rattle.jmodel.specs.format.Descriptor.{IsMethodDescriptor}
+use Rattle.jmodel.specs.format.ClassRules.{IsTwoBytes, IsPool, IsAttribute, IsCode, is_named, named_attributes, has_no_code, AreCodes, IsMethod}
 use Rattle.member_code.specs.Coding.{added_method}
 use Rattle.dup_methods.specs.Duplicates.{duplicate_flags}
 use Rattle.retry_wrapper.specs.Wrappers.{with_bytes, with_code}

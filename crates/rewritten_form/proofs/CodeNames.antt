@@ -5,25 +5,25 @@ use Rattle.std.specs.List.{AllByRecursion, list_any}
 use Rattle.std.proofs.lemmas.Bool.Decides.{nat_tests}
 use Rattle.jmodel.specs.declared.instruction.Instr.{Instr}
 use Rattle.jmodel.specs.declared.instruction.Operands.TheVariants as operands
-use Rattle.jmodel.specs.ClassFile.{ClassFile}
-use Rattle.jmodel.specs.Pool.{MemberName, member_name}
-use Rattle.jmodel.specs.ClassRules.{IsClassFile}
-use Rattle.jmodel.specs.ClassesTaken.{index_of}
-use Rattle.jmodel.specs.Decoding.{each, in_front}
-use Rattle.jmodel.specs.Instruction.{form_of, IsInstr}
+use Rattle.jmodel.specs.format.ClassFile.{ClassFile}
+use Rattle.jmodel.specs.format.Pool.{MemberName, member_name}
+use Rattle.jmodel.specs.format.ClassRules.{IsClassFile}
+use Rattle.objects.specs.linking.Taken.{index_of}
+use Rattle.objects.specs.linking.Each.{each, in_front}
+use Rattle.jmodel.specs.format.Instruction.{form_of, IsInstr}
 use Rattle.objects.specs.declared.op.WordType.{WordType}
 use Rattle.objects.specs.declared.op.Op.{Op}
 use Rattle.objects.specs.declared.op.Op.TheVariants as op
-use Rattle.objects.specs.Program.{Field, Method, Program, method_at, field_at}
-use Rattle.objects.specs.Typing.{Types, Table, types_at}
-use Rattle.objects.specs.TypeOrder.{context_class}
-use Rattle.objects.specs.LibraryMethods.{is_library_function, is_library_constructor}
-use Rattle.objects.specs.Resolution.{special_method}
-use Rattle.objects.specs.Layout.{class_read}
-use Rattle.objects.specs.Decoding.{Symbols, op_of, number_of, method_number, function_op, is_get_context, static_call_op, parameter_places, special_call_op, interface_call_op, context_call, virtual_call_op}
-use Rattle.objects.specs.Linking.{original_symbols}
-use Rattle.objects.specs.LinkingLaw.{AreRead}
-use Rattle.objects.specs.Rewriting.{array_under}
+use Rattle.objects.specs.semantics.Program.{Field, Method, Program, method_at, field_at}
+use Rattle.objects.specs.typing.Typing.{Types, Table, types_at}
+use Rattle.objects.specs.typing.TypeOrder.{context_class}
+use Rattle.objects.specs.linking.LibraryMethods.{is_library_function, is_library_constructor}
+use Rattle.objects.specs.linking.Resolution.{special_method}
+use Rattle.objects.specs.linking.Layout.{class_read}
+use Rattle.objects.specs.linking.Decoding.{Symbols, op_of, number_of, method_number, function_op, is_get_context, static_call_op, parameter_places, special_call_op, interface_call_op, context_call, virtual_call_op}
+use Rattle.objects.specs.linking.Linking.{original_symbols}
+use Rattle.objects.specs.laws.LinkingLaw.{AreRead}
+use Rattle.objects.specs.rewriting.Rewriting.{array_under}
 use Rattle.objects.proofs.Links.{IsLinkedTo}
 use Rattle.dup_methods.specs.Originals.{Original}
 use Rattle.dup_methods.specs.Limits.{places_in, is_full, calls_full}

@@ -6,10 +6,10 @@ use Rattle.std.proofs.lemmas.List.{take_at, drop_at}
 use Rattle.std.proofs.lemmas.List.Concat.{flat_map-cons, flat_map-append}
 use Rattle.jmodel.specs.declared.class_file.FieldType.{FieldType}
 use Rattle.jmodel.specs.declared.class_file.FieldType.TheVariants as types
-use Rattle.jmodel.specs.Descriptor.{field_descriptor, result_descriptor, method_descriptor, is_array_name, places, places_of, Signature, IsElement, IsArrayName, IsClassName, IsReferenceName, IsFieldType, IsMethodDescriptor, DescribesField, DescribesMethod}
-use Rattle.objects.specs.Program.{Field}
-use Rattle.objects.specs.TypeOrder.{context_class}
-use Rattle.objects.specs.Rewriting.{context_type, before_end, with_context}
+use Rattle.jmodel.specs.format.Descriptor.{field_descriptor, result_descriptor, method_descriptor, is_array_name, places, places_of, Signature, IsElement, IsArrayName, IsClassName, IsReferenceName, IsFieldType, IsMethodDescriptor, DescribesField, DescribesMethod}
+use Rattle.objects.specs.semantics.Program.{Field}
+use Rattle.objects.specs.typing.TypeOrder.{context_class}
+use Rattle.objects.specs.rewriting.Rewriting.{context_type, before_end, with_context}
 use Rattle.member_code.proofs.Added.{two_true}
 use Rattle.field_members.specs.Names.{receiver_type, getter_named, setter_named}
 use Rattle.rewritten_form.proofs.Lists.{all_append}

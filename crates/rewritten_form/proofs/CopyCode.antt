@@ -7,13 +7,13 @@ use Rattle.std.proofs.lemmas.List.{length-map}
 use Rattle.jmodel.specs.declared.class_file.Handler.{Handler}
 use Rattle.jmodel.specs.declared.instruction.Instr.{Instr}
 use Rattle.jmodel.specs.declared.refusal.Refusal.{Refusal}
-use Rattle.jmodel.specs.ClassFile.{Pool, Code, code_spelling}
-use Rattle.jmodel.specs.Pool.{MemberName}
-use Rattle.jmodel.specs.ClassRules.{IsCode, IsHandler}
-use Rattle.jmodel.specs.Name.{printed}
-use Rattle.jmodel.specs.PoolAdding.{add_class}
-use Rattle.jmodel.specs.Reading.{◌>>=◌}
-use Rattle.jmodel.specs.Relocation.{Block, all_instrs, behind, end_of, relocate, moved, place_of, EachInstr, IsShaped, AreBlocks}
+use Rattle.jmodel.specs.format.ClassFile.{Pool, Code, code_spelling}
+use Rattle.jmodel.specs.format.Pool.{MemberName}
+use Rattle.jmodel.specs.format.ClassRules.{IsCode, IsHandler}
+use Rattle.jmodel.specs.format.Name.{printed}
+use Rattle.jmodel.specs.format.PoolAdding.{add_class}
+use Rattle.jmodel.specs.format.Reading.{◌>>=◌}
+use Rattle.jmodel.specs.format.Relocation.{Block, all_instrs, behind, end_of, relocate, moved, place_of, EachInstr, IsShaped, AreBlocks}
 use Rattle.bytecode.specs.Relocated.{HaveInstrs}
 use Rattle.bytecode.proofs.BlockLaws.{behind_append, behind_block}
 use Rattle.bytecode.proofs.SizeLaws.{behind_over}
@@ -21,9 +21,9 @@ use Rattle.bytecode.proofs.LaidLaws.{done}
 use Rattle.bytecode.proofs.RelocationLaws.{whole_long}
 use Rattle.objects.specs.declared.op.Op.{Op}
 use Rattle.objects.specs.declared.op.Op.TheVariants as op
-use Rattle.objects.specs.Program.{Field, Method, field_at}
-use Rattle.objects.specs.Typing.{Types, types_at}
-use Rattle.objects.specs.TypeOrder.{conflict_class}
+use Rattle.objects.specs.semantics.Program.{Field, Method, field_at}
+use Rattle.objects.specs.typing.Typing.{Types, types_at}
+use Rattle.objects.specs.typing.TypeOrder.{conflict_class}
 use Rattle.const_pool.proofs.Takes.{bind_ok, guard_ok, ok_is}
 use Rattle.member_code.specs.Growing.{grow_from}
 use Rattle.member_code.specs.Coding.{too_many, of_method, laid_code, laid_bytes}

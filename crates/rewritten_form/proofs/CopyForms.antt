@@ -2,21 +2,21 @@
 use Rattle.std.proofs.Common.{◌≡◌, ℕ, ◌+◌, ◌<◌, ◌≤◌, Bool, true, false, List, [], length, Option, Some, None, Ok, refl, subst, ap, ◌∙◌, arith}
 use Rattle.std.specs.Prelude.{codes, if◌then◌else◌}
 use Rattle.std.specs.List.{AllByRecursion}
-use Rattle.jmodel.specs.ClassFile.{Member, Pool}
-use Rattle.jmodel.specs.Pool.{utf8}
-use Rattle.jmodel.specs.ClassRules.{IsPool, IsMethod}
-use Rattle.jmodel.specs.Coded.{Coded, decoded}
-use Rattle.jmodel.specs.Descriptor.{IsMethodDescriptor}
-use Rattle.jmodel.specs.Reading.{◌>>=◌}
-use Rattle.objects.specs.Program.{Method}
-use Rattle.objects.specs.Linking.{has_no_code, decoded_member}
-use Rattle.objects.specs.Rewriting.{with_context, duplicate_name}
+use Rattle.jmodel.specs.format.ClassFile.{Member, Pool}
+use Rattle.jmodel.specs.format.Pool.{utf8}
+use Rattle.jmodel.specs.format.ClassRules.{IsPool, IsMethod}
+use Rattle.objects.specs.linking.Code.{Coded, decoded}
+use Rattle.jmodel.specs.format.Descriptor.{IsMethodDescriptor}
+use Rattle.jmodel.specs.format.Reading.{◌>>=◌}
+use Rattle.objects.specs.semantics.Program.{Method}
+use Rattle.objects.specs.linking.Linking.{has_no_code, decoded_member}
+use Rattle.objects.specs.rewriting.Rewriting.{with_context, duplicate_name}
 use Rattle.const_pool.proofs.Takes.{bind_ok, ok_is}
 use Rattle.member_code.specs.Names.{duplicate_named}
 use Rattle.member_code.specs.Coding.{typed_name, room_for, added_method}
 use Rattle.member_code.proofs.Grown.{Grown, grown_trans}
 use Rattle.member_code.proofs.Puts.{Puts, Adding, IsTypedAt, adds_typed, adds_text}
-use Rattle.object_rewriter.specs.Asked.{HasBytes}
+use Rattle.rewriter.specs.Asked.{HasBytes}
 use Rattle.dup_methods.specs.Originals.{Original}
 use Rattle.dup_methods.specs.Limits.{AddsLittle, few_arguments, few_places, added_locals}
 use Rattle.dup_methods.specs.Duplicates.{texts_of, duplicate_flags, duplicate_bytes, made_duplicate, coded_duplicate, abstract_duplicate, duplicate_with, duplicate_of}

@@ -3,10 +3,10 @@ use Rattle.std.proofs.Common.{◌≡◌, ℕ, Bool, true, false, ◌||◌, cond,
 use Rattle.std.specs.Prelude.{codes, bytes_eq, filter, if◌then◌else◌}
 use Rattle.std.specs.List.{AllByRecursion}
 use Rattle.std.proofs.lemmas.Slice.Eq.{bytes_eq-Decides}
-use Rattle.jmodel.specs.Linking.{has_part, is_reserved}
-use Rattle.objects.specs.Rewriting.{with_context, duplicate_name}
+use Rattle.objects.specs.linking.Reserved.{has_part, is_reserved}
+use Rattle.objects.specs.rewriting.Rewriting.{with_context, duplicate_name}
 use Rattle.objects.proofs.Contexts.{with_context_told}
-use Rattle.objects.specs.Program.{Field}
+use Rattle.objects.specs.semantics.Program.{Field}
 use Rattle.rewritten_names.proofs.Resolved.{context_kept}
 use Rattle.rewritten_form.proofs.Lists.{all_append, or_false}
 use Rattle.rewritten_form.proofs.Keys.{Key, IsNone, AreUnlike, IsNamedFree, IsTypedFree, IsTypedReserved, kinds_apart, types_apart}

@@ -7,22 +7,22 @@ use Rattle.jmodel.specs.declared.name.MethodName.{MethodName}
 use Rattle.jmodel.specs.declared.instruction.Instr.{Instr}
 use Rattle.jmodel.specs.declared.typing.VType.{VType}
 use Rattle.jmodel.specs.declared.typing.VType.TheVariants as type
-use Rattle.jmodel.specs.ClassFile.{Member}
-use Rattle.jmodel.specs.ClassRules.{IsPool}
-use Rattle.jmodel.specs.Coded.{Coded}
-use Rattle.jmodel.specs.Pool.{MemberName}
-use Rattle.jmodel.specs.PoolAdding.{add_class, add_method, add_interface_method}
-use Rattle.jmodel.specs.Reading.{◌>>=◌}
+use Rattle.jmodel.specs.format.ClassFile.{Member}
+use Rattle.jmodel.specs.format.ClassRules.{IsPool}
+use Rattle.objects.specs.linking.Code.{Coded}
+use Rattle.jmodel.specs.format.Pool.{MemberName}
+use Rattle.jmodel.specs.format.PoolAdding.{add_class, add_method, add_interface_method}
+use Rattle.jmodel.specs.format.Reading.{◌>>=◌}
 use Rattle.objects.specs.declared.op.Sort.TheVariants as sort
 use Rattle.objects.specs.declared.op.WordType.{WordType}
 use Rattle.objects.specs.declared.op.WordType.TheVariants as word
 use Rattle.objects.specs.declared.op.Op.{Op}
 use Rattle.objects.specs.declared.op.Op.TheVariants as op
-use Rattle.objects.specs.Program.{Field, Method, field_at}
-use Rattle.objects.specs.Typing.{Types, types_at}
-use Rattle.objects.specs.TypeOrder.{context_class, conflict_class, object_class, element_class}
-use Rattle.objects.specs.Rewriting.{places_of, array_under, helped, with_context, duplicate_name}
-use Rattle.objects.specs.Linking.{decoded_member}
+use Rattle.objects.specs.semantics.Program.{Field, Method, field_at}
+use Rattle.objects.specs.typing.Typing.{Types, types_at}
+use Rattle.objects.specs.typing.TypeOrder.{context_class, conflict_class, object_class, element_class}
+use Rattle.objects.specs.rewriting.Rewriting.{word_places, array_under, helped, with_context, duplicate_name}
+use Rattle.objects.specs.linking.Linking.{decoded_member}
 use Rattle.const_pool.proofs.Takes.{bind_ok, guard_ok}
 use Rattle.member_code.specs.Growing.{grow_from}
 use Rattle.member_code.specs.Names.{duplicate_named}
@@ -32,8 +32,7 @@ use Rattle.dup_methods.specs.Originals.{Original}
 use Rattle.dup_methods.specs.Names.{getter_named, setter_named, load_named, store_named, as_name}
 use Rattle.dup_methods.specs.Limits.{count_of, few_arguments, few_places}
 use Rattle.dup_methods.specs.Duplicates.{call_of, interface_call_of, accessor_call, duplicate_call, interface_call, class_cast, after_load, element_load, called, block_of, numbered_block, refs_of, texts_of, duplicate_flags, duplicate_bytes, made_duplicate, coded_duplicate, abstract_duplicate, duplicate_with, duplicate_of}
-use Rattle.retry_wrapper.specs.Wrappers.{few_wrappers, get_call, counts_of, opening_of, ending_of, wrapper_bytes, with_code, wrapper_of}
-use Rattle.retry_wrapper.specs.Wrappers.{few_arguments as few_in_wrapper}
+use Rattle.retry_wrapper.specs.Wrappers.{few_wrappers, get_call, counts_of, opening_of, ending_of, wrapper_bytes, with_code, wrapper_of, few_arguments as few_in_wrapper}
 use Rattle.rewritten_form.proofs.Adding.{IsClassText, IsMethodText, Keeping, pool_is, text_pool, integer_pool, class_pool, method_pool, interface_method_pool, AllGood, all_pool}
 use Rattle.rewritten_form.proofs.Texts.{text_good, conflict_lawful, init_method, commit_method, rollback_method, instance_method, load_method, store_method, number_fits}
 use Rattle.rewritten_form.proofs.FieldPools.{IsLawfulField, typed_pool}
@@ -133,7 +132,7 @@ block_pool O (Some (op.PutStatic f)) h i L pool r e q = accessor_pool O.method.p
 block_pool O (Some (op.GetField f d)) h i L pool r e q = accessor_pool O.method.places getter_named (field_at O.program f) i (getter_text (field_at O.program f) L) pool r e q
 block_pool O (Some (op.PutField f d)) h i L pool r e q = accessor_pool O.method.places setter_named (field_at O.program f) i (setter_text (field_at O.program f) L) pool r e q
 block_pool O (Some (op.LoadElement t)) h i L pool r e q = element_pool O.method.places t (array_under 1 h) L pool r e q
-block_pool O (Some (op.StoreElement t)) h i L pool r e q = call_pool O.method.places 184 (store_named (helped (array_under (1 + places_of t) h) t)) (store_method (helped (array_under (1 + places_of t) h) t)) pool r e q
+block_pool O (Some (op.StoreElement t)) h i L pool r e q = call_pool O.method.places 184 (store_named (helped (array_under (1 + word_places t) h) t)) (store_method (helped (array_under (1 + word_places t) h) t)) pool r e q
 block_pool O (Some (op.InvokeStatic m)) h i L pool r e q = duplicate_pool O.method.places 184 (called O i) i L pool r e q
 block_pool O (Some (op.InvokeSpecial m)) h i L pool r e q = duplicate_pool O.method.places 183 (called O i) i L pool r e q
 block_pool O (Some (op.InvokeVirtual m d)) h i L pool r e q = duplicate_pool O.method.places 182 (called O i) i L pool r e q

@@ -4,14 +4,14 @@ use Rattle.std.specs.Prelude.{slice_get, FitsSigned}
 use Rattle.std.specs.Int.{w32}
 use Rattle.std.specs.List.{AllByRecursion}
 use Rattle.std.proofs.lemmas.List.{length-set}
-use Rattle.jmodel.specs.ClassFile.{Member, Pool, ClassFile}
-use Rattle.jmodel.specs.Pool.{utf8}
-use Rattle.jmodel.specs.ClassRules.{IsPool, IsMethod, IsClassFile}
-use Rattle.jmodel.specs.Coded.{Coded, retries_of}
-use Rattle.jmodel.specs.Reading.{◌>>=◌}
-use Rattle.objects.specs.Program.{Method, Program}
-use Rattle.objects.specs.Linking.{decoded_member}
-use Rattle.objects.specs.Rewriting.{with_context, duplicate_name}
+use Rattle.jmodel.specs.format.ClassFile.{Member, Pool, ClassFile}
+use Rattle.jmodel.specs.format.Pool.{utf8}
+use Rattle.jmodel.specs.format.ClassRules.{IsPool, IsMethod, IsClassFile}
+use Rattle.objects.specs.linking.Code.{Coded, retries_of}
+use Rattle.jmodel.specs.format.Reading.{◌>>=◌}
+use Rattle.objects.specs.semantics.Program.{Method, Program}
+use Rattle.objects.specs.linking.Linking.{decoded_member}
+use Rattle.objects.specs.rewriting.Rewriting.{with_context, duplicate_name}
 use Rattle.const_pool.proofs.Takes.{bind_ok, ok_is}
 use Rattle.member_code.specs.Growing.{Growth, grow_from}
 use Rattle.member_code.specs.Names.{duplicate_named}
@@ -23,8 +23,8 @@ use Rattle.dup_methods.specs.Originals.{Original}
 use Rattle.dup_methods.specs.Limits.{AddsLittle, few_arguments}
 use Rattle.dup_methods.specs.Duplicates.{duplicate_with, duplicate_of}
 use Rattle.retry_wrapper.specs.Wrappers.{wrapper_of, and_method, with_wrapper_of, with_wrapper}
-use Rattle.object_rewriter.specs.Asked.{HasBytes}
-use Rattle.object_rewriter.specs.Rewritten.{with_duplicates, wrapped_if, number_behind, id_behind, wrapped_from}
+use Rattle.rewriter.specs.Asked.{HasBytes}
+use Rattle.rewriter.specs.Rewritten.{with_duplicates, wrapped_if, number_behind, id_behind, wrapped_from}
 use Rattle.rewritten_form.proofs.Adding.{Keeping, AllGood, all_pool}
 use Rattle.rewritten_form.proofs.CopyCode.{few_kept}
 use Rattle.rewritten_form.proofs.CopyPools.{IsLawfulMethod, AreLawful, IsLawfulCopy, instrs_in, copy_pool, wrapper_pool}

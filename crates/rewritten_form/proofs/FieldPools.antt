@@ -6,15 +6,15 @@ use Rattle.std.specs.List.{AllByRecursion}
 use Rattle.jmodel.specs.declared.class_file.FieldType.{FieldType}
 use Rattle.jmodel.specs.declared.name.MethodName.{MethodName}
 use Rattle.jmodel.specs.declared.instruction.Instr.{Instr}
-use Rattle.jmodel.specs.ClassFile.{Pool}
-use Rattle.jmodel.specs.Descriptor.{IsClassName, DescribesField}
-use Rattle.jmodel.specs.PoolAdding.{add_class, add_field}
-use Rattle.jmodel.specs.Reading.{◌>>=◌}
-use Rattle.objects.specs.Program.{Field}
-use Rattle.objects.specs.TypeOrder.{context_class}
-use Rattle.objects.specs.Step.{sort_of}
-use Rattle.objects.specs.Decoding.{read_descriptor, write_descriptor}
-use Rattle.objects.specs.Rewriting.{places_of}
+use Rattle.jmodel.specs.format.ClassFile.{Pool}
+use Rattle.jmodel.specs.format.Descriptor.{IsClassName, DescribesField}
+use Rattle.jmodel.specs.format.PoolAdding.{add_class, add_field}
+use Rattle.jmodel.specs.format.Reading.{◌>>=◌}
+use Rattle.objects.specs.semantics.Program.{Field}
+use Rattle.objects.specs.typing.TypeOrder.{context_class}
+use Rattle.objects.specs.semantics.Step.{sort_of}
+use Rattle.objects.specs.linking.Decoding.{read_descriptor, write_descriptor}
+use Rattle.objects.specs.rewriting.Rewriting.{word_places}
 use Rattle.const_pool.proofs.Takes.{bind_ok}
 use Rattle.member_code.specs.Instrs.{give, check_cast}
 use Rattle.member_code.specs.Coding.{high, low, typed_name, coded_method, straight_bytes, straight_method, room_for, added_method}
@@ -156,9 +156,9 @@ module _ (f : Field) (F : IsLawfulField f) where
   getter_pool : (room : ℕ) → Keeping (getter_of room f)
   unfolding getter_of
   getter_pool room pool r e p =
-      let x = bind_ok (room_for room (getter_named f)) (λ fits. getter_instrs f pool >>= λ code. straight_method (4 + places_of f.declared.word) (receiver_places f + 1) code.0 (getter_named f) code.1) r e in
-      let a = bind_ok (getter_instrs f pool) (λ code. straight_method (4 + places_of f.declared.word) (receiver_places f + 1) code.0 (getter_named f) code.1) r x.2 in
-      straight_pool (4 + places_of f.declared.word) (receiver_places f + 1) a.0.0 (getter_named f) F.getter.named F.getter.text a.0.1 r a.2 (getter_code_pool pool a.0 a.1 p)
+      let x = bind_ok (room_for room (getter_named f)) (λ fits. getter_instrs f pool >>= λ code. straight_method (4 + word_places f.declared.word) (receiver_places f + 1) code.0 (getter_named f) code.1) r e in
+      let a = bind_ok (getter_instrs f pool) (λ code. straight_method (4 + word_places f.declared.word) (receiver_places f + 1) code.0 (getter_named f) code.1) r x.2 in
+      straight_pool (4 + word_places f.declared.word) (receiver_places f + 1) a.0.0 (getter_named f) F.getter.named F.getter.text a.0.1 r a.2 (getter_code_pool pool a.0 a.1 p)
 
   setter_code_pool : Keeping (setter_instrs f)
   unfolding setter_instrs write_call
@@ -171,9 +171,9 @@ module _ (f : Field) (F : IsLawfulField f) where
   setter_pool : (room : ℕ) → Keeping (setter_of room f)
   unfolding setter_of
   setter_pool room pool r e p =
-      let x = bind_ok (room_for room (setter_named f)) (λ fits. setter_instrs f pool >>= λ code. straight_method (4 + places_of f.declared.word) (receiver_places f + places_of f.declared.word + 1) code.0 (setter_named f) code.1) r e in
-      let a = bind_ok (setter_instrs f pool) (λ code. straight_method (4 + places_of f.declared.word) (receiver_places f + places_of f.declared.word + 1) code.0 (setter_named f) code.1) r x.2 in
-      straight_pool (4 + places_of f.declared.word) (receiver_places f + places_of f.declared.word + 1) a.0.0 (setter_named f) F.setter.named F.setter.text a.0.1 r a.2 (setter_code_pool pool a.0 a.1 p)
+      let x = bind_ok (room_for room (setter_named f)) (λ fits. setter_instrs f pool >>= λ code. straight_method (4 + word_places f.declared.word) (receiver_places f + word_places f.declared.word + 1) code.0 (setter_named f) code.1) r e in
+      let a = bind_ok (setter_instrs f pool) (λ code. straight_method (4 + word_places f.declared.word) (receiver_places f + word_places f.declared.word + 1) code.0 (setter_named f) code.1) r x.2 in
+      straight_pool (4 + word_places f.declared.word) (receiver_places f + word_places f.declared.word + 1) a.0.0 (setter_named f) F.setter.named F.setter.text a.0.1 r a.2 (setter_code_pool pool a.0 a.1 p)
 
   accessors_pool : (room : ℕ) → Keeping (accessors_of room f)
   unfolding accessors_of

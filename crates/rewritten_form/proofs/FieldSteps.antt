@@ -4,13 +4,14 @@ use Rattle.std.specs.Prelude.{codes}
 use Rattle.std.specs.Int.{w64, cast_signed}
 use Rattle.std.specs.List.{AllByRecursion}
 use Rattle.std.proofs.lemmas.List.{append_cancel_right}
-use Rattle.jmodel.specs.ClassFile.{Attribute, Member, Pool, ClassFile}
-use Rattle.jmodel.specs.Pool.{utf8}
-use Rattle.jmodel.specs.ClassRules.{IsPool, AreAttributes, IsField, IsClassFile}
-use Rattle.jmodel.specs.Descriptor.{IsFieldDescriptor}
-use Rattle.jmodel.specs.DescriptorReading.{element_rest, type_rest, is_field_descriptor}
-use Rattle.jmodel.specs.Linking.{has_part, is_reserved, are_distinct, field_name_of}
-use Rattle.objects.specs.Program.{Field}
+use Rattle.jmodel.specs.format.ClassFile.{Attribute, Member, Pool, ClassFile}
+use Rattle.jmodel.specs.format.Pool.{utf8}
+use Rattle.jmodel.specs.format.ClassRules.{IsPool, AreAttributes, IsField, IsClassFile}
+use Rattle.jmodel.specs.format.Descriptor.{IsFieldDescriptor}
+use Rattle.jmodel.specs.format.DescriptorReading.{element_rest, type_rest, is_field_descriptor}
+use Rattle.objects.specs.linking.Reserved.{has_part, is_reserved}
+use Rattle.objects.specs.linking.Members.{are_distinct, field_name_of}
+use Rattle.objects.specs.semantics.Program.{Field}
 use Rattle.const_pool.proofs.Signatures.{is_field}
 use Rattle.const_pool.proofs.Takes.{bind_ok, ok_is}
 use Rattle.member_code.specs.Coding.{high, low}

@@ -6,26 +6,26 @@ use Rattle.std.proofs.lemmas.List.{length-map}
 use Rattle.std.proofs.lemmas.List.Concat.{flat_map-cons}
 use Rattle.std.proofs.lemmas.List.Elements.{filter-append}
 use Rattle.jmodel.specs.declared.refusal.Refusal.{Refusal}
-use Rattle.jmodel.specs.ClassFile.{Member, ClassFile}
-use Rattle.jmodel.specs.ClassRules.{IsClassFile}
-use Rattle.jmodel.specs.Classes.{Declared, declared_in, methods_in}
-use Rattle.jmodel.specs.ClassesTaken.{is_taken}
-use Rattle.jmodel.specs.Superclasses.{own_name}
-use Rattle.objects.specs.Program.{Method, Program}
-use Rattle.objects.specs.Typing.{Table}
-use Rattle.objects.specs.Linking.{taken_methods}
-use Rattle.objects.specs.LinkingLaw.{AreRead}
-use Rattle.jmodel.specs.Reading.{◌>>=◌}
+use Rattle.jmodel.specs.format.ClassFile.{Member, ClassFile}
+use Rattle.jmodel.specs.format.ClassRules.{IsClassFile}
+use Rattle.objects.specs.linking.Classes.{Declared, declared_in, methods_in}
+use Rattle.objects.specs.linking.Taken.{is_taken}
+use Rattle.objects.specs.linking.Members.{own_name}
+use Rattle.objects.specs.semantics.Program.{Method, Program}
+use Rattle.objects.specs.typing.Typing.{Table}
+use Rattle.objects.specs.linking.Linking.{taken_methods}
+use Rattle.objects.specs.laws.LinkingLaw.{AreRead}
+use Rattle.jmodel.specs.format.Reading.{◌>>=◌}
 use Rattle.objects.proofs.Items.{IsAt, all_items}
 use Rattle.objects.proofs.Links.{IsLinkedTo, method_from, methods_many}
 use Rattle.const_pool.proofs.Takes.{bind_ok, ok_is}
 use Rattle.array_helper.specs.Helper.{helper_file}
-use Rattle.object_rewriter.specs.Asked.{AreFiled}
-use Rattle.object_rewriter.specs.Part.{wrapper_count, own_methods, part_of}
-use Rattle.object_rewriter.specs.Rewritten.{rewritten_part}
-use Rattle.object_rewriter.specs.RewrittenClasses.{of_class, rewritten_from, rewritten_classes, rewritten_folder}
-use Rattle.object_rewriter.proofs.Lists.{filter_keeps, filter_drops, all_zipped, zipped_parts, taken_off}
-use Rattle.object_rewriter.proofs.Owned.{taken_of, AreAsMany, methods_are}
+use Rattle.rewriter.specs.Asked.{AreFiled}
+use Rattle.rewriter.specs.Part.{wrapper_count, own_methods, part_of}
+use Rattle.rewriter.specs.Rewritten.{rewritten_part}
+use Rattle.rewriter.specs.RewrittenClasses.{of_class, rewritten_from, rewritten_classes, rewritten_folder}
+use Rattle.rewriter.proofs.Lists.{filter_keeps, filter_drops, all_zipped, zipped_parts, taken_off}
+use Rattle.rewriter.proofs.Owned.{taken_of, AreAsMany, methods_are}
 use Rattle.rewritten_form.proofs.Lists.{all_append}
 use Rattle.rewritten_form.proofs.CodeNames.{HasTexts}
 use Rattle.rewritten_form.proofs.HelperForm.{helper_form}

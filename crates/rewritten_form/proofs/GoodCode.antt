@@ -9,28 +9,29 @@ use Rattle.jmodel.specs.declared.class_file.Constant.TheVariants as constants
 use Rattle.jmodel.specs.declared.instruction.Instr.{Instr}
 use Rattle.jmodel.specs.declared.instruction.Operands.{Operands}
 use Rattle.jmodel.specs.declared.instruction.Operands.TheVariants as operands
-use Rattle.jmodel.specs.ClassFile.{ClassFile}
-use Rattle.jmodel.specs.ClassRules.{IsClassFile}
-use Rattle.jmodel.specs.Classes.{Declared}
-use Rattle.jmodel.specs.ClassesTaken.{index_of}
-use Rattle.jmodel.specs.Decoding.{each, in_front, table_cases}
-use Rattle.jmodel.specs.DescriptorReading.{brackets}
-use Rattle.jmodel.specs.Instruction.{form_of, IsInstr}
-use Rattle.jmodel.specs.Pool.{MemberName, entry, string, class_name, field_name, member_name}
+use Rattle.jmodel.specs.format.ClassFile.{ClassFile}
+use Rattle.jmodel.specs.format.ClassRules.{IsClassFile}
+use Rattle.objects.specs.linking.Classes.{Declared}
+use Rattle.objects.specs.linking.Taken.{index_of}
+use Rattle.objects.specs.linking.Each.{each, in_front}
+use Rattle.objects.specs.linking.Code.{table_cases}
+use Rattle.jmodel.specs.format.DescriptorReading.{brackets}
+use Rattle.jmodel.specs.format.Instruction.{form_of, IsInstr}
+use Rattle.jmodel.specs.format.Pool.{MemberName, entry, string, class_name, field_name, member_name}
 use Rattle.objects.specs.declared.op.Op.{Op}
 use Rattle.objects.specs.declared.op.Op.TheVariants as op
 use Rattle.objects.specs.declared.op.Unary.TheVariants.{Absolute}
 use Rattle.objects.specs.declared.op.Binary.TheVariants.{Minimum, Maximum}
 use Rattle.jmodel.specs.declared.value.Value.TheVariants as value
-use Rattle.objects.specs.Program.{Row, Program}
-use Rattle.objects.specs.TypeOrder.{context_class, is_array}
-use Rattle.objects.specs.Constructs.{named_class, is_bad_new}
-use Rattle.objects.specs.LibraryMethods.{is_library_constructor, is_library_function}
-use Rattle.objects.specs.Resolution.{holds_of, special_method}
-use Rattle.objects.specs.Layout.{class_read, descriptor_read, rows, type_number, array_over}
-use Rattle.objects.specs.Decoding.{Symbols, is_among, field_number, number_of, method_number, simple_op, local_op, primitive_array, new_array, number_op, pushed_op, text_op, ldc_op, added_address, is_base, field_op, width_in, is_get_context, static_call_op, parameter_places, special_call_op, interface_call_op, context_call, virtual_call_op, call_op, class_op, pool_op, meaning, op_of}
-use Rattle.objects.specs.Linking.{original_symbols}
-use Rattle.objects.specs.LinkingLaw.{AreRead}
+use Rattle.objects.specs.semantics.Program.{Row, Program}
+use Rattle.objects.specs.typing.TypeOrder.{context_class, is_array}
+use Rattle.objects.specs.linking.Constructs.{named_class, is_bad_new}
+use Rattle.objects.specs.linking.LibraryMethods.{is_library_constructor, is_library_function}
+use Rattle.objects.specs.linking.Resolution.{holds_of, special_method}
+use Rattle.objects.specs.linking.Layout.{class_read, descriptor_read, rows, type_number, array_over}
+use Rattle.objects.specs.linking.Decoding.{Symbols, is_among, field_number, number_of, method_number, simple_op, local_op, primitive_array, new_array, number_op, pushed_op, text_op, ldc_op, added_address, is_base, field_op, width_in, is_get_context, static_call_op, parameter_places, special_call_op, interface_call_op, context_call, virtual_call_op, call_op, class_op, pool_op, meaning, op_of}
+use Rattle.objects.specs.linking.Linking.{original_symbols}
+use Rattle.objects.specs.laws.LinkingLaw.{AreRead}
 use Rattle.objects.proofs.AsRead.{is_file}
 use Rattle.objects.proofs.CleanCode.{IsClean}
 use Rattle.objects.proofs.Elements.{inner_name}

@@ -11,9 +11,9 @@ use Rattle.objects.specs.declared.op.Conversion.{Conversion}
 use Rattle.objects.specs.declared.op.Conversion.TheVariants.{IntToLong, LongToInt}
 use Rattle.objects.specs.declared.op.StackOp.{StackOp}
 use Rattle.objects.specs.declared.op.StackOp.TheVariants.{Nop, Pop, Pop2, Dup, DupX1, DupX2, Dup2, Dup2X1, Dup2X2, Swap}
-use Rattle.objects.specs.Program.{Program}
-use Rattle.objects.specs.TypeOrder.{object_class, is_array, is_within, IsWithin}
-use Rattle.objects.specs.Typing.{freed, Types, Flow, Leads, Wrong, with_stack, leaves, ends, if_so, is_reference, is_one, on, on_each, on_int, on_long, on_number, number_types, on_reference, on_top, on_one, on_two, on_array, local_in, int_in, long_at, set_local, set_long, loads, stores, rearranged, converted}
+use Rattle.objects.specs.semantics.Program.{Program}
+use Rattle.objects.specs.typing.TypeOrder.{object_class, is_array, is_within, IsWithin}
+use Rattle.objects.specs.typing.Typing.{freed, Types, Flow, Leads, Wrong, with_stack, leaves, ends, if_so, is_reference, is_one, on, on_each, on_int, on_long, on_number, number_types, on_reference, on_top, on_one, on_two, on_array, local_in, int_in, long_at, set_local, set_long, loads, stores, rearranged, converted}
 use Rattle.objects.proofs.Places.{get_map}
 use Rattle.objects.proofs.MovedTypes.{map_set, map_long}
 use Rattle.rewritten_form.proofs.GoodTypes.{IsGoodName, clean, all_clean, by_clean, clean_below, clean_freed, AreCleaner, cleaner_append, all_cleaner, no_true}

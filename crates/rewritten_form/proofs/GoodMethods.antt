@@ -8,22 +8,21 @@ use Rattle.jmodel.specs.declared.class_file.FieldType.{FieldType}
 use Rattle.jmodel.specs.declared.class_file.FieldType.TheVariants as types
 use Rattle.jmodel.specs.declared.typing.VType.{VType}
 use Rattle.jmodel.specs.declared.typing.VType.TheVariants.{Ref}
-use Rattle.jmodel.specs.ClassFile.{Member, ClassFile}
-use Rattle.jmodel.specs.ClassRules.{IsClassFile}
-use Rattle.jmodel.specs.Classes.{Declared}
-use Rattle.jmodel.specs.Descriptor.{field_descriptor, result_descriptor, method_descriptor, IsFieldType, DescribesMethod}
-use Rattle.jmodel.specs.Layout.{text_or_none, is_static}
-use Rattle.jmodel.specs.Pool.{utf8}
-use Rattle.jmodel.specs.Superclasses.{own_name}
+use Rattle.jmodel.specs.format.ClassFile.{Member, ClassFile}
+use Rattle.jmodel.specs.format.ClassRules.{IsClassFile}
+use Rattle.objects.specs.linking.Classes.{Declared}
+use Rattle.jmodel.specs.format.Descriptor.{field_descriptor, result_descriptor, method_descriptor, IsFieldType, DescribesMethod}
+use Rattle.jmodel.specs.format.Pool.{text_or_none, utf8}
+use Rattle.objects.specs.linking.Members.{is_static, own_name}
 use Rattle.objects.specs.declared.op.WordType.{WordType}
 use Rattle.objects.specs.declared.op.WordType.TheVariants as word
-use Rattle.objects.specs.Program.{Field, Method, Program, field_at}
-use Rattle.objects.specs.TypeOrder.{object_class, stack_types, place_types}
-use Rattle.objects.specs.Typing.{result_types, results}
-use Rattle.objects.specs.Layout.{class_read, name_read, declared_as}
-use Rattle.objects.specs.Linking.{receiver_types, parameter_types}
-use Rattle.objects.specs.LinkingLaw.{AreRead}
-use Rattle.objects.specs.Rewriting.{as_result}
+use Rattle.objects.specs.semantics.Program.{Field, Method, Program, field_at}
+use Rattle.objects.specs.typing.TypeOrder.{object_class, stack_types, place_types}
+use Rattle.objects.specs.typing.Typing.{result_types, results}
+use Rattle.objects.specs.linking.Layout.{class_read, name_read, declared_as}
+use Rattle.objects.specs.linking.Linking.{receiver_types, parameter_types}
+use Rattle.objects.specs.laws.LinkingLaw.{AreRead}
+use Rattle.objects.specs.rewriting.Rewriting.{as_result}
 use Rattle.objects.proofs.AsRead.{is_file}
 use Rattle.objects.proofs.DeclaredMembers.{of_methods}
 use Rattle.objects.proofs.Fields.{each_at}

@@ -6,9 +6,9 @@ use Rattle.std.proofs.lemmas.Bool.Decides.{nat_tests}
 use Rattle.std.proofs.lemmas.Slice.Eq.{bytes_eq-Decides}
 use Rattle.jmodel.specs.declared.class_file.FieldType.{FieldType}
 use Rattle.jmodel.specs.declared.class_file.FieldType.TheVariants as types
-use Rattle.jmodel.specs.Descriptor.{field_descriptor, is_array_name, IsClassName, IsElement, IsArrayName}
-use Rattle.jmodel.specs.ClassRules.{IsTextByte}
-use Rattle.objects.specs.TypeOrder.{is_array, is_class_name, without_last, named_by, element_class, is_ended}
+use Rattle.jmodel.specs.format.Descriptor.{field_descriptor, is_array_name, IsClassName, IsElement, IsArrayName}
+use Rattle.jmodel.specs.format.ClassRules.{IsTextByte}
+use Rattle.objects.specs.typing.TypeOrder.{is_array, is_class_name, without_last, named_by, element_class, is_ended}
 use Rattle.objects.proofs.Items.{item, any_item}
 use Rattle.objects.proofs.Order.{plain_name}
 use Rattle.objects.proofs.Elements.{inner_name}

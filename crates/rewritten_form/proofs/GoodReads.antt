@@ -2,12 +2,11 @@
 use Rattle.std.proofs.Common.{◌≡◌, ℕ, suc, Bool, true, false, ◌&&◌, List, [], ◌∷◌, ◌++◌, refl, sym, ap, subst, arith}
 use Rattle.std.specs.Prelude.{codes, if◌then◌else◌, ◌==◌}
 use Rattle.std.proofs.lemmas.Bool.Decides.{nat_tests}
-use Rattle.jmodel.specs.ClassFile.{ClassFile}
-use Rattle.objects.specs.Program.{Program}
-use Rattle.objects.specs.TypeOrder.{is_array, is_ended, without_last}
-use Rattle.objects.specs.TypeOrder.{class_read as class_typed, element_read as element_typed, name_read as name_typed}
-use Rattle.objects.specs.Layout.{class_read, descriptor_read}
-use Rattle.objects.specs.LinkingLaw.{AreRead}
+use Rattle.jmodel.specs.format.ClassFile.{ClassFile}
+use Rattle.objects.specs.semantics.Program.{Program}
+use Rattle.objects.specs.typing.TypeOrder.{is_array, is_ended, without_last, class_read as class_typed, element_read as element_typed, name_read as name_typed}
+use Rattle.objects.specs.linking.Layout.{class_read, descriptor_read}
+use Rattle.objects.specs.laws.LinkingLaw.{AreRead}
 use Rattle.objects.proofs.Links.{IsLinkedTo}
 use Rattle.member_code.proofs.Added.{two_true}
 use Rattle.rewritten_form.proofs.GoodNames.{IsLawful, is_lawful, is_letter, lawful_by, core_good, depth, is_good, plain_good, good_array, array_good, class_core}

@@ -3,17 +3,17 @@ use Rattle.std.proofs.Common.{◌≡◌, ℕ, zero, suc, Bool, true, false, ◌&
 use Rattle.std.specs.Prelude.{find, bytes_eq, not, if◌then◌else◌}
 use Rattle.std.specs.List.{AllByRecursion, list_all}
 use Rattle.std.proofs.lemmas.Slice.Eq.{bytes_eq-Decides}
-use Rattle.jmodel.specs.ClassFile.{ClassFile}
-use Rattle.jmodel.specs.Superclasses.{own_name, class_named, lineage}
-use Rattle.objects.specs.Program.{Words, Row, Program, row_at}
-use Rattle.objects.specs.TypeOrder.{object_class, context_class, conflict_classes, from_class, is_array, read_in}
-use Rattle.objects.specs.TypeOrder.{class_read as class_typed}
-use Rattle.objects.specs.LibraryClasses.{library_rows}
-use Rattle.objects.specs.LibraryMethods.{is_library, library}
-use Rattle.objects.specs.Resolution.{is_interface, holds_of}
-use Rattle.objects.specs.Layout.{class_read, descriptor_read, library_lineage, lineage_of, names_upward, above_last, nameless, words_upward, class_instances, class_row, primitive_arrays, made_arrays, rows}
-use Rattle.objects.specs.LinkingLaw.{AreRead}
-use Rattle.objects.specs.Source.{AreTypes}
+use Rattle.jmodel.specs.format.ClassFile.{ClassFile}
+use Rattle.objects.specs.linking.Members.{own_name}
+use Rattle.objects.specs.linking.Superclasses.{class_named, lineage}
+use Rattle.objects.specs.semantics.Program.{Words, Row, Program, row_at}
+use Rattle.objects.specs.typing.TypeOrder.{object_class, context_class, conflict_classes, from_class, is_array, read_in, class_read as class_typed}
+use Rattle.objects.specs.linking.LibraryClasses.{library_rows}
+use Rattle.objects.specs.linking.LibraryMethods.{is_library, library}
+use Rattle.objects.specs.linking.Resolution.{is_interface, holds_of}
+use Rattle.objects.specs.linking.Layout.{class_read, descriptor_read, library_lineage, lineage_of, names_upward, above_last, nameless, words_upward, class_instances, class_row, primitive_arrays, made_arrays, rows}
+use Rattle.objects.specs.laws.LinkingLaw.{AreRead}
+use Rattle.objects.specs.typing.Source.{AreTypes}
 use Rattle.objects.proofs.Items.{IsAt, item, all_items, of_map, found}
 use Rattle.objects.proofs.AsRead.{is_file, named_as}
 use Rattle.objects.proofs.Links.{IsLinkedTo}

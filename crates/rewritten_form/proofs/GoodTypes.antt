@@ -4,9 +4,9 @@ use Rattle.std.specs.Prelude.{slice_get, if◌then◌else◌}
 use Rattle.std.specs.List.{AllByRecursion, list_any}
 use Rattle.jmodel.specs.declared.typing.VType.{VType}
 use Rattle.jmodel.specs.declared.typing.VType.TheVariants.{Int, Long, Second, Null, Ref, Uninit, UninitThis, Top}
-use Rattle.objects.specs.Program.{Program}
-use Rattle.objects.specs.TypeOrder.{IsWithin, AreWithin, IsLocalsAfter, IsStackUnder}
-use Rattle.objects.specs.Typing.{freed, freed_by, become, is_uninit}
+use Rattle.objects.specs.semantics.Program.{Program}
+use Rattle.objects.specs.typing.TypeOrder.{IsWithin, AreWithin, IsLocalsAfter, IsStackUnder}
+use Rattle.objects.specs.typing.Typing.{freed, freed_by, become, is_uninit}
 use Rattle.objects.proofs.Places.{get_map}
 use Rattle.objects.proofs.MovedTypes.{map_set, map_none}
 use Rattle.rewritten_form.proofs.GoodNames.{is_good}

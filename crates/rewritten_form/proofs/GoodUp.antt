@@ -1,9 +1,9 @@
 -- What is wider than a good name is good, where the classes above a lawful one are lawful.
 use Rattle.std.proofs.Common.{◌≡◌, ℕ, suc, ◌≤◌, Bool, true, false, ◌&&◌, List, [], ◌∷◌, drop, refl, sym, ap, ◌∙◌, subst, arith}
 use Rattle.jmodel.specs.declared.typing.VType.TheVariants.{Ref}
-use Rattle.objects.specs.Program.{Program}
-use Rattle.objects.specs.TypeOrder.{IsWithin, is_array, is_element_within, is_ended, without_last}
-use Rattle.objects.specs.Source.{AreTypes}
+use Rattle.objects.specs.semantics.Program.{Program}
+use Rattle.objects.specs.typing.TypeOrder.{IsWithin, is_array, is_element_within, is_ended, without_last}
+use Rattle.objects.specs.typing.Source.{AreTypes}
 use Rattle.objects.proofs.Order.{Above, array_above}
 use Rattle.objects.proofs.Elements.{never, Shape, deeper, under_object, class, same, shape, Within, arrays, object, classes, within}
 use Rattle.member_code.proofs.Added.{two_true}

@@ -3,13 +3,13 @@ use Rattle.std.proofs.Common.{◌≡◌, ℕ, ◌+◌, List, [], ◌∷◌, leng
 use Rattle.std.specs.Prelude.{IsSome}
 use Rattle.std.specs.List.{AllByRecursion, flat_map}
 use Rattle.std.proofs.lemmas.List.Concat.{flat_map-cons}
-use Rattle.jmodel.specs.ClassFile.{Pool, Member, ClassFile}
-use Rattle.jmodel.specs.Pool.{utf8, class_name}
-use Rattle.jmodel.specs.Descriptor.{IsClassName}
-use Rattle.jmodel.specs.ClassRules.{IsPool, IsMethod, IsClassFile}
+use Rattle.jmodel.specs.format.ClassFile.{Pool, Member, ClassFile}
+use Rattle.jmodel.specs.format.Pool.{utf8, class_name}
+use Rattle.jmodel.specs.format.Descriptor.{IsClassName}
+use Rattle.jmodel.specs.format.ClassRules.{IsPool, IsMethod, IsClassFile}
 use Rattle.objects.specs.declared.op.WordType.{WordType}
-use Rattle.objects.specs.TypeOrder.{object_class}
-use Rattle.objects.specs.Rewriting.{places_of, helper_class}
+use Rattle.objects.specs.typing.TypeOrder.{object_class}
+use Rattle.objects.specs.rewriting.Rewriting.{word_places, helper_class}
 use Rattle.const_pool.proofs.Takes.{bind_ok, ok_is}
 use Rattle.member_code.proofs.Grown.{grown_refl, grown_trans}
 use Rattle.member_code.proofs.Puts.{AllPut, adds_all, adds_class}
@@ -20,8 +20,7 @@ use Rattle.array_helper.specs.declared.helper.ElementMethods.{ElementMethods}
 use Rattle.array_helper.specs.Helper.{look_call, read_call, write_call, load_instrs, load_method, store_instrs, store_method, element_methods, both_of, element_types, every_method, helper_parts, file_of, helper_file}
 use Rattle.array_helper.proofs.Gets.{IsLoad, IsStore, AreElements, elements_put, loads_laid, stores_laid}
 use Rattle.rewritten_form.proofs.Adding.{Keeping, pool_is, class_pool, method_pool, AllGood, all_pool}
-use Rattle.rewritten_form.proofs.Texts.{before_element_method, read_element_method, write_element_method, helper_lawful, object_lawful}
-use Rattle.rewritten_form.proofs.Texts.{load_method as load_texts, store_method as store_texts}
+use Rattle.rewritten_form.proofs.Texts.{before_element_method, read_element_method, write_element_method, helper_lawful, object_lawful, load_method as load_texts, store_method as store_texts}
 use Rattle.rewritten_form.proofs.ContextTypes.{unlike}
 use Rattle.rewritten_form.proofs.FieldPools.{straight_pool}
 use Rattle.rewritten_form.proofs.Keys.{Key, AreKeyed, AreUnlike, names_unlike, tested_names, distinct}
@@ -35,7 +34,7 @@ load_pool t pool r e p =
     let a = bind_ok _ _ r e in
     let b = bind_ok _ _ r a.2 in
     let M = load_texts t in
-    straight_pool (3 + places_of t) 3 (load_instrs t a.0.0 b.0.0) (load_named t) M.named M.text b.0.1 r b.2
+    straight_pool (3 + word_places t) 3 (load_instrs t a.0.0 b.0.0) (load_named t) M.named M.text b.0.1 r b.2
     (method_pool _ _ _ (read_element_method t) a.0.1 b.0 b.1 (method_pool _ _ _ before_element_method pool a.0 a.1 p))
 
 store_pool : (t : WordType) → Keeping (store_method t)
@@ -43,7 +42,7 @@ unfolding store_method write_call
 store_pool t pool r e p =
     let a = bind_ok _ _ r e in
     let M = store_texts t in
-    straight_pool (3 + places_of t) (3 + places_of t) (store_instrs t a.0.0) (store_named t) M.named M.text a.0.1 r a.2 (method_pool _ _ _ (write_element_method t) pool a.0 a.1 p)
+    straight_pool (3 + word_places t) (3 + word_places t) (store_instrs t a.0.0) (store_named t) M.named M.text a.0.1 r a.2 (method_pool _ _ _ (write_element_method t) pool a.0 a.1 p)
 
 elements_pool : (n : ℕ) (t : WordType) → Unit {0} → Keeping (element_methods t)
 unfolding element_methods
@@ -69,11 +68,11 @@ keys_of (t ∷ ts) = ((load_named t).name, (load_named t).descriptor) ∷ ((stor
 
 load_form : (Z : Pool) → IsPool Z → (t : WordType) (m : Member) → IsLoad t Z m → IsMethod Z m
 load_form Z p t m g =
-    straight_form Z p (3 + places_of t) 3 (load_instrs t g.before g.after) (load_named t) m g.method (loads_laid t Z g.before g.after g.is_before g.is_after) (omega arith) (omega (arith, few_places t)) (omega arith) (load_texts t).typed
+    straight_form Z p (3 + word_places t) 3 (load_instrs t g.before g.after) (load_named t) m g.method (loads_laid t Z g.before g.after g.is_before g.is_after) (omega arith) (omega (arith, few_places t)) (omega arith) (load_texts t).typed
 
 store_form : (Z : Pool) → IsPool Z → (t : WordType) (m : Member) → IsStore t Z m → IsMethod Z m
 store_form Z p t m g =
-    straight_form Z p (3 + places_of t) (3 + places_of t) (store_instrs t g.write) (store_named t) m g.method (stores_laid t Z g.write g.is_write) (omega arith) (omega (arith, few_places t)) (omega (arith, few_places t)) (store_texts t).typed
+    straight_form Z p (3 + word_places t) (3 + word_places t) (store_instrs t g.write) (store_named t) m g.method (stores_laid t Z g.write g.is_write) (omega arith) (omega (arith, few_places t)) (omega (arith, few_places t)) (store_texts t).typed
 
 forms : (Z : Pool) → IsPool Z → (n : ℕ) (ts : List WordType) (ms : List ElementMethods) → AllPut (λ i t. AreElements t) n ts Z ms → AllByRecursion (IsMethod Z) (flat_map both_of ms)
 forms Z p n [] [] h = tt

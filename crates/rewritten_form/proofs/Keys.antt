@@ -8,11 +8,11 @@ use Rattle.std.proofs.lemmas.Map.Steps.{length-le_from_distinct_below}
 use Rattle.std.proofs.lemmas.Slice.Eq.{bytes_eq-Decides}
 use Rattle.std.proofs.lemmas.List.Elements.{All-from_recursion}
 use Rattle.std.proofs.lemmas.List.Kept.{AllPairs-cons}
-use Rattle.jmodel.specs.ClassFile.{Member, Pool}
-use Rattle.jmodel.specs.Pool.{utf8}
-use Rattle.jmodel.specs.ClassRules.{IsSameMember, AreDistinct, IsMember}
-use Rattle.jmodel.specs.Layout.{text_or_none}
-use Rattle.jmodel.specs.Linking.{has_part, is_reserved, are_distinct}
+use Rattle.jmodel.specs.format.ClassFile.{Member, Pool}
+use Rattle.jmodel.specs.format.Pool.{utf8, text_or_none}
+use Rattle.jmodel.specs.format.ClassRules.{IsSameMember, AreDistinct, IsMember}
+use Rattle.objects.specs.linking.Reserved.{has_part, is_reserved}
+use Rattle.objects.specs.linking.Members.{are_distinct}
 use Rattle.member_code.proofs.Grown.{the_some, the_and, Grown, utf8_grown}
 use Rattle.rewritten_form.proofs.Lists.{or_first, or_later, or_false}
 

@@ -6,15 +6,15 @@ use Rattle.std.proofs.lemmas.List.Concat.{flat_map-cons}
 use Rattle.std.proofs.lemmas.List.{append_cancel_right}
 use Rattle.jmodel.specs.declared.name.MethodName.{MethodName}
 use Rattle.jmodel.specs.declared.instruction.Instr.{Instr}
-use Rattle.jmodel.specs.ClassFile.{Member, Pool, ClassFile}
-use Rattle.jmodel.specs.Pool.{utf8}
-use Rattle.jmodel.specs.ClassRules.{IsPool, IsMethod, IsClassFile}
-use Rattle.jmodel.specs.Descriptor.{IsMethodDescriptor}
-use Rattle.jmodel.specs.Linking.{has_part}
-use Rattle.jmodel.specs.Reading.{◌>>=◌}
-use Rattle.objects.specs.Program.{Field}
-use Rattle.objects.specs.Step.{sort_of}
-use Rattle.objects.specs.Rewriting.{places_of}
+use Rattle.jmodel.specs.format.ClassFile.{Member, Pool, ClassFile}
+use Rattle.jmodel.specs.format.Pool.{utf8}
+use Rattle.jmodel.specs.format.ClassRules.{IsPool, IsMethod, IsClassFile}
+use Rattle.jmodel.specs.format.Descriptor.{IsMethodDescriptor}
+use Rattle.objects.specs.linking.Reserved.{has_part}
+use Rattle.jmodel.specs.format.Reading.{◌>>=◌}
+use Rattle.objects.specs.semantics.Program.{Field}
+use Rattle.objects.specs.semantics.Step.{sort_of}
+use Rattle.objects.specs.rewriting.Rewriting.{word_places}
 use Rattle.const_pool.proofs.Takes.{bind_ok, ok_is}
 use Rattle.member_code.specs.Growing.{Growth, grow_from}
 use Rattle.member_code.specs.Instrs.{give}
@@ -51,8 +51,8 @@ unfolding accessors_of getter_of setter_of
 two_fit room n f pool r e =
     let a = bind_ok _ _ r e in
     let b = bind_ok _ _ r a.2 in
-    let x = bind_ok (room_for (room - n - n) (getter_named f)) (λ fits. getter_instrs f pool >>= λ code. straight_method (4 + places_of f.declared.word) (receiver_places f + 1) code.0 (getter_named f) code.1) a.0 a.1 in
-    let y = bind_ok (room_for (room - n - n - 1) (setter_named f)) (λ fits. setter_instrs f a.0.1 >>= λ code. straight_method (4 + places_of f.declared.word) (receiver_places f + places_of f.declared.word + 1) code.0 (setter_named f) code.1) b.0 b.1 in
+    let x = bind_ok (room_for (room - n - n) (getter_named f)) (λ fits. getter_instrs f pool >>= λ code. straight_method (4 + word_places f.declared.word) (receiver_places f + 1) code.0 (getter_named f) code.1) a.0 a.1 in
+    let y = bind_ok (room_for (room - n - n - 1) (setter_named f)) (λ fits. setter_instrs f a.0.1 >>= λ code. straight_method (4 + word_places f.declared.word) (receiver_places f + word_places f.declared.word + 1) code.0 (setter_named f) code.1) b.0 b.1 in
     let more = room_some (room - n - n - 1) (setter_named f) y.1 in
     omega (arith, more)
 
@@ -99,12 +99,12 @@ module _ (Z : Pool) (p : IsPool Z) (f : Field) (F : IsLawfulField f) where
   getter_form m g =
       let C = g.code in
       let some : 0 < length g.is = omega (arith, ap length C.code, length-append (C.look ++ C.read ++ C.cast) (give (sort_of f.declared.word) ∷ [])) in
-      straight_form Z p (4 + places_of f.declared.word) (receiver_places f + 1) g.is (getter_named f) m g.method (getter_laid f Z g.is g.code) some (omega (arith, few_places f.declared.word)) (omega (arith, receiver_few f)) F.getter.typed
+      straight_form Z p (4 + word_places f.declared.word) (receiver_places f + 1) g.is (getter_named f) m g.method (getter_laid f Z g.is g.code) some (omega (arith, few_places f.declared.word)) (omega (arith, receiver_few f)) F.getter.typed
 
   setter_form : (m : Member) → IsSetter f Z m → IsMethod Z m
   setter_form m g =
       let some : 0 < length g.is = omega (arith, ap length g.code.code) in
-      straight_form Z p (4 + places_of f.declared.word) (receiver_places f + places_of f.declared.word + 1) g.is (setter_named f) m g.method (setter_laid f Z g.is g.code) some (omega (arith, few_places f.declared.word)) (omega (arith, receiver_few f, few_places f.declared.word)) F.setter.typed
+      straight_form Z p (4 + word_places f.declared.word) (receiver_places f + word_places f.declared.word + 1) g.is (setter_named f) m g.method (setter_laid f Z g.is g.code) some (omega (arith, few_places f.declared.word)) (omega (arith, receiver_few f, few_places f.declared.word)) F.setter.typed
 
 accessors_forms : (Z : Pool) → IsPool Z → (n : ℕ) (fs : List Field) (all : List Accessors) → AllByRecursion IsLawfulField fs → AllPut (λ n f. AreAccessors f) n fs Z all → AllByRecursion (IsMethod Z) (flat_map both_of all)
 accessors_forms Z p n [] [] F h = tt

@@ -5,9 +5,9 @@ use Rattle.std.specs.List.{AllByRecursion}
 use Rattle.std.proofs.lemmas.Bool.Decides.{Decides-eqb}
 use Rattle.jmodel.specs.declared.class_file.Handler.{Handler}
 use Rattle.jmodel.specs.declared.instruction.Instr.{Instr}
-use Rattle.jmodel.specs.ClassFile.{Pool}
-use Rattle.jmodel.specs.ClassRules.{IsHandler}
-use Rattle.jmodel.specs.Relocation.{Block, all_instrs, behind, size_at, place_from, place_of, end_of, moved, is_pc, AscendFrom, IsAbove, IsHandlerOver, IsShaped, EachInstr}
+use Rattle.jmodel.specs.format.ClassFile.{Pool}
+use Rattle.jmodel.specs.format.ClassRules.{IsHandler}
+use Rattle.jmodel.specs.format.Relocation.{Block, all_instrs, behind, size_at, place_from, place_of, end_of, moved, is_pc, AscendFrom, IsAbove, IsHandlerOver, IsShaped, EachInstr}
 use Rattle.bytecode.specs.Relocated.{HaveInstrs}
 use Rattle.bytecode.proofs.BlockLaws.{behind_block}
 use Rattle.bytecode.proofs.SizeLaws.{behind_over}

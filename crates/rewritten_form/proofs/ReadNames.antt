@@ -3,13 +3,13 @@ use Rattle.std.proofs.Common.{◌≡◌, ℕ, zero, suc, Bool, true, false, ◌|
 use Rattle.std.specs.Prelude.{codes, ◌==◌, bytes_eq, not, if◌then◌else◌}
 use Rattle.jmodel.specs.declared.class_file.FieldType.{FieldType}
 use Rattle.jmodel.specs.declared.class_file.FieldType.TheVariants as types
-use Rattle.jmodel.specs.ClassFile.{ClassFile}
-use Rattle.jmodel.specs.Descriptor.{field_descriptor, is_array_name, IsClassName, IsElement, IsArrayName, IsReferenceName}
-use Rattle.jmodel.specs.Superclasses.{class_named}
-use Rattle.objects.specs.TypeOrder.{object_class, context_class, is_array, without_last}
-use Rattle.objects.specs.LibraryMethods.{is_library}
-use Rattle.objects.specs.Resolution.{is_interface, holds_of}
-use Rattle.objects.specs.Layout.{class_read, descriptor_read, name_read}
+use Rattle.jmodel.specs.format.ClassFile.{ClassFile}
+use Rattle.jmodel.specs.format.Descriptor.{field_descriptor, is_array_name, IsClassName, IsElement, IsArrayName, IsReferenceName}
+use Rattle.objects.specs.linking.Superclasses.{class_named}
+use Rattle.objects.specs.typing.TypeOrder.{object_class, context_class, is_array, without_last}
+use Rattle.objects.specs.linking.LibraryMethods.{is_library}
+use Rattle.objects.specs.linking.Resolution.{is_interface, holds_of}
+use Rattle.objects.specs.linking.Layout.{class_read, descriptor_read, name_read}
 use Rattle.rewritten_form.proofs.Adding.{IsText, IsClassText}
 use Rattle.rewritten_form.proofs.Texts.{text_good, text_append, object_lawful}
 use Rattle.rewritten_form.proofs.ContextTypes.{unlike}

@@ -5,41 +5,39 @@ use Rattle.std.specs.List.{AllByRecursion, AllZip}
 use Rattle.std.proofs.lemmas.Slice.Eq.{bytes_eq-Decides}
 use Rattle.jmodel.specs.declared.name.MethodName.{MethodName}
 use Rattle.jmodel.specs.declared.refusal.Refusal.TheVariants.{Construct}
-use Rattle.jmodel.specs.ClassFile.{Member, ClassFile}
-use Rattle.jmodel.specs.ClassRules.{IsClassFile}
-use Rattle.jmodel.specs.Classes.{Declared, declared_in, full_name}
-use Rattle.jmodel.specs.Coded.{Coded, decoded}
-use Rattle.jmodel.specs.Instruction.{IsInstr, IsInstrOver}
+use Rattle.jmodel.specs.format.ClassFile.{Member, ClassFile}
+use Rattle.jmodel.specs.format.ClassRules.{IsClassFile}
+use Rattle.objects.specs.linking.Classes.{Declared, declared_in, full_name}
+use Rattle.objects.specs.linking.Code.{Coded, decoded}
+use Rattle.jmodel.specs.format.Instruction.{IsInstr, IsInstrOver}
 use Rattle.jmodel.specs.declared.instruction.Instr.{Instr}
-use Rattle.jmodel.specs.Linking.{are_distinct, field_name_of}
-use Rattle.jmodel.specs.Reading.{◌>>=◌}
-use Rattle.jmodel.specs.Superclasses.{own_name}
+use Rattle.objects.specs.linking.Members.{are_distinct, field_name_of, own_name}
+use Rattle.jmodel.specs.format.Reading.{◌>>=◌}
 use Rattle.objects.specs.declared.op.Op.{Op}
 use Rattle.objects.specs.declared.op.Catch.{Catch}
-use Rattle.objects.specs.Program.{Field, Method, Program, method_at}
-use Rattle.objects.specs.Typing.{Table}
-use Rattle.objects.specs.ClassesFaults.{has_interface_init, has_twin_fields, member_fault}
-use Rattle.objects.specs.Constructs.{first_kind}
-use Rattle.objects.specs.Decoding.{ops_of}
-use Rattle.objects.specs.Linking.{has_no_code, Body, no_body, with_catches, body_of, decoded_member, taken_methods, original_symbols}
-use Rattle.objects.specs.LinkingLaw.{AreRead}
+use Rattle.objects.specs.semantics.Program.{Field, Method, Program, method_at}
+use Rattle.objects.specs.typing.Typing.{Table}
+use Rattle.objects.specs.linking.ClassesFaults.{has_interface_init, has_twin_fields, member_fault}
+use Rattle.objects.specs.linking.Constructs.{first_kind}
+use Rattle.objects.specs.linking.Decoding.{ops_of}
+use Rattle.objects.specs.linking.Linking.{has_no_code, Body, no_body, with_catches, body_of, decoded_member, taken_methods, original_symbols}
+use Rattle.objects.specs.laws.LinkingLaw.{AreRead}
 use Rattle.objects.proofs.AsRead.{is_file, unreserved}
 use Rattle.objects.proofs.ClassTypes.{each_none}
 use Rattle.objects.proofs.Items.{IsAt, item}
 use Rattle.objects.proofs.Links.{IsLinkedTo, IsFrom, method_from}
 use Rattle.objects.proofs.DeclaredMembers.{of_methods}
 use Rattle.objects.proofs.TakenMembers.{in_methods}
-use Rattle.rewritten_names.proofs.Apart.{IsOtherField, fields_apart}
-use Rattle.rewritten_names.proofs.Apart.{AreApart as AreApartIn}
+use Rattle.rewritten_names.proofs.Apart.{IsOtherField, fields_apart, AreApart as AreApartIn}
 use Rattle.const_pool.proofs.Takes.{bind_ok}
 use Rattle.field_members.specs.Fields.{with_fields}
 use Rattle.field_members.specs.Accessors.{with_accessors}
 use Rattle.dup_methods.specs.Limits.{AddsLittle}
 use Rattle.dup_methods.proofs.Little.{little_is}
-use Rattle.object_rewriter.specs.Asked.{HasBytes, AreFiled}
-use Rattle.object_rewriter.specs.Part.{own_fields, own_methods, part_of}
-use Rattle.object_rewriter.specs.Rewritten.{original_of, originals, with_duplicates, wrapped_from, rewritten_part}
-use Rattle.object_rewriter.proofs.Owned.{is_taken_of, taken_of}
+use Rattle.rewriter.specs.Asked.{HasBytes, AreFiled}
+use Rattle.rewriter.specs.Part.{own_fields, own_methods, part_of}
+use Rattle.rewriter.specs.Rewritten.{original_of, originals, with_duplicates, wrapped_from, rewritten_part}
+use Rattle.rewriter.proofs.Owned.{is_taken_of, taken_of}
 use Rattle.member_code.proofs.Grown.{grown_trans}
 use Rattle.rewritten_form.proofs.Lists.{all_where}
 use Rattle.rewritten_form.proofs.Spelled.{spelled}

@@ -8,23 +8,23 @@ use Rattle.jmodel.specs.declared.class_file.Constant.TheVariants as constants
 use Rattle.jmodel.specs.declared.class_file.FieldType.{FieldType}
 use Rattle.jmodel.specs.declared.class_file.FieldType.TheVariants as types
 use Rattle.jmodel.specs.declared.name.MethodName.{MethodName}
-use Rattle.jmodel.specs.ClassFile.{Member, Pool, ClassFile}
-use Rattle.jmodel.specs.Pool.{entry, utf8, class_name, pair, pair_in, both, named, member_in, member_name, MemberName}
-use Rattle.jmodel.specs.ClassRules.{IsPool, IsField, IsMethod, IsClassFile}
-use Rattle.jmodel.specs.Classes.{Declared, declared_in, methods_in, full_name}
-use Rattle.jmodel.specs.Descriptor.{field_descriptor, places, places_of, IsClassName, IsFieldType, IsFieldDescriptor, IsMethodDescriptor, DescribesField}
-use Rattle.jmodel.specs.DescriptorReading.{type_of}
-use Rattle.jmodel.specs.Layout.{text_or_none, is_static}
-use Rattle.jmodel.specs.Superclasses.{own_name, super_name, lineage}
-use Rattle.objects.specs.Program.{Field, Method, Program, method_at}
-use Rattle.objects.specs.TypeOrder.{place_types}
-use Rattle.objects.specs.Resolution.{is_interface, holds_of, resolved_method, special_method, selected_from, is_selected_by, has_name}
-use Rattle.objects.specs.Constructs.{is_floating, has_floats}
-use Rattle.objects.specs.Decoding.{number_of, method_number}
-use Rattle.objects.specs.Layout.{declared_as, field_type, words_upward, field_record, if_not, fields_behind, class_fields, fields_from}
-use Rattle.objects.specs.Linking.{receiver_types, parameter_types, taken_methods, original_symbols}
-use Rattle.objects.specs.LinkingLaw.{AreRead}
-use Rattle.objects.specs.Rewriting.{context_type, with_context, duplicate_name}
+use Rattle.jmodel.specs.format.ClassFile.{Member, Pool, ClassFile}
+use Rattle.jmodel.specs.format.Pool.{entry, utf8, class_name, pair, pair_in, both, named, member_in, member_name, MemberName, text_or_none}
+use Rattle.jmodel.specs.format.ClassRules.{IsPool, IsField, IsMethod, IsClassFile}
+use Rattle.objects.specs.linking.Classes.{Declared, declared_in, methods_in, full_name}
+use Rattle.jmodel.specs.format.Descriptor.{field_descriptor, places, places_of, IsClassName, IsFieldType, IsFieldDescriptor, IsMethodDescriptor, DescribesField}
+use Rattle.jmodel.specs.format.DescriptorReading.{type_of}
+use Rattle.objects.specs.linking.Members.{is_static, own_name}
+use Rattle.objects.specs.linking.Superclasses.{super_name, lineage}
+use Rattle.objects.specs.semantics.Program.{Field, Method, Program, method_at}
+use Rattle.objects.specs.typing.TypeOrder.{place_types}
+use Rattle.objects.specs.linking.Resolution.{is_interface, holds_of, resolved_method, special_method, selected_from, is_selected_by, has_name}
+use Rattle.objects.specs.linking.Constructs.{is_floating, has_floats}
+use Rattle.objects.specs.linking.Decoding.{number_of, method_number}
+use Rattle.objects.specs.linking.Layout.{declared_as, field_type, words_upward, field_record, if_not, fields_behind, class_fields, fields_from}
+use Rattle.objects.specs.linking.Linking.{receiver_types, parameter_types, taken_methods, original_symbols}
+use Rattle.objects.specs.laws.LinkingLaw.{AreRead}
+use Rattle.objects.specs.rewriting.Rewriting.{context_type, with_context, duplicate_name}
 use Rattle.objects.proofs.Items.{IsAt, item, into_map, into_flat, found}
 use Rattle.objects.proofs.CleanCode.{clean_whole, taken_clean}
 use Rattle.objects.proofs.Links.{IsLinkedTo, IsFrom, method_from}

@@ -3,16 +3,16 @@ use Rattle.std.proofs.Common.{◌≡◌, ℕ, zero, suc, ◌<◌, List, [], ◌�
 use Rattle.std.specs.Prelude.{if◌then◌else◌, find, option_and_then, codes}
 use Rattle.std.specs.List.{AllByRecursion, flat_map}
 use Rattle.jmodel.specs.declared.instruction.Instr.{Instr}
-use Rattle.jmodel.specs.ClassFile.{u2, u4, handler, attributes, Attribute, Member, Pool, ClassFile, Code, code_spelling}
-use Rattle.jmodel.specs.ClassRules.{is_named, IsCode, SpellsCode}
-use Rattle.jmodel.specs.ClassReading.{code_of}
-use Rattle.jmodel.specs.Instruction.{Holds, SpellsInstrs}
-use Rattle.jmodel.specs.Coded.{Coded, code_in, decoded}
+use Rattle.jmodel.specs.format.ClassFile.{u2, u4, handler, attributes, Attribute, Member, Pool, ClassFile, Code, code_spelling}
+use Rattle.jmodel.specs.format.ClassRules.{is_named, IsCode, SpellsCode}
+use Rattle.jmodel.specs.format.ClassReading.{code_of}
+use Rattle.jmodel.specs.format.Instruction.{Holds, SpellsInstrs}
+use Rattle.objects.specs.linking.Code.{Coded, code_in, decoded}
 use Rattle.objects.proofs.CodeRead.{coded_parts}
 use Rattle.const_pool.proofs.Takes.{IsBytes}
 use Rattle.const_pool.proofs.Parts.{code_is_found}
 use Rattle.bytecode.proofs.CodeLaws.{code_take}
-use Rattle.object_rewriter.specs.Asked.{HasBytes}
+use Rattle.rewriter.specs.Asked.{HasBytes}
 
 -- parts of bytes are bytes
 behind_bytes : (xs ys : List ℕ) → IsBytes (xs ++ ys) → IsBytes ys

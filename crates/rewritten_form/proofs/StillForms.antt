@@ -3,9 +3,9 @@ use Rattle.std.proofs.Common.{◌≡◌, ℕ, zero, suc, ◌≤◌, inl, inr, Bo
 use Rattle.std.specs.Prelude.{codes, cond, filter, is_some, IsSome, IsSomeAnd}
 use Rattle.std.specs.List.{AllByRecursion}
 use Rattle.jmodel.specs.declared.class_file.Handler.{Handler}
-use Rattle.jmodel.specs.ClassFile.{Attribute, Member, Pool, Code}
-use Rattle.jmodel.specs.Pool.{utf8, class_name}
-use Rattle.jmodel.specs.ClassRules.{IsTwoBytes, IsPool, IsAttribute, AreAttributes, IsHandler, IsCode, is_named, named_attributes, has_no_code, AreCodes, IsMember, IsMethod}
+use Rattle.jmodel.specs.format.ClassFile.{Attribute, Member, Pool, Code}
+use Rattle.jmodel.specs.format.Pool.{utf8, class_name}
+use Rattle.jmodel.specs.format.ClassRules.{IsTwoBytes, IsPool, IsAttribute, AreAttributes, IsHandler, IsCode, is_named, named_attributes, has_no_code, AreCodes, IsMember, IsMethod}
 use Rattle.member_code.proofs.Grown.{the_some, the_and, Grown, utf8_grown, class_grown}
 use Rattle.rewritten_form.proofs.Lists.{all_as}
 

@@ -4,24 +4,24 @@ use Rattle.std.specs.Prelude.{slice_get}
 use Rattle.std.specs.List.{AllByRecursion, AllZip}
 use Rattle.jmodel.specs.declared.typing.VType.{VType}
 use Rattle.jmodel.specs.declared.typing.VType.TheVariants.{Int, Ref}
-use Rattle.jmodel.specs.ClassFile.{ClassFile}
-use Rattle.jmodel.specs.Classes.{Declared}
-use Rattle.jmodel.specs.Coded.{Coded}
+use Rattle.jmodel.specs.format.ClassFile.{ClassFile}
+use Rattle.objects.specs.linking.Classes.{Declared}
+use Rattle.objects.specs.linking.Code.{Coded}
 use Rattle.objects.specs.declared.op.WordType.TheVariants as word
 use Rattle.objects.specs.declared.op.Op.TheVariants as op
-use Rattle.objects.specs.Program.{Method, Program, method_at, has_code}
-use Rattle.objects.specs.TypeOrder.{is_array}
-use Rattle.objects.specs.Typing.{Types, Table, types_at, flow, on_int, on_array, if_so, KeepsFlow, KeepsAt, leaves, element_types, fits_elements}
-use Rattle.objects.specs.Linking.{linking, decoded_member}
-use Rattle.objects.specs.LinkingLaw.{AreRead}
-use Rattle.objects.specs.Source.{IsSource, IsSourceMethod}
-use Rattle.objects.specs.Rewriting.{array_under}
+use Rattle.objects.specs.semantics.Program.{Method, Program, method_at, has_code}
+use Rattle.objects.specs.typing.TypeOrder.{is_array}
+use Rattle.objects.specs.typing.Typing.{Types, Table, types_at, flow, on_int, on_array, if_so, KeepsFlow, KeepsAt, leaves, element_types, fits_elements}
+use Rattle.objects.specs.linking.Linking.{linking, decoded_member}
+use Rattle.objects.specs.laws.LinkingLaw.{AreRead}
+use Rattle.objects.specs.typing.Source.{IsSource, IsSourceMethod}
+use Rattle.objects.specs.rewriting.Rewriting.{array_under}
 use Rattle.objects.proofs.CleanCode.{IsClean, clean_code, taken_clean}
 use Rattle.objects.proofs.Items.{IsAt, item, all_items}
 use Rattle.objects.proofs.Links.{IsLinkedTo, IsFrom, links, method_from}
 use Rattle.objects.proofs.SourceProof.{source_law}
 use Rattle.program_typing.specs.Tables.{IsTableFor, IsTableOf, AreTables}
-use Rattle.object_rewriter.specs.Asked.{AreFiled, HasBytes}
+use Rattle.rewriter.specs.Asked.{AreFiled, HasBytes}
 use Rattle.rewritten_form.proofs.CopyPools.{IsElementText}
 use Rattle.rewritten_form.proofs.CodeNames.{HasTexts}
 use Rattle.rewritten_form.proofs.Spelled.{spelled}

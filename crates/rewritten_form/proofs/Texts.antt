@@ -7,16 +7,16 @@ use Rattle.std.proofs.lemmas.Bool.Decides.{nat_tests}
 use Rattle.std.proofs.lemmas.Int.{ints}
 use Rattle.jmodel.specs.declared.class_file.Constant.{Constant}
 use Rattle.jmodel.specs.declared.class_file.Constant.TheVariants as constants
-use Rattle.jmodel.specs.ClassFile.{Pool}
-use Rattle.jmodel.specs.Pool.{utf8, text_in, class_name, name_in}
-use Rattle.jmodel.specs.Descriptor.{IsMethodDescriptor}
-use Rattle.jmodel.specs.DescriptorReading.{element_rest, type_rest, is_field_descriptor, type_of, types_at, result_of, signature_of}
-use Rattle.jmodel.specs.ClassRules.{IsTextByte, IsConstant, IsPool}
+use Rattle.jmodel.specs.format.ClassFile.{Pool}
+use Rattle.jmodel.specs.format.Pool.{utf8, text_in, class_name, name_in}
+use Rattle.jmodel.specs.format.Descriptor.{IsMethodDescriptor}
+use Rattle.jmodel.specs.format.DescriptorReading.{element_rest, type_rest, is_field_descriptor, type_of, types_at, result_of, signature_of}
+use Rattle.jmodel.specs.format.ClassRules.{IsTextByte, IsConstant, IsPool}
 use Rattle.objects.specs.declared.op.WordType.{WordType}
 use Rattle.objects.specs.declared.op.WordType.TheVariants as word
-use Rattle.objects.specs.TypeOrder.{object_class, context_class, conflict_class}
-use Rattle.objects.specs.Decoding.{read_descriptor, write_descriptor}
-use Rattle.objects.specs.Rewriting.{context_type, before_end, with_context, helper_class}
+use Rattle.objects.specs.typing.TypeOrder.{object_class, context_class, conflict_class}
+use Rattle.objects.specs.linking.Decoding.{read_descriptor, write_descriptor}
+use Rattle.objects.specs.rewriting.Rewriting.{context_type, before_end, with_context, helper_class}
 use Rattle.const_pool.proofs.Signatures.{is_field, is_method}
 use Rattle.member_code.proofs.Added.{two_true}
 use Rattle.array_helper.specs.Names.{load_named, store_named}

@@ -7,16 +7,16 @@ use Rattle.jmodel.specs.declared.class_file.Handler.{Handler}
 use Rattle.jmodel.specs.declared.refusal.Refusal.{Refusal}
 use Rattle.jmodel.specs.declared.typing.VType.{VType}
 use Rattle.jmodel.specs.declared.typing.VType.TheVariants as type
-use Rattle.jmodel.specs.ClassFile.{Member, Pool, Code, code_spelling}
-use Rattle.jmodel.specs.ClassRules.{IsCode, IsHandler, IsMethod}
-use Rattle.jmodel.specs.Name.{printed}
-use Rattle.jmodel.specs.Relocation.{all_instrs, behind, relocate}
+use Rattle.jmodel.specs.format.ClassFile.{Member, Pool, Code, code_spelling}
+use Rattle.jmodel.specs.format.ClassRules.{IsCode, IsHandler, IsMethod}
+use Rattle.jmodel.specs.format.Name.{printed}
+use Rattle.jmodel.specs.format.Relocation.{all_instrs, behind, relocate}
 use Rattle.bytecode.proofs.BlockLaws.{behind_append, behind_block}
 use Rattle.bytecode.proofs.SizeLaws.{behind_over}
 use Rattle.bytecode.proofs.LaidLaws.{done}
 use Rattle.bytecode.proofs.RelocationLaws.{whole_long}
-use Rattle.objects.specs.Program.{Method}
-use Rattle.objects.specs.Rewriting.{spare_locals, result_sort}
+use Rattle.objects.specs.semantics.Program.{Method}
+use Rattle.objects.specs.rewriting.Rewriting.{spare_locals, result_sort}
 use Rattle.const_pool.proofs.Takes.{bind_ok, guard_ok, ok_is}
 use Rattle.member_code.specs.Coding.{too_many, block, of_method, laid_code, laid_bytes}
 use Rattle.member_code.specs.Names.{duplicate_named}

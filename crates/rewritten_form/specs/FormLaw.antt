@@ -1,15 +1,15 @@
 -- What rewriting gives keeps the rules of class files.
 use Rattle.std.specs.Prelude.{◌≡◌, List, Some, Ok}
 use Rattle.std.specs.List.{AllByRecursion}
-use Rattle.jmodel.specs.ClassFile.{ClassFile}
-use Rattle.jmodel.specs.ClassRules.{IsClassFile}
-use Rattle.objects.specs.Program.{Program}
-use Rattle.objects.specs.Typing.{Table}
-use Rattle.objects.specs.Linking.{linking}
-use Rattle.objects.specs.LinkingLaw.{AreRead}
+use Rattle.jmodel.specs.format.ClassFile.{ClassFile}
+use Rattle.jmodel.specs.format.ClassRules.{IsClassFile}
+use Rattle.objects.specs.semantics.Program.{Program}
+use Rattle.objects.specs.typing.Typing.{Table}
+use Rattle.objects.specs.linking.Linking.{linking}
+use Rattle.objects.specs.laws.LinkingLaw.{AreRead}
 use Rattle.program_typing.specs.Tables.{AreTables}
-use Rattle.object_rewriter.specs.Asked.{AreFiled}
-use Rattle.object_rewriter.specs.RewrittenClasses.{rewritten_folder}
+use Rattle.rewriter.specs.Asked.{AreFiled}
+use Rattle.rewriter.specs.RewrittenClasses.{rewritten_folder}
 
 -- With the narrowest tables of the program, each class that rewriting gives keeps the rules. A name that another table has needn't be one that a class
 -- file may have.

@@ -4,9 +4,9 @@ use Rattle.std.specs.Prelude.{codes, slice_get, position, option_map}
 use Rattle.std.specs.List.{AllByRecursion}
 use Rattle.std.proofs.lemmas.Slice.Eq.{bytes_eq-Decides}
 use Rattle.jmodel.specs.declared.name.MethodName.{MethodName}
-use Rattle.objects.specs.Program.{Field}
-use Rattle.objects.specs.Decoding.{is_method}
-use Rattle.objects.specs.Rewriting.{getter_method, setter_method}
+use Rattle.objects.specs.semantics.Program.{Field}
+use Rattle.objects.specs.linking.Decoding.{is_method}
+use Rattle.objects.specs.rewriting.Rewriting.{getter_method, setter_method}
 use Rattle.const_pool.specs.Firsts.{first}
 use Rattle.const_pool.proofs.FirstLemmas.{position_first}
 use Rattle.rewritten_names.specs.Heads.{accessor_names}

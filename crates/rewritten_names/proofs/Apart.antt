@@ -4,17 +4,16 @@ use Rattle.std.specs.Prelude.{bytes_eq, if◌then◌else◌, option_map, codes, 
 use Rattle.std.specs.List.{AllByRecursion, list_any}
 use Rattle.std.proofs.lemmas.Slice.Eq.{bytes_eq-Decides}
 use Rattle.jmodel.specs.declared.refusal.Refusal.TheVariants.{Construct}
-use Rattle.jmodel.specs.ClassFile.{Member, ClassFile}
-use Rattle.jmodel.specs.Layout.{is_static, text_or_none}
-use Rattle.jmodel.specs.Pool.{utf8}
-use Rattle.jmodel.specs.Linking.{are_distinct, field_name_of}
-use Rattle.jmodel.specs.Superclasses.{own_name, super_name}
-use Rattle.objects.specs.Program.{Field, Program}
-use Rattle.objects.specs.Constructs.{is_floating, first_kind}
-use Rattle.objects.specs.ClassesFaults.{has_interface_init, has_twin_fields, member_fault}
-use Rattle.objects.specs.Resolution.{is_interface}
-use Rattle.objects.specs.Layout.{field_type, words_upward, field_record, if_not, fields_behind, class_fields, fields_from}
-use Rattle.objects.specs.LinkingLaw.{AreRead}
+use Rattle.jmodel.specs.format.ClassFile.{Member, ClassFile}
+use Rattle.objects.specs.linking.Members.{is_static, are_distinct, field_name_of, own_name}
+use Rattle.jmodel.specs.format.Pool.{text_or_none, utf8}
+use Rattle.objects.specs.linking.Superclasses.{super_name}
+use Rattle.objects.specs.semantics.Program.{Field, Program}
+use Rattle.objects.specs.linking.Constructs.{is_floating, first_kind}
+use Rattle.objects.specs.linking.ClassesFaults.{has_interface_init, has_twin_fields, member_fault}
+use Rattle.objects.specs.linking.Resolution.{is_interface}
+use Rattle.objects.specs.linking.Layout.{field_type, words_upward, field_record, if_not, fields_behind, class_fields, fields_from}
+use Rattle.objects.specs.laws.LinkingLaw.{AreRead}
 use Rattle.objects.proofs.ClassTypes.{each_none}
 use Rattle.objects.proofs.Links.{IsLinkedTo}
 use Rattle.rewritten_names.proofs.Blocks.{AreOthers, Differ}

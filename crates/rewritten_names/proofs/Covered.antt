@@ -4,13 +4,13 @@ use Rattle.std.specs.Prelude.{bytes_eq, codes, nat_le, ◌&&◌}
 use Rattle.jmodel.specs.declared.class_file.Constant.{Constant}
 use Rattle.jmodel.specs.declared.class_file.Constant.TheVariants.{Field, Method, InterfaceMethod, NameAndType}
 use Rattle.jmodel.specs.declared.instruction.Instr.{Instr}
-use Rattle.jmodel.specs.ClassFile.{Member, ClassFile}
-use Rattle.jmodel.specs.Pool.{MemberName, entry, utf8, class_name, both, pair_in, pair, named, member_in, member_name}
-use Rattle.jmodel.specs.Linking.{is_reserved}
-use Rattle.jmodel.specs.Classes.{Declared, declared_in, methods_in}
-use Rattle.jmodel.specs.ClassesTaken.{is_taken, index_of, invoked}
-use Rattle.objects.specs.Program.{Program}
-use Rattle.objects.specs.LinkingLaw.{AreRead}
+use Rattle.jmodel.specs.format.ClassFile.{Member, ClassFile}
+use Rattle.jmodel.specs.format.Pool.{MemberName, entry, utf8, class_name, both, pair_in, pair, named, member_in, member_name}
+use Rattle.objects.specs.linking.Reserved.{is_reserved}
+use Rattle.objects.specs.linking.Classes.{Declared, declared_in, methods_in}
+use Rattle.objects.specs.linking.Taken.{is_taken, index_of, invoked}
+use Rattle.objects.specs.semantics.Program.{Program}
+use Rattle.objects.specs.laws.LinkingLaw.{AreRead}
 use Rattle.objects.proofs.Items.{IsAt, into_map, into_flat, of_filter}
 use Rattle.objects.proofs.AsRead.{name_entry, unreserved}
 use Rattle.objects.proofs.CalledMembers.{callee_taken, takes_it}

@@ -4,17 +4,17 @@ use Rattle.std.specs.Prelude.{filter, bytes_eq, codes, option_map}
 use Rattle.std.specs.List.{AllByRecursion, list_any}
 use Rattle.std.proofs.lemmas.Slice.Eq.{bytes_eq-Decides}
 use Rattle.jmodel.specs.declared.name.MethodName.{MethodName}
-use Rattle.jmodel.specs.ClassFile.{Member, ClassFile}
-use Rattle.jmodel.specs.Pool.{utf8, class_name, MemberName}
-use Rattle.jmodel.specs.Layout.{text_or_none}
-use Rattle.jmodel.specs.Linking.{has_part, is_reserved}
-use Rattle.jmodel.specs.Superclasses.{own_name, super_name}
-use Rattle.jmodel.specs.Classes.{declared_in}
-use Rattle.objects.specs.Program.{Field, Method, Program}
-use Rattle.objects.specs.Source.{IsSource}
-use Rattle.objects.specs.Decoding.{is_method}
-use Rattle.objects.specs.LinkingLaw.{AreRead}
-use Rattle.objects.specs.Rewriting.{with_context, helper_class, getter_method, setter_method}
+use Rattle.jmodel.specs.format.ClassFile.{Member, ClassFile}
+use Rattle.jmodel.specs.format.Pool.{utf8, class_name, MemberName, text_or_none}
+use Rattle.objects.specs.linking.Reserved.{has_part, is_reserved}
+use Rattle.objects.specs.linking.Members.{own_name}
+use Rattle.objects.specs.linking.Superclasses.{super_name}
+use Rattle.objects.specs.linking.Classes.{declared_in}
+use Rattle.objects.specs.semantics.Program.{Field, Method, Program}
+use Rattle.objects.specs.typing.Source.{IsSource}
+use Rattle.objects.specs.linking.Decoding.{is_method}
+use Rattle.objects.specs.laws.LinkingLaw.{AreRead}
+use Rattle.objects.specs.rewriting.Rewriting.{with_context, helper_class, getter_method, setter_method}
 use Rattle.objects.proofs.Items.{IsAt, all_items, of_filter, of_map, into_map, into_flat, any_item}
 use Rattle.objects.proofs.AsRead.{name_entry, unreserved}
 use Rattle.objects.proofs.DeclaredMembers.{HasName, of_methods, full_has_name}

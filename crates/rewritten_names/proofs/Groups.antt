@@ -4,12 +4,12 @@ use Rattle.std.specs.Prelude.{filter, bytes_eq}
 use Rattle.std.specs.List.{AllByRecursion, AllZip, flat_map}
 use Rattle.std.proofs.lemmas.List.{length-map}
 use Rattle.std.proofs.lemmas.List.Elements.{filter-append}
-use Rattle.jmodel.specs.ClassFile.{Member, ClassFile}
-use Rattle.jmodel.specs.Superclasses.{own_name}
-use Rattle.jmodel.specs.Classes.{declared_in, full_name}
-use Rattle.objects.specs.Program.{Field, Method, Program}
-use Rattle.objects.specs.Rewriting.{getter_method, setter_method}
-use Rattle.objects.specs.Relinking.{old_members, duplicates_count, accessors_count, duplicate_members, accessor_members}
+use Rattle.jmodel.specs.format.ClassFile.{Member, ClassFile}
+use Rattle.objects.specs.linking.Members.{own_name}
+use Rattle.objects.specs.linking.Classes.{declared_in, full_name}
+use Rattle.objects.specs.semantics.Program.{Field, Method, Program}
+use Rattle.objects.specs.rewriting.Rewriting.{getter_method, setter_method}
+use Rattle.objects.specs.rewriting.Relinking.{old_members, duplicates_count, accessors_count, duplicate_members, accessor_members}
 use Rattle.rewritten_names.specs.Heads.{Head, head_of, heads, name_under, is_numbered, copy_of, added_head, accessor_heads, own_fields, Rewrites}
 use Rattle.rewritten_names.proofs.Found.{View, view, view_name, under, views_declared}
 use Rattle.rewritten_names.proofs.Lists.{map_map, filter_map, filter_none, append_none, map_flat}

@@ -4,21 +4,22 @@ use Rattle.std.specs.Prelude.{bytes_eq, slice_get, find, filter, position, optio
 use Rattle.std.specs.List.{AllByRecursion, AllZip, flat_map}
 use Rattle.std.proofs.lemmas.Slice.Eq.{bytes_eq-Decides}
 use Rattle.jmodel.specs.declared.name.MethodName.{MethodName}
-use Rattle.jmodel.specs.ClassFile.{Member, ClassFile}
-use Rattle.jmodel.specs.Pool.{MemberName}
-use Rattle.jmodel.specs.Superclasses.{own_name, class_named, super_name, with_above, upward, lineage}
-use Rattle.jmodel.specs.Classes.{Declared, declared_in, methods_in, full_name}
-use Rattle.objects.specs.Program.{Field, Program, field_at}
-use Rattle.objects.specs.Source.{IsSource}
-use Rattle.objects.specs.TypeOrder.{context_class, object_class}
-use Rattle.objects.specs.Resolution.{interface_names, ancestry, method_way, resolved_field, resolved_method}
-use Rattle.objects.specs.LibraryMethods.{is_library}
-use Rattle.objects.specs.Layout.{class_read}
-use Rattle.objects.specs.Decoding.{Symbols, is_field_of, is_method, field_number, method_number}
-use Rattle.objects.specs.Linking.{taken_methods, original_symbols}
-use Rattle.objects.specs.LinkingLaw.{AreRead, IsUpward}
-use Rattle.objects.specs.Relinking.{all_members, rewritten_symbols}
-use Rattle.objects.specs.Rewriting.{helper_class, with_context, duplicate_name, getter_method, setter_method, getter, setter, duplicate}
+use Rattle.jmodel.specs.format.ClassFile.{Member, ClassFile}
+use Rattle.jmodel.specs.format.Pool.{MemberName}
+use Rattle.objects.specs.linking.Members.{own_name}
+use Rattle.objects.specs.linking.Superclasses.{class_named, super_name, with_above, upward, lineage}
+use Rattle.objects.specs.linking.Classes.{Declared, declared_in, methods_in, full_name}
+use Rattle.objects.specs.semantics.Program.{Field, Program, field_at}
+use Rattle.objects.specs.typing.Source.{IsSource}
+use Rattle.objects.specs.typing.TypeOrder.{context_class, object_class}
+use Rattle.objects.specs.linking.Resolution.{interface_names, ancestry, method_way, resolved_field, resolved_method}
+use Rattle.objects.specs.linking.LibraryMethods.{is_library}
+use Rattle.objects.specs.linking.Layout.{class_read}
+use Rattle.objects.specs.linking.Decoding.{Symbols, is_field_of, is_method, field_number, method_number}
+use Rattle.objects.specs.linking.Linking.{taken_methods, original_symbols}
+use Rattle.objects.specs.laws.LinkingLaw.{AreRead, IsUpward}
+use Rattle.objects.specs.rewriting.Relinking.{all_members, rewritten_symbols}
+use Rattle.objects.specs.rewriting.Rewriting.{helper_class, with_context, duplicate_name, getter_method, setter_method, getter, setter, duplicate}
 use Rattle.objects.proofs.Items.{IsAt, in_front_part, in_back_part, into_map, into_filter, into_flat, of_map, found, placed}
 use Rattle.objects.proofs.DeclaredMembers.{by_own_name}
 use Rattle.objects.proofs.LinkedFields.{field_from}

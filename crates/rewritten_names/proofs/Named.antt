@@ -6,16 +6,16 @@ use Rattle.std.proofs.lemmas.List.{map-append}
 use Rattle.std.proofs.lemmas.List.Elements.{filter-append}
 use Rattle.std.proofs.lemmas.Slice.Eq.{bytes_eq-Decides}
 use Rattle.jmodel.specs.declared.name.MethodName.{MethodName}
-use Rattle.jmodel.specs.ClassFile.{ClassFile}
-use Rattle.jmodel.specs.Layout.{text_or_none}
-use Rattle.jmodel.specs.Superclasses.{own_name}
-use Rattle.jmodel.specs.Classes.{declared_in, full_name}
-use Rattle.objects.specs.Program.{Field, Method, Program}
-use Rattle.objects.specs.Source.{IsSource}
-use Rattle.objects.specs.Layout.{class_fields, fields_from, fields_of}
-use Rattle.objects.specs.LinkingLaw.{AreRead}
-use Rattle.objects.specs.Relinking.{old_members, accessor_members, duplicate_members, is_helper, rewritten_classes, helper_members, all_old, all_accessors, all_duplicates, all_members}
-use Rattle.objects.specs.Rewriting.{with_context, duplicate_name, getter_method, setter_method, helper_class}
+use Rattle.jmodel.specs.format.ClassFile.{ClassFile}
+use Rattle.jmodel.specs.format.Pool.{text_or_none}
+use Rattle.objects.specs.linking.Members.{own_name}
+use Rattle.objects.specs.linking.Classes.{declared_in, full_name}
+use Rattle.objects.specs.semantics.Program.{Field, Method, Program}
+use Rattle.objects.specs.typing.Source.{IsSource}
+use Rattle.objects.specs.linking.Layout.{class_fields, fields_from, fields_of}
+use Rattle.objects.specs.laws.LinkingLaw.{AreRead}
+use Rattle.objects.specs.rewriting.Relinking.{old_members, accessor_members, duplicate_members, is_helper, rewritten_classes, helper_members, all_old, all_accessors, all_duplicates, all_members}
+use Rattle.objects.specs.rewriting.Rewriting.{with_context, duplicate_name, getter_method, setter_method, helper_class}
 use Rattle.objects.proofs.Items.{IsAt, all_items, of_filter, of_map}
 use Rattle.objects.proofs.Links.{IsLinkedTo}
 use Rattle.rewritten_names.specs.Heads.{Head, head_of, heads, name_under, is_numbered, copy_of, added_head, accessor_heads, own_fields, Rewrites, copy_name, accessor_names}

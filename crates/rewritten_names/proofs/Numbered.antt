@@ -5,14 +5,14 @@ use Rattle.std.specs.List.{AllByRecursion, list_any}
 use Rattle.std.proofs.lemmas.List.{length-map}
 use Rattle.std.proofs.lemmas.Slice.Eq.{bytes_eq-Decides}
 use Rattle.jmodel.specs.declared.name.MethodName.{MethodName}
-use Rattle.jmodel.specs.ClassFile.{ClassFile}
-use Rattle.jmodel.specs.Linking.{has_part, is_reserved}
-use Rattle.jmodel.specs.Superclasses.{own_name}
-use Rattle.objects.specs.Program.{Field, Method, Program, field_at}
-use Rattle.objects.specs.Source.{IsSource}
-use Rattle.objects.specs.Decoding.{is_method}
-use Rattle.objects.specs.LinkingLaw.{AreRead}
-use Rattle.objects.specs.Rewriting.{duplicate_name, helper_class, getter_method, setter_method, getter, setter, duplicate}
+use Rattle.jmodel.specs.format.ClassFile.{ClassFile}
+use Rattle.objects.specs.linking.Reserved.{has_part, is_reserved}
+use Rattle.objects.specs.linking.Members.{own_name}
+use Rattle.objects.specs.semantics.Program.{Field, Method, Program, field_at}
+use Rattle.objects.specs.typing.Source.{IsSource}
+use Rattle.objects.specs.linking.Decoding.{is_method}
+use Rattle.objects.specs.laws.LinkingLaw.{AreRead}
+use Rattle.objects.specs.rewriting.Rewriting.{duplicate_name, helper_class, getter_method, setter_method, getter, setter, duplicate}
 use Rattle.objects.proofs.Items.{IsAt, all_items, of_map}
 use Rattle.objects.proofs.DeclaredMembers.{of_methods}
 use Rattle.objects.proofs.LinkedFields.{field_from}

@@ -4,10 +4,10 @@ use Rattle.std.specs.Prelude.{position, cond, bytes_eq, codes, option_map}
 use Rattle.std.specs.List.{AllByRecursion}
 use Rattle.std.proofs.lemmas.Slice.Eq.{bytes_eq-Decides}
 use Rattle.jmodel.specs.declared.name.MethodName.{MethodName}
-use Rattle.objects.specs.Program.{Method, Program}
-use Rattle.objects.specs.Decoding.{is_method}
-use Rattle.objects.specs.Source.{IsSource}
-use Rattle.objects.specs.Rewriting.{with_context, duplicate_name}
+use Rattle.objects.specs.semantics.Program.{Method, Program}
+use Rattle.objects.specs.linking.Decoding.{is_method}
+use Rattle.objects.specs.typing.Source.{IsSource}
+use Rattle.objects.specs.rewriting.Rewriting.{with_context, duplicate_name}
 use Rattle.objects.proofs.Contexts.{with_context_told}
 use Rattle.objects.proofs.Items.{IsAt, all_items, of_map}
 use Rattle.const_pool.specs.Firsts.{first}

@@ -6,16 +6,16 @@ use Rattle.std.proofs.lemmas.List.{length-map}
 use Rattle.std.proofs.lemmas.List.Elements.{filter-append}
 use Rattle.std.proofs.lemmas.Slice.Eq.{bytes_eq-Decides}
 use Rattle.jmodel.specs.declared.name.MethodName.{MethodName}
-use Rattle.jmodel.specs.ClassFile.{Member, ClassFile}
-use Rattle.jmodel.specs.Library.{library}
-use Rattle.jmodel.specs.Superclasses.{own_name}
-use Rattle.jmodel.specs.Classes.{Declared, declared_in, methods_in, full_name}
-use Rattle.jmodel.specs.ClassesTaken.{is_taken}
-use Rattle.objects.specs.Program.{Method, Program}
-use Rattle.objects.specs.Decoding.{is_method}
-use Rattle.objects.specs.Linking.{taken_methods}
-use Rattle.objects.specs.LinkingLaw.{AreRead}
-use Rattle.objects.specs.Relinking.{is_of, old_members}
+use Rattle.jmodel.specs.format.ClassFile.{Member, ClassFile}
+use Rattle.objects.specs.linking.Library.{library}
+use Rattle.objects.specs.linking.Members.{own_name}
+use Rattle.objects.specs.linking.Classes.{Declared, declared_in, methods_in, full_name}
+use Rattle.objects.specs.linking.Taken.{is_taken}
+use Rattle.objects.specs.semantics.Program.{Method, Program}
+use Rattle.objects.specs.linking.Decoding.{is_method}
+use Rattle.objects.specs.linking.Linking.{taken_methods}
+use Rattle.objects.specs.laws.LinkingLaw.{AreRead}
+use Rattle.objects.specs.rewriting.Relinking.{is_of, old_members}
 use Rattle.objects.proofs.Items.{IsAt, all_items, later, of_filter, into_filter, any_item}
 use Rattle.objects.proofs.DeclaredMembers.{same_method}
 use Rattle.objects.proofs.Links.{IsLinkedTo, method_from, methods_many}

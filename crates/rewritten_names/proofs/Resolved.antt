@@ -5,19 +5,19 @@ use Rattle.std.specs.List.{AllByRecursion, AllZip}
 use Rattle.std.specs.Option.{option_or}
 use Rattle.std.proofs.lemmas.List.Folds.{find-append}
 use Rattle.std.proofs.lemmas.Slice.Eq.{bytes_eq-Decides}
-use Rattle.jmodel.specs.ClassFile.{Member, ClassFile}
-use Rattle.jmodel.specs.ClassRules.{same_text}
-use Rattle.jmodel.specs.Pool.{MemberName, utf8}
-use Rattle.jmodel.specs.Layout.{text_or_none}
-use Rattle.jmodel.specs.Linking.{is_reserved}
-use Rattle.jmodel.specs.Superclasses.{own_name, lineage}
-use Rattle.jmodel.specs.Classes.{Declared, declared_in, methods_in}
-use Rattle.objects.specs.Program.{Field, Program}
-use Rattle.objects.specs.Source.{IsSource}
-use Rattle.objects.specs.TypeOrder.{context_class}
-use Rattle.objects.specs.Resolution.{fields_in, ancestry, method_way, resolved_field, resolved_method}
-use Rattle.objects.specs.LinkingLaw.{AreRead, IsUpward}
-use Rattle.objects.specs.Rewriting.{context_type, before_end, with_context, duplicate_name, helper_class, getter_method, setter_method}
+use Rattle.jmodel.specs.format.ClassFile.{Member, ClassFile}
+use Rattle.jmodel.specs.format.ClassRules.{same_text}
+use Rattle.jmodel.specs.format.Pool.{MemberName, utf8, text_or_none}
+use Rattle.objects.specs.linking.Reserved.{is_reserved}
+use Rattle.objects.specs.linking.Members.{own_name}
+use Rattle.objects.specs.linking.Superclasses.{lineage}
+use Rattle.objects.specs.linking.Classes.{Declared, declared_in, methods_in}
+use Rattle.objects.specs.semantics.Program.{Field, Program}
+use Rattle.objects.specs.typing.Source.{IsSource}
+use Rattle.objects.specs.typing.TypeOrder.{context_class}
+use Rattle.objects.specs.linking.Resolution.{fields_in, ancestry, method_way, resolved_field, resolved_method}
+use Rattle.objects.specs.laws.LinkingLaw.{AreRead, IsUpward}
+use Rattle.objects.specs.rewriting.Rewriting.{context_type, before_end, with_context, duplicate_name, helper_class, getter_method, setter_method}
 use Rattle.objects.proofs.Contexts.{with_context_told}
 use Rattle.objects.proofs.Items.{IsAt, all_items, of_map}
 use Rattle.objects.proofs.LinkedTypes.{part_in, context_reserved}

@@ -4,18 +4,19 @@ use Rattle.std.specs.Prelude.{bytes_eq, codes, find, position, option_map, optio
 use Rattle.std.specs.List.{AllZip, list_any}
 use Rattle.std.proofs.lemmas.Slice.Eq.{bytes_eq-Decides}
 use Rattle.jmodel.specs.declared.name.MethodName.{MethodName}
-use Rattle.jmodel.specs.ClassFile.{ClassFile}
-use Rattle.jmodel.specs.Pool.{MemberName}
-use Rattle.jmodel.specs.Superclasses.{own_name, super_name, lineage}
-use Rattle.jmodel.specs.Classes.{Declared, declared_in, methods_in, full_name}
-use Rattle.objects.specs.Program.{Program}
-use Rattle.objects.specs.Source.{IsSource}
-use Rattle.objects.specs.Resolution.{is_private, method_way, resolved_method, selected_from, is_properly_above, from_above, special_method}
-use Rattle.objects.specs.Decoding.{Symbols, number_of, is_method}
-use Rattle.objects.specs.Linking.{taken_methods, original_symbols}
-use Rattle.objects.specs.LinkingLaw.{AreRead, IsUpward}
-use Rattle.objects.specs.Relinking.{all_members, rewritten_symbols}
-use Rattle.objects.specs.Rewriting.{helper_class, with_context, duplicate_name, duplicate}
+use Rattle.jmodel.specs.format.ClassFile.{ClassFile}
+use Rattle.jmodel.specs.format.Pool.{MemberName}
+use Rattle.objects.specs.linking.Members.{own_name}
+use Rattle.objects.specs.linking.Superclasses.{super_name, lineage}
+use Rattle.objects.specs.linking.Classes.{Declared, declared_in, methods_in, full_name}
+use Rattle.objects.specs.semantics.Program.{Program}
+use Rattle.objects.specs.typing.Source.{IsSource}
+use Rattle.objects.specs.linking.Resolution.{is_private, method_way, resolved_method, selected_from, is_properly_above, from_above, special_method}
+use Rattle.objects.specs.linking.Decoding.{Symbols, number_of, is_method}
+use Rattle.objects.specs.linking.Linking.{taken_methods, original_symbols}
+use Rattle.objects.specs.laws.LinkingLaw.{AreRead, IsUpward}
+use Rattle.objects.specs.rewriting.Relinking.{all_members, rewritten_symbols}
+use Rattle.objects.specs.rewriting.Rewriting.{helper_class, with_context, duplicate_name, duplicate}
 use Rattle.objects.proofs.Items.{IsAt, found}
 use Rattle.objects.proofs.Links.{IsLinkedTo}
 use Rattle.rewritten_names.specs.Heads.{Head, Rewrites}

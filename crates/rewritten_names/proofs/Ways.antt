@@ -5,12 +5,13 @@ use Rattle.std.specs.List.{AllByRecursion, AllZip, flat_map}
 use Rattle.std.specs.Option.{option_or}
 use Rattle.std.proofs.lemmas.Slice.Eq.{bytes_eq-Decides}
 use Rattle.std.proofs.lemmas.List.Folds.{find-append}
-use Rattle.jmodel.specs.ClassFile.{ClassFile}
-use Rattle.jmodel.specs.Superclasses.{own_name, class_named, super_name, with_above, upward, lineage}
-use Rattle.objects.specs.Program.{Program}
-use Rattle.objects.specs.Resolution.{holds_of, interface_names, names_above, all_upward, ancestry, method_way}
-use Rattle.objects.specs.LinkingLaw.{IsUpward}
-use Rattle.objects.specs.Rewriting.{helper_class}
+use Rattle.jmodel.specs.format.ClassFile.{ClassFile}
+use Rattle.objects.specs.linking.Members.{own_name}
+use Rattle.objects.specs.linking.Superclasses.{class_named, super_name, with_above, upward, lineage}
+use Rattle.objects.specs.semantics.Program.{Program}
+use Rattle.objects.specs.linking.Resolution.{holds_of, interface_names, names_above, all_upward, ancestry, method_way}
+use Rattle.objects.specs.laws.LinkingLaw.{IsUpward}
+use Rattle.objects.specs.rewriting.Rewriting.{helper_class}
 use Rattle.rewritten_names.specs.Heads.{Rewrites}
 use Rattle.rewritten_names.proofs.Lists.{turned}
 

@@ -2,15 +2,15 @@
 use Rattle.std.specs.Prelude.{◌≡◌, ℕ, List, [], ◌∷◌, ◌++◌, map, filter, Option, Some, Bool, true, false, option_map, bytes_eq, IsSomeAnd}
 use Rattle.std.specs.List.{AllByRecursion, list_any, flat_map}
 use Rattle.jmodel.specs.declared.name.MethodName.{MethodName}
-use Rattle.jmodel.specs.ClassFile.{Member, Pool, ClassFile}
-use Rattle.jmodel.specs.Pool.{utf8}
-use Rattle.jmodel.specs.Layout.{is_static, text_or_none}
-use Rattle.jmodel.specs.Superclasses.{own_name, super_name}
-use Rattle.jmodel.specs.Linking.{is_reserved}
-use Rattle.objects.specs.Program.{Field, Method, Program}
-use Rattle.objects.specs.Resolution.{is_private, interface_names}
-use Rattle.objects.specs.Decoding.{is_method}
-use Rattle.objects.specs.Rewriting.{with_context, duplicate_name, getter_method, setter_method}
+use Rattle.jmodel.specs.format.ClassFile.{Member, Pool, ClassFile}
+use Rattle.jmodel.specs.format.Pool.{utf8, text_or_none}
+use Rattle.objects.specs.linking.Members.{is_static, own_name}
+use Rattle.objects.specs.linking.Superclasses.{super_name}
+use Rattle.objects.specs.linking.Reserved.{is_reserved}
+use Rattle.objects.specs.semantics.Program.{Field, Method, Program}
+use Rattle.objects.specs.linking.Resolution.{is_private, interface_names}
+use Rattle.objects.specs.linking.Decoding.{is_method}
+use Rattle.objects.specs.rewriting.Rewriting.{with_context, duplicate_name, getter_method, setter_method}
 
 -- what a search for a member looks at
 pub record Head : Type 0 where

@@ -1,23 +1,22 @@
 -- Where the names of fields and methods lead among rewritten classes.
 use Rattle.std.specs.Prelude.{◌≡◌, ℕ, ◌+◌, List, [], ◌∷◌, ◌++◌, length, Option, Some, Ok, Bool, true, false, bytes_eq, codes, slice_get, position, map, option_and_then}
 use Rattle.jmodel.specs.declared.name.MethodName.{MethodName}
-use Rattle.jmodel.specs.ClassFile.{Member, ClassFile}
-use Rattle.jmodel.specs.Pool.{MemberName, utf8}
-use Rattle.jmodel.specs.Layout.{text_or_none}
-use Rattle.jmodel.specs.Linking.{is_reserved}
-use Rattle.jmodel.specs.Superclasses.{own_name, is_member}
+use Rattle.jmodel.specs.format.ClassFile.{Member, ClassFile}
+use Rattle.jmodel.specs.format.Pool.{MemberName, utf8, text_or_none}
+use Rattle.objects.specs.linking.Reserved.{is_reserved}
+use Rattle.objects.specs.linking.Members.{own_name, is_member}
 use Rattle.jmodel.specs.declared.instruction.Instr.{Instr}
-use Rattle.jmodel.specs.Classes.{Declared, declared_in, full_name}
-use Rattle.jmodel.specs.Coded.{Coded, decoded}
-use Rattle.jmodel.specs.ClassesTaken.{invoked}
-use Rattle.objects.specs.Program.{Field, Program, field_at}
-use Rattle.objects.specs.Layout.{class_read}
-use Rattle.objects.specs.Decoding.{Symbols, is_method, field_number, number_of, method_number}
-use Rattle.objects.specs.Resolution.{special_method}
-use Rattle.objects.specs.Linking.{original_symbols, taken_methods, linking}
-use Rattle.objects.specs.LinkingLaw.{AreRead}
-use Rattle.objects.specs.Relinking.{rewritten_symbols}
-use Rattle.objects.specs.Rewriting.{helper_class, with_context, duplicate_name, getter_method, setter_method, getter, setter, duplicate}
+use Rattle.objects.specs.linking.Classes.{Declared, declared_in, full_name}
+use Rattle.objects.specs.linking.Code.{Coded, decoded}
+use Rattle.objects.specs.linking.Taken.{invoked}
+use Rattle.objects.specs.semantics.Program.{Field, Program, field_at}
+use Rattle.objects.specs.linking.Layout.{class_read}
+use Rattle.objects.specs.linking.Decoding.{Symbols, is_method, field_number, number_of, method_number}
+use Rattle.objects.specs.linking.Resolution.{special_method}
+use Rattle.objects.specs.linking.Linking.{original_symbols, taken_methods, linking}
+use Rattle.objects.specs.laws.LinkingLaw.{AreRead}
+use Rattle.objects.specs.rewriting.Relinking.{rewritten_symbols}
+use Rattle.objects.specs.rewriting.Rewriting.{helper_class, with_context, duplicate_name, getter_method, setter_method, getter, setter, duplicate}
 use Rattle.rewritten_names.specs.Heads.{head_of, is_numbered}
 use Rattle.rewritten_names.specs.NamesLaw.{AreRewritten}
 

@@ -2,15 +2,15 @@
 use Rattle.std.specs.Prelude.{◌≡◌, ℕ, ◌+◌, List, [], ◌∷◌, ◌++◌, length, map, Some, Ok, slice_get, position}
 use Rattle.std.specs.List.{AllZip}
 use Rattle.jmodel.specs.declared.name.MethodName.{MethodName}
-use Rattle.jmodel.specs.ClassFile.{ClassFile}
-use Rattle.jmodel.specs.Superclasses.{own_name}
-use Rattle.jmodel.specs.Classes.{declared_in, full_name}
-use Rattle.objects.specs.Program.{Field, Method, Program, field_at}
-use Rattle.objects.specs.Decoding.{is_method}
-use Rattle.objects.specs.Linking.{linking}
-use Rattle.objects.specs.LinkingLaw.{AreRead}
-use Rattle.objects.specs.Relinking.{all_members}
-use Rattle.objects.specs.Rewriting.{helper_class, getter_method, setter_method, getter, setter, duplicate}
+use Rattle.jmodel.specs.format.ClassFile.{ClassFile}
+use Rattle.objects.specs.linking.Members.{own_name}
+use Rattle.objects.specs.linking.Classes.{declared_in, full_name}
+use Rattle.objects.specs.semantics.Program.{Field, Method, Program, field_at}
+use Rattle.objects.specs.linking.Decoding.{is_method}
+use Rattle.objects.specs.linking.Linking.{linking}
+use Rattle.objects.specs.laws.LinkingLaw.{AreRead}
+use Rattle.objects.specs.rewriting.Relinking.{all_members}
+use Rattle.objects.specs.rewriting.Rewriting.{helper_class, getter_method, setter_method, getter, setter, duplicate}
 use Rattle.rewritten_names.specs.Heads.{copy_name, accessor_names, Rewrites}
 
 abbrev pub method_names : Program → List MethodName

@@ -5,16 +5,16 @@ use Rattle.std.specs.List.{flat_map}
 use Rattle.std.proofs.lemmas.List.Concat.{flat_map-cons}
 use Rattle.jmodel.specs.declared.name.MethodName.{MethodName}
 use Rattle.jmodel.specs.declared.instruction.Instr.{Instr}
-use Rattle.jmodel.specs.ClassFile.{Member, Pool, ClassFile}
-use Rattle.jmodel.specs.Pool.{utf8}
-use Rattle.jmodel.specs.PoolAdding.{add_class, add_field, add_method}
-use Rattle.jmodel.specs.Reading.{◌>>=◌}
+use Rattle.jmodel.specs.format.ClassFile.{Member, Pool, ClassFile}
+use Rattle.jmodel.specs.format.Pool.{utf8}
+use Rattle.jmodel.specs.format.PoolAdding.{add_class, add_field, add_method}
+use Rattle.jmodel.specs.format.Reading.{◌>>=◌}
 use Rattle.objects.specs.declared.op.WordType.{WordType}
-use Rattle.objects.specs.Step.{sort_of}
-use Rattle.objects.specs.TypeOrder.{context_class}
-use Rattle.objects.specs.Decoding.{read_descriptor, write_descriptor}
-use Rattle.objects.specs.Program.{Field}
-use Rattle.objects.specs.Rewriting.{places_of, getter_method, setter_method}
+use Rattle.objects.specs.semantics.Step.{sort_of}
+use Rattle.objects.specs.typing.TypeOrder.{context_class}
+use Rattle.objects.specs.linking.Decoding.{read_descriptor, write_descriptor}
+use Rattle.objects.specs.semantics.Program.{Field}
+use Rattle.objects.specs.rewriting.Rewriting.{word_places, getter_method, setter_method}
 use Rattle.const_pool.proofs.Takes.{bind_ok, ok_is}
 use Rattle.member_code.specs.Instrs.{give, check_cast}
 use Rattle.member_code.specs.Coding.{room_for, straight_method}
@@ -133,17 +133,17 @@ straight_headed most locals is name pool r s e =
 getter_headed : (room : ℕ) (f : Field) → Adding (IsHeaded (getter_named f)) (getter_of room f)
 unfolding getter_of
 getter_headed room f pool r s e =
-    let a = bind_ok (room_for room (getter_named f)) (λ fits. getter_instrs f pool >>= λ code. straight_method (4 + places_of f.declared.word) (receiver_places f + 1) code.0 (getter_named f) code.1) r e in
-    behind (IsHeaded (getter_named f)) (getter_instrs f) (λ code pool. straight_method (4 + places_of f.declared.word) (receiver_places f + 1) code (getter_named f) pool) (getter_code_grows f)
-    (λ code. straight_headed (4 + places_of f.declared.word) (receiver_places f + 1) code (getter_named f)) pool r s a.2
+    let a = bind_ok (room_for room (getter_named f)) (λ fits. getter_instrs f pool >>= λ code. straight_method (4 + word_places f.declared.word) (receiver_places f + 1) code.0 (getter_named f) code.1) r e in
+    behind (IsHeaded (getter_named f)) (getter_instrs f) (λ code pool. straight_method (4 + word_places f.declared.word) (receiver_places f + 1) code (getter_named f) pool) (getter_code_grows f)
+    (λ code. straight_headed (4 + word_places f.declared.word) (receiver_places f + 1) code (getter_named f)) pool r s a.2
 
 -- a setter
 setter_headed : (room : ℕ) (f : Field) → Adding (IsHeaded (setter_named f)) (setter_of room f)
 unfolding setter_of
 setter_headed room f pool r s e =
-    let a = bind_ok (room_for room (setter_named f)) (λ fits. setter_instrs f pool >>= λ code. straight_method (4 + places_of f.declared.word) (receiver_places f + places_of f.declared.word + 1) code.0 (setter_named f) code.1) r e in
-    behind (IsHeaded (setter_named f)) (setter_instrs f) (λ code pool. straight_method (4 + places_of f.declared.word) (receiver_places f + places_of f.declared.word + 1) code (setter_named f) pool) (setter_code_grows f)
-    (λ code. straight_headed (4 + places_of f.declared.word) (receiver_places f + places_of f.declared.word + 1) code (setter_named f)) pool r s a.2
+    let a = bind_ok (room_for room (setter_named f)) (λ fits. setter_instrs f pool >>= λ code. straight_method (4 + word_places f.declared.word) (receiver_places f + word_places f.declared.word + 1) code.0 (setter_named f) code.1) r e in
+    behind (IsHeaded (setter_named f)) (setter_instrs f) (λ code pool. straight_method (4 + word_places f.declared.word) (receiver_places f + word_places f.declared.word + 1) code (setter_named f) pool) (setter_code_grows f)
+    (λ code. straight_headed (4 + word_places f.declared.word) (receiver_places f + word_places f.declared.word + 1) code (setter_named f)) pool r s a.2
 
 -- both of a field
 record AreAccessors (f : Field) (Z : Pool) (a : Accessors) : Type 0 where

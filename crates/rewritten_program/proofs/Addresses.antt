@@ -3,10 +3,10 @@ use Rattle.std.proofs.Common.{◌≡◌, ℕ, ℤ, suc, ◌+◌, ◌<◌, Bool, 
 use Rattle.std.specs.Prelude.{codes, IsSomeAnd}
 use Rattle.std.specs.Int.{w64, cast_signed}
 use Rattle.std.specs.List.{AllByRecursion}
-use Rattle.jmodel.specs.ClassFile.{Attribute, Member, Pool, ClassFile}
-use Rattle.jmodel.specs.Pool.{utf8}
-use Rattle.jmodel.specs.Linking.{has_part, is_reserved}
-use Rattle.objects.specs.Program.{Field}
+use Rattle.jmodel.specs.format.ClassFile.{Attribute, Member, Pool, ClassFile}
+use Rattle.jmodel.specs.format.Pool.{utf8}
+use Rattle.objects.specs.linking.Reserved.{has_part, is_reserved}
+use Rattle.objects.specs.semantics.Program.{Field}
 use Rattle.const_pool.proofs.Takes.{bind_ok, ok_is}
 use Rattle.member_code.specs.Coding.{high, low}
 use Rattle.member_code.proofs.Grown.{Grown, grown_refl, grown_trans}

@@ -4,18 +4,18 @@ use Rattle.std.specs.Prelude.{slice_get, option_map, option_and_then}
 use Rattle.std.specs.List.{AllByRecursion}
 use Rattle.jmodel.specs.declared.name.MethodName.{MethodName}
 use Rattle.jmodel.specs.declared.refusal.Refusal.{Refusal}
-use Rattle.jmodel.specs.ClassFile.{Member, ClassFile}
-use Rattle.jmodel.specs.Classes.{Declared}
-use Rattle.jmodel.specs.Coded.{Coded}
-use Rattle.jmodel.specs.Reading.{◌>>=◌}
-use Rattle.objects.specs.Program.{Method, Program}
-use Rattle.objects.specs.Typing.{Table}
-use Rattle.objects.specs.Source.{IsSource, IsSourceMethod}
-use Rattle.objects.specs.Constructs.{is_float_descriptor}
-use Rattle.objects.specs.Linking.{method_with, shaped, method_of, decoded_member, original_symbols, linking}
-use Rattle.objects.specs.LinkingLaw.{AreRead}
-use Rattle.objects.specs.Relinking.{decoded_or_none, rewritten_symbols, relinked}
-use Rattle.objects.specs.Rewriting.{duplicate_method, duplicates, old_methods, accessors, helper_methods}
+use Rattle.jmodel.specs.format.ClassFile.{Member, ClassFile}
+use Rattle.objects.specs.linking.Classes.{Declared}
+use Rattle.objects.specs.linking.Code.{Coded}
+use Rattle.jmodel.specs.format.Reading.{◌>>=◌}
+use Rattle.objects.specs.semantics.Program.{Method, Program}
+use Rattle.objects.specs.typing.Typing.{Table}
+use Rattle.objects.specs.typing.Source.{IsSource, IsSourceMethod}
+use Rattle.objects.specs.linking.Constructs.{is_float_descriptor}
+use Rattle.objects.specs.linking.Linking.{method_with, shaped, method_of, decoded_member, original_symbols, linking}
+use Rattle.objects.specs.laws.LinkingLaw.{AreRead}
+use Rattle.objects.specs.rewriting.Relinking.{decoded_or_none, rewritten_symbols, relinked}
+use Rattle.objects.specs.rewriting.Rewriting.{duplicate_method, duplicates, old_methods, accessors, helper_methods}
 use Rattle.objects.proofs.CleanCode.{clean_whole, taken_clean}
 use Rattle.objects.proofs.DeclaredMembers.{of_methods}
 use Rattle.objects.proofs.Items.{IsAt, item}
@@ -29,10 +29,10 @@ use Rattle.dup_methods.specs.DuplicateLaw.{ReadsAlike, DuplicateLaw}
 use Rattle.retry_wrapper.specs.WrapperLaw.{WrapperLaw}
 use Rattle.array_helper.specs.Helper.{helper_file}
 use Rattle.array_helper.specs.HelperLaw.{HelperLaw}
-use Rattle.object_rewriter.specs.Asked.{HasBytes, AreFiled}
-use Rattle.object_rewriter.specs.Part.{wrapper_count, own_fields, own_methods, part_of, share_of}
-use Rattle.object_rewriter.specs.Rewritten.{original_of}
-use Rattle.object_rewriter.specs.RewrittenClasses.{rewritten_classes}
+use Rattle.rewriter.specs.Asked.{HasBytes, AreFiled}
+use Rattle.rewriter.specs.Part.{wrapper_count, own_fields, own_methods, part_of, share_of}
+use Rattle.rewriter.specs.Rewritten.{original_of}
+use Rattle.rewriter.specs.RewrittenClasses.{rewritten_classes}
 use Rattle.rewritten_names.specs.NamesLaw.{AreRewritten}
 use Rattle.rewritten_names.specs.LeadsLaw.{AreTexts}
 use Rattle.rewritten_code.specs.OldLaw.{SameHeadLaw, OldLaw}

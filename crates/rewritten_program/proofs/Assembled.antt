@@ -2,25 +2,25 @@
 use Rattle.std.proofs.Common.{◌≡◌, ℕ, true, false, List, [], ◌∷◌, length, drop, Some, refl, sym, ap, ◌∙◌}
 use Rattle.std.specs.Prelude.{filter, zip}
 use Rattle.std.specs.List.{AllZip}
-use Rattle.jmodel.specs.ClassFile.{Member, ClassFile}
-use Rattle.jmodel.specs.Classes.{Declared, declared_in}
-use Rattle.jmodel.specs.Decoding.{each}
-use Rattle.objects.specs.Program.{Method, Program}
-use Rattle.objects.specs.Typing.{Table}
-use Rattle.objects.specs.Source.{IsSource}
-use Rattle.objects.specs.LinkingLaw.{AreRead}
-use Rattle.objects.specs.Relinking.{old_members, duplicate_members, accessor_members, is_counted_old, rewritten_symbols, rewritten_meaning}
-use Rattle.objects.specs.Rewriting.{old_methods, accessors}
+use Rattle.jmodel.specs.format.ClassFile.{Member, ClassFile}
+use Rattle.objects.specs.linking.Classes.{Declared, declared_in}
+use Rattle.objects.specs.linking.Each.{each}
+use Rattle.objects.specs.semantics.Program.{Method, Program}
+use Rattle.objects.specs.typing.Typing.{Table}
+use Rattle.objects.specs.typing.Source.{IsSource}
+use Rattle.objects.specs.laws.LinkingLaw.{AreRead}
+use Rattle.objects.specs.rewriting.Relinking.{old_members, duplicate_members, accessor_members, is_counted_old, rewritten_symbols, rewritten_meaning}
+use Rattle.objects.specs.rewriting.Rewriting.{old_methods, accessors}
 use Rattle.objects.proofs.Items.{into_flat, into_map}
 use Rattle.objects.proofs.Links.{IsLinkedTo}
 use Rattle.member_code.specs.Meaning.{meaning}
 use Rattle.field_members.specs.AccessorsLaw.{AccessorsLaw}
 use Rattle.dup_methods.specs.Originals.{Original}
 use Rattle.retry_wrapper.specs.WrapperLaw.{WrapperLaw}
-use Rattle.object_rewriter.specs.Part.{own_fields, own_methods, part_of, share_of}
-use Rattle.object_rewriter.specs.Rewritten.{originals}
-use Rattle.object_rewriter.proofs.Lists.{drop_front}
-use Rattle.object_rewriter.proofs.Owned.{taken_of}
+use Rattle.rewriter.specs.Part.{own_fields, own_methods, part_of, share_of}
+use Rattle.rewriter.specs.Rewritten.{originals}
+use Rattle.rewriter.proofs.Lists.{drop_front}
+use Rattle.rewriter.proofs.Owned.{taken_of}
 use Rattle.rewritten_program.specs.Keeps.{IsCopy, Keeps}
 use Rattle.rewritten_program.proofs.Each.{each_cons, each_declared}
 use Rattle.rewritten_program.proofs.Grouped as grouped

@@ -3,17 +3,17 @@ use Rattle.std.proofs.Common.{◌≡◌, ℕ, ◌+◌, ◌-◌, ◌<◌, List, [
 use Rattle.std.specs.Prelude.{codes, bit_and, not, ◌==◌}
 use Rattle.std.specs.List.{AllByRecursion, AllZip}
 use Rattle.std.proofs.lemmas.Nat.{and_or_apart, and_assoc}
-use Rattle.jmodel.specs.ClassFile.{Member, Pool, ClassFile}
-use Rattle.jmodel.specs.Coded.{Coded}
-use Rattle.jmodel.specs.Layout.{is_static}
-use Rattle.jmodel.specs.Pool.{utf8}
-use Rattle.jmodel.specs.Reading.{◌>>=◌}
+use Rattle.jmodel.specs.format.ClassFile.{Member, Pool, ClassFile}
+use Rattle.objects.specs.linking.Code.{Coded}
+use Rattle.objects.specs.linking.Members.{is_static}
+use Rattle.jmodel.specs.format.Pool.{utf8}
+use Rattle.jmodel.specs.format.Reading.{◌>>=◌}
 use Rattle.jmodel.specs.declared.instruction.Instr.{Instr}
-use Rattle.jmodel.specs.Relocation.{Block}
-use Rattle.objects.specs.Linking.{decoded_member}
-use Rattle.objects.specs.Program.{Method}
-use Rattle.objects.specs.Resolution.{is_private}
-use Rattle.objects.specs.TypeOrder.{conflict_class}
+use Rattle.jmodel.specs.format.Relocation.{Block}
+use Rattle.objects.specs.linking.Linking.{decoded_member}
+use Rattle.objects.specs.semantics.Program.{Method}
+use Rattle.objects.specs.linking.Resolution.{is_private}
+use Rattle.objects.specs.typing.TypeOrder.{conflict_class}
 use Rattle.const_pool.proofs.Takes.{bind_ok, ok_is}
 use Rattle.member_code.specs.Growing.{Growth, grow_from}
 use Rattle.member_code.specs.Names.{duplicate_named}
@@ -25,7 +25,7 @@ use Rattle.dup_methods.specs.Originals.{Original}
 use Rattle.dup_methods.specs.Limits.{few_arguments, few_places}
 use Rattle.dup_methods.specs.Duplicates.{numbered_block, refs_of, duplicate_flags, duplicate_bytes, texts_of, made_duplicate, coded_duplicate, abstract_duplicate, duplicate_with, duplicate_of}
 use Rattle.dup_methods.proofs.BlockFacts.{IsNumbered, adds_numbered}
-use Rattle.object_rewriter.specs.Rewritten.{with_duplicates}
+use Rattle.rewriter.specs.Rewritten.{with_duplicates}
 use Rattle.rewritten_program.specs.Keeps.{IsCopy, AreCopies}
 use Rattle.rewritten_program.proofs.Grows.{Nothing}
 

@@ -1,13 +1,13 @@
 -- What each item of lists gives, and lists of methods that are joined.
 use Rattle.std.proofs.Common.{◌≡◌, ℕ, suc, ◌+◌, List, [], ◌∷◌, ◌++◌, length, Option, Some, None, ℤ, refl, ap, ◌∙◌, arith}
 use Rattle.std.specs.Prelude.{is_some}
-use Rattle.jmodel.specs.ClassFile.{Member, ClassFile}
-use Rattle.jmodel.specs.Classes.{Declared, declared_in}
-use Rattle.jmodel.specs.Decoding.{in_front, each}
-use Rattle.objects.specs.Program.{Field, Method, Program}
-use Rattle.objects.specs.Rewriting.{getter_method, setter_method, accessors, old_method, next_id, old_methods}
-use Rattle.object_rewriter.specs.Part.{is_wrapped, wrapper_count}
-use Rattle.object_rewriter.proofs.Lists.{filter_keeps, filter_drops}
+use Rattle.jmodel.specs.format.ClassFile.{Member, ClassFile}
+use Rattle.objects.specs.linking.Classes.{Declared, declared_in}
+use Rattle.objects.specs.linking.Each.{in_front, each}
+use Rattle.objects.specs.semantics.Program.{Field, Method, Program}
+use Rattle.objects.specs.rewriting.Rewriting.{getter_method, setter_method, accessors, old_method, next_id, old_methods}
+use Rattle.rewriter.specs.Part.{is_wrapped, wrapper_count}
+use Rattle.rewriter.proofs.Lists.{filter_keeps, filter_drops}
 
 -- ---- what each gives
 

@@ -3,21 +3,21 @@ use Rattle.std.proofs.Common.{◌≡◌, ℕ, ◌+◌, List, [], ◌∷◌, ◌+
 use Rattle.std.specs.List.{AllZip}
 use Rattle.std.proofs.lemmas.List.{length-map}
 use Rattle.jmodel.specs.declared.refusal.Refusal.{Refusal}
-use Rattle.jmodel.specs.ClassFile.{Member, ClassFile}
-use Rattle.jmodel.specs.ClassRules.{IsClassFile}
-use Rattle.jmodel.specs.ClassesTaken.{is_taken}
-use Rattle.jmodel.specs.Reading.{◌>>=◌}
-use Rattle.jmodel.specs.Superclasses.{own_name}
-use Rattle.objects.specs.Program.{Program}
-use Rattle.objects.specs.Typing.{Table}
-use Rattle.objects.specs.LinkingLaw.{AreRead}
+use Rattle.jmodel.specs.format.ClassFile.{Member, ClassFile}
+use Rattle.jmodel.specs.format.ClassRules.{IsClassFile}
+use Rattle.objects.specs.linking.Taken.{is_taken}
+use Rattle.jmodel.specs.format.Reading.{◌>>=◌}
+use Rattle.objects.specs.linking.Members.{own_name}
+use Rattle.objects.specs.semantics.Program.{Program}
+use Rattle.objects.specs.typing.Typing.{Table}
+use Rattle.objects.specs.laws.LinkingLaw.{AreRead}
 use Rattle.objects.proofs.Items.{item}
 use Rattle.objects.proofs.Links.{IsLinkedTo, links}
 use Rattle.const_pool.proofs.Takes.{bind_ok, ok_is}
 use Rattle.array_helper.specs.Helper.{helper_file}
-use Rattle.object_rewriter.specs.Part.{wrapper_count, own_fields, own_methods, part_of, share_of}
-use Rattle.object_rewriter.specs.Rewritten.{rewritten_part}
-use Rattle.object_rewriter.specs.RewrittenClasses.{of_class, rewritten_from, rewritten_classes}
+use Rattle.rewriter.specs.Part.{wrapper_count, own_fields, own_methods, part_of, share_of}
+use Rattle.rewriter.specs.Rewritten.{rewritten_part}
+use Rattle.rewriter.specs.RewrittenClasses.{of_class, rewritten_from, rewritten_classes}
 use Rattle.rewritten_names.specs.Heads.{Rewrites}
 use Rattle.rewritten_program.specs.Keeps.{AreKept, HeadsLaw}
 use Rattle.rewritten_program.proofs.Headed.{rewrites}

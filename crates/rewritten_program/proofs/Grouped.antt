@@ -4,22 +4,22 @@ use Rattle.std.specs.Prelude.{filter, zip, bytes_eq}
 use Rattle.std.specs.List.{AllByRecursion, AllZip}
 use Rattle.std.proofs.lemmas.List.{length-map, map-append}
 use Rattle.std.proofs.lemmas.List.Elements.{filter-append}
-use Rattle.jmodel.specs.ClassFile.{Member, ClassFile}
-use Rattle.jmodel.specs.Classes.{Declared, declared_in}
-use Rattle.jmodel.specs.ClassesTaken.{is_taken}
-use Rattle.jmodel.specs.Superclasses.{own_name}
-use Rattle.objects.specs.Program.{Field, Method, Program}
-use Rattle.objects.specs.Typing.{Table}
-use Rattle.objects.specs.Source.{IsSource}
-use Rattle.objects.specs.LinkingLaw.{AreRead}
-use Rattle.objects.specs.Relinking.{is_of, old_members, duplicates_count, accessors_count, duplicate_members, accessor_members}
+use Rattle.jmodel.specs.format.ClassFile.{Member, ClassFile}
+use Rattle.objects.specs.linking.Classes.{Declared, declared_in}
+use Rattle.objects.specs.linking.Taken.{is_taken}
+use Rattle.objects.specs.linking.Members.{own_name}
+use Rattle.objects.specs.semantics.Program.{Field, Method, Program}
+use Rattle.objects.specs.typing.Typing.{Table}
+use Rattle.objects.specs.typing.Source.{IsSource}
+use Rattle.objects.specs.laws.LinkingLaw.{AreRead}
+use Rattle.objects.specs.rewriting.Relinking.{is_of, old_members, duplicates_count, accessors_count, duplicate_members, accessor_members}
 use Rattle.objects.proofs.Items.{IsAt, into_flat, into_map}
 use Rattle.objects.proofs.Links.{IsLinkedTo}
 use Rattle.dup_methods.specs.Originals.{Original}
-use Rattle.object_rewriter.specs.Part.{own_methods, part_of, share_of}
-use Rattle.object_rewriter.specs.Rewritten.{originals}
-use Rattle.object_rewriter.proofs.Lists.{take_front, drop_front}
-use Rattle.object_rewriter.proofs.Owned.{taken_of}
+use Rattle.rewriter.specs.Part.{own_methods, part_of, share_of}
+use Rattle.rewriter.specs.Rewritten.{originals}
+use Rattle.rewriter.proofs.Lists.{take_front, drop_front}
+use Rattle.rewriter.proofs.Owned.{taken_of}
 use Rattle.rewritten_names.specs.Heads.{Head, head_of, heads, is_numbered, copy_of, accessor_heads, own_fields}
 use Rattle.rewritten_names.proofs.Free.{is_counted}
 use Rattle.rewritten_names.proofs.Groups.{IsCounted}

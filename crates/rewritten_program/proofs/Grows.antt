@@ -1,8 +1,8 @@
 -- Pools are grown by what is added, one thing after another.
 use Rattle.std.proofs.Common.{ℕ, ℤ, List, Ok, subst}
-use Rattle.jmodel.specs.ClassFile.{Pool}
-use Rattle.jmodel.specs.PoolAdding.{add_integer, add_class, add_field, add_method}
-use Rattle.jmodel.specs.Reading.{◌>>=◌}
+use Rattle.jmodel.specs.format.ClassFile.{Pool}
+use Rattle.jmodel.specs.format.PoolAdding.{add_integer, add_class, add_field, add_method}
+use Rattle.jmodel.specs.format.Reading.{◌>>=◌}
 use Rattle.const_pool.proofs.Takes.{bind_ok, ok_is}
 use Rattle.member_code.specs.Growing.{Growth}
 use Rattle.member_code.proofs.Grown.{grown_refl, grown_trans}

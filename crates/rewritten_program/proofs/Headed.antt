@@ -3,27 +3,26 @@ use Rattle.std.proofs.Common.{◌≡◌, ℕ, Bool, List, [], ◌∷◌, ◌++�
 use Rattle.std.specs.Prelude.{filter, cond, zip, option_map, IsSome}
 use Rattle.std.specs.List.{AllByRecursion, AllZip}
 use Rattle.std.proofs.lemmas.List.{map-append, length-map}
-use Rattle.jmodel.specs.ClassFile.{Member, Pool, ClassFile}
+use Rattle.jmodel.specs.format.ClassFile.{Member, Pool, ClassFile}
 use Rattle.jmodel.specs.declared.name.MethodName.{MethodName}
-use Rattle.jmodel.specs.ClassRules.{IsTwoBytes, IsMember, IsMethod, IsClassFile}
-use Rattle.jmodel.specs.Descriptor.{IsClassName, IsFieldDescriptor, IsMethodDescriptor}
-use Rattle.jmodel.specs.Classes.{declared_in, full_name}
-use Rattle.jmodel.specs.ClassesTaken.{is_taken}
-use Rattle.jmodel.specs.Layout.{is_static, text_or_none}
-use Rattle.jmodel.specs.Pool.{utf8, class_name}
-use Rattle.jmodel.specs.Superclasses.{own_name}
-use Rattle.objects.specs.Program.{Method, Program}
-use Rattle.objects.specs.Typing.{Table}
-use Rattle.objects.specs.LinkingLaw.{AreRead}
-use Rattle.objects.specs.Resolution.{is_private}
-use Rattle.objects.specs.Rewriting.{with_context, duplicate_name}
+use Rattle.jmodel.specs.format.ClassRules.{IsTwoBytes, IsMember, IsMethod, IsClassFile}
+use Rattle.jmodel.specs.format.Descriptor.{IsClassName, IsFieldDescriptor, IsMethodDescriptor}
+use Rattle.objects.specs.linking.Classes.{declared_in, full_name}
+use Rattle.objects.specs.linking.Taken.{is_taken}
+use Rattle.objects.specs.linking.Members.{is_static, own_name}
+use Rattle.jmodel.specs.format.Pool.{text_or_none, utf8, class_name}
+use Rattle.objects.specs.semantics.Program.{Method, Program}
+use Rattle.objects.specs.typing.Typing.{Table}
+use Rattle.objects.specs.laws.LinkingLaw.{AreRead}
+use Rattle.objects.specs.linking.Resolution.{is_private}
+use Rattle.objects.specs.rewriting.Rewriting.{with_context, duplicate_name}
 use Rattle.objects.proofs.Items.{IsAt, later, item, all_items, into_flat, into_map, of_filter}
 use Rattle.objects.proofs.Links.{IsLinkedTo, method_from}
 use Rattle.member_code.proofs.Grown.{Grown, the_some, the_and, utf8_grown, class_grown}
 use Rattle.dup_methods.specs.Originals.{Original}
-use Rattle.object_rewriter.specs.Part.{own_methods, part_of, share_of}
-use Rattle.object_rewriter.specs.Rewritten.{original_of, originals}
-use Rattle.object_rewriter.proofs.Owned.{taken_of}
+use Rattle.rewriter.specs.Part.{own_methods, part_of, share_of}
+use Rattle.rewriter.specs.Rewritten.{original_of, originals}
+use Rattle.rewriter.proofs.Owned.{taken_of}
 use Rattle.rewritten_names.specs.Heads.{Head, head_of, heads, is_numbered, copy_of, accessor_heads, own_fields, IsAdded, Rewrites}
 use Rattle.rewritten_names.proofs.Lists.{filter_map}
 use Rattle.rewritten_names.proofs.Ordinary.{numbered_taken}

@@ -4,15 +4,14 @@ use Rattle.std.specs.Prelude.{codes}
 use Rattle.std.specs.List.{flat_map, AllByRecursion}
 use Rattle.std.proofs.lemmas.List.Concat.{flat_map-cons}
 use Rattle.jmodel.specs.declared.name.MethodName.{MethodName}
-use Rattle.jmodel.specs.ClassFile.{Member, Pool, ClassFile}
-use Rattle.jmodel.specs.Layout.{text_or_none}
-use Rattle.jmodel.specs.Pool.{utf8, class_name}
-use Rattle.jmodel.specs.Reading.{◌>>=◌}
-use Rattle.jmodel.specs.Superclasses.{own_name}
+use Rattle.jmodel.specs.format.ClassFile.{Member, Pool, ClassFile}
+use Rattle.jmodel.specs.format.Pool.{text_or_none, utf8, class_name}
+use Rattle.jmodel.specs.format.Reading.{◌>>=◌}
+use Rattle.objects.specs.linking.Members.{own_name}
 use Rattle.objects.specs.declared.op.WordType.{WordType}
-use Rattle.objects.specs.Rewriting.{places_of, helper_class}
-use Rattle.objects.specs.TypeOrder.{context_class, object_class}
-use Rattle.objects.specs.Decoding.{read_descriptor, write_descriptor}
+use Rattle.objects.specs.rewriting.Rewriting.{word_places, helper_class}
+use Rattle.objects.specs.typing.TypeOrder.{context_class, object_class}
+use Rattle.objects.specs.linking.Decoding.{read_descriptor, write_descriptor}
 use Rattle.objects.proofs.Items.{item}
 use Rattle.const_pool.proofs.Takes.{bind_ok, ok_is}
 use Rattle.member_code.specs.Coding.{straight_method}
@@ -60,16 +59,16 @@ write_grows t = method_grows context_class (codes "onWriteAccess") (write_descri
 load_headed : (t : WordType) → Adding (IsHeaded (load_named t)) (load_method t)
 unfolding load_method
 load_headed t =
-    behind (IsHeaded (load_named t)) look_call (λ before pool. read_call t pool >>= λ after. straight_method (3 + places_of t) 3 (load_instrs t before after.0) (load_named t) after.1) look_grows
-    (λ before. behind (IsHeaded (load_named t)) (read_call t) (λ after pool. straight_method (3 + places_of t) 3 (load_instrs t before after) (load_named t) pool) (read_grows t)
-    (λ after. straight_headed (3 + places_of t) 3 (load_instrs t before after) (load_named t)))
+    behind (IsHeaded (load_named t)) look_call (λ before pool. read_call t pool >>= λ after. straight_method (3 + word_places t) 3 (load_instrs t before after.0) (load_named t) after.1) look_grows
+    (λ before. behind (IsHeaded (load_named t)) (read_call t) (λ after pool. straight_method (3 + word_places t) 3 (load_instrs t before after) (load_named t) pool) (read_grows t)
+    (λ after. straight_headed (3 + word_places t) 3 (load_instrs t before after) (load_named t)))
 
 -- a method that writes one
 store_headed : (t : WordType) → Adding (IsHeaded (store_named t)) (store_method t)
 unfolding store_method
 store_headed t =
-    behind (IsHeaded (store_named t)) (write_call t) (λ write pool. straight_method (3 + places_of t) (3 + places_of t) (store_instrs t write) (store_named t) pool) (write_grows t)
-    (λ write. straight_headed (3 + places_of t) (3 + places_of t) (store_instrs t write) (store_named t))
+    behind (IsHeaded (store_named t)) (write_call t) (λ write pool. straight_method (3 + word_places t) (3 + word_places t) (store_instrs t write) (store_named t) pool) (write_grows t)
+    (λ write. straight_headed (3 + word_places t) (3 + word_places t) (store_instrs t write) (store_named t))
 
 -- the methods of a type of elements
 record AreElements (t : WordType) (Z : Pool) (m : ElementMethods) : Type 0 where

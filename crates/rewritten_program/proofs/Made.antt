@@ -2,17 +2,17 @@
 use Rattle.std.proofs.Common.{◌≡◌, ◌<◌, List, [], ◌∷◌, ◌++◌, length, map, Ok, Bool, refl, sym, ap, ◌∙◌, arith, append_assoc}
 use Rattle.std.specs.Prelude.{zip}
 use Rattle.std.specs.List.{AllByRecursion, AllZip}
-use Rattle.jmodel.specs.ClassFile.{Member, ClassFile}
-use Rattle.jmodel.specs.Reading.{◌>>=◌}
-use Rattle.objects.specs.Program.{Method, Program}
-use Rattle.objects.specs.Typing.{Table}
+use Rattle.jmodel.specs.format.ClassFile.{Member, ClassFile}
+use Rattle.jmodel.specs.format.Reading.{◌>>=◌}
+use Rattle.objects.specs.semantics.Program.{Method, Program}
+use Rattle.objects.specs.typing.Typing.{Table}
 use Rattle.const_pool.proofs.Takes.{bind_ok}
 use Rattle.member_code.proofs.Grown.{Grown, grown_refl, grown_trans}
 use Rattle.field_members.specs.Fields.{with_fields}
 use Rattle.field_members.specs.Accessors.{with_accessors}
 use Rattle.dup_methods.specs.Originals.{Original}
-use Rattle.object_rewriter.specs.Part.{Share}
-use Rattle.object_rewriter.specs.Rewritten.{originals, with_duplicates, wrapped_from, rewritten_share}
+use Rattle.rewriter.specs.Part.{Share}
+use Rattle.rewriter.specs.Rewritten.{originals, with_duplicates, wrapped_from, rewritten_share}
 use Rattle.rewritten_names.specs.Heads.{heads, accessor_heads}
 use Rattle.rewritten_program.specs.Keeps.{Keeps}
 use Rattle.rewritten_program.proofs.Addresses.{IsAddedAt, IsFielded, fielded}

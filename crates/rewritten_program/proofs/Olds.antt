@@ -2,26 +2,26 @@
 use Rattle.std.proofs.Common.{◌≡◌, ℕ, ℤ, suc, ◌+◌, Bool, true, false, not, ◌||◌, List, [], ◌∷◌, length, map, Option, Some, None, refl, sym, ap, ◌∙◌, subst, arith}
 use Rattle.std.specs.Prelude.{slice_get, filter, zip, is_some, if◌then◌else◌, codes, option_and_then}
 use Rattle.std.specs.List.{AllByRecursion, AllZip, list_any}
-use Rattle.jmodel.specs.ClassFile.{Attribute, Member, Pool, ClassFile}
-use Rattle.jmodel.specs.ClassRules.{IsAttribute, is_named, same_text}
-use Rattle.jmodel.specs.Classes.{Declared, methods_in}
-use Rattle.jmodel.specs.ClassesTaken.{is_next, is_taken}
-use Rattle.jmodel.specs.Coded.{is_root, retries_of}
-use Rattle.jmodel.specs.Pool.{utf8}
-use Rattle.jmodel.specs.PoolAdding.{IsLonger}
-use Rattle.jmodel.specs.Decoding.{each}
-use Rattle.jmodel.proofs.ClassesTaken.{taken_law}
-use Rattle.objects.specs.Program.{Method, Program}
-use Rattle.objects.specs.Typing.{Table}
-use Rattle.objects.specs.Relinking.{is_of, is_counted_old, rewritten_symbols, rewritten_meaning}
-use Rattle.objects.specs.Rewriting.{duplicate, wrapper_method, old_method, next_id, old_methods}
+use Rattle.jmodel.specs.format.ClassFile.{Attribute, Member, Pool, ClassFile}
+use Rattle.jmodel.specs.format.ClassRules.{IsAttribute, is_named, same_text}
+use Rattle.objects.specs.linking.Classes.{Declared, methods_in}
+use Rattle.objects.specs.linking.Taken.{is_next, is_taken}
+use Rattle.objects.specs.linking.Code.{is_root, retries_of}
+use Rattle.jmodel.specs.format.Pool.{utf8}
+use Rattle.jmodel.specs.format.PoolAdding.{IsLonger}
+use Rattle.objects.specs.linking.Each.{each}
+use Rattle.objects.proofs.TakenLaws.{taken_law}
+use Rattle.objects.specs.semantics.Program.{Method, Program}
+use Rattle.objects.specs.typing.Typing.{Table}
+use Rattle.objects.specs.rewriting.Relinking.{is_of, is_counted_old, rewritten_symbols, rewritten_meaning}
+use Rattle.objects.specs.rewriting.Rewriting.{duplicate, wrapper_method, old_method, next_id, old_methods}
 use Rattle.objects.proofs.Items.{IsAt, later, item}
 use Rattle.objects.proofs.Links.{IsLinkedTo}
 use Rattle.member_code.specs.Meaning.{meaning}
 use Rattle.member_code.proofs.Grown.{Grown, the_some, utf8_grown}
 use Rattle.retry_wrapper.specs.WrapperLaw.{HasCode, IsRoot, WrapperLaw}
-use Rattle.object_rewriter.specs.Rewritten.{number_behind, id_behind}
-use Rattle.object_rewriter.proofs.Lists.{filter_keeps, filter_drops}
+use Rattle.rewriter.specs.Rewritten.{number_behind, id_behind}
+use Rattle.rewriter.proofs.Lists.{filter_keeps, filter_drops}
 use Rattle.rewritten_program.specs.Keeps.{IsOld, AreOlds}
 use Rattle.rewritten_program.proofs.Each.{each_cons}
 use Rattle.rewritten_program.proofs.Placed.{IsPair}

@@ -3,18 +3,18 @@ use Rattle.std.proofs.Common.{◌≡◌, ℕ, zero, suc, ◌+◌, List, [], ◌�
 use Rattle.std.specs.Prelude.{slice_get}
 use Rattle.std.specs.List.{flat_map, AllByRecursion, AllZip}
 use Rattle.std.proofs.lemmas.List.{length-map}
-use Rattle.jmodel.specs.ClassFile.{Member, ClassFile}
-use Rattle.jmodel.specs.Classes.{declared_in}
-use Rattle.jmodel.specs.ClassesTaken.{is_taken}
-use Rattle.objects.specs.Program.{Method, Program, method_at}
-use Rattle.objects.specs.Linking.{taken_methods}
-use Rattle.objects.specs.LinkingLaw.{AreRead}
-use Rattle.objects.specs.Relinking.{old_members}
+use Rattle.jmodel.specs.format.ClassFile.{Member, ClassFile}
+use Rattle.objects.specs.linking.Classes.{declared_in}
+use Rattle.objects.specs.linking.Taken.{is_taken}
+use Rattle.objects.specs.semantics.Program.{Method, Program, method_at}
+use Rattle.objects.specs.linking.Linking.{taken_methods}
+use Rattle.objects.specs.laws.LinkingLaw.{AreRead}
+use Rattle.objects.specs.rewriting.Relinking.{old_members}
 use Rattle.objects.proofs.Items.{IsAt, later}
 use Rattle.objects.proofs.Links.{IsLinkedTo}
-use Rattle.object_rewriter.specs.Part.{own_fields, own_methods}
-use Rattle.object_rewriter.proofs.Lists.{front_at, behind_front, there, place_inside, all_zipped}
-use Rattle.object_rewriter.proofs.Owned.{taken_of, AreAsMany, methods_are, fields_are}
+use Rattle.rewriter.specs.Part.{own_fields, own_methods}
+use Rattle.rewriter.proofs.Lists.{front_at, behind_front, there, place_inside, all_zipped}
+use Rattle.rewriter.proofs.Owned.{taken_of, AreAsMany, methods_are, fields_are}
 use Rattle.rewritten_names.proofs.Lists.{filter_map}
 use Rattle.rewritten_names.proofs.Ordinary.{olds_taken, all_taken}
 

@@ -2,22 +2,22 @@
 use Rattle.std.proofs.Common.{◌≡◌, ℕ, ℤ, true, List, ◌++◌, length, Option, Some, None, Bool, sym, ap, ◌∙◌}
 use Rattle.std.specs.Prelude.{FitsSigned, option_map, option_and_then}
 use Rattle.std.specs.Int.{w32}
-use Rattle.jmodel.specs.ClassFile.{Member, ClassFile}
-use Rattle.jmodel.specs.Classes.{Declared}
-use Rattle.jmodel.specs.Coded.{Coded, retries_of}
-use Rattle.jmodel.specs.Descriptor.{Signature}
-use Rattle.objects.specs.Program.{Method, Program}
-use Rattle.objects.specs.Typing.{Table}
-use Rattle.objects.specs.Decoding.{Symbols}
-use Rattle.objects.specs.Linking.{Body, receiver_types, parameter_types, body_of, method_with, signature_in, shaped, method_of, decoded_member}
-use Rattle.objects.specs.Relinking.{decoded_or_none, rewritten_symbols}
-use Rattle.objects.specs.Rewriting.{duplicate}
+use Rattle.jmodel.specs.format.ClassFile.{Member, ClassFile}
+use Rattle.objects.specs.linking.Classes.{Declared}
+use Rattle.objects.specs.linking.Code.{Coded, retries_of}
+use Rattle.jmodel.specs.format.Descriptor.{Signature}
+use Rattle.objects.specs.semantics.Program.{Method, Program}
+use Rattle.objects.specs.typing.Typing.{Table}
+use Rattle.objects.specs.linking.Decoding.{Symbols}
+use Rattle.objects.specs.linking.Linking.{Body, receiver_types, parameter_types, body_of, method_with, signature_in, shaped, method_of, decoded_member}
+use Rattle.objects.specs.rewriting.Relinking.{decoded_or_none, rewritten_symbols}
+use Rattle.objects.specs.rewriting.Rewriting.{duplicate}
 use Rattle.objects.proofs.Links.{IsLinkedTo, method_from}
 use Rattle.member_code.specs.Meaning.{meaning}
 use Rattle.field_members.specs.AccessorsLaw.{AreKnown}
 use Rattle.retry_wrapper.specs.WrapperLaw.{HasCode, IsRoot}
-use Rattle.object_rewriter.specs.Part.{own_fields}
-use Rattle.object_rewriter.specs.Rewritten.{original_of}
+use Rattle.rewriter.specs.Part.{own_fields}
+use Rattle.rewriter.specs.Rewritten.{original_of}
 use Rattle.rewritten_program.specs.Keeps.{IsCopy}
 use Rattle.rewritten_program.proofs.Placed.{IsPair}
 

@@ -4,25 +4,24 @@ use Rattle.std.specs.Prelude.{filter, bytes_eq, option_map}
 use Rattle.std.specs.List.{AllByRecursion, AllZip, flat_map}
 use Rattle.std.proofs.lemmas.List.Elements.{filter-append}
 use Rattle.std.proofs.lemmas.Slice.Eq.{bytes_eq-Decides}
-use Rattle.jmodel.specs.ClassFile.{ClassFile}
-use Rattle.jmodel.specs.Classes.{Declared, declared_in}
-use Rattle.jmodel.specs.Decoding.{each}
-use Rattle.jmodel.specs.Linking.{joined as both_lists}
-use Rattle.jmodel.specs.Superclasses.{own_name}
-use Rattle.objects.specs.Program.{Field, Method, Program}
-use Rattle.objects.specs.Typing.{Table}
-use Rattle.objects.specs.Source.{IsSource}
-use Rattle.objects.specs.LinkingLaw.{AreRead}
-use Rattle.objects.specs.Relinking.{old_members, duplicate_members, accessor_members, is_helper, helper_members, rewritten_classes, is_counted_old, rewritten_symbols, rewritten_meaning, relinked}
-use Rattle.objects.specs.Rewriting.{old_methods, accessors, helper_class, helper_methods}
+use Rattle.jmodel.specs.format.ClassFile.{ClassFile}
+use Rattle.objects.specs.linking.Classes.{Declared, declared_in}
+use Rattle.objects.specs.linking.Each.{each, joined as both_lists}
+use Rattle.objects.specs.linking.Members.{own_name}
+use Rattle.objects.specs.semantics.Program.{Field, Method, Program}
+use Rattle.objects.specs.typing.Typing.{Table}
+use Rattle.objects.specs.typing.Source.{IsSource}
+use Rattle.objects.specs.laws.LinkingLaw.{AreRead}
+use Rattle.objects.specs.rewriting.Relinking.{old_members, duplicate_members, accessor_members, is_helper, helper_members, rewritten_classes, is_counted_old, rewritten_symbols, rewritten_meaning, relinked}
+use Rattle.objects.specs.rewriting.Rewriting.{old_methods, accessors, helper_class, helper_methods}
 use Rattle.objects.proofs.Items.{all_items}
 use Rattle.objects.proofs.Links.{IsLinkedTo}
 use Rattle.array_helper.specs.Helper.{helper_file}
 use Rattle.array_helper.specs.HelperLaw.{HelperLaw}
 use Rattle.field_members.specs.AccessorsLaw.{AccessorsLaw}
 use Rattle.retry_wrapper.specs.WrapperLaw.{WrapperLaw}
-use Rattle.object_rewriter.specs.Part.{wrapper_count, own_fields, own_methods}
-use Rattle.object_rewriter.proofs.Owned.{methods_are, fields_are}
+use Rattle.rewriter.specs.Part.{wrapper_count, own_fields, own_methods}
+use Rattle.rewriter.proofs.Owned.{methods_are, fields_are}
 use Rattle.rewritten_names.specs.Heads.{Rewrites}
 use Rattle.rewritten_names.proofs.Free.{is_apart}
 use Rattle.rewritten_names.proofs.Lists.{append_none, filter_none, filter_all, turned}

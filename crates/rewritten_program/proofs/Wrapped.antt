@@ -2,12 +2,12 @@
 use Rattle.std.proofs.Common.{◌≡◌, ℕ, ℤ, zero, suc, ◌<◌, List, [], ◌∷◌, ◌++◌, length, map, set, Option, Some, None, Ok, Bool, refl, sym, ap, ◌∙◌, subst, arith, append_assoc, length-append}
 use Rattle.std.specs.Prelude.{codes, pos, slice_get}
 use Rattle.jmodel.specs.declared.name.MethodName.{MethodName}
-use Rattle.jmodel.specs.ClassFile.{Member, Pool, ClassFile}
-use Rattle.jmodel.specs.Coded.{retries_of}
-use Rattle.jmodel.specs.PoolAdding.{add_integer, add_class, add_method}
-use Rattle.jmodel.specs.Reading.{◌>>=◌}
-use Rattle.objects.specs.Program.{Method, Program}
-use Rattle.objects.specs.TypeOrder.{context_class, conflict_class}
+use Rattle.jmodel.specs.format.ClassFile.{Member, Pool, ClassFile}
+use Rattle.objects.specs.linking.Code.{retries_of}
+use Rattle.jmodel.specs.format.PoolAdding.{add_integer, add_class, add_method}
+use Rattle.jmodel.specs.format.Reading.{◌>>=◌}
+use Rattle.objects.specs.semantics.Program.{Method, Program}
+use Rattle.objects.specs.typing.TypeOrder.{context_class, conflict_class}
 use Rattle.const_pool.proofs.Takes.{bind_ok, ok_is, fine}
 use Rattle.member_code.specs.Names.{duplicate_named}
 use Rattle.member_code.proofs.Grown.{Grown, grown_refl, grown_trans}
@@ -15,7 +15,7 @@ use Rattle.member_code.proofs.Puts.{Puts, Adding}
 use Rattle.retry_wrapper.specs.Wrappers.{few_arguments, few_wrappers, get_call, counts_of, opening_of, ending_of, wrapper_bytes, with_code, wrapper_of, and_method, with_wrapper_of, with_wrapper}
 use Rattle.retry_wrapper.specs.declared.wrappers.Ending.{Ending}
 use Rattle.retry_wrapper.specs.declared.wrappers.Opening.{Opening}
-use Rattle.object_rewriter.specs.Rewritten.{wrapped_if, number_behind, id_behind, wrapped_from}
+use Rattle.rewriter.specs.Rewritten.{wrapped_if, number_behind, id_behind, wrapped_from}
 use Rattle.rewritten_program.specs.Keeps.{IsWrapped, IsOld, AreOlds}
 use Rattle.rewritten_program.proofs.Grows.{Growing, gives, then, method_grows, class_grows, integer_grows}
 

@@ -1,13 +1,13 @@
 -- How a class and its rewriting go together: what each method of the rewriting is, and the pools in between.
 use Rattle.std.specs.Prelude.{◌≡◌, ℕ, ℤ, suc, ◌+◌, ◌<◌, List, [], ◌∷◌, ◌++◌, length, take, drop, zip, Some, None, Ok, Bool, slice_get}
 use Rattle.std.specs.List.{AllZip}
-use Rattle.jmodel.specs.ClassFile.{Member, Pool, ClassFile}
-use Rattle.jmodel.specs.Coded.{retries_of}
-use Rattle.jmodel.specs.PoolAdding.{IsLonger}
-use Rattle.objects.specs.Program.{Method, Program}
-use Rattle.objects.specs.Typing.{Table}
-use Rattle.objects.specs.Linking.{linking}
-use Rattle.objects.specs.LinkingLaw.{AreRead}
+use Rattle.jmodel.specs.format.ClassFile.{Member, Pool, ClassFile}
+use Rattle.objects.specs.linking.Code.{retries_of}
+use Rattle.jmodel.specs.format.PoolAdding.{IsLonger}
+use Rattle.objects.specs.semantics.Program.{Method, Program}
+use Rattle.objects.specs.typing.Typing.{Table}
+use Rattle.objects.specs.linking.Linking.{linking}
+use Rattle.objects.specs.laws.LinkingLaw.{AreRead}
 use Rattle.field_members.specs.Fields.{with_fields}
 use Rattle.field_members.specs.FieldsLaw.{Begins}
 use Rattle.field_members.specs.Accessors.{with_accessors}
@@ -15,9 +15,9 @@ use Rattle.dup_methods.specs.Originals.{Original}
 use Rattle.dup_methods.specs.Duplicates.{duplicate_of}
 use Rattle.retry_wrapper.specs.Wrappers.{with_wrapper}
 use Rattle.array_helper.specs.Helper.{helper_file}
-use Rattle.object_rewriter.specs.Part.{Share, wrapper_count, own_methods, part_of, share_of}
-use Rattle.object_rewriter.specs.Rewritten.{originals, number_behind, id_behind}
-use Rattle.object_rewriter.specs.RewrittenClasses.{rewritten_folder}
+use Rattle.rewriter.specs.Part.{Share, wrapper_count, own_methods, part_of, share_of}
+use Rattle.rewriter.specs.Rewritten.{originals, number_behind, id_behind}
+use Rattle.rewriter.specs.RewrittenClasses.{rewritten_folder}
 use Rattle.rewritten_names.specs.NamesLaw.{AreRewritten}
 use Rattle.rewritten_names.specs.LeadsLaw.{AreTexts}
 

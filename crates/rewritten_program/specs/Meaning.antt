@@ -1,15 +1,15 @@
 -- Rewritten classes together mean the rewritten program.
 use Rattle.std.specs.Prelude.{◌≡◌, List, Some, Ok}
 use Rattle.std.specs.List.{AllByRecursion}
-use Rattle.jmodel.specs.ClassFile.{ClassFile}
-use Rattle.objects.specs.Program.{Program}
-use Rattle.objects.specs.Typing.{Table}
-use Rattle.objects.specs.Linking.{linking}
-use Rattle.objects.specs.LinkingLaw.{AreRead}
-use Rattle.objects.specs.Relinking.{relinked}
-use Rattle.objects.specs.Rewriting.{rewritten}
-use Rattle.object_rewriter.specs.Asked.{AreFiled}
-use Rattle.object_rewriter.specs.RewrittenClasses.{rewritten_folder}
+use Rattle.jmodel.specs.format.ClassFile.{ClassFile}
+use Rattle.objects.specs.semantics.Program.{Program}
+use Rattle.objects.specs.typing.Typing.{Table}
+use Rattle.objects.specs.linking.Linking.{linking}
+use Rattle.objects.specs.laws.LinkingLaw.{AreRead}
+use Rattle.objects.specs.rewriting.Relinking.{relinked}
+use Rattle.objects.specs.rewriting.Rewriting.{rewritten}
+use Rattle.rewriter.specs.Asked.{AreFiled}
+use Rattle.rewriter.specs.RewrittenClasses.{rewritten_folder}
 
 -- The rewriting of a folder's classes, read again over their program, is the rewritten program.
 abbrev pub MeaningLaw : Type 0

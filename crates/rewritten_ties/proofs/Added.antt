@@ -2,13 +2,13 @@
 use Rattle.std.proofs.Common.{◌≡◌, ℕ, ◌+◌, ◌*◌, List, length, map, Option, Some, None, refl, sym, ap, ◌∙◌, arith}
 use Rattle.std.specs.Prelude.{position}
 use Rattle.jmodel.specs.declared.name.MethodName.{MethodName}
-use Rattle.jmodel.specs.ClassFile.{ClassFile}
-use Rattle.jmodel.specs.Classes.{declared_in, full_name}
+use Rattle.jmodel.specs.format.ClassFile.{ClassFile}
+use Rattle.objects.specs.linking.Classes.{declared_in, full_name}
 use Rattle.objects.specs.declared.op.WordType.{WordType}
 use Rattle.objects.specs.declared.op.Op.TheVariants.{InvokeStatic}
-use Rattle.objects.specs.Program.{Field, Method, Program, field_at}
-use Rattle.objects.specs.Decoding.{Symbols, is_method, method_number, static_call_op}
-use Rattle.objects.specs.Rewriting.{getter_method, setter_method, getter, setter, duplicate, element_getter, element_setter, helper_place, helper_methods, element_getter_method, element_setter_method}
+use Rattle.objects.specs.semantics.Program.{Field, Method, Program, field_at}
+use Rattle.objects.specs.linking.Decoding.{Symbols, is_method, method_number, static_call_op}
+use Rattle.objects.specs.rewriting.Rewriting.{getter_method, setter_method, getter, setter, duplicate, element_getter, element_setter, helper_place, helper_methods, element_getter_method, element_setter_method}
 use Rattle.dup_methods.specs.Names.{getter_named, setter_named, load_named, store_named}
 use Rattle.rewritten_names.specs.LeadsLaw.{as_member, Leads}
 use Rattle.rewritten_names.proofs.Free.{getter_kept, setter_kept}

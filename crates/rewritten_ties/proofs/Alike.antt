@@ -5,13 +5,13 @@ use Rattle.std.specs.List.{starts_with}
 use Rattle.std.proofs.lemmas.Slice.Eq.{bytes_eq-Decides}
 use Rattle.jmodel.specs.declared.class_file.FieldType.{FieldType}
 use Rattle.jmodel.specs.declared.class_file.FieldType.TheVariants as field
-use Rattle.jmodel.specs.ClassFile.{ClassFile}
-use Rattle.jmodel.specs.Descriptor.{is_array_name, field_descriptor}
-use Rattle.jmodel.specs.Linking.{has_part, is_reserved}
-use Rattle.objects.specs.TypeOrder.{without_last}
-use Rattle.objects.specs.Layout.{class_read, descriptor_read, name_read, declared_as}
+use Rattle.jmodel.specs.format.ClassFile.{ClassFile}
+use Rattle.jmodel.specs.format.Descriptor.{is_array_name, field_descriptor}
+use Rattle.objects.specs.linking.Reserved.{has_part, is_reserved}
+use Rattle.objects.specs.typing.TypeOrder.{without_last}
+use Rattle.objects.specs.linking.Layout.{class_read, descriptor_read, name_read, declared_as}
 use Rattle.objects.specs.declared.op.WordType.TheVariants as word
-use Rattle.objects.specs.Rewriting.{helper_class}
+use Rattle.objects.specs.rewriting.Rewriting.{helper_class}
 use Rattle.objects.proofs.LinkedTypes.{IsPart, part_whole, found_part}
 use Rattle.rewritten_names.specs.LeadsLaw.{IsOther}
 use Rattle.rewritten_names.proofs.Lists.{either_false}

@@ -5,14 +5,14 @@ use Rattle.std.specs.List.{AllByRecursion}
 use Rattle.std.proofs.lemmas.Option.{get_or_from_slice_get, slice_get_within}
 use Rattle.std.proofs.lemmas.Slice.Eq.{bytes_eq-Decides}
 use Rattle.jmodel.specs.declared.name.MethodName.{MethodName}
-use Rattle.jmodel.specs.ClassFile.{Member, Pool, ClassFile}
-use Rattle.jmodel.specs.ClassRules.{IsMethod, IsSameMember, AreDistinct}
-use Rattle.jmodel.specs.Superclasses.{own_name}
-use Rattle.jmodel.specs.Classes.{Declared, declared_in, methods_in, full_name}
-use Rattle.jmodel.specs.ClassesTaken.{is_taken}
-use Rattle.objects.specs.Decoding.{is_method}
-use Rattle.objects.specs.Linking.{taken_methods}
-use Rattle.objects.specs.LinkingLaw.{AreRead}
+use Rattle.jmodel.specs.format.ClassFile.{Member, Pool, ClassFile}
+use Rattle.jmodel.specs.format.ClassRules.{IsMethod, IsSameMember, AreDistinct}
+use Rattle.objects.specs.linking.Members.{own_name}
+use Rattle.objects.specs.linking.Classes.{Declared, declared_in, methods_in, full_name}
+use Rattle.objects.specs.linking.Taken.{is_taken}
+use Rattle.objects.specs.linking.Decoding.{is_method}
+use Rattle.objects.specs.linking.Linking.{taken_methods}
+use Rattle.objects.specs.laws.LinkingLaw.{AreRead}
 use Rattle.objects.proofs.AsRead.{is_file}
 use Rattle.objects.proofs.DeclaredMembers.{of_methods, same_names}
 use Rattle.objects.proofs.Items.{IsAt, item, later, all_items, of_map}

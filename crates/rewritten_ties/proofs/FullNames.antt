@@ -1,9 +1,8 @@
 -- The full name of a member of which the texts are known.
 use Rattle.std.proofs.Common.{◌≡◌, ℕ, List, Option, ap, ◌∙◌}
-use Rattle.jmodel.specs.Layout.{text_or_none}
-use Rattle.jmodel.specs.Pool.{utf8, MemberName}
-use Rattle.jmodel.specs.Superclasses.{own_name}
-use Rattle.jmodel.specs.Classes.{Declared, full_name}
+use Rattle.jmodel.specs.format.Pool.{text_or_none, utf8, MemberName}
+use Rattle.objects.specs.linking.Members.{own_name}
+use Rattle.objects.specs.linking.Classes.{Declared, full_name}
 use Rattle.objects.proofs.DeclaredMembers.{HasName}
 
 -- the class, and the texts of the name that it has

@@ -2,18 +2,18 @@
 use Rattle.std.proofs.Common.{◌≡◌, ◌+◌, ◌*◌, List, [], ◌∷◌, ◌++◌, length, map, Option, Some, None, Bool, false, refl, sym, ap, ◌∙◌}
 use Rattle.std.specs.Prelude.{position, option_map, option_and_then}
 use Rattle.jmodel.specs.declared.name.MethodName.{MethodName}
-use Rattle.jmodel.specs.ClassFile.{Member}
-use Rattle.jmodel.specs.Classes.{declared_in, full_name}
-use Rattle.jmodel.specs.Coded.{Coded}
-use Rattle.jmodel.specs.Decoding.{each, in_front}
-use Rattle.jmodel.specs.Descriptor.{Signature}
+use Rattle.jmodel.specs.format.ClassFile.{Member}
+use Rattle.objects.specs.linking.Classes.{declared_in, full_name}
+use Rattle.objects.specs.linking.Code.{Coded}
+use Rattle.objects.specs.linking.Each.{each, in_front}
+use Rattle.jmodel.specs.format.Descriptor.{Signature}
 use Rattle.objects.specs.declared.op.WordType.{WordType}
 use Rattle.objects.specs.declared.op.WordType.TheVariants as word
-use Rattle.objects.specs.Program.{Method}
-use Rattle.objects.specs.Decoding.{Symbols, is_method}
-use Rattle.objects.specs.Linking.{Body, receiver_types, parameter_types, method_with, shaped, body_of, signature_in, method_of, decoded_member}
-use Rattle.objects.specs.Relinking.{decoded_or_none}
-use Rattle.objects.specs.Rewriting.{helper_methods, helper_place, element_getter_method, element_setter_method}
+use Rattle.objects.specs.semantics.Program.{Method}
+use Rattle.objects.specs.linking.Decoding.{Symbols, is_method}
+use Rattle.objects.specs.linking.Linking.{Body, receiver_types, parameter_types, method_with, shaped, body_of, signature_in, method_of, decoded_member}
+use Rattle.objects.specs.rewriting.Relinking.{decoded_or_none}
+use Rattle.objects.specs.rewriting.Rewriting.{helper_methods, helper_place, element_getter_method, element_setter_method}
 use Rattle.member_code.specs.Meaning.{meaning}
 
 -- ---- what a member means has its name

@@ -4,25 +4,26 @@ use Rattle.std.specs.Prelude.{bytes_eq, slice_get, filter, cond, if◌then◌els
 use Rattle.std.specs.List.{AllByRecursion}
 use Rattle.std.proofs.lemmas.Slice.Eq.{bytes_eq-Decides}
 use Rattle.jmodel.specs.declared.value.Value.TheVariants.{Ref}
-use Rattle.jmodel.specs.ClassFile.{Member, ClassFile}
-use Rattle.jmodel.specs.ClassRules.{IsField}
-use Rattle.jmodel.specs.Descriptor.{IsClassName}
-use Rattle.jmodel.specs.DescriptorReading.{type_of}
-use Rattle.jmodel.specs.Layout.{is_static, base_of, text_or_none}
-use Rattle.jmodel.specs.Linking.{is_reserved}
-use Rattle.jmodel.specs.Pool.{utf8}
-use Rattle.jmodel.specs.Superclasses.{own_name, class_named}
+use Rattle.jmodel.specs.format.ClassFile.{Member, ClassFile}
+use Rattle.jmodel.specs.format.ClassRules.{IsField}
+use Rattle.jmodel.specs.format.Descriptor.{IsClassName}
+use Rattle.jmodel.specs.format.DescriptorReading.{type_of}
+use Rattle.objects.specs.linking.Members.{is_static, own_name}
+use Rattle.objects.specs.linking.StaticBases.{base_of}
+use Rattle.jmodel.specs.format.Pool.{text_or_none, utf8}
+use Rattle.objects.specs.linking.Reserved.{is_reserved}
+use Rattle.objects.specs.linking.Superclasses.{class_named}
 use Rattle.objects.specs.declared.op.Op.TheVariants.{Constant}
-use Rattle.objects.specs.Program.{Field, Program, field_at}
-use Rattle.objects.specs.Resolution.{is_interface, holds_of}
-use Rattle.objects.specs.TypeOrder.{context_class, object_class}
-use Rattle.objects.specs.LibraryMethods.{is_library}
-use Rattle.objects.specs.Layout.{class_read, declared_as}
-use Rattle.objects.specs.Decoding.{Symbols, field_number, get_static_op}
-use Rattle.objects.specs.Linking.{base_in, original_symbols}
-use Rattle.objects.specs.LinkingLaw.{AreRead, IsUpward}
-use Rattle.objects.specs.Relinking.{rewritten_symbols}
-use Rattle.objects.specs.Rewriting.{distance}
+use Rattle.objects.specs.semantics.Program.{Field, Program, field_at}
+use Rattle.objects.specs.linking.Resolution.{is_interface, holds_of}
+use Rattle.objects.specs.typing.TypeOrder.{context_class, object_class}
+use Rattle.objects.specs.linking.LibraryMethods.{is_library}
+use Rattle.objects.specs.linking.Layout.{class_read, declared_as}
+use Rattle.objects.specs.linking.Decoding.{Symbols, field_number, get_static_op}
+use Rattle.objects.specs.linking.Linking.{base_in, original_symbols}
+use Rattle.objects.specs.laws.LinkingLaw.{AreRead, IsUpward}
+use Rattle.objects.specs.rewriting.Relinking.{rewritten_symbols}
+use Rattle.objects.specs.rewriting.Rewriting.{distance}
 use Rattle.objects.proofs.AsRead.{is_file, own_class_name}
 use Rattle.objects.proofs.DeclaredMembers.{by_own_name}
 use Rattle.objects.proofs.Items.{IsAt, item, all_items, of_filter}

@@ -1,15 +1,15 @@
 -- What a call means, and what is known of its name where it means something.
 use Rattle.std.proofs.Common.{◌≡◌, ℕ, List, Option, Some, None, Bool, true, false, refl, ap, ◌∙◌}
 use Rattle.std.specs.Prelude.{bytes_eq, codes, if◌then◌else◌, option_map}
-use Rattle.jmodel.specs.Pool.{MemberName}
+use Rattle.jmodel.specs.format.Pool.{MemberName}
 use Rattle.objects.specs.declared.op.ContextCall.{ContextCall}
 use Rattle.objects.specs.declared.op.Op.TheVariants as op
 use Rattle.objects.specs.declared.op.Binary.TheVariants.{Minimum, Maximum}
 use Rattle.objects.specs.declared.op.Unary.TheVariants.{Absolute}
-use Rattle.objects.specs.TypeOrder.{context_class}
-use Rattle.objects.specs.LibraryMethods.{is_library_constructor, is_library_function}
-use Rattle.objects.specs.Layout.{class_read}
-use Rattle.objects.specs.Decoding.{Symbols, method_number, width_in, function_op, is_get_context, static_call_op, parameter_places, special_call_op, interface_call_op, context_call, virtual_call_op}
+use Rattle.objects.specs.typing.TypeOrder.{context_class}
+use Rattle.objects.specs.linking.LibraryMethods.{is_library_constructor, is_library_function}
+use Rattle.objects.specs.linking.Layout.{class_read}
+use Rattle.objects.specs.linking.Decoding.{Symbols, method_number, width_in, function_op, is_get_context, static_call_op, parameter_places, special_call_op, interface_call_op, context_call, virtual_call_op}
 use Rattle.rewritten_names.specs.LeadsLaw.{special_number}
 
 -- ---- from numbers

@@ -6,20 +6,20 @@ use Rattle.std.specs.Option.{option_or}
 use Rattle.std.proofs.lemmas.List.Folds.{find-append}
 use Rattle.std.proofs.lemmas.Slice.Eq.{bytes_eq-Decides}
 use Rattle.jmodel.specs.declared.name.MethodName.{MethodName}
-use Rattle.jmodel.specs.ClassFile.{Member, ClassFile}
-use Rattle.jmodel.specs.ClassRules.{IsField}
-use Rattle.jmodel.specs.Descriptor.{IsFieldDescriptor}
-use Rattle.jmodel.specs.Layout.{text_or_none}
-use Rattle.jmodel.specs.Linking.{is_reserved}
-use Rattle.jmodel.specs.Pool.{utf8, MemberName}
-use Rattle.jmodel.specs.Superclasses.{own_name, class_named, super_name, with_above}
-use Rattle.jmodel.specs.Classes.{Declared, declared_in, full_name}
-use Rattle.objects.specs.Program.{Field, Program, field_at}
-use Rattle.objects.specs.Resolution.{is_interface, names_above, ancestry, has_name, fields_in, resolved_field}
-use Rattle.objects.specs.Layout.{words_upward, field_record, fields_of}
-use Rattle.objects.specs.Decoding.{is_field_of, field_number}
-use Rattle.objects.specs.Linking.{place_from, original_symbols}
-use Rattle.objects.specs.LinkingLaw.{AreRead, IsUpward}
+use Rattle.jmodel.specs.format.ClassFile.{Member, ClassFile}
+use Rattle.jmodel.specs.format.ClassRules.{IsField}
+use Rattle.jmodel.specs.format.Descriptor.{IsFieldDescriptor}
+use Rattle.jmodel.specs.format.Pool.{text_or_none, utf8, MemberName}
+use Rattle.objects.specs.linking.Reserved.{is_reserved}
+use Rattle.objects.specs.linking.Members.{own_name}
+use Rattle.objects.specs.linking.Superclasses.{class_named, super_name, with_above}
+use Rattle.objects.specs.linking.Classes.{Declared, declared_in, full_name}
+use Rattle.objects.specs.semantics.Program.{Field, Program, field_at}
+use Rattle.objects.specs.linking.Resolution.{is_interface, names_above, ancestry, has_name, fields_in, resolved_field}
+use Rattle.objects.specs.linking.Layout.{words_upward, field_record, fields_of}
+use Rattle.objects.specs.linking.Decoding.{is_field_of, field_number}
+use Rattle.objects.specs.linking.Linking.{place_from, original_symbols}
+use Rattle.objects.specs.laws.LinkingLaw.{AreRead, IsUpward}
 use Rattle.objects.proofs.AsRead.{is_file}
 use Rattle.objects.proofs.DeclaredMembers.{HasName, name_of_member, has_its_name, by_own_name, same_class}
 use Rattle.objects.proofs.Items.{IsAt, item, into_map, of_map, of_filter, found, finds}

@@ -6,20 +6,21 @@ use Rattle.std.specs.Option.{option_or}
 use Rattle.std.proofs.lemmas.List.Folds.{find-append}
 use Rattle.std.proofs.lemmas.Slice.Eq.{bytes_eq-Decides}
 use Rattle.jmodel.specs.declared.name.MethodName.{MethodName}
-use Rattle.jmodel.specs.ClassFile.{Member, ClassFile}
-use Rattle.jmodel.specs.Pool.{MemberName}
-use Rattle.jmodel.specs.Superclasses.{own_name, class_named, super_name, with_above, lineage}
-use Rattle.jmodel.specs.Classes.{Declared, declared_in, methods_in, full_name}
-use Rattle.jmodel.specs.ClassesTaken.{is_taken}
-use Rattle.jmodel.specs.Coded.{Coded}
+use Rattle.jmodel.specs.format.ClassFile.{Member, ClassFile}
+use Rattle.jmodel.specs.format.Pool.{MemberName}
+use Rattle.objects.specs.linking.Members.{own_name}
+use Rattle.objects.specs.linking.Superclasses.{class_named, super_name, with_above, lineage}
+use Rattle.objects.specs.linking.Classes.{Declared, declared_in, methods_in, full_name}
+use Rattle.objects.specs.linking.Taken.{is_taken}
+use Rattle.objects.specs.linking.Code.{Coded}
 use Rattle.objects.specs.declared.op.Op.TheVariants.{InvokeStatic, InvokeSpecial}
-use Rattle.objects.specs.Program.{Method, Program, method_at}
-use Rattle.objects.specs.Resolution.{interface_names, ancestry, has_name, method_way, is_properly_above, from_above, resolved_method, special_method}
-use Rattle.objects.specs.Decoding.{Symbols, is_method, number_of, method_number, static_call_op, special_call_op}
-use Rattle.objects.specs.Linking.{taken_methods, original_symbols}
-use Rattle.objects.specs.LinkingLaw.{AreRead, IsUpward}
-use Rattle.objects.specs.Relinking.{rewritten_symbols}
-use Rattle.objects.specs.Rewriting.{duplicate}
+use Rattle.objects.specs.semantics.Program.{Method, Program, method_at}
+use Rattle.objects.specs.linking.Resolution.{interface_names, ancestry, has_name, method_way, is_properly_above, from_above, resolved_method, special_method}
+use Rattle.objects.specs.linking.Decoding.{Symbols, is_method, number_of, method_number, static_call_op, special_call_op}
+use Rattle.objects.specs.linking.Linking.{taken_methods, original_symbols}
+use Rattle.objects.specs.laws.LinkingLaw.{AreRead, IsUpward}
+use Rattle.objects.specs.rewriting.Relinking.{rewritten_symbols}
+use Rattle.objects.specs.rewriting.Rewriting.{duplicate}
 use Rattle.objects.proofs.AsRead.{not_named}
 use Rattle.objects.proofs.DeclaredMembers.{HasName, of_methods, name_of_member, has_its_name, by_own_name, full_has_name}
 use Rattle.objects.proofs.Items.{IsAt, into_map, of_map, of_filter, found, finds, placed}

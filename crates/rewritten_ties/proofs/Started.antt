@@ -7,20 +7,20 @@ use Rattle.std.proofs.lemmas.Int.{ints}
 use Rattle.jmodel.specs.declared.class_file.Constant.{Constant}
 use Rattle.jmodel.specs.declared.class_file.Constant.TheVariants as constants
 use Rattle.jmodel.specs.declared.mark.AnnotationFault.TheVariants.{Retries}
-use Rattle.jmodel.specs.Annotation.{Pair, Annotation, Shape, Single, Enum, Nested, Array, Value}
-use Rattle.jmodel.specs.AnnotationRules as annotation
-use Rattle.jmodel.specs.AnnotationReading.{◌>>=◌, value_at}
-use Rattle.jmodel.specs.ClassFile.{Attribute, Member, Pool, ClassFile}
-use Rattle.jmodel.specs.ClassRules.{IsConstant, IsMethod, AreCodes, named_attributes, is_named}
-use Rattle.jmodel.specs.Coded.{attempts_in, mark_retries, is_initialiser, retries_of}
-use Rattle.jmodel.specs.Linking.{mark_fault}
-use Rattle.jmodel.specs.Mark.{annotation_attributes, all_annotations, marked_retries, retries_in, granted, answer}
-use Rattle.jmodel.specs.Pool.{entry}
-use Rattle.jmodel.specs.Classes.{Declared, methods_in}
-use Rattle.objects.specs.Program.{Program}
-use Rattle.objects.specs.Constructs.{has_flag}
-use Rattle.objects.specs.Linking.{has_no_code, taken_methods}
-use Rattle.objects.specs.LinkingLaw.{AreRead}
+use Rattle.jmodel.specs.format.Annotation.{Pair, Annotation, Shape, Single, Enum, Nested, Array, Value}
+use Rattle.jmodel.specs.format.AnnotationRules as annotation
+use Rattle.jmodel.specs.format.AnnotationReading.{◌>>=◌, value_at}
+use Rattle.jmodel.specs.format.ClassFile.{Attribute, Member, Pool, ClassFile}
+use Rattle.jmodel.specs.format.ClassRules.{IsConstant, IsMethod, AreCodes, named_attributes, is_named}
+use Rattle.objects.specs.linking.Code.{attempts_in, mark_retries, is_initialiser, retries_of}
+use Rattle.objects.specs.linking.Faults.{mark_fault}
+use Rattle.jmodel.specs.format.Mark.{annotation_attributes, all_annotations, marked_retries, retries_in, granted, answer}
+use Rattle.jmodel.specs.format.Pool.{entry}
+use Rattle.objects.specs.linking.Classes.{Declared, methods_in}
+use Rattle.objects.specs.semantics.Program.{Program}
+use Rattle.objects.specs.linking.Constructs.{has_flag}
+use Rattle.objects.specs.linking.Linking.{has_no_code, taken_methods}
+use Rattle.objects.specs.laws.LinkingLaw.{AreRead}
 use Rattle.objects.proofs.AsRead.{entry_at, is_file}
 use Rattle.objects.proofs.ClassTypes.{each_none}
 use Rattle.objects.proofs.CleanCode.{clean_whole, taken_clean}

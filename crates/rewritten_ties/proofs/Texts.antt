@@ -3,10 +3,10 @@ use Rattle.std.proofs.Common.{◌≡◌, ℕ, List, [], ◌∷◌, Bool, true, f
 use Rattle.std.specs.Prelude.{bytes_eq, codes}
 use Rattle.std.specs.List.{list_any}
 use Rattle.std.proofs.lemmas.Slice.Eq.{bytes_eq-Decides}
-use Rattle.jmodel.specs.Linking.{is_reserved}
-use Rattle.jmodel.specs.Pool.{MemberName}
-use Rattle.objects.specs.LibraryMethods.{throwables, is_like, is_library_constructor, is_library_function}
-use Rattle.objects.specs.Decoding.{is_get_context}
+use Rattle.objects.specs.linking.Reserved.{is_reserved}
+use Rattle.jmodel.specs.format.Pool.{MemberName}
+use Rattle.objects.specs.linking.LibraryMethods.{throwables, is_like, is_library_constructor, is_library_function}
+use Rattle.objects.specs.linking.Decoding.{is_get_context}
 
 -- a text that is kept is another than one that isn't
 pub kept_apart : (t u : List ℕ) → is_reserved t ≡ true → is_reserved u ≡ false → bytes_eq t u ≡ false

@@ -1,12 +1,12 @@
 -- The names in the code of a taken method lead where the law of duplicates asks.
 use Rattle.std.proofs.Common.{◌≡◌, List, map}
-use Rattle.jmodel.specs.ClassFile.{Member, ClassFile}
-use Rattle.jmodel.specs.Classes.{Declared, declared_in, full_name}
-use Rattle.objects.specs.Program.{Method, Program}
-use Rattle.objects.specs.Decoding.{Symbols}
-use Rattle.objects.specs.Linking.{taken_methods, original_symbols}
-use Rattle.objects.specs.LinkingLaw.{AreRead}
-use Rattle.objects.specs.Rewriting.{helper_methods}
+use Rattle.jmodel.specs.format.ClassFile.{Member, ClassFile}
+use Rattle.objects.specs.linking.Classes.{Declared, declared_in, full_name}
+use Rattle.objects.specs.semantics.Program.{Method, Program}
+use Rattle.objects.specs.linking.Decoding.{Symbols}
+use Rattle.objects.specs.linking.Linking.{taken_methods, original_symbols}
+use Rattle.objects.specs.laws.LinkingLaw.{AreRead}
+use Rattle.objects.specs.rewriting.Rewriting.{helper_methods}
 use Rattle.objects.proofs.Items.{IsAt}
 use Rattle.objects.proofs.Links.{IsLinkedTo}
 use Rattle.dup_methods.specs.DuplicateLaw.{Ties, IsCalledBy, IsAccessedBy}

@@ -6,20 +6,20 @@ use Rattle.std.proofs.lemmas.Slice.Eq.{bytes_eq-Decides}
 use Rattle.jmodel.specs.declared.instruction.Instr.{Instr}
 use Rattle.jmodel.specs.declared.value.Value.{Value}
 use Rattle.jmodel.specs.declared.value.Value.TheVariants as value
-use Rattle.jmodel.specs.ClassFile.{ClassFile}
-use Rattle.jmodel.specs.Pool.{MemberName}
-use Rattle.jmodel.specs.Superclasses.{own_name}
-use Rattle.jmodel.specs.Classes.{Declared, methods_in}
-use Rattle.jmodel.specs.ClassesTaken.{invoked, is_taken}
-use Rattle.jmodel.specs.Coded.{Coded, decoded}
+use Rattle.jmodel.specs.format.ClassFile.{ClassFile}
+use Rattle.jmodel.specs.format.Pool.{MemberName}
+use Rattle.objects.specs.linking.Members.{own_name}
+use Rattle.objects.specs.linking.Classes.{Declared, methods_in}
+use Rattle.objects.specs.linking.Taken.{invoked, is_taken}
+use Rattle.objects.specs.linking.Code.{Coded, decoded}
 use Rattle.objects.specs.declared.op.Op.TheVariants.{Constant, GetStatic, InvokeStatic, InvokeSpecial, InvokeVirtual, InvokeInterface}
-use Rattle.objects.specs.Program.{Program}
-use Rattle.objects.specs.Constructs.{accessed, is_elsewhere}
-use Rattle.objects.specs.Resolution.{holds_of, is_properly_above, from_above, resolved_method, special_method}
-use Rattle.objects.specs.Decoding.{Symbols, number_of, method_number, added_address, is_base, get_static_op, static_call_op, special_call_op, interface_call_op, virtual_call_op}
-use Rattle.objects.specs.Linking.{taken_methods, original_symbols}
-use Rattle.objects.specs.LinkingLaw.{AreRead}
-use Rattle.objects.specs.Rewriting.{duplicate}
+use Rattle.objects.specs.semantics.Program.{Program}
+use Rattle.objects.specs.linking.Constructs.{accessed, is_elsewhere}
+use Rattle.objects.specs.linking.Resolution.{holds_of, is_properly_above, from_above, resolved_method, special_method}
+use Rattle.objects.specs.linking.Decoding.{Symbols, number_of, method_number, added_address, is_base, get_static_op, static_call_op, special_call_op, interface_call_op, virtual_call_op}
+use Rattle.objects.specs.linking.Linking.{taken_methods, original_symbols}
+use Rattle.objects.specs.laws.LinkingLaw.{AreRead}
+use Rattle.objects.specs.rewriting.Rewriting.{duplicate}
 use Rattle.objects.proofs.Items.{IsAt, of_filter}
 use Rattle.objects.proofs.AsRead.{not_named}
 use Rattle.objects.proofs.CalledMembers.{callee_taken, takes_it}

@@ -1,8 +1,8 @@
 -- What the symbols of a rewritten class say of the fields of its original is what the law of accessors asks.
 use Rattle.std.specs.Prelude.{◌≡◌, ℕ, ◌+◌, List, [], ◌∷◌, ◌++◌, Some, Ok, slice_get}
-use Rattle.jmodel.specs.ClassFile.{ClassFile}
-use Rattle.objects.specs.Program.{Field, Program, field_at}
-use Rattle.objects.specs.Relinking.{rewritten_symbols}
+use Rattle.jmodel.specs.format.ClassFile.{ClassFile}
+use Rattle.objects.specs.semantics.Program.{Field, Program, field_at}
+use Rattle.objects.specs.rewriting.Relinking.{rewritten_symbols}
 use Rattle.field_members.specs.AccessorsLaw.{AreKnown}
 use Rattle.field_members.specs.Fields.{with_fields}
 use Rattle.field_members.specs.FieldsLaw.{Begins}

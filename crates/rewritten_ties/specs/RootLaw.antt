@@ -1,11 +1,11 @@
 -- What the symbols of a rewritten class say of a method of its original is what the law of wrappers asks.
 use Rattle.std.specs.Prelude.{◌≡◌, ℕ, List, [], ◌∷◌, ◌++◌, Some, slice_get}
-use Rattle.jmodel.specs.ClassFile.{Member, ClassFile}
-use Rattle.jmodel.specs.PoolAdding.{IsLonger}
-use Rattle.objects.specs.Program.{Method, Program, method_at}
-use Rattle.objects.specs.Linking.{taken_methods}
-use Rattle.objects.specs.Relinking.{rewritten_symbols}
-use Rattle.objects.specs.Rewriting.{duplicate}
+use Rattle.jmodel.specs.format.ClassFile.{Member, ClassFile}
+use Rattle.jmodel.specs.format.PoolAdding.{IsLonger}
+use Rattle.objects.specs.semantics.Program.{Method, Program, method_at}
+use Rattle.objects.specs.linking.Linking.{taken_methods}
+use Rattle.objects.specs.rewriting.Relinking.{rewritten_symbols}
+use Rattle.objects.specs.rewriting.Rewriting.{duplicate}
 use Rattle.retry_wrapper.specs.WrapperLaw.{IsRoot}
 use Rattle.rewritten_names.specs.NamesLaw.{AreRewritten}
 use Rattle.rewritten_names.specs.LeadsLaw.{AreTexts}

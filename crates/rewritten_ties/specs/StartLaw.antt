@@ -1,11 +1,11 @@
 -- A method that is called from outside has code, and the attempts that it may make are an int.
 use Rattle.std.specs.Prelude.{◌≡◌, ℤ, List, Some, Ok, FitsSigned}
 use Rattle.std.specs.Int.{w32}
-use Rattle.jmodel.specs.ClassFile.{Member, ClassFile}
-use Rattle.jmodel.specs.Coded.{retries_of}
-use Rattle.objects.specs.Program.{Program}
-use Rattle.objects.specs.Linking.{linking}
-use Rattle.objects.specs.LinkingLaw.{AreRead}
+use Rattle.jmodel.specs.format.ClassFile.{Member, ClassFile}
+use Rattle.objects.specs.linking.Code.{retries_of}
+use Rattle.objects.specs.semantics.Program.{Program}
+use Rattle.objects.specs.linking.Linking.{linking}
+use Rattle.objects.specs.laws.LinkingLaw.{AreRead}
 use Rattle.retry_wrapper.specs.WrapperLaw.{HasCode}
 use Rattle.rewritten_ties.specs.Taken.{IsTakenIn}
 

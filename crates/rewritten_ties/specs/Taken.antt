@@ -1,7 +1,7 @@
 -- Methods that are taken, by their class.
 use Rattle.std.specs.Prelude.{◌≡◌, ℕ, List, Some, slice_get}
-use Rattle.jmodel.specs.ClassFile.{Member, ClassFile}
-use Rattle.objects.specs.Linking.{taken_methods}
+use Rattle.jmodel.specs.format.ClassFile.{Member, ClassFile}
+use Rattle.objects.specs.linking.Linking.{taken_methods}
 
 -- the member of a class is a method that is taken
 abbrev pub IsTakenIn : List ClassFile → ClassFile → Member → Type 0

@@ -1,9 +1,9 @@
 -- What the names in the code of a taken method lead to among rewritten classes is what its duplicate's law asks.
 use Rattle.std.specs.Prelude.{◌≡◌, ℕ, List, [], ◌∷◌, ◌++◌, Some, Ok, slice_get}
-use Rattle.jmodel.specs.ClassFile.{Member, ClassFile}
-use Rattle.objects.specs.Program.{Program}
-use Rattle.objects.specs.Linking.{original_symbols}
-use Rattle.objects.specs.Relinking.{rewritten_symbols}
+use Rattle.jmodel.specs.format.ClassFile.{Member, ClassFile}
+use Rattle.objects.specs.semantics.Program.{Program}
+use Rattle.objects.specs.linking.Linking.{original_symbols}
+use Rattle.objects.specs.rewriting.Relinking.{rewritten_symbols}
 use Rattle.array_helper.specs.Helper.{helper_file}
 use Rattle.dup_methods.specs.DuplicateLaw.{Ties, IsCalledBy, IsAccessedBy}
 use Rattle.rewritten_names.specs.NamesLaw.{AreRewritten}

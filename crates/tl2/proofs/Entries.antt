@@ -4,12 +4,11 @@ use Rattle.std.proofs.lemmas.List.{reverse-append}
 use Rattle.std.proofs.lemmas.List.Elements.{All-nil}
 use mathlib.Core.Option.{some}
 use Rattle.atomic_table.specs.Seated.{TableId}
-use Rattle.jmodel.specs.declared.op.Access.{Access}
+use Rattle.jmodel.specs.declared.access.Access.{Access}
 use Rattle.jmodel.specs.declared.value.Answer.{Answer}
 use Rattle.jmodel.specs.declared.value.Stamp.{Stamp}
-use Rattle.jmodel.specs.Attempt.{Log}
-use Rattle.jmodel.specs.History.{Call, Entry, leaves_words}
-use Rattle.jmodel.specs.Engine.{made}
+use Rattle.jmodel.specs.history.Log.{Log}
+use Rattle.jmodel.specs.history.History.{Call, Entry, leaves_words, made}
 use Rattle.tx_table.specs.Book.{Map, Book, Lost, Region, lookup, pairs}
 use Rattle.tx_table.specs.Rule.{Story, Succeeds}
 use Rattle.tx_table.specs.Plays.{accesses, reader_entry, used_in, finished, region_of, Fits, Reads}

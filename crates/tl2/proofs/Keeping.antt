@@ -2,7 +2,7 @@
 use Rattle.std.proofs.Common.{◌≡◌, ◌≤◌, ◌==◌, ℕ, Bool, true, false, cond, List, ◌∷◌, refl, sym, ap, ◌∙◌, inl, inr, subst, arith}
 use mathlib.Core.Option.{some}
 use Rattle.atomic_table.specs.Seated.{TableId}
-use Rattle.jmodel.specs.History.{Entry}
+use Rattle.jmodel.specs.history.History.{Entry}
 use Rattle.tx_table.specs.Book.{Book, Map, Region, In, lookup}
 use Rattle.tx_table.specs.Rule.{last_of}
 use Rattle.tx_table.specs.Plays.{region_of}

@@ -3,8 +3,8 @@ use Rattle.std.proofs.Common.{◌≡◌, ◌≢◌, ◌⊎◌, ◌==◌, ℕ, co
 use mathlib.Core.Option.{none, some, some-ne-none}
 use mathlib.Core.Logic.{dite}
 use native.Mathlib.Decide.{ℕ_discrete}
-use Rattle.jmodel.specs.declared.op.Access.{Access}
-use Rattle.jmodel.specs.Attempt.{Log}
+use Rattle.jmodel.specs.declared.access.Access.{Access}
+use Rattle.jmodel.specs.history.Log.{Log}
 use Rattle.tx_table.specs.Book.{Map, Has, In, lookup, pairs, without}
 use Rattle.tx_table.proofs.MapLaws.{eq_cond, lookup_here, lookup_else, lookup_put, lookup_gone, lookup_kept}
 use Rattle.tl2.specs.Plans.{AreApart, IsListed}

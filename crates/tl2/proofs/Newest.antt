@@ -3,7 +3,7 @@ use Rattle.std.proofs.Common.{◌≡◌, ◌≢◌, ℕ, Bool, true, false, cond
 use mathlib.Core.Option.{Option, none, some}
 use Rattle.std.specs.Ordering.{nat_cmp}
 use Rattle.std.specs.BTreeMap.{is_at}
-use Rattle.jmodel.specs.declared.op.Access.{Access}
+use Rattle.jmodel.specs.declared.access.Access.{Access}
 use Rattle.tx_table.specs.Book.{Map, Has, lookup}
 use Rattle.tx_table.proofs.MapLaws.{lookup_here, lookup_else}
 use Rattle.tl2.proofs.Keys.{at_same, at_here, by_bool}

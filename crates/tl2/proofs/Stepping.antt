@@ -3,9 +3,9 @@ use Rattle.std.proofs.Common.{◌≡◌, ◌≢◌, ◌<◌, ◌≤◌, ◌+◌,
 use Rattle.std.specs.Prelude.{Option, None, unwrap_or}
 use Rattle.std.proofs.lemmas.List.Elements.{All-nil}
 use Rattle.atomic_table.specs.Seated.{TableId}
-use Rattle.jmodel.specs.declared.op.Access.{Access}
-use Rattle.jmodel.specs.Attempt.{Log, access, answered, recorded, written}
-use Rattle.jmodel.specs.History.{Call, Entry}
+use Rattle.jmodel.specs.declared.access.Access.{Access}
+use Rattle.jmodel.specs.history.Log.{Log, access, answered, recorded, written}
+use Rattle.jmodel.specs.history.History.{Call, Entry}
 use Rattle.tx_table.specs.Book.{Book, Look, Away, Saw, Had, pairs}
 use Rattle.tx_table.specs.Rule.{Story, Snapshot}
 use Rattle.tx_table.specs.Plays.{begun, lost_at, loaded_at, logged, value_in}

@@ -5,7 +5,7 @@ use Rattle.std.specs.List.Sorted.{IsStrictlyIncreasing}
 use Rattle.std.proofs.lemmas.List.{drop_more, take_more_set, map_push, map-set, set-get_or, length-map, length-take-le, get_or-map, get_or-take}
 use Rattle.std.proofs.lemmas.List.Elements.{All-head, All-tail, All-more, All-weaker, All-get_or, All-from_get_or}
 use Rattle.std.proofs.lemmas.List.Kept.{AllPairs-from_increasing}
-use Rattle.jmodel.specs.Attempt.{access}
+use Rattle.jmodel.specs.history.Log.{access}
 use Rattle.tx_table.specs.Book.{Book, Map, Has, In, lookup, pairs}
 use Rattle.tx_table.proofs.MapLaws.{lookup_put, lookup_else}
 use Rattle.tl2.specs.declared.plan.Stripe.{Stripe}

@@ -6,7 +6,7 @@ use mathlib.Core.Option.{Option, none, some}
 use Rattle.tx_table.specs.Book.{Map, Book, Region, lookup, only}
 use Rattle.tx_table.specs.Plays.{opening_regions, stays_here, goes_out, inverse}
 use Rattle.tx_table.specs.Trials.{the_call, Before}
-use Rattle.jmodel.specs.History.{Call}
+use Rattle.jmodel.specs.history.History.{Call}
 use Rattle.tx_table.proofs.MapLaws.{lookup_here, eq_cond, ne_cond}
 use Rattle.tx_table.proofs.Trying.{comes_after}
 use Rattle.tl2.specs.Standing.{Awaits}

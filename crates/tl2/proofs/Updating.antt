@@ -3,10 +3,10 @@ use Rattle.std.proofs.Common.{◌≡◌, ◌≢◌, ◌⊎◌, ◌<◌, ◌+◌,
 use mathlib.Core.Option.{none, some, some-ne-none}
 use Rattle.std.proofs.lemmas.Bool.{not-true}
 use Rattle.std.proofs.lemmas.List.Elements.{All-weaker}
-use Rattle.jmodel.specs.declared.op.Access.{Access}
+use Rattle.jmodel.specs.declared.access.Access.{Access}
 use Rattle.jmodel.specs.declared.value.Answer.{Answer}
-use Rattle.jmodel.specs.Attempt.{Log}
-use Rattle.jmodel.specs.History.{Call, Entry}
+use Rattle.jmodel.specs.history.Log.{Log}
+use Rattle.jmodel.specs.history.History.{Call, Entry}
 use Rattle.tx_core.specs.declared.engine.Conflict.{Conflict}
 use Rattle.tx_table.specs.Book.{Map, Book, Region, Unticked, Ticked, Has, In, lookup, pairs}
 use Rattle.tx_table.specs.Rule.{Story}

@@ -9,9 +9,9 @@ use mathlib.Core.Logic.{dite}
 use mathlib.Core.Option.{Option, some, none}
 use native.Mathlib.Decide.{ℕ_discrete}
 use Rattle.atomic_table.specs.Seated.{TableId}
-use Rattle.jmodel.specs.declared.op.Access.{Access}
-use Rattle.jmodel.specs.Attempt.{Log}
-use Rattle.jmodel.specs.History.{Call, Entry, round, first_by, used_after}
+use Rattle.jmodel.specs.declared.access.Access.{Access}
+use Rattle.jmodel.specs.history.Log.{Log}
+use Rattle.jmodel.specs.history.History.{Call, Entry, round, first_by, used_after}
 use Rattle.tx_table.specs.Book.{Book, Region, lookup, rises, IsOfLane}
 use Rattle.tx_table.specs.Rule.{Succeeds, last_of, region_after}
 use Rattle.tx_table.specs.declared.shared.Pass.{Pass}

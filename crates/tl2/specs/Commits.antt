@@ -1,8 +1,8 @@
 -- The stripes that a commit holds.
 use Rattle.std.specs.Prelude.{◌≡◌, ◌≢◌, ◌⊎◌, ◌≤◌, ◌+◌, ◌%◌, ℕ, true, false, List, [], ◌∷◌, ◌++◌, All}
 use Rattle.jmodel.specs.declared.value.Answer.{Answer}
-use Rattle.jmodel.specs.Attempt.{Log}
-use Rattle.jmodel.specs.History.{Entry}
+use Rattle.jmodel.specs.history.Log.{Log}
+use Rattle.jmodel.specs.history.History.{Entry}
 use Rattle.tx_table.specs.Book.{Book, Lost, Map, Unticked, Decided, Away, In, lookup}
 use Rattle.tx_table.specs.Plays.{accesses, region_of, used_in}
 use Rattle.tl2.specs.declared.plan.Stripe.{Stripe}

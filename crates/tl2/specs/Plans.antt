@@ -5,7 +5,7 @@ use Rattle.std.specs.List.Sorted.{IsStrictlyIncreasing}
 use Rattle.std.specs.Ordering.{nat_cmp}
 use Rattle.std.specs.BTreeMap.{BTreeMap, get}
 use mathlib.Core.Option.{none}
-use Rattle.jmodel.specs.Attempt.{Log, access}
+use Rattle.jmodel.specs.history.Log.{Log, access}
 use Rattle.tx_table.specs.Book.{Map, Has, lookup, pairs}
 use Rattle.tl2.specs.declared.plan.Stripe.{Stripe}
 

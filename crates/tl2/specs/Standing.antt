@@ -2,9 +2,9 @@
 use Rattle.std.specs.Prelude.{◌≡◌, ◌≢◌, ◌<◌, ◌≤◌, ◌%◌, ◌++◌, ℕ, true, None, List, All, length, reverse}
 use mathlib.Core.Option.{Option, some, none}
 use Rattle.atomic_table.specs.Seated.{TableId}
-use Rattle.jmodel.specs.declared.op.Access.{Access}
-use Rattle.jmodel.specs.Attempt.{Log, access, written}
-use Rattle.jmodel.specs.History.{Call, Entry}
+use Rattle.jmodel.specs.declared.access.Access.{Access}
+use Rattle.jmodel.specs.history.Log.{Log, access, written}
+use Rattle.jmodel.specs.history.History.{Call, Entry}
 use Rattle.tx_table.specs.Book.{Book, Region, Saw, Had, In, lookup, pairs, rises, IsOfLane}
 use Rattle.tx_table.specs.Rule.{Succeeds, last_of}
 use Rattle.tx_table.specs.declared.shared.Pass.{Pass}

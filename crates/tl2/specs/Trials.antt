@@ -1,9 +1,9 @@
 -- Attempts of the tests, each of which adds one to a word.
 use Rattle.std.specs.Prelude.{◌≡◌, ◌≤◌, ◌==◌, ℕ, zero, suc, Bool, List, [], ◌∷◌}
 use mathlib.Core.Option.{some}
-use Rattle.jmodel.specs.declared.op.Access.{Access}
-use Rattle.jmodel.specs.Attempt.{Log}
-use Rattle.jmodel.specs.History.{Entry}
+use Rattle.jmodel.specs.declared.access.Access.{Access}
+use Rattle.jmodel.specs.history.Log.{Log}
+use Rattle.jmodel.specs.history.History.{Entry}
 use Rattle.atomic_table.specs.Seated.{TableId}
 use Rattle.tx_table.specs.Book.{Map, Book, Region, Unticked, lookup}
 use Rattle.tx_table.specs.declared.shared.Pass.{Pass}

@@ -1,12 +1,12 @@
 //! The attempts of one lane over a table of shared words.
 ghost use Rattle.std.specs.Prelude.{◌≡◌, ℕ, List, [], length, reverse};
-ghost use Rattle.jmodel.specs.Attempt.{Log};
-ghost use Rattle.jmodel.specs.History.{Entry};
+ghost use Rattle.jmodel.specs.history.Log.{Log};
+ghost use Rattle.jmodel.specs.history.History.{Entry};
 ghost use Rattle.tx_table.specs.Book.{Unticked};
 ghost use Rattle.tx_table.specs.Passes.{book, IsOf};
 ghost use Rattle.tl2.specs.Logs.{IsLogged};
 
-use jmodel::op::Access;
+use jmodel::access::Access;
 use std::alloc::Global;
 use std::snapshot::Snapshot;
 use tx_core::WriteLog;
@@ -14,7 +14,7 @@ use tx_table::{Pass, Shared, Story};
 
 /// A story whose rule for entries is the same for all of its values.
 pub trait Ruled: Story {
-    ghost use Rattle.jmodel.specs.History.{Entry};
+    ghost use Rattle.jmodel.specs.history.History.{Entry};
 
     /// What may be committed.
     ghost rule: { Entry → Type 0 };
@@ -27,7 +27,7 @@ pub trait Ruled: Story {
 /// Names a call, and what is known of the pass that makes it, for contracts alone.
 pub trait Calling {
     ghost use Rattle.atomic_table.specs.Seated.{TableId};
-    ghost use Rattle.jmodel.specs.History.{Call};
+    ghost use Rattle.jmodel.specs.history.History.{Call};
     ghost use Rattle.tx_table.specs.Book.{Book};
 
     ghost call: { Self → Call };

@@ -1,8 +1,8 @@
 //! The commit.
 ghost use Rattle.std.specs.Prelude.{◌≡◌, ◌⊎◌, reverse, ◌<◌, ◌≤◌, ◌+◌, ◌^◌, ◌∷◌, [], ℕ, List, MatchResult, IfOk, IfErr};
 ghost use mathlib.Core.Option.{some as Found};
-ghost use Rattle.jmodel.specs.Attempt.{Log};
-ghost use Rattle.jmodel.specs.History.{Call, Entry};
+ghost use Rattle.jmodel.specs.history.Log.{Log};
+ghost use Rattle.jmodel.specs.history.History.{Call, Entry};
 ghost use Rattle.tx_table.specs.Book.{Has, In, pairs};
 ghost use Rattle.tx_core.specs.Engine.{raised, Adds, MayEnd, IsOfWrites};
 ghost use Rattle.tx_table.specs.Passes.{book, IsSame};

@@ -6,7 +6,7 @@ ghost use Rattle.tx_table.specs.Book.{pairs};
 ghost use Rattle.tl2.specs.Plans.{marked, number_of, IsListed, IsPlan, IsWritten};
 
 use jmodel::NoMemory;
-use jmodel::op::Access;
+use jmodel::access::Access;
 use std::alloc::Global;
 use std::collections::{BTreeMap, BTreeSet};
 

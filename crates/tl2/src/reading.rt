@@ -1,9 +1,9 @@
 //! The steps of an attempt that reads, and its end without writes.
 ghost use Rattle.std.specs.Prelude.{◌≡◌, ◌≢◌, ◌⊎◌, ◌<◌, ◌≤◌, ◌+◌, ◌*◌, ◌%◌, ◌∷◌, ◌++◌, ◌^◌, [], ℕ, List, None, true, reverse, MatchResult, IfOk, IfErr, IsOk};
 ghost use mathlib.Core.Option.{some as Found};
-ghost use Rattle.jmodel.specs.Attempt.{Log, access, answered, recorded, written};
+ghost use Rattle.jmodel.specs.history.Log.{Log, access, answered, recorded, written};
 ghost use Rattle.tx_table.specs.Book.{Unticked};
-ghost use Rattle.jmodel.specs.History.{Call, Entry};
+ghost use Rattle.jmodel.specs.history.History.{Call, Entry};
 ghost use Rattle.tx_table.specs.Plays.{begun, finished, Reads};
 ghost use Rattle.tx_table.specs.Rule.{Snapshot as Learns};
 ghost use Rattle.tx_core.specs.Engine.{raised, Adds, MayEnd, IsOfWrites};
@@ -12,7 +12,7 @@ ghost use Rattle.tl2.specs.Conflicts.{Meets};
 ghost use Rattle.tl2.specs.Standing.{IsOpen, IsLooked, IsLoaded, Awaits, Stands};
 
 use crate::attempt::{At, Calling, Ruled, Tl2};
-use jmodel::op::Access;
+use jmodel::access::Access;
 use jmodel::value::{Answer, Stamp};
 use std::snapshot::Snapshot;
 use tx_core::{Conflict, TxEnd};

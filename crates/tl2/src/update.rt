@@ -1,7 +1,7 @@
 //! The commit of an attempt that wrote, over the steps of the table.
 ghost use Rattle.std.specs.Prelude.{◌≡◌, ◌≢◌, ◌⊎◌, ◌<◌, ◌≤◌, ◌+◌, ◌*◌, ◌%◌, ◌^◌, [], ℕ, List, true, All, reverse, IfOk, IfErr, IsOk, ◌∷◌};
 ghost use mathlib.Core.Option.{some as Found, none as Missing};
-ghost use Rattle.jmodel.specs.History.{Entry};
+ghost use Rattle.jmodel.specs.history.History.{Entry};
 ghost use Rattle.tx_table.specs.Book.{Map, Has, In, Unticked, Ticked, lookup, pairs};
 ghost use Rattle.tx_table.specs.Plays.{keys, lost_at, ticked_up, Fits, Updates};
 ghost use Rattle.tx_table.specs.Passes.{book, IsOf, IsSame};
@@ -12,7 +12,7 @@ ghost use Rattle.tl2.specs.Plans.{IsListed, IsPlan};
 
 use crate::commit::{give_back, release_all, take_all, validate_all};
 use crate::plan::Plan;
-use jmodel::op::Access;
+use jmodel::access::Access;
 use jmodel::value::{Answer, Stamp};
 use std::snapshot::Snapshot;
 use tx_core::Conflict;

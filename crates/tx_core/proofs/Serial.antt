@@ -4,11 +4,10 @@ use Rattle.std.specs.List.{AllByRecursion}
 use Rattle.std.proofs.lemmas.Bool.Decides.{nat_tests}
 use Rattle.std.proofs.lemmas.List.{length-set, get_or-set_same, get_or-set_other}
 use Rattle.std.proofs.lemmas.List.Elements.{All-nil, All-head, All-tail}
-use Rattle.jmodel.specs.declared.op.Access.{Access}
+use Rattle.jmodel.specs.declared.access.Access.{Access}
 use Rattle.jmodel.specs.declared.value.Answer.{Answer}
-use Rattle.jmodel.specs.Attempt.{Log, answered}
-use Rattle.jmodel.specs.History.{Entry, Words, Agrees, overlaid, memory_after}
-use Rattle.jmodel.specs.Engine.{made}
+use Rattle.jmodel.specs.history.Log.{Log, answered}
+use Rattle.jmodel.specs.history.History.{Entry, Words, Agrees, overlaid, memory_after, made}
 use Rattle.tx_core.specs.Engine.{Adds, IsOfWrites}
 use Rattle.tx_core.specs.Serial.{word_in, applied, stamped, IsSerial, Stays, clock_after, StandsFor}
 

@@ -3,9 +3,8 @@ use Rattle.std.specs.Prelude.{◌≡◌, ◌≢◌, ◌⊎◌, ℕ, ◌+◌, Lis
 use Rattle.std.specs.List.{AllByRecursion}
 use Rattle.jmodel.specs.declared.value.Answer.{Answer}
 use Rattle.jmodel.specs.declared.value.Stamp.{Stamp}
-use Rattle.jmodel.specs.Attempt.{Log}
-use Rattle.jmodel.specs.History.{Call, Entry, Words, Agrees, AreEntries, leaves_words, memory_after, used_after, used_with}
-use Rattle.jmodel.specs.Engine.{made}
+use Rattle.jmodel.specs.history.Log.{Log}
+use Rattle.jmodel.specs.history.History.{Call, Entry, Words, Agrees, AreEntries, leaves_words, memory_after, used_after, used_with, made}
 use Rattle.tx_core.specs.declared.engine.TxEnd.{TxEnd}
 use Rattle.tx_core.specs.declared.engine.TxEnd.TheVariants.{Conflict, NoMemory}
 

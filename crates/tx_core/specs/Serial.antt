@@ -1,9 +1,9 @@
 -- Histories of attempts that came one after the other.
 use Rattle.std.specs.Prelude.{◌≡◌, ◌⊎◌, ℕ, ◌+◌, ◌<◌, List, [], ◌∷◌, Bool, true, false, All, length, reverse, slice_index, slice_set}
 use Rattle.std.specs.List.{AllByRecursion}
-use Rattle.jmodel.specs.declared.op.Access.{Access}
-use Rattle.jmodel.specs.Attempt.{Log}
-use Rattle.jmodel.specs.History.{Entry, Words, Agrees, leaves_words, overlaid, memory_after}
+use Rattle.jmodel.specs.declared.access.Access.{Access}
+use Rattle.jmodel.specs.history.Log.{Log}
+use Rattle.jmodel.specs.history.History.{Entry, Words, Agrees, leaves_words, overlaid, memory_after}
 use Rattle.tx_core.specs.Engine.{IsOfWrites}
 
 -- the words of memory; there is 0 beyond their end

@@ -1,9 +1,9 @@
 -- That the history of an engine for one thread is the snapshot of its attempt, which its `impl` cites.
 use Rattle.std.proofs.Common.{◌≡◌, ◌⊎◌, inl, inr, ℕ, List, [], ◌∷◌, refl, subst}
 use Rattle.std.specs.List.{AllByRecursion}
-use Rattle.jmodel.specs.declared.op.Access.{Access}
-use Rattle.jmodel.specs.Attempt.{Log}
-use Rattle.jmodel.specs.History.{Call, Entry, Words, Agrees, AreEntries, overlaid, used_with}
+use Rattle.jmodel.specs.declared.access.Access.{Access}
+use Rattle.jmodel.specs.history.Log.{Log}
+use Rattle.jmodel.specs.history.History.{Call, Entry, Words, Agrees, AreEntries, overlaid, used_with}
 use Rattle.tx_core.specs.Engine.{AreUsed, IsSnapshot, LeadsTo}
 use Rattle.tx_core.specs.Serial.{word_in, IsSerial, Stays, StandsFor}
 

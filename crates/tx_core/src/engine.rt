@@ -26,8 +26,8 @@ pub enum TxEnd {
 /// the call answers, and how many words of its region it leaves used, is told to `commit` and `finish_refused`, for contracts alone.
 pub trait Engine {
     ghost use Rattle.std.specs.Prelude.{◌≡◌, ◌⊎◌, ◌<◌, ◌≤◌, ◌+◌, ◌^◌, [], ◌∷◌, ◌++◌, ℕ, List, MatchResult, IfOk, IfErr, IsOk};
-    ghost use Rattle.jmodel.specs.Attempt.{Log, access, answered, recorded, written};
-    ghost use Rattle.jmodel.specs.History.{Call, Entry, Words};
+    ghost use Rattle.jmodel.specs.history.Log.{Log, access, answered, recorded, written};
+    ghost use Rattle.jmodel.specs.history.History.{Call, Entry, Words};
     ghost use Rattle.tx_core.specs.Engine.{raised, Adds, MayEnd, IsOfWrites, IsSnapshot, LeadsTo};
 
     /// The entries that were committed, the oldest first; how many conflicts were met; and what the attempt has read and

@@ -1,10 +1,10 @@
 //! An engine for one thread, which keeps the writes of an attempt back until its commit.
 ghost use Rattle.std.specs.Prelude.{List, [], ℕ, ◌≡◌};
-ghost use Rattle.jmodel.specs.History.{Entry};
+ghost use Rattle.jmodel.specs.history.History.{Entry};
 
 use crate::engine::{Conflict, Engine, TxEnd};
 use crate::write_log::WriteLog;
-use jmodel::op::Access;
+use jmodel::access::Access;
 use jmodel::value::{Answer, Stamp};
 use std::alloc::Global;
 use std::marker::{Brand, PhantomData};
@@ -163,7 +163,7 @@ impl<K: Origin> Solo<K> {
 }
 
 ghost use Rattle.std.specs.Prelude.{reverse, All, ◌<◌, length};
-ghost use Rattle.jmodel.specs.declared.op.Access.{Access as JAccess};
+ghost use Rattle.jmodel.specs.declared.access.Access.{Access as JAccess};
 ghost use Rattle.tx_core.specs.Serial.{applied};
 
 /// Writes these words in turn.

@@ -1,8 +1,8 @@
 //! The writes of an attempt, and at hand the last of each address.
 ghost use Rattle.std.specs.Prelude.{◌≡◌, ◌==◌, ◌++◌, [], ◌∷◌, reverse, length, is_ok, if◌then◌else◌};
-ghost use Rattle.jmodel.specs.Attempt.{written};
+ghost use Rattle.jmodel.specs.history.Log.{written};
 
-use jmodel::op::Access;
+use jmodel::access::Access;
 use std::alloc::{AllocError, Global};
 use std::collections::BTreeMap;
 use std::marker::Model;

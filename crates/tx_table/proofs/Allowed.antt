@@ -4,16 +4,14 @@ use mathlib.Core.Option.{none, some}
 use mathlib.Core.Logic.{dite}
 use native.Mathlib.Decide.{ℕ_discrete}
 use lib.ListN.{get_elem?}
-use Rattle.atomic_table.specs.Table.{State}
-use Rattle.jmodel.specs.History.{Entry}
+use Rattle.atomic_table.specs.Table.{State, Me, step, keeps, stepped, Allows}
+use Rattle.jmodel.specs.history.History.{Entry}
 use Rattle.tx_table.specs.Book.{Map, lookup, Has, In, Unticked, Ticked, Decided, Book}
 use Rattle.tx_table.specs.Rule.{Story, stripe, total}
-use Rattle.tx_table.specs.Steps.{IsKept, Unchanged, Moved, Foreign}
+use Rattle.tx_table.specs.Steps.{IsKept, Unchanged, Moved, Foreign, Takes, Ticks, Decides, Writes_back, Releases, Gives, Finishes}
 use prog.Atomic.{either}
 use Rattle.std.proofs.Math.Nat.{mod-eq_of_lt}
-use Rattle.atomic_table.specs.Table.{Me, step, keeps, stepped, Allows}
 use Rattle.tx_table.specs.Plays.{Reads, Updates, lost_at, took, tried, gave_up, ticked_up, decided_up, wrote_back, released, finished}
-use Rattle.tx_table.specs.Steps.{Takes, Ticks, Decides, Writes_back, Releases, Gives, Finishes}
 use Rattle.tx_table.proofs.Private.{quietly}
 use Rattle.tx_table.proofs.ReadSteps.{lost_mine, unchanged, moved, foreign}
 use Rattle.tx_table.proofs.Taking.{takes_kept}

@@ -5,13 +5,12 @@ use mathlib.Core.Logic.{dite}
 use native.Mathlib.Decide.{ℕ_discrete}
 use lib.ListN.{get_elem?}
 use Rattle.atomic_table.specs.Table.{State}
-use Rattle.jmodel.specs.History.{Entry}
+use Rattle.jmodel.specs.history.History.{Entry}
 use Rattle.tx_table.specs.Book.{lookup, Has, In, Book}
-use Rattle.tx_table.specs.Rule.{Story, start, stripe, wrote, total, weigh, face_of, faces}
+use Rattle.tx_table.specs.Rule.{Story, start, stripe, wrote, total, weigh, face_of, faces, Ends}
 use Rattle.tx_table.specs.Steps.{IsKept}
 use Rattle.std.proofs.Math.Dec.{ltb}
 use Rattle.std.proofs.lemmas.Bool.{ltb-true}
-use Rattle.tx_table.specs.Rule.{Ends}
 use Rattle.tx_table.proofs.Values.{value_same}
 use Rattle.tx_table.proofs.Private.{face_at, two_le}
 use Rattle.tx_table.proofs.Order.{bool_or, comes}

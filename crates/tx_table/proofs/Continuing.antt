@@ -3,7 +3,7 @@ use Rattle.std.proofs.Common.{◌≡◌, ◌≢◌, ◌⊎◌, ℕ, ◌<◌, ◌
 use mathlib.Core.Option.{Option, none, some, some-ne-none}
 use mathlib.Core.Logic.{dite}
 use native.Mathlib.Decide.{ℕ_discrete}
-use Rattle.jmodel.specs.History.{Entry}
+use Rattle.jmodel.specs.history.History.{Entry}
 use Rattle.tx_table.specs.Book.{Map, lookup, pairs, Region, Book}
 use Rattle.tx_table.specs.Rule.{Story, used_at, wrote, last_of, region_after, top_of, Succeeds, IsLater, Continues}
 use Rattle.tx_table.specs.Plays.{Fits}

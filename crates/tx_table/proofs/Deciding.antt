@@ -5,7 +5,7 @@ use mathlib.Core.Logic.{dite}
 use native.Mathlib.Decide.{ℕ_discrete}
 use lib.ListN.{get_elem?}
 use Rattle.atomic_table.specs.Table.{State}
-use Rattle.jmodel.specs.History.{Entry}
+use Rattle.jmodel.specs.history.History.{Entry}
 use Rattle.tx_table.specs.Book.{lookup, Has, In, pairs, Stage, Unticked, Ticked, Decided, Face, Book}
 use Rattle.tx_table.specs.Rule.{Story, used_at, start, stripe, wrote, value, base, last_of, region_after, top_of, World, Clear, Sees, Knows, Grip, Annals, weigh, faces}
 use Rattle.tx_table.specs.Steps.{IsKept}

@@ -3,14 +3,13 @@ use Rattle.std.proofs.Common.{◌==◌, ◌++◌, ◌≡◌, ◌≢◌, ◌⊎�
 use mathlib.Core.Option.{some}
 use mathlib.Core.Logic.{dite}
 use native.Mathlib.Decide.{ℕ_discrete}
-use Rattle.jmodel.specs.History.{Entry}
+use Rattle.jmodel.specs.history.History.{Entry, Words, overlaid, memory_after, Agrees, precedes, used_after, IsEntry, used_with, AreEntries, IsOneUpdate, IsLegal}
 use Rattle.tx_table.specs.Book.{lookup, In, pairs}
 use Rattle.tx_table.specs.Rule.{Story, used_at, start, or_old, last_of, region_after, Continues, IsRegionKept}
 use Rattle.std.specs.Prelude.{AllPairs, IsTrue, ◌↔◌, nat_eq, unwrap_or, option_map, find, Some}
 use Rattle.std.proofs.lemmas.List.Quantifiers.{all_pairs_push}
-use Rattle.jmodel.specs.declared.op.Access.{Access}
-use Rattle.jmodel.specs.Attempt.{answered}
-use Rattle.jmodel.specs.History.{Words, overlaid, memory_after, Agrees, precedes, used_after, IsEntry, used_with, AreEntries, IsOneUpdate, IsLegal}
+use Rattle.jmodel.specs.declared.access.Access.{Access}
+use Rattle.jmodel.specs.history.Log.{answered}
 use Rattle.tx_table.proofs.MapLaws.{eq_cond, ne_cond}
 use Rattle.tx_table.proofs.Order.{comes_precedes}
 use Rattle.tx_table.proofs.Sorting.{Sorted, alone_in, region_kept}

@@ -5,19 +5,16 @@ use mathlib.Core.Logic.{dite}
 use native.Mathlib.Decide.{ℕ_discrete}
 use lib.ListN.{get_elem?}
 use Rattle.atomic_table.specs.Table.{State}
-use Rattle.jmodel.specs.History.{Entry}
+use Rattle.jmodel.specs.history.History.{Entry}
 use Rattle.tx_table.specs.Book.{lookup, Has, In, Unticked, Face, Book}
 use Rattle.tx_table.specs.Rule.{Story, used_at, start, stripe, Faces, World, Knows, Grip, weigh, faces, code, Numbers, IsSole, world}
 use Rattle.tx_table.specs.Steps.{IsKept}
-use Rattle.tx_table.proofs.MapLaws.{eq_cond, ne_cond}
-use Rattle.tx_table.proofs.Private.{faces_here, faces_else, face_at, each_stays, world_of, total_set}
+use Rattle.tx_table.proofs.MapLaws.{eq_cond, ne_cond, lookup_append}
+use Rattle.tx_table.proofs.Private.{faces_here, faces_else, face_at, each_stays, world_of, total_set, same_faces}
 use Rattle.tx_table.proofs.Settled.{ticked_busy, decided_busy}
-use Rattle.tx_table.proofs.Turns.{Turn, annals_turn}
+use Rattle.tx_table.proofs.Turns.{Turn, annals_turn, knows_turns, grip_turns}
 use Rattle.atomic_table.proofs.Lists.{at_set, set_else}
 use Rattle.tx_table.specs.Plays.{spent_book, joined}
-use Rattle.tx_table.proofs.MapLaws.{lookup_append}
-use Rattle.tx_table.proofs.Private.{same_faces}
-use Rattle.tx_table.proofs.Turns.{knows_turns, grip_turns}
 
 in_append : (xs ys : List Entry) (e : Entry) → In e (xs ++ ys) → In e xs ⊎ In e ys
 in_append [] ys e i = inr i

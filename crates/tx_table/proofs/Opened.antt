@@ -4,12 +4,10 @@ use mathlib.Core.Option.{none, some, some-injective, some-ne-none}
 use mathlib.Core.Logic.{dite}
 use native.Mathlib.Decide.{ℕ_discrete}
 use lib.ListN.{get_elem?}
-use Rattle.atomic_table.specs.Table.{State}
+use Rattle.atomic_table.specs.Table.{State, opening}
 use Rattle.tx_table.specs.Book.{Map, lookup, Region, Unticked, Book}
-use Rattle.tx_table.specs.Rule.{Story, used_at, start, wrote, value, region_after, World, Knows, faces, IsSole, world}
+use Rattle.tx_table.specs.Rule.{Story, used_at, start, wrote, value, region_after, World, Knows, faces, IsSole, world, or_zero}
 use Rattle.tx_table.specs.Steps.{IsKept}
-use Rattle.atomic_table.specs.Table.{opening}
-use Rattle.tx_table.specs.Rule.{or_zero}
 use Rattle.tx_table.specs.Plays.{first_book, opening_regions}
 use Rattle.tx_table.proofs.MapLaws.{eq_cond, ne_cond}
 use Rattle.tx_table.proofs.Settled.{ticked_busy, decided_busy}

@@ -5,7 +5,7 @@ use mathlib.Core.Logic.{dite}
 use native.Mathlib.Decide.{ℕ_discrete, dec_le}
 use Rattle.std.proofs.Math.Dec.{ltb}
 use Rattle.std.proofs.lemmas.Bool.{ltb-true, lt-ltb, le-ltb}
-use Rattle.jmodel.specs.History.{Call, Entry, round, first_by, precedes}
+use Rattle.jmodel.specs.history.History.{Call, Entry, round, first_by, precedes}
 use Rattle.tx_table.specs.Book.{rises, IsOfLane}
 
 pub bool_or : (b : Bool) → (b ≡ true) ⊎ (b ≡ false)

@@ -4,14 +4,12 @@ use mathlib.Core.Option.{Option, none, some, some-injective, some-ne-none}
 use mathlib.Core.Logic.{dite}
 use native.Mathlib.Decide.{ℕ_discrete}
 use lib.ListN.{get_elem?}
-use Rattle.atomic_table.specs.Table.{State}
-use Rattle.jmodel.specs.History.{Call, Entry}
+use Rattle.atomic_table.specs.Table.{State, Me, step, keeps, Allows}
+use Rattle.jmodel.specs.history.History.{Call, Entry}
 use Rattle.tx_table.specs.Book.{Map, lookup, In, Stage, Unticked, Ticked, Decided, Look, Away, Saw, Had, Face, Book}
 use Rattle.tx_table.specs.Rule.{Story, used_at, start, stripe, last_of, top_of, Faces, World, Sees, Watch, Catch, Looks, face_of, faces, code, IsSole}
-use Rattle.tx_table.specs.Steps.{IsKept, Untouched, Unchanged, IsPast, Moved, Foreign}
-use Rattle.atomic_table.specs.Table.{Me, step, keeps, Allows}
+use Rattle.tx_table.specs.Steps.{IsKept, Untouched, Unchanged, IsPast, Moved, Foreign, Begins, Looks_up, Loads, Rechecks, Validates}
 use Rattle.tx_table.specs.Plays.{begun, is_free, fits, lost_at, looked, loaded_at, checked_at, validated, Aims, IsLoaded, word_in}
-use Rattle.tx_table.specs.Steps.{Begins, Looks_up, Loads, Rechecks, Validates}
 use Rattle.tx_table.proofs.MapLaws.{eq_cond, ne_cond}
 use Rattle.tx_table.proofs.Private.{world_of, Mine, quietly, face_at, two_le}
 use Rattle.tx_table.proofs.Settled.{catches, ticked_busy, decided_busy, still, clears}

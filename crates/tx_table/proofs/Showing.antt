@@ -3,20 +3,16 @@ use Rattle.std.proofs.Common.{◌≡◌, ℕ, zero, suc, ◌+◌, ◌*◌, ◌<�
 use mathlib.Core.Option.{Option, none, some, some-ne-none}
 use lib.ListN.{get_elem?}
 use Rattle.atomic_table.specs.Table.{State}
-use Rattle.jmodel.specs.History.{Entry}
-use Rattle.tx_table.specs.Book.{lookup, Has, Book}
-use Rattle.tx_table.specs.Rule.{Story, start, stripe, wrote, face_of, faces}
+use Rattle.jmodel.specs.history.History.{Entry}
+use Rattle.tx_table.specs.Book.{lookup, Has, Book, pairs, Face}
+use Rattle.tx_table.specs.Rule.{Story, start, stripe, wrote, face_of, faces, Shows, code, used_at, World}
 use Rattle.tx_table.specs.Steps.{IsKept}
 use Rattle.tx_table.proofs.Values.{value_same}
-use Rattle.tx_table.proofs.Private.{face_at}
-use Rattle.tx_table.proofs.Sorting.{history, sorted_in}
+use Rattle.tx_table.proofs.Private.{face_at, world_of}
+use Rattle.tx_table.proofs.Sorting.{history, sorted_in, wrote_some}
 use Rattle.tx_table.proofs.Histories.{oldest, in_oldest, memory_is, is_legal}
 use Rattle.tx_table.proofs.Snapshots.{Good, good, agree, memory_value, base_le_at}
-use Rattle.tx_table.specs.Book.{pairs, Face}
-use Rattle.tx_table.specs.Rule.{Shows, code, used_at, World}
-use Rattle.tx_table.proofs.Private.{world_of}
 use Rattle.tx_table.proofs.Settled.{nothing_or, unwritten}
-use Rattle.tx_table.proofs.Sorting.{wrote_some}
 use Rattle.tx_table.proofs.Closing.{weigh_oldest, weigh_history}
 
 module _ {S : Type 0} (key : Story) (s : State S Book) (r : IsKept key s) where

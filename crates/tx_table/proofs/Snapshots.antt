@@ -4,13 +4,12 @@ use mathlib.Core.Option.{Option, none, some, some-injective, some-ne-none}
 use mathlib.Core.Logic.{dite}
 use native.Mathlib.Decide.{ℕ_discrete}
 use Rattle.atomic_table.specs.Table.{State}
-use Rattle.jmodel.specs.History.{Entry}
+use Rattle.jmodel.specs.history.History.{Entry}
 use Rattle.tx_table.specs.Book.{lookup, In, pairs, Region, Book}
-use Rattle.tx_table.specs.Rule.{Story, used_at, start, Writes, first_of, wrote, or_old, value, base, last_of, region_after, top_of, Succeeds, IsLater, Continues, Chain}
+use Rattle.tx_table.specs.Rule.{Story, used_at, start, Writes, first_of, wrote, or_old, value, base, last_of, region_after, top_of, Succeeds, IsLater, Continues, Chain, Snapshot}
 use Rattle.tx_table.specs.Steps.{IsKept}
 use Rattle.std.proofs.Math.Dec.{ltb}
 use Rattle.std.proofs.lemmas.Bool.{ltb-true, ltb-false}
-use Rattle.tx_table.specs.Rule.{Snapshot}
 use Rattle.tx_table.proofs.MapLaws.{eq_cond, ne_cond}
 use Rattle.tx_table.proofs.Values.{value_same, value_still, value_at, wrote_else, wrote_unread}
 use Rattle.tx_table.proofs.Private.{Mine}

@@ -3,11 +3,11 @@ use Rattle.std.proofs.Common.{◌==◌, ◌≡◌, ◌≢◌, ◌⊎◌, ℕ, Bo
 use mathlib.Core.Option.{Option, none, some, some-ne-none}
 use mathlib.Core.Logic.{dite}
 use native.Mathlib.Decide.{ℕ_discrete}
-use Rattle.jmodel.specs.History.{Entry}
+use Rattle.jmodel.specs.history.History.{Entry}
 use Rattle.tx_table.specs.Book.{lookup, In, pairs, rises}
 use Rattle.tx_table.specs.Rule.{Story, used_at, first_of, wrote, last_of, region_after, Succeeds, IsLater, Continues, IsRegionKept}
 use Rattle.std.proofs.Math.Dec.{ltb}
-use Rattle.jmodel.specs.declared.op.Access.{Access}
+use Rattle.jmodel.specs.declared.access.Access.{Access}
 use Rattle.tx_table.proofs.MapLaws.{eq_cond, ne_cond}
 use Rattle.tx_table.proofs.Values.{wrote_else, wrote_unread}
 use Rattle.tx_table.proofs.Order.{bool_or, clash, update_rank, reader_rank, rises_chain, comes, comes_rank, comes_chain, comes_once, comes_either}

@@ -8,15 +8,12 @@ use Rattle.atomic_table.specs.Table.{State}
 use Rattle.tx_table.specs.Book.{lookup, Has, Unticked, Face, Book}
 use Rattle.tx_table.specs.Rule.{Story, used_at, start, stripe, Faces, World, Knows, Grip, total, weigh, nobody, face_of, faces, code, Numbers, IsSole, world}
 use Rattle.tx_table.specs.Steps.{IsKept}
-use Rattle.tx_table.proofs.MapLaws.{eq_cond, ne_cond}
-use Rattle.tx_table.proofs.Private.{each_stays, world_of, total_set}
+use Rattle.tx_table.proofs.MapLaws.{eq_cond, ne_cond, lookup_only}
+use Rattle.tx_table.proofs.Private.{each_stays, world_of, total_set, same_faces, one_le}
 use Rattle.tx_table.proofs.Settled.{ticked_busy, decided_busy}
-use Rattle.tx_table.proofs.Turns.{Turn, annals_turn}
+use Rattle.tx_table.proofs.Turns.{Turn, annals_turn, knows_turns, grip_turns}
 use Rattle.atomic_table.proofs.Lists.{at_set, at_last}
 use Rattle.tx_table.specs.Plays.{inverse, stays_here, goes_out}
-use Rattle.tx_table.proofs.MapLaws.{lookup_only}
-use Rattle.tx_table.proofs.Private.{same_faces, one_le}
-use Rattle.tx_table.proofs.Turns.{knows_turns, grip_turns}
 
 total_snoc : (f : Book → ℕ) (views : List Book) (w : Book) → total f (views ++ w ∷ []) ≡ total f views + f w
 total_snoc f [] w = omega arith

@@ -2,7 +2,7 @@
 use Rattle.std.specs.Prelude.{nat_lt}
 use Rattle.std.proofs.Common.{◌≡◌, ◌⊎◌, ℕ, suc, ◌+◌, ◌%◌, ◌^◌, ◌<◌, true, [], ◌∷◌, sym, refl, ap, ◌∙◌, subst, inr, ⊎_elim, arith}
 use mathlib.Core.Option.{Option, none, some, some-ne-none}
-use Rattle.jmodel.specs.History.{Call, Entry, round, first_by}
+use Rattle.jmodel.specs.history.History.{Call, Entry, round, first_by}
 use Rattle.tx_table.specs.Book.{Map, lookup, without, Has, In, pairs, Ticked, Decided, Book, rises}
 use Rattle.tx_table.specs.Rule.{Story, Succeeds}
 use Rattle.tx_table.specs.Plays.{took, ticked_up, decided_up, released, accesses, update_entry, used_in, region_of, Fits, Updates}

@@ -5,7 +5,7 @@ use mathlib.Core.Logic.{dite}
 use native.Mathlib.Decide.{ℕ_discrete}
 use lib.ListN.{get_elem?}
 use Rattle.atomic_table.specs.Table.{State}
-use Rattle.jmodel.specs.History.{Entry}
+use Rattle.jmodel.specs.history.History.{Entry}
 use Rattle.tx_table.specs.Book.{lookup, Has, Decided, Face, Book}
 use Rattle.tx_table.specs.Rule.{Story, used_at, start, stripe, wrote, value, last_of, Chain, World, Knows, Grip, Annals, total, weigh, faces, code, Counts, IsSole, world}
 use Rattle.tx_table.specs.Steps.{IsKept}

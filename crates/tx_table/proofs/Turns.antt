@@ -3,7 +3,7 @@ use Rattle.std.proofs.Common.{◌≡◌, ◌≢◌, ◌⊎◌, ℕ, suc, ◌-◌
 use mathlib.Core.Option.{some}
 use mathlib.Core.Logic.{dite}
 use native.Mathlib.Decide.{ℕ_discrete}
-use Rattle.jmodel.specs.History.{Entry}
+use Rattle.jmodel.specs.history.History.{Entry}
 use Rattle.tx_table.specs.Book.{Has, Unticked, Ticked, Decided, Look, Away, Saw, Had, Face, Book}
 use Rattle.tx_table.specs.Rule.{stripe, value, base, region_after, top_of, World, Clear, Sees, Watch, Catch, Looks, Knows, Grip, Annals}
 

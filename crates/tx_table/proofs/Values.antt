@@ -3,7 +3,7 @@ use Rattle.std.proofs.Common.{◌≡◌, ◌≢◌, ℕ, zero, suc, ◌<◌, ◌
 use mathlib.Core.Option.{Option, none, some}
 use mathlib.Core.Logic.{dite}
 use native.Mathlib.Decide.{ℕ_discrete}
-use Rattle.jmodel.specs.History.{Entry}
+use Rattle.jmodel.specs.history.History.{Entry}
 use Rattle.tx_table.specs.Book.{lookup, pairs}
 use Rattle.tx_table.specs.Rule.{Writes, first_of, wrote, or_old, value}
 use Rattle.tx_table.proofs.MapLaws.{eq_cond, ne_cond}

@@ -1,8 +1,8 @@
 -- What a pass over the table of shared words knows: the entries that it made, the regions it holds, and its attempt.
 use Rattle.std.specs.Prelude.{◌≡◌, ◌⊎◌, ℕ, suc, Bool, cond, ◌==◌, List, [], ◌∷◌, nat_lt}
 use mathlib.Core.Option.{Option, none, some}
-use Rattle.jmodel.specs.Attempt.{Log}
-use Rattle.jmodel.specs.History.{Call, Entry, round, first_by}
+use Rattle.jmodel.specs.history.Log.{Log}
+use Rattle.jmodel.specs.history.History.{Call, Entry, round, first_by}
 
 -- a finite map as pairs, of which the first with a key counts
 abbrev pub Map : Type 0 → Type 0

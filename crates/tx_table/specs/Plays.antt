@@ -2,8 +2,8 @@
 use Rattle.std.specs.Prelude.{◌≡◌, ◌⊎◌, ℕ, ◌+◌, ◌-◌, ◌*◌, ◌/◌, ◌%◌, ◌≤◌, Bool, true, false, cond, ◌==◌, leb, List, [], ◌∷◌, ◌++◌, map, max}
 use mathlib.Core.Option.{Option, none, some}
 use Rattle.jmodel.specs.declared.value.Answer.{Answer}
-use Rattle.jmodel.specs.Attempt.{Log}
-use Rattle.jmodel.specs.History.{Call, Entry, leaves_words}
+use Rattle.jmodel.specs.history.Log.{Log}
+use Rattle.jmodel.specs.history.History.{Call, Entry, leaves_words}
 use Rattle.tx_table.specs.Book.{Map, lookup, without, only, pairs, Region, Stage, Unticked, Ticked, Decided, Look, Away, Saw, Had, Book, IsOfLane}
 use Rattle.tx_table.specs.Rule.{Story, Succeeds, nobody}
 

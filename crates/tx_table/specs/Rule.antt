@@ -4,7 +4,7 @@
 use Rattle.std.specs.Prelude.{◌≡◌, ◌≢◌, ◌⊎◌, ℕ, zero, suc, ◌+◌, ◌-◌, ◌*◌, ◌%◌, ◌<◌, ◌≤◌, true, false, cond, ◌==◌, List, [], ◌∷◌, length, slice_index, AllPairs}
 use mathlib.Core.Option.{Option, none, some}
 use lib.ListN.{get_elem?}
-use Rattle.jmodel.specs.History.{Call, Entry, IsLegal, memory_after, used_after, leaves_words}
+use Rattle.jmodel.specs.history.History.{Call, Entry, IsLegal, memory_after, used_after, leaves_words}
 use Rattle.tx_table.specs.Book.{Map, lookup, Has, In, pairs, Region, Unticked, Ticked, Decided, Look, Away, Saw, Had, Face, Book, rises, IsOfLane}
 
 -- What a table is opened for: the heap's words, the regions with the words used in each, and which entries are runs of their

@@ -1,7 +1,7 @@
 -- What a step tells its pass.
 use Rattle.std.specs.Prelude.{◌≡◌, ◌≢◌, ◌⊎◌, ◌<◌, ◌≤◌, ◌-◌, ◌+◌, ◌^◌, ◌*◌, ◌%◌, ℕ, Bool, true, false, []}
 use Rattle.atomic_table.specs.Table.{State, Me, Step}
-use Rattle.jmodel.specs.History.{Call, Entry}
+use Rattle.jmodel.specs.history.History.{Call, Entry}
 use mathlib.Core.Option.{none}
 use Rattle.tx_table.specs.Book.{Book, Map, lookup}
 use Rattle.jmodel.specs.declared.value.Answer.TheVariants.{Spent}

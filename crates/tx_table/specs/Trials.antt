@@ -1,11 +1,10 @@
 -- Attempts of the tests, each of which adds one to a word.
-use Rattle.std.specs.Prelude.{◌≡◌, ℕ, suc, ◌+◌, ◌%◌, ◌^◌, ◌<◌, [], ◌∷◌}
+use Rattle.std.specs.Prelude.{◌≡◌, ℕ, suc, ◌+◌, ◌%◌, ◌^◌, ◌<◌, [], ◌∷◌, None, Bool, ◌==◌}
 use mathlib.Core.Option.{Option, none, some}
-use Rattle.jmodel.specs.History.{Call, Entry}
+use Rattle.jmodel.specs.history.History.{Call, Entry}
 use Rattle.tx_table.specs.Book.{Map, lookup, Region, Unticked, Book}
 use Rattle.tx_table.specs.Plays.{update_entry, used_in}
 use Rattle.jmodel.specs.declared.value.Answer.TheVariants.{Returned}
-use Rattle.std.specs.Prelude.{None, Bool, ◌==◌}
 
 -- the n-th call of a lane
 abbrev pub the_call : ℕ → ℕ → Call

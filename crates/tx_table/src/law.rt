@@ -1,6 +1,6 @@
 //! The rule of the table, and what each step tells its pass.
 ghost use Rattle.std.specs.Prelude.{ℕ, Bool, false, []};
-ghost use Rattle.jmodel.specs.History.{Call, Entry};
+ghost use Rattle.jmodel.specs.history.History.{Call, Entry};
 ghost use Rattle.tx_table.specs.Book.{Book, Map};
 ghost use Rattle.tx_table.specs.Plays.{first_book, spent_book, stays_here, goes_out, joined, no_call};
 ghost use Rattle.tx_table.specs.Steps.{IsKept, Nothing, no_entry, Begins, Looks_up, Loads, Rechecks, Finishes, Takes, Ticks, Validates, Decides, Writes_back, Releases, Gives};

@@ -1,6 +1,6 @@
 //! The steps of an attempt that reads.
 ghost use Rattle.std.specs.Prelude.{◌≡◌, ◌≢◌, ◌⊎◌, ◌≤◌, ◌<◌, ◌+◌, ◌*◌, ◌^◌, ◌/◌, ◌%◌, [], ℕ, true, false, IfOk, IfErr, IsOk};
-ghost use Rattle.jmodel.specs.History.{Call, Entry};
+ghost use Rattle.jmodel.specs.history.History.{Call, Entry};
 ghost use mathlib.Core.Option.{none as Missing};
 ghost use Rattle.tx_table.specs.Book.{Book, lookup, Unticked, Saw};
 ghost use Rattle.tx_table.specs.Rule.{Snapshot};

@@ -1,7 +1,7 @@
 //! The steps of an attempt that writes.
 ghost use Rattle.std.specs.Prelude.{◌≡◌, ◌≢◌, ◌⊎◌, ◌≤◌, ◌<◌, ◌+◌, ◌*◌, ◌/◌, ◌%◌, ◌^◌, ◌∷◌, [], ℕ, Bool, true, false, IfOk, IfErr, IsOk};
 ghost use mathlib.Core.Option.{some as Found, none as Missing};
-ghost use Rattle.jmodel.specs.History.{Entry};
+ghost use Rattle.jmodel.specs.history.History.{Entry};
 ghost use Rattle.tx_table.specs.Book.{Map, lookup, Has, In, Unticked, Ticked, Decided};
 ghost use Rattle.tx_table.specs.Plays.{lost_at, took, ticked_up, decided_up, wrote_back, released, gave_up, Updates, Aims, word_in};
 ghost use Rattle.tx_table.specs.Passes.{book, IsOf, IsSame};

@@ -1,6 +1,6 @@
 //! Sixteen threads move amounts between addresses that share a few stripes.
 ghost use Rattle.std.specs.Prelude.{◌≡◌, ◌≤◌, ◌<◌, ◌+◌, ◌^◌, [], ℕ, Bool, List, All, length, IfOk, ⊤};
-ghost use Rattle.jmodel.specs.History.{Entry};
+ghost use Rattle.jmodel.specs.history.History.{Entry};
 ghost use Rattle.tx_table.specs.Book.{Unticked};
 ghost use Rattle.tx_table.specs.Plays.{first_book, stays_here, goes_out};
 ghost use Rattle.tx_table.specs.Passes.{book, IsOf, IsSame};
@@ -8,7 +8,7 @@ ghost use Rattle.tl2.specs.Trials.{StandsSomehow, IsWaiting, IsStarting, IsEndin
 
 use super::{CallAt, tries};
 use jmodel::NoMemory;
-use jmodel::op::Access;
+use jmodel::access::Access;
 use std::alloc::Global;
 use std::snapshot::Snapshot;
 use std::thread::{Threads, map_vec, yield_now};

@@ -1,5 +1,5 @@
-use Rattle.jmodel.specs.ClassRules.{IsClassFile}
-use Rattle.object_rewriter.specs.Asked.{AreFiled}
+use Rattle.jmodel.specs.format.ClassRules.{IsClassFile}
+use Rattle.rewriter.specs.Asked.{AreFiled}
 use Rattle.deuce.proofs.Lists.{all_pushed}
 use Rattle.meanings.proofs.classes_in.Goals as goal
 

@@ -1,7 +1,7 @@
 -- The classes so far keep the rules of class files, and their attributes hold bytes.
 use Rattle.std.specs.List.{AllByRecursion}
-use Rattle.jmodel.specs.ClassRules.{IsClassFile}
-use Rattle.object_rewriter.specs.Asked.{AreFiled}
+use Rattle.jmodel.specs.format.ClassRules.{IsClassFile}
+use Rattle.rewriter.specs.Asked.{AreFiled}
 use Rattle.meanings.proofs.classes_in.Given as goal
 
 abbrev pub invariant-loop-path : goal.invariant-loop-path

@@ -1,6 +1,6 @@
 use Rattle.std.proofs.Common.{◌≡◌, ◌∙◌, List, map, Ok, Some, ap, sym, subst}
-use Rattle.jmodel.specs.ClassFile.{ClassFile}
-use Rattle.objects.specs.Linking.{linking}
+use Rattle.jmodel.specs.format.ClassFile.{ClassFile}
+use Rattle.objects.specs.linking.Linking.{linking}
 use Rattle.program_typing.proofs.Typings.{all_typed}
 use Rattle.meanings.proofs.print_meaning.Goals as goal
 

@@ -1,6 +1,6 @@
 use Rattle.std.proofs.Common.{sym}
 use Rattle.std.proofs.lemmas.Result.{err_from_is_err_and}
-use Rattle.jmodel.specs.ClassRules.{named_attributes}
+use Rattle.jmodel.specs.format.ClassRules.{named_attributes}
 use Rattle.annotations.specs.Walk.{attributes_end, value_end}
 use Rattle.annotations.proofs.Attributes.{goes_on, ends, is_done}
 use Rattle.annotations.proofs.mark.attributes_found.Goals as goal

@@ -1,5 +1,5 @@
 use Rattle.std.proofs.Common.{◌≡◌, drop}
-use Rattle.jmodel.specs.ClassRules.{named_attributes}
+use Rattle.jmodel.specs.format.ClassRules.{named_attributes}
 use Rattle.annotations.specs.Walk.{attributes_end, value_end}
 use Rattle.annotations.proofs.mark.attributes_found.Given as goal
 

@@ -1,7 +1,7 @@
 use Rattle.std.proofs.Common.{refl, sym}
 use Rattle.std.specs.Prelude.{codes}
 use Rattle.std.proofs.lemmas.Result.{err_from_is_err_and}
-use Rattle.jmodel.specs.ClassRules.{named_attributes}
+use Rattle.jmodel.specs.format.ClassRules.{named_attributes}
 use Rattle.annotations.proofs.Marks.{retries_by_parts}
 use Rattle.annotations.proofs.mark.retries_of.Goals as goal
 

@@ -1,6 +1,6 @@
 use Rattle.std.proofs.Common.{refl}
-use Rattle.jmodel.specs.Mark.{all_annotations, retries_in}
-use Rattle.jmodel.specs.AnnotationReading.{run_at, u1_at, u2_at, text_at, items_at, counted_at, items_until, counted_until, pair_at, annotation_at, value_at, mark_pair_at, top_annotation_at, annotations_of}
+use Rattle.jmodel.specs.format.Mark.{all_annotations, retries_in}
+use Rattle.jmodel.specs.format.AnnotationReading.{run_at, u1_at, u2_at, text_at, items_at, counted_at, items_until, counted_until, pair_at, annotation_at, value_at, mark_pair_at, top_annotation_at, annotations_of}
 use Rattle.bankgen.proofs.laws.bank_law.Goals as goal
 
 pub returns : goal.returns

@@ -1,5 +1,5 @@
 use Rattle.std.proofs.Common.{subst, arith}
-use Rattle.jmodel.specs.Reading.{Gives}
+use Rattle.jmodel.specs.format.Reading.{Gives}
 use Rattle.bytecode.proofs.CodeLaws.{is_found, code_again}
 use Rattle.bytecode.proofs.decoding.decode_bytes.Goals as goal
 

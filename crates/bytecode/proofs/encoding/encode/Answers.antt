@@ -1,5 +1,5 @@
 use Rattle.std.proofs.Common.{ℕ, List, sym, subst}
-use Rattle.jmodel.specs.Instruction.{Holds}
+use Rattle.jmodel.specs.format.Instruction.{Holds}
 use Rattle.bytecode.proofs.CodeLaws.{text_holds}
 use Rattle.bytecode.proofs.encoding.encode.Goals as goal
 

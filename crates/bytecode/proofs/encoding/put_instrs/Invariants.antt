@@ -1,5 +1,5 @@
 use Rattle.std.proofs.Common.{◌≡◌, take}
-use Rattle.jmodel.specs.Instruction.{code_text}
+use Rattle.jmodel.specs.format.Instruction.{code_text}
 use Rattle.bytecode.proofs.encoding.put_instrs.Given as goal
 
 abbrev pub invariant-loop-i : goal.invariant-loop-i

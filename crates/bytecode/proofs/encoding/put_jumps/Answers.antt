@@ -2,7 +2,7 @@ use Rattle.std.proofs.Common.{◌≡◌, ℤ, List, ℕ, ◌++◌, subst, OnOk}
 use Rattle.std.specs.Int.{w32}
 use Rattle.std.specs.List.{flat_map}
 use Rattle.std.proofs.lemmas.Int.{to_z-of_z}
-use Rattle.jmodel.specs.Instruction.{signed, jump, zeros, highest}
+use Rattle.jmodel.specs.format.Instruction.{signed, jump, zeros, highest}
 use Rattle.bytecode.proofs.Walks.{chained}
 use Rattle.bytecode.proofs.encoding.put_jumps.Goals as goal
 

@@ -1,7 +1,7 @@
 use Rattle.std.proofs.Common.{◌≡◌, ◌++◌, take}
 use Rattle.std.specs.Int.{w32}
 use Rattle.std.specs.List.{flat_map}
-use Rattle.jmodel.specs.Instruction.{jump}
+use Rattle.jmodel.specs.format.Instruction.{jump}
 use Rattle.bytecode.proofs.encoding.put_targets.Given as goal
 
 abbrev pub invariant-loop-target : goal.invariant-loop-target

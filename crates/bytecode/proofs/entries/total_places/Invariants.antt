@@ -1,5 +1,5 @@
 use Rattle.std.proofs.Common.{◌≡◌, ◌+◌, drop}
-use Rattle.jmodel.specs.Descriptor.{places_of}
+use Rattle.jmodel.specs.format.Descriptor.{places_of}
 use Rattle.bytecode.proofs.entries.total_places.Given as goal
 
 abbrev pub invariant-loop-t : goal.invariant-loop-t

@@ -1,7 +1,7 @@
 use Rattle.std.proofs.Common.{◌≡◌, ◌-◌, ◌<◌, length}
 use Rattle.std.specs.List.{AllByRecursion}
 use Rattle.jmodel.specs.declared.instruction.Instr.{Instr}
-use Rattle.jmodel.specs.InstructionReading.{instrs_at}
+use Rattle.jmodel.specs.format.InstructionReading.{instrs_at}
 use Rattle.bytecode.proofs.Walks.{behind}
 use Rattle.bytecode.proofs.instructions.instrs_at.Given as goal
 

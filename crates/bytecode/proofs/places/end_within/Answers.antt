@@ -1,7 +1,6 @@
-use Rattle.std.proofs.Common.{◌+◌, ◌∙◌, ap, sym, arith, ℕ, drop, subst}
+use Rattle.std.proofs.Common.{◌+◌, ◌∙◌, ap, sym, arith, ℕ, drop, subst, List, ◌≡◌}
 use Rattle.jmodel.specs.declared.instruction.Instr.{Instr}
-use Rattle.std.proofs.Common.{List, ◌≡◌}
-use Rattle.jmodel.specs.Relocation.{all_instrs, behind, end_of}
+use Rattle.jmodel.specs.format.Relocation.{all_instrs, behind, end_of}
 use Rattle.bytecode.specs.Within.{within}
 use Rattle.bytecode.proofs.BlockLaws.{within_some, within_none, end_on, end_over, end_last, blocks_too_large, stub_too_large, both_fit}
 use Rattle.bytecode.proofs.places.end_within.Goals as goal

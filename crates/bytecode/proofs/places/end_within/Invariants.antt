@@ -1,5 +1,5 @@
 use Rattle.std.proofs.Common.{◌≡◌, ◌≤◌, drop}
-use Rattle.jmodel.specs.Relocation.{behind, all_instrs, end_of}
+use Rattle.jmodel.specs.format.Relocation.{behind, all_instrs, end_of}
 use Rattle.bytecode.proofs.places.end_within.Given as goal
 
 abbrev pub invariant-loop-b : goal.invariant-loop-b

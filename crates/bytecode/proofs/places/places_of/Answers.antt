@@ -1,6 +1,6 @@
 use Rattle.std.proofs.Common.{List, ◌∙◌, ap, arith}
 use Rattle.jmodel.specs.declared.instruction.Instr.{Instr}
-use Rattle.jmodel.specs.Relocation.{behind}
+use Rattle.jmodel.specs.format.Relocation.{behind}
 use Rattle.bytecode.specs.Within.{within}
 use Rattle.bytecode.proofs.TableLaws.{filled_next}
 use Rattle.bytecode.proofs.places.places_of.Goals as goal

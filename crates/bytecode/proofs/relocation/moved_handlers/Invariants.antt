@@ -1,5 +1,5 @@
 use Rattle.std.proofs.Common.{◌≡◌, ◌++◌, map, take}
-use Rattle.jmodel.specs.Relocation.{moved}
+use Rattle.jmodel.specs.format.Relocation.{moved}
 use Rattle.bytecode.specs.Places.{place_in, entry_to}
 use Rattle.bytecode.proofs.relocation.moved_handlers.Given as goal
 

@@ -1,7 +1,7 @@
 use Rattle.std.proofs.Common.{sym, ◌∙◌, ap, subst, arith, drop, length, ◌++◌}
 use Rattle.jmodel.specs.declared.instruction.Instr.{Instr}
-use Rattle.jmodel.specs.Instruction.{IsInstr, text}
-use Rattle.jmodel.specs.Relocation.{behind, IsShaped, reaches, put_at, retargeted}
+use Rattle.jmodel.specs.format.Instruction.{IsInstr, text}
+use Rattle.jmodel.specs.format.Relocation.{behind, IsShaped, reaches, put_at, retargeted}
 use Rattle.bytecode.specs.Places.{place_in, LeadsInside, with_block}
 use Rattle.bytecode.proofs.SizeLaws.{behind_over, behind_on, drop_each}
 use Rattle.bytecode.proofs.MovedLaws.{moved_is_instr}

@@ -1,5 +1,5 @@
 use Rattle.std.proofs.Common.{◌≡◌, length, drop}
-use Rattle.jmodel.specs.Relocation.{behind}
+use Rattle.jmodel.specs.format.Relocation.{behind}
 use Rattle.bytecode.specs.Places.{place_in, with_block}
 use Rattle.bytecode.proofs.relocation.put_block.Given as goal
 

@@ -1,6 +1,6 @@
 use Rattle.std.proofs.Common.{sym, ◌∙◌, ap, subst, arith, length, ℕ, List, [], ◌++◌, ◌≤◌}
 use Rattle.jmodel.specs.declared.instruction.Instr.{Instr}
-use Rattle.jmodel.specs.Relocation.{all_instrs, behind}
+use Rattle.jmodel.specs.format.Relocation.{all_instrs, behind}
 use Rattle.bytecode.specs.Places.{place_in, with_block, with_blocks}
 use Rattle.bytecode.proofs.PutLaws.{block_fits, fits_on, blocks_on}
 use Rattle.bytecode.proofs.relocation.put_blocks.Goals as goal

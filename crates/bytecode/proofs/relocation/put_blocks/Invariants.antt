@@ -1,5 +1,5 @@
 use Rattle.std.proofs.Common.{◌≡◌, ◌++◌, [], length, drop}
-use Rattle.jmodel.specs.Relocation.{all_instrs, behind}
+use Rattle.jmodel.specs.format.Relocation.{all_instrs, behind}
 use Rattle.bytecode.specs.Places.{place_in, with_blocks}
 use Rattle.bytecode.proofs.relocation.put_blocks.Given as goal
 

@@ -1,5 +1,5 @@
 use Rattle.std.proofs.Common.{◌+◌, arith, sym, drop}
-use Rattle.jmodel.specs.Relocation.{behind}
+use Rattle.jmodel.specs.format.Relocation.{behind}
 use Rattle.bytecode.proofs.SizeLaws.{behind_over, behind_on, too_far}
 use Rattle.bytecode.proofs.sizes.behind.Goals as goal
 

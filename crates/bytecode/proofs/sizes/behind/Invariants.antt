@@ -1,5 +1,5 @@
 use Rattle.std.proofs.Common.{◌≡◌, ◌≤◌, drop}
-use Rattle.jmodel.specs.Relocation.{behind}
+use Rattle.jmodel.specs.format.Relocation.{behind}
 use Rattle.bytecode.proofs.sizes.behind.Given as goal
 
 abbrev pub invariant-loop-i : goal.invariant-loop-i

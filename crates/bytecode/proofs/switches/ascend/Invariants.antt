@@ -1,5 +1,5 @@
 use Rattle.std.proofs.Common.{◌≡◌, drop}
-use Rattle.jmodel.specs.Instruction.{ascend_after, ascend}
+use Rattle.jmodel.specs.format.Instruction.{ascend_after, ascend}
 use Rattle.bytecode.proofs.switches.ascend.Given as goal
 
 abbrev pub invariant-loop-pair : goal.invariant-loop-pair

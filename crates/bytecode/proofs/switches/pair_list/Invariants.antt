@@ -1,6 +1,6 @@
 use Rattle.std.proofs.Common.{◌≡◌, ◌-◌}
-use Rattle.jmodel.specs.Reading.{items_at}
-use Rattle.jmodel.specs.InstructionReading.{pair_at}
+use Rattle.jmodel.specs.format.Reading.{items_at}
+use Rattle.jmodel.specs.format.InstructionReading.{pair_at}
 use Rattle.const_pool.proofs.Loops.{with_front}
 use Rattle.bytecode.proofs.switches.pair_list.Given as goal
 

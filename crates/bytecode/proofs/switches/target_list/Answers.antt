@@ -1,7 +1,7 @@
 use Rattle.std.proofs.lemmas.Result.{err_from_is_err_and}
 use Rattle.std.specs.Int.{w32}
-use Rattle.jmodel.specs.Reading.{items_at}
-use Rattle.jmodel.specs.InstructionReading.{target_at}
+use Rattle.jmodel.specs.format.Reading.{items_at}
+use Rattle.jmodel.specs.format.InstructionReading.{target_at}
 use Rattle.const_pool.proofs.Loops.{goes_on, ends, is_done}
 use Rattle.bytecode.proofs.switches.target_list.Goals as goal
 

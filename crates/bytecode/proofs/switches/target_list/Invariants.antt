@@ -1,7 +1,7 @@
 use Rattle.std.proofs.Common.{◌≡◌, ◌-◌}
 use Rattle.std.specs.Int.{w32}
-use Rattle.jmodel.specs.Reading.{items_at}
-use Rattle.jmodel.specs.InstructionReading.{target_at}
+use Rattle.jmodel.specs.format.Reading.{items_at}
+use Rattle.jmodel.specs.format.InstructionReading.{target_at}
 use Rattle.const_pool.proofs.Loops.{with_front}
 use Rattle.bytecode.proofs.switches.target_list.Given as goal
 

@@ -1,8 +1,8 @@
 use Rattle.std.proofs.Common.{◌≡◌, List, drop}
 use Rattle.std.specs.List.{flat_map}
 use Rattle.jmodel.specs.declared.instruction.Instr.{Instr}
-use Rattle.jmodel.specs.Instruction.{places_of_handler}
-use Rattle.jmodel.specs.InstructionReading.{lesser, least_bad}
+use Rattle.jmodel.specs.format.Instruction.{places_of_handler}
+use Rattle.jmodel.specs.format.InstructionReading.{lesser, least_bad}
 use Rattle.bytecode.specs.Marks.{AreMarks}
 use Rattle.bytecode.proofs.targets.entries_fit.Given as goal
 

@@ -1,5 +1,5 @@
 use Rattle.std.proofs.Common.{◌≡◌, ℕ, false, length, take, get_or}
-use Rattle.jmodel.specs.Instruction.{is_start}
+use Rattle.jmodel.specs.format.Instruction.{is_start}
 use Rattle.bytecode.proofs.targets.marks_of.Given as goal
 
 abbrev pub invariant-loop-i : goal.invariant-loop-i

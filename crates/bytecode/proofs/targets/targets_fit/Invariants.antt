@@ -1,5 +1,5 @@
 use Rattle.std.proofs.Common.{◌≡◌, drop}
-use Rattle.jmodel.specs.InstructionReading.{targets_fit}
+use Rattle.jmodel.specs.format.InstructionReading.{targets_fit}
 use Rattle.bytecode.proofs.targets.targets_fit.Given as goal
 
 abbrev pub invariant-loop-i : goal.invariant-loop-i

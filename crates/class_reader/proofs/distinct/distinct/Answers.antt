@@ -4,7 +4,7 @@ use Rattle.std.specs.List.{list_any}
 use Rattle.std.specs.Ordering.{nat_cmp}
 use Rattle.std.specs.BTreeSet as tree
 use Rattle.std.proofs.lemmas.Bool.{not-true, not-false}
-use Rattle.jmodel.specs.ClassFileReading.{distinct}
+use Rattle.jmodel.specs.format.ClassFileReading.{distinct}
 use Rattle.class_reader.specs.Numbers.{numbers_of, key_of}
 use Rattle.class_reader.proofs.Keys.{keys_on, goes_on, is_double, all_distinct}
 use Rattle.class_reader.proofs.distinct.distinct.Goals as goal

@@ -3,7 +3,7 @@ use Rattle.std.specs.Prelude.{nat_eq}
 use Rattle.std.specs.List.{list_any}
 use Rattle.std.specs.Ordering.{nat_cmp}
 use Rattle.std.specs.BTreeSet as tree
-use Rattle.jmodel.specs.ClassFileReading.{distinct}
+use Rattle.jmodel.specs.format.ClassFileReading.{distinct}
 use Rattle.class_reader.specs.Numbers.{numbers_of, key_of}
 use Rattle.class_reader.proofs.distinct.distinct.Given as goal
 

@@ -1,6 +1,6 @@
 use Rattle.std.proofs.Common.{◌≡◌, ◌-◌}
-use Rattle.jmodel.specs.Reading.{items_at}
-use Rattle.jmodel.specs.ClassFileReading.{class_index_at}
+use Rattle.jmodel.specs.format.Reading.{items_at}
+use Rattle.jmodel.specs.format.ClassFileReading.{class_index_at}
 use Rattle.const_pool.proofs.Loops.{with_front}
 use Rattle.class_reader.proofs.head.interface_list.Given as goal
 

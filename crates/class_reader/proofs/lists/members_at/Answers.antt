@@ -1,6 +1,6 @@
 use Rattle.std.proofs.lemmas.Result.{err_from_is_err_and}
-use Rattle.jmodel.specs.Reading.{items_at}
-use Rattle.jmodel.specs.ClassFileReading.{members_at}
+use Rattle.jmodel.specs.format.Reading.{items_at}
+use Rattle.jmodel.specs.format.ClassFileReading.{members_at}
 use Rattle.const_pool.proofs.Loops.{goes_on, ends, is_done}
 use Rattle.class_reader.specs.Heads.{read_as}
 use Rattle.class_reader.proofs.lists.members_at.Goals as goal

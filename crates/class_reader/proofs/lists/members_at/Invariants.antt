@@ -1,5 +1,5 @@
 use Rattle.std.proofs.Common.{◌≡◌, ◌-◌}
-use Rattle.jmodel.specs.Reading.{items_at}
+use Rattle.jmodel.specs.format.Reading.{items_at}
 use Rattle.const_pool.proofs.Loops.{with_front}
 use Rattle.class_reader.specs.Heads.{read_as}
 use Rattle.class_reader.proofs.lists.members_at.Given as goal

@@ -1,5 +1,5 @@
 use Rattle.std.proofs.lemmas.Result.{err_from_is_err_and}
-use Rattle.jmodel.specs.ClassFileReading.{method_attribute_at, full_name}
+use Rattle.jmodel.specs.format.ClassFileReading.{method_attribute_at, full_name}
 use Rattle.const_pool.proofs.Loops.{goes_on, ends, is_done}
 use Rattle.class_reader.proofs.Steps.{here, attribute_ok, attribute_fails, judge_fails}
 use Rattle.class_reader.proofs.methods.attribute_list.Goals as goal

@@ -1,6 +1,6 @@
 use Rattle.std.proofs.Common.{◌≡◌, ◌-◌, false}
-use Rattle.jmodel.specs.Reading.{items_at}
-use Rattle.jmodel.specs.ClassFileReading.{method_attribute_at, full_name}
+use Rattle.jmodel.specs.format.Reading.{items_at}
+use Rattle.jmodel.specs.format.ClassFileReading.{method_attribute_at, full_name}
 use Rattle.const_pool.proofs.Loops.{with_front}
 use Rattle.class_reader.proofs.methods.attribute_list.Given as goal
 

@@ -1,5 +1,5 @@
 use Rattle.std.proofs.Common.{subst, arith}
-use Rattle.jmodel.specs.Reading.{Gives}
+use Rattle.jmodel.specs.format.Reading.{Gives}
 use Rattle.class_reader.proofs.ClassLaws.{is_found, class_again}
 use Rattle.class_reader.proofs.reader.read_class.Goals as goal
 

@@ -1,6 +1,6 @@
 use Rattle.std.proofs.Common.{◌≡◌, ◌++◌, length, take}
 use Rattle.std.specs.List.{flat_map}
-use Rattle.jmodel.specs.ClassFile.{u2, member}
+use Rattle.jmodel.specs.format.ClassFile.{u2, member}
 use Rattle.class_writer.proofs.writer.put_members.Given as goal
 
 abbrev pub invariant-loop-m : goal.invariant-loop-m

@@ -1,6 +1,6 @@
 use Rattle.std.proofs.Common.{◌≡◌, ◌++◌, suc, length, take}
 use Rattle.std.specs.List.{flat_map}
-use Rattle.jmodel.specs.ClassFile.{u2, constant}
+use Rattle.jmodel.specs.format.ClassFile.{u2, constant}
 use Rattle.class_writer.proofs.writer.put_pool.Given as goal
 
 abbrev pub invariant-loop-entry : goal.invariant-loop-entry

@@ -1,6 +1,6 @@
 use Rattle.std.proofs.lemmas.Result.{err_from_is_err_and}
-use Rattle.jmodel.specs.Reading.{items_at}
-use Rattle.jmodel.specs.ClassReading.{handler_at}
+use Rattle.jmodel.specs.format.Reading.{items_at}
+use Rattle.jmodel.specs.format.ClassReading.{handler_at}
 use Rattle.const_pool.proofs.Loops.{goes_on, ends, is_done}
 use Rattle.const_pool.proofs.code.handler_list.Goals as goal
 

@@ -1,7 +1,7 @@
 use Rattle.std.proofs.Common.{◌-◌, ◌+◌, arith, refl}
 use Rattle.std.proofs.lemmas.List.{length_push}
 use Rattle.std.proofs.lemmas.Result.{err_from_is_err_and}
-use Rattle.jmodel.specs.PoolReading.{Scan, scan_at, entries_at}
+use Rattle.jmodel.specs.format.PoolReading.{Scan, scan_at, entries_at}
 use Rattle.const_pool.proofs.Loops.{goes_on, ends, is_done, first_fails}
 use Rattle.const_pool.proofs.Scan.{here, scan_ok, scan_fails}
 use Rattle.const_pool.proofs.constants.entries_at.Goals as goal

@@ -1,6 +1,6 @@
 use Rattle.std.proofs.Common.{◌≡◌, ◌-◌, false, length}
-use Rattle.jmodel.specs.Reading.{items_at}
-use Rattle.jmodel.specs.PoolReading.{scan_at}
+use Rattle.jmodel.specs.format.Reading.{items_at}
+use Rattle.jmodel.specs.format.PoolReading.{scan_at}
 use Rattle.const_pool.proofs.Loops.{with_front}
 use Rattle.const_pool.proofs.constants.entries_at.Given as goal
 

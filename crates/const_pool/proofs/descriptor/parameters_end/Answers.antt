@@ -1,5 +1,5 @@
 use Rattle.std.proofs.Common.{sym, arith}
-use Rattle.jmodel.specs.DescriptorReading.{types_at, with_places}
+use Rattle.jmodel.specs.format.DescriptorReading.{types_at, with_places}
 use Rattle.const_pool.proofs.Parameters.{goes_on, fails, closes, too_many}
 use Rattle.const_pool.proofs.descriptor.parameters_end.Goals as goal
 

@@ -1,5 +1,5 @@
 use Rattle.std.proofs.Common.{◌≡◌, ◌-◌, ◌*◌, ◌≤◌}
-use Rattle.jmodel.specs.DescriptorReading.{types_at, with_places}
+use Rattle.jmodel.specs.format.DescriptorReading.{types_at, with_places}
 use Rattle.const_pool.proofs.descriptor.parameters_end.Given as goal
 
 abbrev pub invariant-loop : goal.invariant-loop

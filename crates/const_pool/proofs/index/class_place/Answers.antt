@@ -1,6 +1,6 @@
 use Rattle.std.proofs.Common.{List, ℕ, ap, ◌∙◌}
 use Rattle.std.specs.Prelude.{option_and_then}
-use Rattle.jmodel.specs.PoolAdding.{means_class}
+use Rattle.jmodel.specs.format.PoolAdding.{means_class}
 use Rattle.const_pool.specs.Firsts.{first, text_known, key_known}
 use Rattle.const_pool.specs.declared.keys.Key.TheVariants.{Class}
 use Rattle.const_pool.proofs.SameMeaning.{class_by_name}

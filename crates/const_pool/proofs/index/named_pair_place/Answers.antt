@@ -1,7 +1,7 @@
 use Rattle.std.proofs.Common.{List, ℕ, Option, Some, ap, ◌∙◌}
 use Rattle.std.specs.Prelude.{option_and_then}
-use Rattle.jmodel.specs.Pool.{both, utf8}
-use Rattle.jmodel.specs.PoolAdding.{means_pair}
+use Rattle.jmodel.specs.format.Pool.{both, utf8}
+use Rattle.jmodel.specs.format.PoolAdding.{means_pair}
 use Rattle.const_pool.specs.Firsts.{first, text_known, key_known, key_of}
 use Rattle.const_pool.specs.declared.keys.Key.TheVariants.{Pair}
 use Rattle.const_pool.proofs.SameMeaning.{pair_by_names}

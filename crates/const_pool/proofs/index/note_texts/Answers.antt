@@ -1,4 +1,4 @@
-use Rattle.jmodel.specs.PoolAdding.{means_text}
+use Rattle.jmodel.specs.format.PoolAdding.{means_text}
 use Rattle.const_pool.specs.Firsts.{text_known}
 use Rattle.const_pool.proofs.FirstLemmas.{first_more}
 use Rattle.const_pool.proofs.index.note_texts.Goals as goal

@@ -1,5 +1,5 @@
 use Rattle.std.proofs.Common.{◌≡◌, ℕ, List, take}
-use Rattle.jmodel.specs.PoolAdding.{means_text}
+use Rattle.jmodel.specs.format.PoolAdding.{means_text}
 use Rattle.const_pool.specs.Firsts.{first, text_known}
 use Rattle.const_pool.proofs.index.note_texts.Given as goal
 

@@ -1,4 +1,4 @@
-use Rattle.jmodel.specs.PoolAdding.{means_class}
+use Rattle.jmodel.specs.format.PoolAdding.{means_class}
 use Rattle.const_pool.proofs.FirstLemmas.{position_inside}
 use Rattle.const_pool.proofs.Indexes.{joined, class_looked_up}
 use Rattle.const_pool.proofs.meanings.first_class.Goals as goal

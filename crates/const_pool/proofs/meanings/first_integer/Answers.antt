@@ -1,6 +1,6 @@
 use Rattle.std.proofs.Common.{w32}
 use Rattle.std.proofs.Math.Facts.{to_z-of_z}
-use Rattle.jmodel.specs.PoolAdding.{means_integer}
+use Rattle.jmodel.specs.format.PoolAdding.{means_integer}
 use Rattle.const_pool.proofs.FirstLemmas.{position_inside}
 use Rattle.const_pool.proofs.Indexes.{joined, integer_looked_up}
 use Rattle.const_pool.proofs.meanings.first_integer.Goals as goal

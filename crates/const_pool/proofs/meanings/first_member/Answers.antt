@@ -1,4 +1,4 @@
-use Rattle.jmodel.specs.PoolAdding.{means_member}
+use Rattle.jmodel.specs.format.PoolAdding.{means_member}
 use Rattle.const_pool.specs.Kinds.{parts_of}
 use Rattle.const_pool.proofs.FirstLemmas.{position_inside}
 use Rattle.const_pool.proofs.Indexes.{joined, member_looked_up}

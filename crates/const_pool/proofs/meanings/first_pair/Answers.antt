@@ -1,4 +1,4 @@
-use Rattle.jmodel.specs.PoolAdding.{means_pair}
+use Rattle.jmodel.specs.format.PoolAdding.{means_pair}
 use Rattle.const_pool.proofs.FirstLemmas.{position_inside}
 use Rattle.const_pool.proofs.Indexes.{joined, pair_looked_up}
 use Rattle.const_pool.proofs.meanings.first_pair.Goals as goal

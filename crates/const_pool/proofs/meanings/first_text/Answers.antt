@@ -1,4 +1,4 @@
-use Rattle.jmodel.specs.PoolAdding.{means_text}
+use Rattle.jmodel.specs.format.PoolAdding.{means_text}
 use Rattle.const_pool.proofs.FirstLemmas.{position_inside}
 use Rattle.const_pool.proofs.Indexes.{joined, text_looked_up}
 use Rattle.const_pool.proofs.meanings.first_text.Goals as goal

@@ -1,5 +1,5 @@
 use Rattle.std.proofs.lemmas.Result.{err_from_is_err_and}
-use Rattle.jmodel.specs.PoolReading.{all_fit}
+use Rattle.jmodel.specs.format.PoolReading.{all_fit}
 use Rattle.const_pool.proofs.Uses.{fits_on, fits_not, fits_all}
 use Rattle.const_pool.proofs.references.all_fit.Goals as goal
 

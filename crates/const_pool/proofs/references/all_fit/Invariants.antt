@@ -1,5 +1,5 @@
 use Rattle.std.proofs.Common.{◌≡◌, drop}
-use Rattle.jmodel.specs.PoolReading.{all_fit}
+use Rattle.jmodel.specs.format.PoolReading.{all_fit}
 use Rattle.const_pool.proofs.references.all_fit.Given as goal
 
 abbrev pub invariant-loop-entry : goal.invariant-loop-entry

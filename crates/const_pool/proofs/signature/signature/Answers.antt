@@ -2,8 +2,8 @@ use Rattle.std.proofs.Common.{◌≡◌, sym, ap, subst, ◌∙◌, Option}
 use Rattle.std.specs.Prelude.{IfOk}
 use Rattle.std.proofs.lemmas.Bool.{eqb-true}
 use Rattle.std.proofs.lemmas.List.{take_rest}
-use Rattle.jmodel.specs.Descriptor.{Signature}
-use Rattle.jmodel.specs.DescriptorReading.{types_at}
+use Rattle.jmodel.specs.format.Descriptor.{Signature}
+use Rattle.jmodel.specs.format.DescriptorReading.{types_at}
 use Rattle.const_pool.specs.Results.{made_of}
 use Rattle.const_pool.proofs.Reading.{no_signature, empty_signature, by_types}
 use Rattle.const_pool.proofs.signature.signature.Goals as goal

@@ -1,5 +1,5 @@
 use Rattle.std.proofs.Common.{sym}
-use Rattle.jmodel.specs.DescriptorReading.{types_at}
+use Rattle.jmodel.specs.format.DescriptorReading.{types_at}
 use Rattle.const_pool.proofs.Reading.{goes_on, fails, closes, too_many}
 use Rattle.const_pool.proofs.signature.types.Goals as goal
 

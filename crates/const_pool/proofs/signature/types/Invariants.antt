@@ -1,5 +1,5 @@
 use Rattle.std.proofs.Common.{◌≡◌, ◌-◌}
-use Rattle.jmodel.specs.DescriptorReading.{types_at}
+use Rattle.jmodel.specs.format.DescriptorReading.{types_at}
 use Rattle.const_pool.proofs.Reading.{with_types}
 use Rattle.const_pool.proofs.signature.types.Given as goal
 

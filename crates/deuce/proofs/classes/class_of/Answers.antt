@@ -1,6 +1,6 @@
 use Rattle.std.proofs.Common.{arith}
-use Rattle.jmodel.specs.ClassRules.{Spells}
-use Rattle.object_rewriter.specs.Asked.{AreFiled}
+use Rattle.jmodel.specs.format.ClassRules.{Spells}
+use Rattle.rewriter.specs.Asked.{AreFiled}
 use Rattle.deuce.proofs.Filed.{filed}
 use Rattle.deuce.proofs.Lists.{on_ok}
 use Rattle.deuce.proofs.classes.class_of.Goals as goal

@@ -1,4 +1,4 @@
-use Rattle.object_rewriter.specs.Asked.{AreFiled}
+use Rattle.rewriter.specs.Asked.{AreFiled}
 use Rattle.deuce.specs.declared.inputs.ClassInput.{ClassInput}
 use Rattle.deuce.specs.Folder.{IsFileOf}
 use Rattle.deuce.proofs.Refused.{refused}

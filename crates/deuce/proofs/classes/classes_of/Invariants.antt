@@ -1,7 +1,7 @@
 -- The class files so far are good.
 use Rattle.std.proofs.Common.{take}
 use Rattle.std.specs.List.{AllByRecursion}
-use Rattle.object_rewriter.specs.Asked.{AreFiled}
+use Rattle.rewriter.specs.Asked.{AreFiled}
 use Rattle.deuce.specs.Ending.{AreClassesOf}
 use Rattle.deuce.proofs.classes.classes_of.Given as goal
 

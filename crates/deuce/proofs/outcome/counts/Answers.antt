@@ -1,6 +1,6 @@
 use Rattle.std.proofs.Common.{◌≡◌, ◌++◌, ◌∷◌, [], ◌∙◌, List, ℕ, codes, ap, sym, append_assoc}
 use Rattle.std.specs.Fmt.{decimal}
-use Rattle.jmodel.specs.Output.{◌and◌, line}
+use Rattle.jmodel.specs.history.Output.{◌and◌, line}
 use Rattle.deuce.specs.Rewritten.{counts_text}
 use Rattle.deuce.proofs.Lists.{on_ok}
 use Rattle.deuce.proofs.outcome.counts.Goals as goal

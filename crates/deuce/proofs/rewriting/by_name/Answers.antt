@@ -4,7 +4,7 @@ use Rattle.std.specs.Iterator.Adapters.{rev_source}
 use Rattle.std.proofs.lemmas.List.{reverse-reverse}
 use Rattle.std.proofs.lemmas.Iterator.Adapters.{YieldsList-from_rev_slice}
 use Rattle.std.proofs.lemmas.Iterator.Consumers.{YieldsList-end}
-use Rattle.jmodel.specs.ClassFile.{ClassFile}
+use Rattle.jmodel.specs.format.ClassFile.{ClassFile}
 use Rattle.deuce.specs.Ending.{AreUnderNames}
 use Rattle.deuce.proofs.Named.{seen, last_first, under_more}
 use Rattle.deuce.proofs.rewriting.by_name.Goals as goal

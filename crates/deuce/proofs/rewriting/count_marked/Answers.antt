@@ -2,8 +2,8 @@ use Rattle.std.proofs.Common.{List, length, ap, ◌∙◌, arith}
 use Rattle.std.specs.Prelude.{filter}
 use Rattle.std.specs.Int.{from_bool}
 use Rattle.std.proofs.lemmas.List.{take_all}
-use Rattle.objects.specs.Journal.{is_marked}
-use Rattle.objects.specs.Program.{Method}
+use Rattle.objects.specs.history.Journal.{is_marked}
+use Rattle.objects.specs.semantics.Program.{Method}
 use Rattle.deuce.proofs.Marked.{marked_more, one_more}
 use Rattle.deuce.proofs.rewriting.count_marked.Goals as goal
 

@@ -1,7 +1,7 @@
 -- How many of those so far are marked.
 use Rattle.std.proofs.Common.{◌≡◌, ◌≤◌, length, take}
 use Rattle.std.specs.Prelude.{filter}
-use Rattle.objects.specs.Journal.{is_marked}
+use Rattle.objects.specs.history.Journal.{is_marked}
 use Rattle.deuce.proofs.rewriting.count_marked.Given as goal
 
 abbrev pub invariant-loop-method : goal.invariant-loop-method

@@ -2,9 +2,10 @@ use Rattle.std.proofs.Common.{◌≡◌, ◌∙◌, ℕ, List, Some, None, ap, s
 use Rattle.std.specs.Prelude.{is_some, option_copied}
 use Rattle.std.specs.BTreeMap.{is_at}
 use Rattle.std.specs.Map.{lookup}
-use Rattle.jmodel.specs.ClassFile.{ClassFile}
-use Rattle.jmodel.specs.ClassRules.{IsClassFile}
-use Rattle.jmodel.specs.Superclasses.{own_name, class_named}
+use Rattle.jmodel.specs.format.ClassFile.{ClassFile}
+use Rattle.jmodel.specs.format.ClassRules.{IsClassFile}
+use Rattle.objects.specs.linking.Members.{own_name}
+use Rattle.objects.specs.linking.Superclasses.{class_named}
 use Rattle.deuce.specs.Rewritten.{IsNewOf}
 use Rattle.deuce.proofs.Lists.{all_read, zip_more}
 use Rattle.deuce.proofs.Named.{by_bytes, IsNamed, is_named, none_named, holds_of}

@@ -1,9 +1,9 @@
 use Rattle.std.proofs.Common.{◌∙◌, ap, length, subst}
 use Rattle.std.specs.Prelude.{filter, List}
 use Rattle.std.specs.List.{AllZip}
-use Rattle.jmodel.specs.ClassFile.{ClassFile}
-use Rattle.objects.specs.Journal.{is_marked}
-use Rattle.objects.specs.Program.{Method}
+use Rattle.jmodel.specs.format.ClassFile.{ClassFile}
+use Rattle.objects.specs.history.Journal.{is_marked}
+use Rattle.objects.specs.semantics.Program.{Method}
 use Rattle.deuce.specs.Rewritten.{IsNewOf}
 use Rattle.deuce.proofs.Written.{all_ruled, each_named, there_are, rewriting}
 use Rattle.deuce.proofs.rewriting.write_rewriting.Goals as goal

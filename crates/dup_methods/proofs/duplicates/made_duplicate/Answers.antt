@@ -1,10 +1,10 @@
 use Rattle.std.proofs.Common.{rules, ◌≡◌, ◌<◌, length, Some, Ok, List, sym, ap, ◌∙◌, subst, arith}
 use Rattle.jmodel.specs.declared.class_file.Handler.{Handler}
 use Rattle.jmodel.specs.declared.instruction.Instr.{Instr}
-use Rattle.jmodel.specs.Coded.{Coded}
-use Rattle.jmodel.specs.Relocation.{AreBlocks, Block}
+use Rattle.objects.specs.linking.Code.{Coded}
+use Rattle.jmodel.specs.format.Relocation.{AreBlocks, Block}
 use Rattle.std.proofs.lemmas.Grind.{common_steps}
-use Rattle.jmodel.specs.ClassFile.{Member}
+use Rattle.jmodel.specs.format.ClassFile.{Member}
 use Rattle.member_code.specs.Coding.{added_method}
 use Rattle.dup_methods.specs.Duplicates.{stub, refs_of, texts_of, duplicate_bytes, duplicate_flags}
 use Rattle.dup_methods.proofs.Stands.{refs_laid, made_is}

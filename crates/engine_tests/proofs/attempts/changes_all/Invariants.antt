@@ -1,5 +1,5 @@
 use Rattle.std.proofs.Common.{ℕ}
-use Rattle.jmodel.specs.History.{Call}
+use Rattle.jmodel.specs.history.History.{Call}
 use Rattle.tx_table.specs.Passes.{book, IsSame, IsKin}
 use Rattle.tx_table.specs.Trials.{the_call}
 use Rattle.tl2.specs.Standing.{IsOpen, Awaits}

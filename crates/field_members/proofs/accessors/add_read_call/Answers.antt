@@ -1,6 +1,6 @@
 use Rattle.std.proofs.Common.{ℕ, List, codes, subst}
-use Rattle.jmodel.specs.PoolAdding.{add_method}
-use Rattle.objects.specs.TypeOrder.{context_class}
+use Rattle.jmodel.specs.format.PoolAdding.{add_method}
+use Rattle.objects.specs.typing.TypeOrder.{context_class}
 use Rattle.member_code.specs.Growing.{Grows}
 use Rattle.field_members.specs.Accessors.{read_call}
 use Rattle.field_members.proofs.accessors.add_read_call.Goals as goal

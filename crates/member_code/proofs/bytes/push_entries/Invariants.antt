@@ -1,6 +1,6 @@
 use Rattle.std.proofs.Common.{◌≡◌, ◌++◌, take}
 use Rattle.std.specs.List.{flat_map}
-use Rattle.jmodel.specs.ClassFile.{handler}
+use Rattle.jmodel.specs.format.ClassFile.{handler}
 use Rattle.member_code.proofs.bytes.push_entries.Given as goal
 
 -- the entries so far

@@ -1,5 +1,5 @@
 use Rattle.std.proofs.Common.{◌≡◌, ◌+◌, false, drop}
-use Rattle.objects.specs.Rewriting.{before_end}
+use Rattle.objects.specs.rewriting.Rewriting.{before_end}
 use Rattle.member_code.proofs.names.before_end.Given as goal
 
 -- what stands before the end in the rest, behind what was passed

@@ -1,5 +1,5 @@
 use Rattle.std.proofs.Common.{◌≡◌, ◌++◌, drop}
-use Rattle.objects.specs.Rewriting.{accessors}
+use Rattle.objects.specs.rewriting.Rewriting.{accessors}
 use Rattle.program_rewriter.proofs.accessors.accessors.Given as goal
 
 -- the accessors so far, and those that still follow

@@ -1,5 +1,5 @@
 use Rattle.std.proofs.Common.{◌≡◌, take}
-use Rattle.objects.specs.Rewriting.{moved_cases}
+use Rattle.objects.specs.rewriting.Rewriting.{moved_cases}
 use Rattle.program_rewriter.specs.Places.{start_of}
 use Rattle.program_rewriter.proofs.blocks.moved_cases.Given as goal
 

@@ -1,6 +1,6 @@
 use Rattle.std.proofs.Common.{◌≡◌, ◌∷◌, map, take, length}
 use Rattle.objects.specs.declared.op.Catches.TheVariants.{Conflict}
-use Rattle.objects.specs.Rewriting.{moved_catch, catch}
+use Rattle.objects.specs.rewriting.Rewriting.{moved_catch, catch}
 use Rattle.program_rewriter.specs.Places.{start_of}
 use Rattle.program_rewriter.proofs.duplicates.catches_of.Given as goal
 

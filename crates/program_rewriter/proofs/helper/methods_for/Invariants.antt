@@ -1,6 +1,6 @@
 use Rattle.std.proofs.Common.{◌≡◌, [], ◌∷◌, take}
 use Rattle.std.specs.List.{flat_map}
-use Rattle.objects.specs.Rewriting.{element_getter_method, element_setter_method}
+use Rattle.objects.specs.rewriting.Rewriting.{element_getter_method, element_setter_method}
 use Rattle.program_rewriter.proofs.helper.methods_for.Given as goal
 
 -- the methods so far

@@ -1,4 +1,4 @@
-use Rattle.objects.specs.Rewriting.{element_getter_method, element_setter_method}
+use Rattle.objects.specs.rewriting.Rewriting.{element_getter_method, element_setter_method}
 use Rattle.program_rewriter.proofs.Pairs.{both_pushed}
 use Rattle.program_rewriter.proofs.helper.push_both.Goals as goal
 

@@ -1,5 +1,5 @@
 use Rattle.std.proofs.Common.{◌+◌, List, take, sym, subst}
-use Rattle.objects.specs.Program.{Method}
+use Rattle.objects.specs.semantics.Program.{Method}
 use Rattle.program_rewriter.specs.Rewritten.{AreDuplicates}
 use Rattle.program_rewriter.proofs.Tabled.{one_more}
 use Rattle.program_rewriter.proofs.rewriting.duplicates.Goals as goal

@@ -1,5 +1,5 @@
 use Rattle.std.proofs.Common.{subst}
-use Rattle.object_verifier.specs.declared.inference.TypeEnd.{TypeEnd}
+use Rattle.verifier.specs.declared.inference.TypeEnd.{TypeEnd}
 use Rattle.program_typing.specs.Typed.{EndsTable}
 use Rattle.program_rewriter.proofs.Tabled.{never_untyped}
 use Rattle.program_rewriter.proofs.rewriting.typing_of.Goals as goal

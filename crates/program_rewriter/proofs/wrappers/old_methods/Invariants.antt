@@ -1,5 +1,5 @@
 use Rattle.std.proofs.Common.{◌≡◌, ◌++◌, drop}
-use Rattle.objects.specs.Rewriting.{old_methods}
+use Rattle.objects.specs.rewriting.Rewriting.{old_methods}
 use Rattle.program_rewriter.proofs.wrappers.old_methods.Given as goal
 
 -- the methods so far, and those that still follow

@@ -1,5 +1,5 @@
 use Rattle.std.proofs.Common.{◌≡◌, ◌++◌, drop}
-use Rattle.objects.specs.Rewriting.{load_all}
+use Rattle.objects.specs.rewriting.Rewriting.{load_all}
 use Rattle.program_rewriter.proofs.wrappers.push_loads.Given as goal
 
 -- what was put so far, and what is still put

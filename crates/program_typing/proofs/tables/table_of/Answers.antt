@@ -1,5 +1,5 @@
 use Rattle.std.proofs.Common.{◌≡◌, Some, true, sym, ◌∙◌}
-use Rattle.objects.specs.Program.{has_code}
+use Rattle.objects.specs.semantics.Program.{has_code}
 use Rattle.program_typing.proofs.Numbered.{the_method}
 use Rattle.program_typing.proofs.Tabled.{found, not_found}
 use Rattle.program_typing.proofs.tables.table_of.Goals as goal

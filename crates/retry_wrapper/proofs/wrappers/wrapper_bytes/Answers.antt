@@ -1,6 +1,6 @@
 use Rattle.std.proofs.Common.{List, [], None, sym, ◌∙◌, subst}
 use Rattle.jmodel.specs.declared.class_file.Handler.{Handler}
-use Rattle.jmodel.specs.Relocation.{Block, AreBlocks}
+use Rattle.jmodel.specs.format.Relocation.{Block, AreBlocks}
 use Rattle.retry_wrapper.specs.Wrappers.{wrapper_blocks}
 use Rattle.retry_wrapper.proofs.Fits.{bytes_are}
 use Rattle.retry_wrapper.proofs.wrappers.wrapper_bytes.Goals as goal

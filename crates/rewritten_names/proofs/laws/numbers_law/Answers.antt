@@ -1,4 +1,4 @@
-use Rattle.jmodel.specs.Classes.{declared_in, full_name}
+use Rattle.objects.specs.linking.Classes.{declared_in, full_name}
 use Rattle.std.specs.Prelude.{map}
 use Rattle.objects.proofs.Links.{links}
 use Rattle.objects.proofs.SourceProof.{source_law}

@@ -1,6 +1,6 @@
 use Rattle.std.proofs.Common.{[], ◌∷◌, ◌++◌, refl}
-use Rattle.objects.specs.Relinking.{rewritten_symbols}
-use Rattle.objects.specs.Rewriting.{helper_methods}
+use Rattle.objects.specs.rewriting.Relinking.{rewritten_symbols}
+use Rattle.objects.specs.rewriting.Rewriting.{helper_methods}
 use Rattle.objects.proofs.Links.{links}
 use Rattle.rewritten_ties.proofs.HelperNames.{meant_names}
 use Rattle.rewritten_ties.proofs.Tied.{ties}

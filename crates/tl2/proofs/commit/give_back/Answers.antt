@@ -1,6 +1,6 @@
 use Rattle.std.proofs.Common.{◌≡◌, ◌+◌, [], ◌∷◌, false, drop, slice_index_or, refl, sym, inl, ⊎_elim, ◌∙◌}
 use Rattle.std.proofs.lemmas.List.{drop_more, drop_all}
-use Rattle.jmodel.specs.Attempt.{access}
+use Rattle.jmodel.specs.history.Log.{access}
 use Rattle.tx_table.specs.Book.{Unticked}
 use Rattle.tx_table.specs.Passes.{book, IsSame}
 use Rattle.tl2.specs.declared.plan.Stripe.{Stripe}

@@ -1,7 +1,7 @@
 use Rattle.std.proofs.Common.{◌≡◌, ◌+◌, [], ◌∷◌, false, drop, slice_index_or, ap, ◌∙◌, arith}
 use Rattle.std.proofs.lemmas.List.{drop_more, drop_all}
 use mathlib.Core.Option.{some}
-use Rattle.jmodel.specs.Attempt.{access}
+use Rattle.jmodel.specs.history.Log.{access}
 use Rattle.tx_table.specs.Book.{lookup}
 use Rattle.tx_table.specs.Passes.{book, IsSame}
 use Rattle.tl2.specs.declared.plan.Stripe.{Stripe}

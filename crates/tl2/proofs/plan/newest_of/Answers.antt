@@ -5,8 +5,8 @@ use Rattle.std.proofs.lemmas.Iterator.Adapters.{YieldsList-from_rev_slice}
 use Rattle.std.proofs.lemmas.Iterator.Consumers.{YieldsList-turn}
 use Rattle.std.specs.Ordering.{nat_cmp}
 use Rattle.std.specs.BTreeSet as tree
-use Rattle.jmodel.specs.declared.op.Access.{Access}
-use Rattle.jmodel.specs.Attempt.{Log}
+use Rattle.jmodel.specs.declared.access.Access.{Access}
+use Rattle.jmodel.specs.history.Log.{Log}
 use Rattle.tx_table.specs.Book.{pairs}
 use Rattle.tl2.proofs.Listed.{pairs_last, listed_last, listed_still}
 use Rattle.tl2.proofs.Newest.{seen_more, fresh_more}

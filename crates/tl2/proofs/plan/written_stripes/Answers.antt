@@ -1,7 +1,7 @@
 use Rattle.std.proofs.Common.{◌≡◌, ◌+◌, ◌∷◌, false, reverse, slice_index_or, take, refl, ap, ◌∙◌}
 use Rattle.std.proofs.lemmas.List.{take_more}
-use Rattle.jmodel.specs.declared.op.Access.{Access}
-use Rattle.jmodel.specs.Attempt.{Log}
+use Rattle.jmodel.specs.declared.access.Access.{Access}
+use Rattle.jmodel.specs.history.Log.{Log}
 use Rattle.tx_table.specs.Book.{pairs}
 use Rattle.tl2.proofs.Plans.{due_more, written_more}
 use Rattle.tl2.proofs.plan.written_stripes.Goals as goal

@@ -1,8 +1,8 @@
 use Rattle.std.proofs.Common.{◌≡◌, ◌<◌, [], ◌∷◌, ◌+◌, All, drop, ap, ◌∙◌, slice_index_or}
 use Rattle.std.proofs.lemmas.List.{drop_more, drop_all}
 use Rattle.std.proofs.lemmas.List.Elements.{All-tail}
-use Rattle.jmodel.specs.declared.op.Access.{Access}
-use Rattle.jmodel.specs.Attempt.{Log}
+use Rattle.jmodel.specs.declared.access.Access.{Access}
+use Rattle.jmodel.specs.history.Log.{Log}
 use Rattle.tx_table.specs.Book.{Book, without}
 use Rattle.tx_table.specs.Plays.{wrote_back}
 use Rattle.tx_table.specs.Passes.{book}

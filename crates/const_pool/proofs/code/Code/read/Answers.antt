@@ -1,5 +1,5 @@
 use Rattle.std.proofs.Common.{subst, arith}
-use Rattle.jmodel.specs.ClassReading.{AnswersCode}
+use Rattle.jmodel.specs.format.ClassReading.{AnswersCode}
 use Rattle.const_pool.proofs.Parts.{code_is_found, code_is_read, code_is_none}
 use Rattle.const_pool.proofs.code.Code.read.Goals as goal
 

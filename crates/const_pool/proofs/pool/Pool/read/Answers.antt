@@ -1,5 +1,5 @@
 use Rattle.std.proofs.Common.{subst, arith}
-use Rattle.jmodel.specs.Reading.{Gives}
+use Rattle.jmodel.specs.format.Reading.{Gives}
 use Rattle.const_pool.proofs.Named.{pool_rules, pool_found, pool_is_read}
 use Rattle.const_pool.proofs.pool.Pool.read.Goals as goal
 

@@ -1,7 +1,7 @@
 use Rattle.std.proofs.Common.{ap, subst, pos}
 use Rattle.jmodel.specs.declared.refusal.Refusal.TheVariants.{BadDescriptor}
-use Rattle.jmodel.specs.Reading.{Gives}
-use Rattle.jmodel.specs.DescriptorReading.{signature_or}
+use Rattle.jmodel.specs.format.Reading.{Gives}
+use Rattle.jmodel.specs.format.DescriptorReading.{signature_or}
 use Rattle.const_pool.proofs.Signatures.{signature_again}
 use Rattle.const_pool.proofs.Reading.{is_found}
 use Rattle.const_pool.proofs.signature.Descriptor.read.Goals as goal

@@ -1,5 +1,5 @@
 use Rattle.tl2.specs.declared.attempt.At.TheVariants.{Loaded}
-use Rattle.jmodel.specs.Attempt.{access}
+use Rattle.jmodel.specs.history.Log.{access}
 use Rattle.tx_table.specs.Passes.{book}
 use Rattle.tl2.proofs.Stepping.{snapshot_loaded, stands_loaded}
 use Rattle.tl2.proofs.attempt.Tl2.raw.Goals as goal

@@ -1,0 +1,88 @@
+use Rattle.std.proofs.Common.{ℕ, List, [], length, take, sym, subst, ◌∙◌}
+use Rattle.std.proofs.lemmas.List.{length_push}
+use Rattle.std.proofs.lemmas.Iterator.Adapters.{YieldsList-from_vec}
+use Rattle.std.proofs.lemmas.Iterator.Consumers.{YieldsList-turn, YieldsList-end}
+use Rattle.session.specs.declared.record.Record.{Record}
+use Rattle.driver.specs.declared.side.Part.{Part}
+use Rattle.driver.specs.Passing.{call_count, IsJoining}
+use Rattle.driver.proofs.Joining.{joins_first, may_join, sums_fit, gathers_next, gathers_all}
+use Rattle.driver.proofs.threads.gather.Goals as goal
+
+pub loop-end-init : goal.loop-end-init
+loop-end-init g c = record {
+  joining = λ b phase lanes ending.
+      let t = c.args.shared.now.table.shared.table_id in
+      let n = length c.args.ends.items in
+      let Placed : List Record → Type 0 = λ rs. IsJoining t b phase n 0 [] rs c.new-parts.result.items c.args.pass.now in
+      let Parts : List Part → Type 0 = λ ps. IsJoining t b phase n 0 [] [] ps c.args.pass.now in
+      subst Placed (sym c.new-placed.ensures.items) (subst Parts (sym c.new-parts.ensures.items) (joins_first t b phase n c.args.pass.now ending.split));
+}
+
+pub join-requires-clause-table : goal.join-requires-clause-table
+join-requires-clause-table g c =
+    let ends = c.args.ends.items in
+    let from = c.into_iter-end-iterator.ensures.into_iter_gives in
+    let turn = YieldsList-turn (YieldsList-from_vec ends from.0 (from.1 ∙ c.args.ends.ok.0))
+    c.loop-end.yielded c.loop-end.end-iterator c.loop-end.yielded_by c.next.result c.next.new.self c.in-Some.end c.in-Some.is c.next.ensures.steps in
+    let k = length c.loop-end.yielded in
+    let t = c.args.shared.now.table.shared.table_id in
+    let given = c.requires in
+    let j = c.loop-end.invariant.joining given.0 given.1 given.2 given.3 in (
+      j.seated.table,
+      (may_join t given.0 given.1 k given.2 ends c.in-Some.end c.in_ok-lane.lane c.args.pass.now c.loop-end.pass c.in_ok-lane.other c.loop-end.placed.items
+          c.loop-end.parts.items given.3 turn.0 turn.1 c.in_ok-lane.was j).0,
+    )
+
+pub join-requires-clause-free : goal.join-requires-clause-free
+join-requires-clause-free g c =
+    let ends = c.args.ends.items in
+    let from = c.into_iter-end-iterator.ensures.into_iter_gives in
+    let turn = YieldsList-turn (YieldsList-from_vec ends from.0 (from.1 ∙ c.args.ends.ok.0))
+    c.loop-end.yielded c.loop-end.end-iterator c.loop-end.yielded_by c.next.result c.next.new.self c.in-Some.end c.in-Some.is c.next.ensures.steps in
+    let k = length c.loop-end.yielded in
+    let t = c.args.shared.now.table.shared.table_id in
+    let given = c.requires in
+    let j = c.loop-end.invariant.joining given.0 given.1 given.2 given.3 in
+    let other = may_join t given.0 given.1 k given.2 ends c.in-Some.end c.in_ok-lane.lane c.args.pass.now c.loop-end.pass c.in_ok-lane.other c.loop-end.placed.items
+    c.loop-end.parts.items given.3 turn.0 turn.1 c.in_ok-lane.was j in
+    (j.seated.held, j.seated.stage, other.1, other.2)
+
+pub join-requires-clause-sums : goal.join-requires-clause-sums
+join-requires-clause-sums g c =
+    let ends = c.args.ends.items in
+    let from = c.into_iter-end-iterator.ensures.into_iter_gives in
+    let turn = YieldsList-turn (YieldsList-from_vec ends from.0 (from.1 ∙ c.args.ends.ok.0))
+    c.loop-end.yielded c.loop-end.end-iterator c.loop-end.yielded_by c.next.result c.next.new.self c.in-Some.end c.in-Some.is c.next.ensures.steps in
+    let k = length c.loop-end.yielded in
+    let t = c.args.shared.now.table.shared.table_id in
+    let given = c.requires in
+    let j = c.loop-end.invariant.joining given.0 given.1 given.2 given.3 in
+    sums_fit t given.0 given.1 k given.2 ends c.in-Some.end c.in_ok-lane.lane c.args.pass.now c.loop-end.pass c.in_ok-lane.other c.loop-end.placed.items
+    c.loop-end.parts.items given.3 turn.0 turn.1 c.in_ok-lane.was j
+
+pub loop-end-preserved : goal.loop-end-preserved
+loop-end-preserved g c =
+    let ends = c.args.ends.items in
+    let from = c.into_iter-end-iterator.ensures.into_iter_gives in
+    let turn = YieldsList-turn (YieldsList-from_vec ends from.0 (from.1 ∙ c.args.ends.ok.0))
+    c.loop-end.yielded c.loop-end.end-iterator c.loop-end.yielded_by c.next.result c.next.new.self c.in-Some.end c.in-Some.is c.next.ensures.steps in
+    let k = length c.loop-end.yielded in
+    let t = c.args.shared.now.table.shared.table_id in
+    let more = sym (length_push c.loop-end.yielded c.in-Some.end) in
+    record {
+      joining = λ b phase lanes ending.
+          let j = c.loop-end.invariant.joining b phase lanes ending in
+          subst (λ (n : ℕ). IsJoining t b phase (length ends) (call_count (take n lanes)) (take n lanes) c.append.new.self.items c.push.new.self.items c.join.new.self) more
+          (gathers_next t b phase k lanes ends c.in-Some.end c.in_ok-lane.lane c.args.pass.now c.loop-end.pass c.in_ok-lane.other c.loop-end.placed.items
+          c.loop-end.parts.items ending turn.0 turn.1 c.in_ok-lane.was j c.join.new.self c.append.new.self.items c.push.new.self.items c.join.ensures.same
+          c.join.ensures.book c.in_ok-append.ensures.items c.in_ok-push.ensures.items);
+    }
+
+pub returns : goal.returns
+returns g c = λ b phase lanes ending.
+    let ends = c.args.ends.items in
+    let from = c.into_iter-end-iterator.ensures.into_iter_gives in
+    let end = YieldsList-end (YieldsList-from_vec ends from.0 (from.1 ∙ c.args.ends.ok.0))
+    c.loop-end.yielded c.loop-end.end-iterator c.loop-end.yielded_by c.next.result c.next.new.self c.in-None.is c.next.ensures.steps in
+    gathers_all c.args.shared.now.table.shared.table_id b phase (length c.loop-end.yielded) lanes ends c.loop-end.placed.items c.loop-end.parts.items c.args.pass.now
+    c.loop-end.pass ending end.1 (c.loop-end.invariant.joining b phase lanes ending)

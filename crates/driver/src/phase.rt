@@ -1,0 +1,328 @@
+//! The calls of a phase, over the table of a run.
+ghost use Rattle.std.specs.Prelude.{◌≡◌, ◌≤◌, ◌<◌, ℕ, suc, List, ◌∷◌, [], length, IfOk, OnOk, All, count_by, nat_lt};
+ghost use Rattle.std.specs.List.{AllByRecursion};
+ghost use Rattle.atomic_table.specs.Seated.{TableId};
+ghost use Rattle.tx_table.specs.Book.{Book};
+ghost use Rattle.jmodel.specs.history.History.{Entry};
+ghost use Rattle.jmodel.specs.history.Schedule.{Known as Form, Lanes as ALanes, Bag as ABag, lists_in};
+ghost use Rattle.tx_table.specs.declared.shared.Pass.{Pass as APass};
+ghost use Rattle.tx_table.specs.Passes.{book};
+ghost use Rattle.driver.specs.Memory.{AreOfStates};
+ghost use Rattle.session.specs.Rule.{IsRuled, IsReady, IsCallOf};
+ghost use Rattle.driver.specs.Sides.{made_counts};
+ghost use Rattle.driver.specs.Runs.{HasLanes};
+ghost use Rattle.driver.specs.Over.{AddsPhase};
+ghost use Rattle.driver.specs.Passing.{AreUsed, call_count, IsWhole, HasRoom, IsMidway};
+
+use crate::bag::bag_side;
+use crate::journal::Records;
+use crate::memory::{LANES, Limits};
+use crate::order::sort_placed;
+use crate::rest::one_after_another;
+use crate::side::{Part, Side};
+use crate::side_by_side::side_by_side;
+use crate::table::{Keeping, Opening};
+use crate::taken::{by_lane, number};
+use hierarchy::Program;
+use script::{Calls, Known, LaneCalls, PhaseCalls};
+use std::alloc::{AllocError, Global};
+use std::slice::from_ref;
+use std::thread::Threads;
+use tx_table::{Pass, Shared};
+
+/// Makes the calls of a phase over the pass that holds every number, and adds them to the journal. Gives the pass back.
+pub(crate) fn run_phase<R: Threads + Sync, K: Keeping + Sync>(
+    rt: &R,
+    alloc: Global,
+    original: &Program,
+    rewritten: &Program,
+    shared: &Shared<Opening<K>>,
+    pass: Pass,
+    limits: Limits,
+    number: u32,
+    phase: &PhaseCalls,
+    used: &mut [u64; LANES],
+    journal: &mut Records,
+) -> Result<Pass, AllocError>
+    requires ready { IsReady original.now rewritten.now }
+    requires calls { AllByRecursion (AllByRecursion (IsCallOf original.now)) (lists_in phase.now) }
+    requires few { AllByRecursion (λ (cs : List Form). length cs ≤ 100000) (lists_in phase.now) }
+    requires lanes { HasLanes phase.now }
+    requires attempts { (1 ≤ limits.attempts) × (limits.attempts ≤ 1000000) }
+    requires room_size { limits.size ≤ 1048576 }
+    requires rule { (e : Entry) → IsRuled original.now rewritten.now limits.size limits.budget limits.attempts e → K.rule e }
+    requires states { AreOfStates original.now limits.size limits.budget K.words K.used K.rule }
+    requires pass { IsWhole shared.now.table.shared.table_id number pass }
+    requires room { HasRoom (call_count (lists_in phase.now)) (book pass) }
+    requires used { AreUsed used.old (book pass) }
+    ensures whole { IfOk result (IsWhole shared.now.table.shared.table_id (suc number)) }
+    ensures used { IfOk result (λ left. AreUsed used.new (book left)) }
+    ensures adds { IfOk result (λ left. AddsPhase number (call_count (lists_in phase.now)) phase.now (book pass) (book left) journal.old journal.new) }
+{
+    match &phase.calls {
+        Calls::Lanes(lanes) => run_lanes(
+            rt,
+            alloc,
+            original,
+            rewritten,
+            shared,
+            pass,
+            limits,
+            number,
+            lanes.as_slice(),
+            used,
+            journal,
+        ),
+        Calls::Bag { lanes, calls } => run_bag(
+            rt, alloc, original, rewritten, shared, pass, limits, number, *lanes, calls, used,
+            journal,
+        ),
+    }
+}
+
+/// Makes the calls of a bag and adds them to the journal. Workers, as many as the lesser of the lanes and the calls, each take the next call that is
+/// left; one alone makes them as those of lane 0.
+fn run_bag<R: Threads + Sync, K: Keeping + Sync>(
+    rt: &R,
+    alloc: Global,
+    original: &Program,
+    rewritten: &Program,
+    shared: &Shared<Opening<K>>,
+    pass: Pass,
+    limits: Limits,
+    phase: u32,
+    lanes: u64,
+    calls: &LaneCalls,
+    used: &mut [u64; LANES],
+    journal: &mut Records,
+) -> Result<Pass, AllocError>
+    requires ready { IsReady original.now rewritten.now }
+    requires calls { AllByRecursion (IsCallOf original.now) calls.now }
+    requires few { length calls.now ≤ 100000 }
+    requires lanes { (1 ≤ lanes) × (lanes ≤ 16) }
+    requires attempts { (1 ≤ limits.attempts) × (limits.attempts ≤ 1000000) }
+    requires room_size { limits.size ≤ 1048576 }
+    requires rule { (e : Entry) → IsRuled original.now rewritten.now limits.size limits.budget limits.attempts e → K.rule e }
+    requires states { AreOfStates original.now limits.size limits.budget K.words K.used K.rule }
+    requires pass { IsWhole shared.now.table.shared.table_id phase pass }
+    requires room { HasRoom (call_count (calls.now ∷ [])) (book pass) }
+    requires used { AreUsed used.old (book pass) }
+    ensures whole { IfOk result (IsWhole shared.now.table.shared.table_id (suc phase)) }
+    ensures used { IfOk result (λ left. AreUsed used.new (book left)) }
+    ensures adds { IfOk result (λ left. AddsPhase phase (call_count (calls.now ∷ [])) (ABag lanes calls.now) (book pass) (book left) journal.old journal.new) }
+{
+    let bag = calls.calls.as_slice();
+    let workers = lanes.min(bag.len() as u64) as u8;
+    if workers < 2 {
+        return run_lanes(
+            rt,
+            alloc,
+            original,
+            rewritten,
+            shared,
+            pass,
+            limits,
+            phase,
+            from_ref(calls),
+            used,
+            journal,
+        );
+    }
+    work_bag(
+        rt, alloc, original, rewritten, shared, pass, limits, phase, workers, bag, used, journal,
+    )
+}
+
+/// Makes the calls of a bag by so many workers and adds them to the journal.
+fn work_bag<R: Threads + Sync, K: Keeping + Sync>(
+    rt: &R,
+    alloc: Global,
+    original: &Program,
+    rewritten: &Program,
+    shared: &Shared<Opening<K>>,
+    pass: Pass,
+    limits: Limits,
+    phase: u32,
+    workers: u8,
+    bag: &[Known],
+    used: &mut [u64; LANES],
+    journal: &mut Records,
+) -> Result<Pass, AllocError>
+    requires ready { IsReady original.now rewritten.now }
+    requires calls { AllByRecursion (IsCallOf original.now) bag.now }
+    requires few { length bag.now ≤ 100000 }
+    requires workers { (1 ≤ workers) × (workers ≤ 16) × (workers ≤ length bag.now) }
+    requires attempts { (1 ≤ limits.attempts) × (limits.attempts ≤ 1000000) }
+    requires room_size { limits.size ≤ 1048576 }
+    requires rule { (e : Entry) → IsRuled original.now rewritten.now limits.size limits.budget limits.attempts e → K.rule e }
+    requires states { AreOfStates original.now limits.size limits.budget K.words K.used K.rule }
+    requires pass { IsWhole shared.now.table.shared.table_id phase pass }
+    requires room { HasRoom (length bag.now) (book pass) }
+    requires used { AreUsed used.old (book pass) }
+    ensures whole { IfOk result (IsWhole shared.now.table.shared.table_id (suc phase)) }
+    ensures used { IfOk result (λ left. AreUsed used.new (book left)) }
+    ensures adds { (lanes : ℕ) → workers ≤ lanes
+        → IfOk result (λ left. AddsPhase phase (length bag.now) (ABag lanes bag.now) (book pass) (book left) journal.old journal.new) }
+{
+    let mut pass = pass;
+    let (first, taken) = bag_side(
+        rt, alloc, original, rewritten, shared, &mut pass, limits, phase, workers, bag, used,
+    )?;
+    let by_worker = by_lane(alloc, bag, &taken)?;
+    let mut made = Records::new(alloc);
+    let left = add_rest(
+        alloc, original, rewritten, shared, pass, first, limits, phase, &by_worker, used, &mut made,
+    )?;
+    number(&mut made.placed, &taken);
+    number(&mut made.unplaced, &taken);
+    journal.append(made)?;
+    Ok(left)
+}
+
+/// Makes the calls of the lanes of a phase and adds them to the journal.
+fn run_lanes<R: Threads + Sync, K: Keeping + Sync>(
+    rt: &R,
+    alloc: Global,
+    original: &Program,
+    rewritten: &Program,
+    shared: &Shared<Opening<K>>,
+    pass: Pass,
+    limits: Limits,
+    phase: u32,
+    lanes: &[LaneCalls],
+    used: &mut [u64; LANES],
+    journal: &mut Records,
+) -> Result<Pass, AllocError>
+    requires ready { IsReady original.now rewritten.now }
+    requires calls { AllByRecursion (AllByRecursion (IsCallOf original.now)) lanes.now }
+    requires few { AllByRecursion (λ (cs : List Form). length cs ≤ 100000) lanes.now }
+    requires lanes { length lanes.now ≤ 16 }
+    requires attempts { (1 ≤ limits.attempts) × (limits.attempts ≤ 1000000) }
+    requires room_size { limits.size ≤ 1048576 }
+    requires rule { (e : Entry) → IsRuled original.now rewritten.now limits.size limits.budget limits.attempts e → K.rule e }
+    requires states { AreOfStates original.now limits.size limits.budget K.words K.used K.rule }
+    requires pass { IsWhole shared.now.table.shared.table_id phase pass }
+    requires room { HasRoom (call_count lanes.now) (book pass) }
+    requires used { AreUsed used.old (book pass) }
+    ensures whole { IfOk result (IsWhole shared.now.table.shared.table_id (suc phase)) }
+    ensures used { IfOk result (λ left. AreUsed used.new (book left)) }
+    ensures adds { IfOk result (λ left. AddsPhase phase (call_count lanes.now) (ALanes lanes.now) (book pass) (book left) journal.old journal.new) }
+{
+    let mut pass = pass;
+    let first = first_side(
+        rt, alloc, original, rewritten, shared, &mut pass, limits, phase, lanes, used,
+    )?;
+    add_rest(
+        alloc, original, rewritten, shared, pass, first, limits, phase, lanes, used, journal,
+    )
+}
+
+/// Makes what is left of a phase, one lane after another, and adds all of its calls to the journal.
+fn add_rest<K: Keeping>(
+    alloc: Global,
+    original: &Program,
+    rewritten: &Program,
+    shared: &Shared<Opening<K>>,
+    pass: Pass,
+    first: Side,
+    limits: Limits,
+    phase: u32,
+    lanes: &[LaneCalls],
+    used: &mut [u64; LANES],
+    journal: &mut Records,
+) -> Result<Pass, AllocError>
+    requires ready { IsReady original.now rewritten.now }
+    requires calls { AllByRecursion (AllByRecursion (IsCallOf original.now)) lanes.now }
+    requires few { AllByRecursion (λ (cs : List Form). length cs ≤ 100000) lanes.now }
+    requires lanes { length lanes.now ≤ 16 }
+    requires attempts { (1 ≤ limits.attempts) × (limits.attempts ≤ 1000000) }
+    requires room_size { limits.size ≤ 1048576 }
+    requires rule { (e : Entry) → IsRuled original.now rewritten.now limits.size limits.budget limits.attempts e → K.rule e }
+    requires states { AreOfStates original.now limits.size limits.budget K.words K.used K.rule }
+    requires side { (b : Book) × IsMidway shared.now.table.shared.table_id b phase lanes.now first pass }
+    requires used { AreUsed used.old (book pass) }
+    ensures whole { IfOk result (IsWhole shared.now.table.shared.table_id (suc phase)) }
+    ensures used { IfOk result (λ left. AreUsed used.new (book left)) }
+    ensures adds { (b : Book) → IsMidway shared.now.table.shared.table_id b phase lanes.now first pass
+        → IfOk result (λ left. AddsPhase phase (call_count lanes.now) (ALanes lanes.now) b (book left) journal.old journal.new) }
+{
+    let firsts = made_counts(alloc, &first.parts)?;
+    let (mut rest, left) = one_after_another(
+        alloc, original, rewritten, shared, pass, limits, phase, lanes, &firsts, used,
+    )?;
+    let mut placed = first.placed;
+    placed.append(&mut rest.placed)?;
+    sort_placed(&mut placed)?;
+    journal.add_phase(placed, first.parts, rest.parts)?;
+    Ok(left)
+}
+
+/// Makes the calls of a phase side by side, where more than one lane has calls, and otherwise none of them.
+fn first_side<R: Threads + Sync, K: Keeping + Sync>(
+    rt: &R,
+    alloc: Global,
+    original: &Program,
+    rewritten: &Program,
+    shared: &Shared<Opening<K>>,
+    pass: &mut Pass,
+    limits: Limits,
+    phase: u32,
+    lanes: &[LaneCalls],
+    used: &mut [u64; LANES],
+) -> Result<Side, AllocError>
+    requires ready { IsReady original.now rewritten.now }
+    requires calls { AllByRecursion (AllByRecursion (IsCallOf original.now)) lanes.now }
+    requires few { AllByRecursion (λ (cs : List Form). length cs ≤ 100000) lanes.now }
+    requires lanes { length lanes.now ≤ 16 }
+    requires attempts { (1 ≤ limits.attempts) × (limits.attempts ≤ 1000000) }
+    requires room_size { limits.size ≤ 1048576 }
+    requires rule { (e : Entry) → IsRuled original.now rewritten.now limits.size limits.budget limits.attempts e → K.rule e }
+    requires states { AreOfStates original.now limits.size limits.budget K.words K.used K.rule }
+    requires pass { IsWhole shared.now.table.shared.table_id phase pass.old }
+    requires room { HasRoom (call_count lanes.now) (book pass.old) }
+    requires used { AreUsed used.old (book pass.old) }
+    ensures midway { IfOk result (λ side. IsMidway shared.now.table.shared.table_id (book pass.old) phase lanes.now side pass.new) }
+    ensures used { OnOk result (AreUsed used.new (book pass.new)) }
+{
+    if has_several(lanes) {
+        side_by_side(
+            rt, alloc, original, rewritten, shared, pass, limits, phase, lanes, used,
+        )
+    } else {
+        untouched(alloc, lanes, used)
+    }
+}
+
+/// Whether more than one lane has calls.
+fn has_several(lanes: &[LaneCalls]) -> bool
+    ensures { result ≡ nat_lt 1 (count_by (λ (cs : List Form). nat_lt 0 (length cs)) lanes.now) }
+{
+    lanes.iter().filter(|lane| !lane.calls.is_empty()).count() > 1
+}
+
+/// No calls of a phase.
+fn untouched(alloc: Global, lanes: &[LaneCalls], used: &[u64; LANES]) -> Result<Side, AllocError>
+    requires { length lanes.now ≤ 16 }
+    ensures { (t : TableId) (phase : ℕ) (p : APass) → IsWhole t phase p → HasRoom (call_count lanes.now) (book p) → AreUsed used.now (book p)
+        → IfOk result (λ side. IsMidway t (book p) phase lanes.now side p) }
+{
+    let mut parts = Vec::new(alloc);
+    for lane in 0..lanes.len() {
+        parts.push(Part {
+            made: 0,
+            used: used[lane],
+            unplaced: Vec::new(alloc),
+        })?;
+    }
+    Ok(Side {
+        placed: Vec::new(alloc),
+        parts,
+    })
+}
+
+/// How many calls of each lane were made.
+fn made_counts(alloc: Global, parts: &[Part]) -> Result<Vec<usize>, AllocError>
+    ensures { IfOk result (λ counts. counts.items ≡ made_counts parts.now) }
+{
+    parts.iter().map(|part| part.made).collect(alloc)
+}

@@ -1,0 +1,37 @@
+//! What a part of a phase's calls leaves.
+ghost use Rattle.std.specs.Prelude.{◌≡◌, ◌<◌, ◌≤◌, ℕ, length, slice_index, slice_index_or};
+ghost use Rattle.driver.specs.declared.side.Part.{Part as Kept};
+
+use crate::memory::LANES;
+use session::Record;
+
+/// The calls of a lane that were made.
+#[derive(Drop)]
+pub(crate) struct Part {
+    /// How many.
+    pub made: usize,
+    /// How many words of the lane's region are used after them.
+    pub used: u64,
+    /// Those that ran out of memory, in the lane's order.
+    pub unplaced: Vec<Record>,
+}
+
+/// Calls of the lanes of a phase that were made.
+#[derive(Drop)]
+pub(crate) struct Side {
+    /// Those that have a place in the history, lane by lane.
+    pub placed: Vec<Record>,
+    /// For each lane how many, and which ran out of memory.
+    pub parts: Vec<Part>,
+}
+
+/// How many words of its region each lane has used, once the first lanes made these parts of their calls.
+pub(crate) fn keep_used(used: &mut [u64; LANES], parts: &[Part])
+    requires { length parts.now ≤ 16 }
+    ensures lanes { (lane : ℕ) (d : Kept) → lane < length parts.now → slice_index used.new lane ≡ (slice_index_or parts.now lane d).used }
+    ensures others { (lane : ℕ) → length parts.now ≤ lane → slice_index used.new lane ≡ slice_index used.old lane }
+{
+    for (lane, part) in parts.iter().enumerate() {
+        used[lane] = part.used;
+    }
+}

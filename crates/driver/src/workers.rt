@@ -1,0 +1,218 @@
+//! The workers of a bag on threads, over one table and one bag's claims.
+ghost use Rattle.std.specs.Prelude.{◌≡◌, ◌≤◌, ◌<◌, ◌+◌, ◌*◌, ◌^◌, ℕ, List, [], All, length, slice_index_or, IfOk, OnOk};
+ghost use Rattle.std.specs.List.{AllByRecursion};
+ghost use Rattle.atomic_table.specs.Seated.{TableId};
+ghost use Rattle.jmodel.specs.history.History.{Entry};
+ghost use Rattle.jmodel.specs.history.Schedule.{Known as Form};
+ghost use Rattle.claims.specs.Claims.{first_claims, IsGathered, below};
+ghost use Rattle.claims.specs.Passes.{claims_of, IsOf};
+ghost use Rattle.driver.specs.Memory.{AreOfStates};
+ghost use Rattle.session.specs.Rule.{IsRuled, IsReady, IsCallOf};
+ghost use Rattle.tx_table.specs.Passes.{book};
+ghost use Rattle.driver.specs.Passing.{used_of, first_of, IsOfOne, AreStarting, HaveEnded};
+ghost use Rattle.driver.specs.Bags.{lists, as_lanes, AreTaken, IsRest};
+ghost use Rattle.driver.specs.Workers.{MayClaim, AreWorkers, HasWorked, HaveWorked, AreCollected};
+
+use crate::memory::Limits;
+use crate::table::{Keeping, Opening, Start};
+use crate::threads::End;
+use claims::{Bag, BagPass};
+use hierarchy::Program;
+use script::Known;
+use session::{Place, Taken, make_claimed};
+use std::alloc::{AllocError, Global};
+use std::thread::{Threads, map_vec};
+use tx_table::Shared;
+
+/// A worker that is to run: its number and its pass of the table, and its pass of the claims.
+#[derive(Drop)]
+pub(crate) struct Worker {
+    pub start: Start,
+    pub claims: BagPass,
+}
+
+/// How a worker's thread ends: what it took of the bag, and its pass of the claims.
+type WorkerEnd = Result<(Taken, BagPass), AllocError>;
+
+/// Gives each worker a pass of the claims of a bag of which nothing was claimed yet.
+fn give_claims(
+    alloc: Global,
+    bag: &Bag,
+    claims: &mut BagPass,
+    starts: Vec<Start>,
+) -> Result<Vec<Worker>, AllocError>
+    requires few { (length starts.items ≤ 16) × (bag.now.length ≤ 100000) }
+    requires claims { IsOf bag.now claims.old × (claims_of claims.old ≡ first_claims) }
+    ensures len { IfOk result (λ workers. length workers.items ≡ length starts.items) }
+    ensures workers { (t : TableId) (seen phase : ℕ) → AreStarting t seen phase starts.items → IfOk result (λ workers. AreWorkers t seen phase bag.now bag.now.length workers.items) }
+    ensures claims { OnOk result (IsOf bag.now claims.new × ((claims_of claims.new).indexes ≡ []) × ((claims_of claims.new).left + length starts.items * (bag.now.length + 1) ≡ 2 ^ 32)) }
+{
+    let mut workers = Vec::new(alloc);
+    for start in starts {
+        let claims = claims.split(bag);
+        workers.push(Worker { start, claims })?;
+    }
+    Ok(workers)
+}
+
+/// What a worker's thread does: it claims calls of the bag, and makes them over its pass.
+fn work<K: Keeping>(
+    alloc: Global,
+    original: &Program,
+    rewritten: &Program,
+    shared: &Shared<Opening<K>>,
+    limits: Limits,
+    phase: u32,
+    bag: &Bag,
+    calls: &[Known],
+    worker: Worker,
+) -> WorkerEnd
+    requires ready { IsReady original.now rewritten.now }
+    requires calls { AllByRecursion (IsCallOf original.now) calls.now }
+    requires few { length calls.now ≤ 100000 }
+    requires attempts { (1 ≤ limits.attempts) × (limits.attempts ≤ 1000000) }
+    requires room_size { limits.size ≤ 1048576 }
+    requires rule { (e : Entry) → IsRuled original.now rewritten.now limits.size limits.budget limits.attempts e → K.rule e }
+    requires states { AreOfStates original.now limits.size limits.budget K.words K.used K.rule }
+    requires bag { bag.now.length ≡ length calls.now }
+    requires used { worker.start.used ≡ used_of (book worker.start.pass) worker.start.lane }
+    requires pass { IsOfOne shared.now.table.shared.table_id (book worker.start.pass).seen (first_of phase worker.start.lane) worker.start.pass }
+    requires claims { MayClaim bag.now (length calls.now) worker.claims }
+    ensures { IfOk result (HasWorked shared.now.table.shared.table_id (book worker.start.pass).seen bag.now phase worker.start.lane calls.now) }
+{
+    let Worker { start, mut claims } = worker;
+    let Start { lane, used, pass } = start;
+    let at = Place {
+        phase,
+        lane,
+        first: 0,
+    };
+    let taken = make_claimed(
+        alloc,
+        original,
+        rewritten,
+        shared,
+        pass,
+        limits.in_region(u64::from(lane) + 1, used),
+        at,
+        bag,
+        &mut claims,
+        calls,
+    )?;
+    Ok((taken, claims))
+}
+
+/// Runs each worker on a thread of its own.
+fn work_all<R: Threads + Sync, K: Keeping + Sync>(
+    rt: &R,
+    alloc: Global,
+    original: &Program,
+    rewritten: &Program,
+    shared: &Shared<Opening<K>>,
+    limits: Limits,
+    phase: u32,
+    bag: &Bag,
+    calls: &[Known],
+    workers: Vec<Worker>,
+) -> Result<Vec<WorkerEnd>, AllocError>
+    requires ready { IsReady original.now rewritten.now }
+    requires calls { AllByRecursion (IsCallOf original.now) calls.now }
+    requires few { length calls.now ≤ 100000 }
+    requires attempts { (1 ≤ limits.attempts) × (limits.attempts ≤ 1000000) }
+    requires room_size { limits.size ≤ 1048576 }
+    requires rule { (e : Entry) → IsRuled original.now rewritten.now limits.size limits.budget limits.attempts e → K.rule e }
+    requires states { AreOfStates original.now limits.size limits.budget K.words K.used K.rule }
+    requires bag { bag.now.length ≡ length calls.now }
+    requires workers { (seen : ℕ) × AreWorkers shared.now.table.shared.table_id seen phase bag.now (length calls.now) workers.items }
+    ensures { (seen : ℕ) → AreWorkers shared.now.table.shared.table_id seen phase bag.now (length calls.now) workers.items
+        → IfOk result (λ ends. HaveWorked shared.now.table.shared.table_id seen bag.now phase calls.now (length workers.items) ends.items) }
+{
+    map_vec(
+        rt,
+        workers,
+        &|worker| {
+            work(
+                alloc, original, rewritten, shared, limits, phase, bag, calls, worker,
+            )
+        },
+    )
+}
+
+/// Joins the claims of workers that have ended, and sorts out what each gives: how its lane ended, and which calls it took.
+fn collect(
+    alloc: Global,
+    bag: &Bag,
+    claims: &mut BagPass,
+    ends: Vec<WorkerEnd>,
+) -> Result<(Vec<End>, Vec<Vec<u32>>), AllocError>
+    requires claims { IsOf bag.now claims.old × ((claims_of claims.old).indexes ≡ []) }
+    requires left { (claims_of claims.old).left + length ends.items * (bag.now.length + 1) ≡ 2 ^ 32 }
+    requires ends { All (λ end. IfOk end (λ r. IsOf bag.now r.1)) ends.items }
+    ensures bag { OnOk result (IsOf bag.now claims.new) }
+    ensures collected { (t : TableId) (seen phase : ℕ) (calls : List Form) → bag.now.length ≡ length calls → HaveWorked t seen bag.now phase calls (length ends.items) ends.items
+        → IfOk result (λ r. AreCollected t seen phase calls (length ends.items) (claims_of claims.new) (lists r.1.items) r.0.items) }
+{
+    let mut lanes = Vec::new(alloc);
+    let mut indexes = Vec::new(alloc);
+    for end in ends {
+        let (taken, other) = end?;
+        claims.join(bag, other);
+        lanes.push(Ok((taken.lane, taken.pass)))?;
+        indexes.push(taken.indexes)?;
+    }
+    Ok((lanes, indexes))
+}
+
+/// Claims what is left of a bag.
+fn claim_rest(alloc: Global, bag: &Bag, claims: &mut BagPass) -> Result<Vec<u32>, AllocError>
+    requires few { (bag.now.length ≤ 100000) × (length (claims_of claims.old).indexes ≤ 16 * (bag.now.length + 1)) }
+    requires claims { IsOf bag.now claims.old × IsGathered (claims_of claims.old) }
+    ensures { IfOk result (λ rest. IsRest bag.now.length (claims_of claims.old) rest.items) }
+{
+    let mut rest = Vec::new(alloc);
+    while let Some(index) = claims.claim(bag) {
+        rest.push(index)?;
+    }
+    Ok(rest)
+}
+
+/// Makes the calls of a bag by workers, each on a thread of its own. Each claims a call and makes it, one after another, and ends at its first call
+/// whose attempts are used up, or where all are claimed. Gives how the lane of each worker ended, and which calls it took. What no worker claimed is
+/// the first one's.
+pub(crate) fn run_workers<R: Threads + Sync, K: Keeping + Sync>(
+    rt: &R,
+    alloc: Global,
+    original: &Program,
+    rewritten: &Program,
+    shared: &Shared<Opening<K>>,
+    limits: Limits,
+    phase: u32,
+    calls: &[Known],
+    starts: Vec<Start>,
+) -> Result<(Vec<End>, Vec<Vec<u32>>), AllocError>
+    requires ready { IsReady original.now rewritten.now }
+    requires calls { AllByRecursion (IsCallOf original.now) calls.now }
+    requires few { length calls.now ≤ 100000 }
+    requires attempts { (1 ≤ limits.attempts) × (limits.attempts ≤ 1000000) }
+    requires room_size { limits.size ≤ 1048576 }
+    requires rule { (e : Entry) → IsRuled original.now rewritten.now limits.size limits.budget limits.attempts e → K.rule e }
+    requires states { AreOfStates original.now limits.size limits.budget K.words K.used K.rule }
+    requires starts { (seen : ℕ) × AreStarting shared.now.table.shared.table_id seen phase starts.items }
+    requires some { (1 ≤ length starts.items) × (length starts.items ≤ 16) }
+    ensures len { IfOk result (λ r. length r.1.items ≡ length starts.items) }
+    ensures taken { IfOk result (λ r. AreTaken (length calls.now) (lists r.1.items)) }
+    ensures ended { (seen : ℕ) → AreStarting shared.now.table.shared.table_id seen phase starts.items
+        → IfOk result (λ r. HaveEnded shared.now.table.shared.table_id seen phase (as_lanes calls.now (lists r.1.items)) r.0.items) }
+{
+    let Ok((bag, mut claims)) = Bag::open(alloc, calls.len() as u32) else {
+        return Err(AllocError);
+    };
+    let workers = give_claims(alloc, &bag, &mut claims, starts)?;
+    let ends = work_all(
+        rt, alloc, original, rewritten, shared, limits, phase, &bag, calls, workers,
+    )?;
+    let (ends, mut taken) = collect(alloc, &bag, &mut claims, ends)?;
+    let mut rest = claim_rest(alloc, &bag, &mut claims)?;
+    taken[0].append(&mut rest)?;
+    Ok((ends, taken))
+}

@@ -1,5 +1,0 @@
-use Rattle.jmodel.proofs.ClassesTaken.{taken_law}
-use Rattle.jmodel.proofs.classes_law.taken_law.Goals as goal
-
-pub returns : goal.returns
-returns c = taken_law

@@ -1,5 +1,0 @@
-use Rattle.jmodel.proofs.Typed as typed
-use Rattle.jmodel.proofs.laws.typed_safety.Goals as goal
-
-pub returns : goal.returns
-returns c = typed.safety

@@ -1,0 +1,5 @@
+pub mod History
+pub mod Log
+pub mod Output
+pub mod Refusal
+pub mod Schedule

@@ -1,0 +1,58 @@
+-- Objects that a call makes.
+use Rattle.std.proofs.Common.{◌≡◌, ℕ, ◌+◌, List, [], ◌∷◌, Ok, Option, Some, None, Bool, true, false, refl, sym, subst, ap, ◌∙◌}
+use Rattle.objects.specs.declared.op.Made.{Made}
+use Rattle.objects.specs.declared.op.Made.TheVariants.{Pushed, Raised}
+use Rattle.objects.specs.declared.op.Phase.TheVariants.{Open}
+use Rattle.objects.specs.semantics.Program.{Row, Holds, Words, Elements, Program, row_at}
+use Rattle.objects.specs.semantics.Region.{has_words, next_reference}
+use Rattle.objects.specs.semantics.State.{Object, header, words_of, object_of}
+use Rattle.objects.specs.semantics.Step.{Frames, unwinds}
+use Rattle.objects.specs.rewriting.Attempt.{Log, Bounds, Meter, Run, Reply, Gives, Refuses, access, Stuck, unwound, on_made, on_thrown, meter_thrown, meter_with, makes, made, making}
+use Rattle.machine.specs.declared.running.Running.{Running}
+use Rattle.machine.specs.declared.running.Todo.TheVariants.{Heap}
+use Rattle.machine.specs.declared.make.Fresh.{Fresh}
+use Rattle.machine.specs.Running.{frames, meter, land, settled, IsFresh}
+
+-- an object has the type that it was made of
+pub of_type : (t n : ℕ) (c : Row) → (object_of t n c).type ≡ t
+of_type t n c = by c.holds refl
+  where
+    by : (h : Holds) → c.holds ≡ h → (object_of t n c).type ≡ t
+    by (Words ds) e = rw e refl
+    by (Elements d name) e = rw e refl
+
+module _ (P : Program) (B : Bounds) (t n : ℕ) (d : Made) (a : Running) (w r : Log) where
+  -- a type that isn't there
+  pub make_none : (v : Reply) → row_at P t ≡ None → making Open t n d v P B (frames a) (meter a) w r ≡ Stuck r
+  make_none v e = ap (λ (c : Option Row). made c t n d v P B (frames a) (meter a) w r) e
+
+  module _ (x : Fresh) (f : IsFresh P t n x) where
+    abbrev b : Object
+    b = object_of t n f.row
+
+    roomy : (v : Reply) → making Open t n d v P B (frames a) (meter a) w r ≡ makes (has_words B.region a.used (words_of b)) v d P B b (frames a) (meter a) w r
+    roomy v = ap (λ (c : Option Row). made c t n d v P B (frames a) (meter a) w r) f.there
+
+    by_room : (v : Reply) (room : Bool) → has_words B.region a.used x.words ≡ room → making Open t n d v P B (frames a) (meter a) w r ≡ makes room v d P B b (frames a) (meter a) w r
+    by_room v room e =
+        roomy v ∙ ap (λ (k : ℕ). makes (has_words B.region a.used k) v d P B b (frames a) (meter a) w r) (sym f.words) ∙ ap (λ (y : Bool). makes y v d P B b (frames a) (meter a) w r) e
+
+    -- the region has no room for the object
+    pub make_full : (v : Reply) → has_words B.region a.used x.words ≡ false → making Open t n d v P B (frames a) (meter a) w r ≡ land B a w r (Ok (Heap x.words))
+    make_full v full = by_room v false full ∙ rw f.words refl
+
+    -- the engine refuses the write of its header
+    pub make_refused : has_words B.region a.used x.words ≡ true → making Open t n d Refuses P B (frames a) (meter a) w r ≡ unwound (unwinds P 1 0 (frames a)) (meter a) w r
+    make_refused there = by_room Refuses true there
+
+    -- its header is written, and it is pushed or thrown
+    pub make_given : (reference : ℕ) → has_words B.region a.used x.words ≡ true → reference ≡ next_reference B.region a.used
+        → making Open t n d (Gives 0) P B (frames a) (meter a) w r
+        ≡ settled d P B reference t (record (meter a) { used = a.used + x.words }) (frames a) (access reference x.header ∷ w) r
+    make_given reference there lies =
+        by_room (Gives 0) true there ∙ subst (λ (k : ℕ). makes true (Gives 0) d P B b (frames a) (meter a) w r ≡ settled d P B k t (record (meter a) { used = a.used + x.words }) (frames a) (access k x.header ∷ w) r) (sym lies) (at_next d)
+      where
+        at_next : (e : Made) → on_made e P B b (frames a) (meter a) (access (next_reference B.region a.used) (header b) ∷ w) r
+            ≡ settled e P B (next_reference B.region a.used) t (record (meter a) { used = a.used + x.words }) (frames a) (access (next_reference B.region a.used) x.header ∷ w) r
+        at_next Pushed = rw (f.words, f.header_is) refl
+        at_next Raised = rw (f.words, f.header_is) (ap (λ (k : ℕ). on_thrown B (unwinds P (next_reference B.region a.used) k (frames a)) (meter_thrown (next_reference B.region a.used) k (meter_with b (meter a))) (access (next_reference B.region a.used) (header b) ∷ w) r) (of_type t n f.row))

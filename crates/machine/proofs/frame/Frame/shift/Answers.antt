@@ -1,0 +1,7 @@
+use Rattle.machine.proofs.frame.Frame.shift.Goals as goal
+
+pub returns-in-Int-clause-does : goal.returns-in-Int-clause-does
+returns-in-Int-clause-does c = λ P. rw c.in-Int.is (c.shift_int.ensures.does P)
+
+pub returns-in-Long-clause-does : goal.returns-in-Long-clause-does
+returns-in-Long-clause-does c = λ P. rw c.in-Long.is (c.shift_long.ensures.does P)

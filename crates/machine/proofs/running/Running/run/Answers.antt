@@ -1,0 +1,230 @@
+use Rattle.std.proofs.Common.{[], ◌≡◌, ◌+◌, refl, sym, ◌∙◌, arith}
+use Rattle.std.proofs.lemmas.Result.{err_from_is_err_and}
+use Rattle.jmodel.specs.declared.value.Answer.TheVariants as answer
+use Rattle.machine.specs.declared.running.Stage.TheVariants.{Ready, Open}
+use Rattle.objects.specs.rewriting.Attempt.{Gives, Refuses, on_commit}
+use Rattle.machine.specs.Machine.{bounds_of, Begins}
+use Rattle.machine.specs.Running.{at, frames, meter, Saw}
+use Rattle.machine.proofs.Comes.{comes_trans}
+use Rattle.machine.proofs.Ends.{within_open, within_end, way_on, turn_fails, comes_turned, commit_ends, ends_by, end_by, last_made, leaves_of, added_as, may_refuse, refuses}
+use Rattle.machine.proofs.running.Running.run.Goals as goal
+use Rattle.machine.proofs.running.Running.run.Goals.{in-Go, in-Commit+in_ok-end-in-Commit+in_default}
+
+pub returns-in_err-turn-clause-run : goal.returns-in_err-turn-clause-run
+returns-in_err-turn-clause-run g c = λ h n kc s aw.
+    let p = err_from_is_err_and c.from_residual.result c.from_residual.ensures.1 in
+    let o = c.loop.invariant.3 h n kc s aw in
+    rw (p.1, p.2) (turn_fails c.args.program.now (bounds_of c.args.limits) (at c.args.self.now [] []) (at c.loop.self o.writes o.reads) (g.E.Engine.awaits c.args.tx.now) g.E.Engine.allows (Begins (g.E.Engine.attempts c.args.tx.now) (g.E.Engine.attempts c.turn.new.engine)) (g.E.Engine.stands c.turn.new.engine) h n (Saw g.E.Engine.is_shared g.E.Engine.begins g.E.Engine.allows h kc c.args.limits.room.used) c.turn.new.self c.in_err-turn.field-0.0 o.comes (c.in_err-turn.ensures.run h n o.reads o.writes kc c.args.limits.room.used (c.loop.invariant.2 kc c.args.limits.room.used aw) o.holds))
+
+pub returns-in_err-turn-clause-ticks : goal.returns-in_err-turn-clause-ticks
+returns-in_err-turn-clause-ticks g c = within_end _ _ _ _ _ (c.in_err-turn.ensures.ticks _ c.loop.invariant.0)
+
+pub commit-requires-clause-clock : goal.commit-requires-clause-clock
+commit-requires-clause-clock g c = within_open _ _ _ _ _ (c.in_ok-turn.ensures.ticks _ c.loop.invariant.0) ((rw c.in-Commit.is at c.in_ok-turn.ensures.open) refl) c.requires.clock
+
+pub commit-requires-clause-next : goal.commit-requires-clause-next
+commit-requires-clause-next g c = (rw c.in-Commit.is at c.in_ok-turn.ensures.next) refl
+
+pub returns-in_err-end-in-Commit-clause-run : goal.returns-in_err-end-in-Commit-clause-run
+returns-in_err-end-in-Commit-clause-run g c = λ h n kc s aw.
+    let p = err_from_is_err_and c.from_residual-in_err-end-in-Commit.result c.from_residual-in_err-end-in-Commit.ensures.1 in
+    let o = c.loop.invariant.3 h n kc s aw in
+    let u = (rw c.in-Commit.is at c.in_ok-turn.ensures.run) h n o.reads o.writes kc c.args.limits.room.used (c.loop.invariant.2 kc c.args.limits.room.used aw) o.holds in
+    let t = u.turn in
+    let e = (rw c.in-Commit.is at c.in_ok-turn.ensures.open) refl in
+    let B = bounds_of c.args.limits in
+    rw (p.1, p.2) (commit_ends c.args.program.now B (at c.args.self.now [] []) (λ v. on_commit B v (frames c.turn.new.self) (meter c.turn.new.self) t.1 t.0)
+    (g.E.Engine.awaits c.args.tx.now) (g.E.Engine.awaits c.turn.new.engine) g.E.Engine.allows (Begins (g.E.Engine.attempts c.args.tx.now) (g.E.Engine.attempts c.commit.new.engine)) (g.E.Engine.stands c.commit.new.engine) h n (Saw g.E.Engine.is_shared g.E.Engine.begins g.E.Engine.allows h kc c.args.limits.room.used) c.commit.new.self (meter c.turn.new.self) t.0 t.1 c.in_err-end-in-Commit.field-0.0 (comes_turned c.args.program.now B (at c.args.self.now [] []) (at c.loop.self o.writes o.reads) _ _ _ _ (Gives 0) o.comes u (t.3 (Gives 0)))
+    (c.in_err-end-in-Commit.ensures.run h n t.0 t.1 kc c.args.limits.room.used (rw e at t.2)))
+
+pub returns-in_err-end-in-Commit-clause-ticks : goal.returns-in_err-end-in-Commit-clause-ticks
+returns-in_err-end-in-Commit-clause-ticks g c =
+    let e = (rw c.in-Commit.is at c.in_ok-turn.ensures.open) refl in
+    within_end _ _ _ _ _ (c.in_err-end-in-Commit.ensures.ticks _ _ (rw e at (c.in_ok-turn.ensures.ticks _ c.loop.invariant.0)))
+
+pub returns-in-Some-clause-run : goal.returns-in-Some-clause-run
+returns-in-Some-clause-run g c = λ h n kc s aw.
+    let o = c.loop.invariant.3 h n kc s aw in
+    let u = (rw c.in-Commit.is at c.in_ok-turn.ensures.run) h n o.reads o.writes kc c.args.limits.room.used (c.loop.invariant.2 kc c.args.limits.room.used aw) o.holds in
+    let t = u.turn in
+    let e = (rw c.in-Commit.is at c.in_ok-turn.ensures.open) refl in
+    let k = (rw c.in-Some.is at c.in_ok-end-in-Commit.ensures.run) h n t.0 t.1 kc c.args.limits.room.used (rw e at t.2) in
+    let B = bounds_of c.args.limits in
+    ends_by c.args.program.now B (at c.args.self.now [] []) (g.E.Engine.awaits c.args.tx.now) g.E.Engine.allows (Begins (g.E.Engine.attempts c.args.tx.now) (g.E.Engine.attempts c.commit.new.engine)) (g.E.Engine.stands c.commit.new.engine) h n c.in-Some.end c.in-Some.end.answer k.0.1 (record {
+      reads = t.0;
+      writes = t.1;
+      meter_then = meter c.turn.new.self;
+      comes = comes_trans c.args.program.now B (at c.args.self.now [] []) _ _ (comes_turned c.args.program.now B (at c.args.self.now [] []) (at c.loop.self o.writes o.reads) _ _ _ _ (Gives 0) o.comes u (t.3 (Gives 0))) k.0.0;
+      leaves = sym k.0.2;
+      begun = λ j a. c.in_ok-end-in-Commit.ensures.attempts _ (c.in_ok-turn.ensures.attempts j (c.loop.invariant.4 j a));
+      added = added_as (g.E.Engine.awaits c.args.tx.now) (g.E.Engine.awaits c.turn.new.engine) g.E.Engine.allows (g.E.Engine.stands c.commit.new.engine) h n c.args.limits.room.used c.turn.new.self.tried c.in-Some.end t.0 t.1
+          (λ k used a. c.in_ok-turn.ensures.awaits k used (c.loop.invariant.2 k used a)) k.1;
+    })
+
+pub returns-in-Some-clause-ticks : goal.returns-in-Some-clause-ticks
+returns-in-Some-clause-ticks g c =
+    let e = (rw c.in-Commit.is at c.in_ok-turn.ensures.open) refl in
+    within_end _ _ _ _ _ (c.in_ok-end-in-Commit.ensures.ticks _ _ (rw e at (c.in_ok-turn.ensures.ticks _ c.loop.invariant.0)))
+
+pub refuse-requires-clause-open : goal.refuse-requires-clause-open
+refuse-requires-clause-open g c = c.in_ok-turn.ensures.begun ((rw c.in-Budget.is at c.in_ok-turn.ensures.budget) refl)
+
+pub refuse-requires-clause-allowed : goal.refuse-requires-clause-allowed
+refuse-requires-clause-allowed g c = λ shared.
+    let m = c.requires.ready shared in
+    let o = c.loop.invariant.3 m.history m.conflicts m.call m.stands m.awaits in
+    let u = (rw c.in-Budget.is at c.in_ok-turn.ensures.run) m.history m.conflicts o.reads o.writes m.call c.args.limits.room.used (c.loop.invariant.2 m.call c.args.limits.room.used m.awaits) o.holds in
+    let t = u.turn in
+    may_refuse c.args.program.now (bounds_of c.args.limits) (at c.args.self.now [] []) g.E.Engine.allows (g.E.Engine.stands c.args.tx.now) (g.E.Engine.stands c.turn.new.engine)
+    (g.E.Engine.awaits c.args.tx.now) (g.E.Engine.awaits c.turn.new.engine) m answer.Budget (meter c.turn.new.self) t.0 t.1 t.2.conflicts
+    (λ k used a. c.in_ok-turn.ensures.awaits k used (c.loop.invariant.2 k used a)) t.2.stands (λ q. cc)
+    (comes_turned c.args.program.now (bounds_of c.args.limits) (at c.args.self.now [] []) (at c.loop.self o.writes o.reads) _ _ _ _ t.3.0 o.comes u t.3.1)
+
+pub refuse-requires-in-Depth-clause-open : goal.refuse-requires-in-Depth-clause-open
+refuse-requires-in-Depth-clause-open g c = c.in_ok-turn.ensures.begun ((rw c.in-Depth.is at c.in_ok-turn.ensures.depth) refl)
+
+pub refuse-requires-in-Depth-clause-allowed : goal.refuse-requires-in-Depth-clause-allowed
+refuse-requires-in-Depth-clause-allowed g c = λ shared.
+    let m = c.requires.ready shared in
+    let o = c.loop.invariant.3 m.history m.conflicts m.call m.stands m.awaits in
+    let u = (rw c.in-Depth.is at c.in_ok-turn.ensures.run) m.history m.conflicts o.reads o.writes m.call c.args.limits.room.used (c.loop.invariant.2 m.call c.args.limits.room.used m.awaits) o.holds in
+    let t = u.turn in
+    may_refuse c.args.program.now (bounds_of c.args.limits) (at c.args.self.now [] []) g.E.Engine.allows (g.E.Engine.stands c.args.tx.now) (g.E.Engine.stands c.turn.new.engine)
+    (g.E.Engine.awaits c.args.tx.now) (g.E.Engine.awaits c.turn.new.engine) m answer.Depth (meter c.turn.new.self) t.0 t.1 t.2.conflicts
+    (λ k used a. c.in_ok-turn.ensures.awaits k used (c.loop.invariant.2 k used a)) t.2.stands (λ q. cc)
+    (comes_turned c.args.program.now (bounds_of c.args.limits) (at c.args.self.now [] []) (at c.loop.self o.writes o.reads) _ _ _ _ t.3.0 o.comes u t.3.1)
+
+pub refuse-requires-in-Heap-clause-open : goal.refuse-requires-in-Heap-clause-open
+refuse-requires-in-Heap-clause-open g c = c.in_ok-turn.ensures.begun ((rw c.in-Heap.is at c.in_ok-turn.ensures.heap) c.in-Heap.wanted refl)
+
+pub refuse-requires-in-Heap-clause-allowed : goal.refuse-requires-in-Heap-clause-allowed
+refuse-requires-in-Heap-clause-allowed g c = λ shared.
+    let m = c.requires.ready shared in
+    let o = c.loop.invariant.3 m.history m.conflicts m.call m.stands m.awaits in
+    let u = (rw c.in-Heap.is at c.in_ok-turn.ensures.run) m.history m.conflicts o.reads o.writes m.call c.args.limits.room.used (c.loop.invariant.2 m.call c.args.limits.room.used m.awaits) o.holds in
+    let t = u.turn in
+    may_refuse c.args.program.now (bounds_of c.args.limits) (at c.args.self.now [] []) g.E.Engine.allows (g.E.Engine.stands c.args.tx.now) (g.E.Engine.stands c.turn.new.engine)
+    (g.E.Engine.awaits c.args.tx.now) (g.E.Engine.awaits c.turn.new.engine) m (answer.Heap c.turn.new.self.used c.in-Heap.wanted c.args.limits.room.size) (meter c.turn.new.self) t.0 t.1 t.2.conflicts
+    (λ k used a. c.in_ok-turn.ensures.awaits k used (c.loop.invariant.2 k used a)) t.2.stands (λ q. cc)
+    (comes_turned c.args.program.now (bounds_of c.args.limits) (at c.args.self.now [] []) (at c.loop.self o.writes o.reads) _ _ _ _ t.3.0 o.comes u t.3.1)
+
+pub commit-requires-clause-allowed : goal.commit-requires-clause-allowed
+commit-requires-clause-allowed g c = λ shared.
+    let m = c.requires.ready shared in
+    let o = c.loop.invariant.3 m.history m.conflicts m.call m.stands m.awaits in
+    let u = (rw c.in-Commit.is at c.in_ok-turn.ensures.run) m.history m.conflicts o.reads o.writes m.call c.args.limits.room.used (c.loop.invariant.2 m.call c.args.limits.room.used m.awaits) o.holds in
+    let t = u.turn in
+    let B = bounds_of c.args.limits in
+    record {
+      history = m.history;
+      conflicts = t.2.conflicts;
+      reads = t.0;
+      writes = t.1;
+      call = m.call;
+      stands = t.2.stands;
+      awaits = c.in_ok-turn.ensures.awaits m.call B.used (c.loop.invariant.2 m.call B.used m.awaits);
+      allowed = λ x last comes. m.allowed x (meter c.turn.new.self) t.0 t.1 (last_made x last)
+          (comes_trans c.args.program.now B (at c.args.self.now [] []) _ _ (comes_turned c.args.program.now B (at c.args.self.now [] []) (at c.loop.self o.writes o.reads) _ _ _ _ (Gives 0) o.comes u (t.3 (Gives 0))) comes);
+    }
+
+pub returns-in-Budget-clause-run : goal.returns-in-Budget-clause-run
+returns-in-Budget-clause-run g c = λ h n kc s aw.
+    let o = c.loop.invariant.3 h n kc s aw in
+    let u = (rw c.in-Budget.is at c.in_ok-turn.ensures.run) h n o.reads o.writes kc c.args.limits.room.used (c.loop.invariant.2 kc c.args.limits.room.used aw) o.holds in
+    let t = u.turn in
+    let e = (rw c.in-Budget.is at c.in_ok-turn.ensures.budget) refl in
+    let k = c.refuse in
+    end_by c.args.program.now (bounds_of c.args.limits) (at c.args.self.now [] []) (g.E.Engine.awaits c.args.tx.now) g.E.Engine.allows (Begins (g.E.Engine.attempts c.args.tx.now) (g.E.Engine.attempts k.new.tx)) (g.E.Engine.stands k.new.tx) h n k.result answer.Budget k.ensures.answer (refuses c.args.program.now (bounds_of c.args.limits) (at c.args.self.now [] []) g.E.Engine.allows (Begins (g.E.Engine.attempts c.args.tx.now) (g.E.Engine.attempts k.new.tx)) (g.E.Engine.stands c.args.tx.now) (g.E.Engine.stands k.new.tx)
+    (g.E.Engine.awaits c.args.tx.now) (g.E.Engine.awaits c.turn.new.engine) h n t.2.conflicts k.result (meter c.turn.new.self) t.0
+    (λ k used a. c.in_ok-turn.ensures.awaits k used (c.loop.invariant.2 k used a)) t.2.later (rw e at t.2.tries)
+    (λ j a. k.ensures.attempts _ (c.in_ok-turn.ensures.attempts j (c.loop.invariant.4 j a))) k.ensures.used
+    (rw k.ensures.answer (comes_turned c.args.program.now (bounds_of c.args.limits) (at c.args.self.now [] []) (at c.loop.self o.writes o.reads) _ _ _ _ t.3.0 o.comes u t.3.1))
+    (rw k.ensures.answer (k.ensures.run h t.2.conflicts t.0 t.1 t.2.stands)))
+
+pub returns-in-Budget-clause-ticks : goal.returns-in-Budget-clause-ticks
+returns-in-Budget-clause-ticks g c = rw c.refuse.ensures.ticks (within_end _ _ _ _ _ (c.in_ok-turn.ensures.ticks _ c.loop.invariant.0))
+
+pub returns-in-Depth-clause-run : goal.returns-in-Depth-clause-run
+returns-in-Depth-clause-run g c = λ h n kc s aw.
+    let o = c.loop.invariant.3 h n kc s aw in
+    let u = (rw c.in-Depth.is at c.in_ok-turn.ensures.run) h n o.reads o.writes kc c.args.limits.room.used (c.loop.invariant.2 kc c.args.limits.room.used aw) o.holds in
+    let t = u.turn in
+    let e = (rw c.in-Depth.is at c.in_ok-turn.ensures.depth) refl in
+    let k = c.refuse-in-Depth in
+    end_by c.args.program.now (bounds_of c.args.limits) (at c.args.self.now [] []) (g.E.Engine.awaits c.args.tx.now) g.E.Engine.allows (Begins (g.E.Engine.attempts c.args.tx.now) (g.E.Engine.attempts k.new.tx)) (g.E.Engine.stands k.new.tx) h n k.result answer.Depth k.ensures.answer (refuses c.args.program.now (bounds_of c.args.limits) (at c.args.self.now [] []) g.E.Engine.allows (Begins (g.E.Engine.attempts c.args.tx.now) (g.E.Engine.attempts k.new.tx)) (g.E.Engine.stands c.args.tx.now) (g.E.Engine.stands k.new.tx)
+    (g.E.Engine.awaits c.args.tx.now) (g.E.Engine.awaits c.turn.new.engine) h n t.2.conflicts k.result (meter c.turn.new.self) t.0
+    (λ k used a. c.in_ok-turn.ensures.awaits k used (c.loop.invariant.2 k used a)) t.2.later (rw e at t.2.tries)
+    (λ j a. k.ensures.attempts _ (c.in_ok-turn.ensures.attempts j (c.loop.invariant.4 j a))) k.ensures.used
+    (rw k.ensures.answer (comes_turned c.args.program.now (bounds_of c.args.limits) (at c.args.self.now [] []) (at c.loop.self o.writes o.reads) _ _ _ _ t.3.0 o.comes u t.3.1))
+    (rw k.ensures.answer (k.ensures.run h t.2.conflicts t.0 t.1 t.2.stands)))
+
+pub returns-in-Depth-clause-ticks : goal.returns-in-Depth-clause-ticks
+returns-in-Depth-clause-ticks g c = rw c.refuse-in-Depth.ensures.ticks (within_end _ _ _ _ _ (c.in_ok-turn.ensures.ticks _ c.loop.invariant.0))
+
+pub returns-in-Heap-clause-run : goal.returns-in-Heap-clause-run
+returns-in-Heap-clause-run g c = λ h n kc s aw.
+    let o = c.loop.invariant.3 h n kc s aw in
+    let u = (rw c.in-Heap.is at c.in_ok-turn.ensures.run) h n o.reads o.writes kc c.args.limits.room.used (c.loop.invariant.2 kc c.args.limits.room.used aw) o.holds in
+    let t = u.turn in
+    let e = (rw c.in-Heap.is at c.in_ok-turn.ensures.heap) c.in-Heap.wanted refl in
+    let k = c.refuse-in-Heap in
+    end_by c.args.program.now (bounds_of c.args.limits) (at c.args.self.now [] []) (g.E.Engine.awaits c.args.tx.now) g.E.Engine.allows (Begins (g.E.Engine.attempts c.args.tx.now) (g.E.Engine.attempts k.new.tx)) (g.E.Engine.stands k.new.tx) h n k.result (answer.Heap c.turn.new.self.used c.in-Heap.wanted c.args.limits.room.size) k.ensures.answer (refuses c.args.program.now (bounds_of c.args.limits) (at c.args.self.now [] []) g.E.Engine.allows (Begins (g.E.Engine.attempts c.args.tx.now) (g.E.Engine.attempts k.new.tx)) (g.E.Engine.stands c.args.tx.now) (g.E.Engine.stands k.new.tx)
+    (g.E.Engine.awaits c.args.tx.now) (g.E.Engine.awaits c.turn.new.engine) h n t.2.conflicts k.result (meter c.turn.new.self) t.0
+    (λ k used a. c.in_ok-turn.ensures.awaits k used (c.loop.invariant.2 k used a)) t.2.later (rw e at t.2.tries)
+    (λ j a. k.ensures.attempts _ (c.in_ok-turn.ensures.attempts j (c.loop.invariant.4 j a))) k.ensures.used
+    (rw k.ensures.answer (comes_turned c.args.program.now (bounds_of c.args.limits) (at c.args.self.now [] []) (at c.loop.self o.writes o.reads) _ _ _ _ t.3.0 o.comes u t.3.1))
+    (rw k.ensures.answer (k.ensures.run h t.2.conflicts t.0 t.1 t.2.stands)))
+
+pub returns-in-Heap-clause-ticks : goal.returns-in-Heap-clause-ticks
+returns-in-Heap-clause-ticks g c = rw c.refuse-in-Heap.ensures.ticks (within_end _ _ _ _ _ (c.in_ok-turn.ensures.ticks _ c.loop.invariant.0))
+
+pub returns-in-Spent-clause-run : goal.returns-in-Spent-clause-run
+returns-in-Spent-clause-run g c = λ h n kc s aw.
+    let o = c.loop.invariant.3 h n kc s aw in
+    let u = (rw c.in-Spent.is at c.in_ok-turn.ensures.run) h n o.reads o.writes kc c.args.limits.room.used (c.loop.invariant.2 kc c.args.limits.room.used aw) o.holds in
+    let t = u.turn in
+    let e = (rw c.in-Spent.is at c.in_ok-turn.ensures.spent) refl in
+    let i = rw e at t.2.idle in
+    let k = rw e at t.2.tries in
+    let q : t.2.conflicts ≡ n + c.turn.new.self.tried = omega arith in
+    rw c.unplaced.ensures (record {
+      meter_then = meter c.turn.new.self;
+      comes = comes_turned c.args.program.now (bounds_of c.args.limits) (at c.args.self.now [] []) (at c.loop.self o.writes o.reads) _ _ _ _ t.3.0 o.comes u t.3.1;
+      begun = λ j a. c.in_ok-turn.ensures.attempts j (c.loop.invariant.4 j a);
+      stands = rw (i.0, i.1, q) at t.2.stands;
+      unplaced = record { unstamped = refl; unused = refl };
+    })
+
+pub returns-in-Spent-clause-ticks : goal.returns-in-Spent-clause-ticks
+returns-in-Spent-clause-ticks g c = within_end _ _ _ _ _ (c.in_ok-turn.ensures.ticks _ c.loop.invariant.0)
+
+pub loop-preserved : goal.loop-preserved
+loop-preserved g c =
+    elim c.match-branch-2.branch [
+      | in-Go w ↦ rw (w.self-is, w.tx-is) (
+        c.in_ok-turn.ensures.ticks _ c.loop.invariant.0,
+        c.in_ok-turn.ensures.begun,
+        λ k used a. c.in_ok-turn.ensures.awaits k used (c.loop.invariant.2 k used a),
+        λ h n kc s aw.
+            let o = c.loop.invariant.3 h n kc s aw in
+            way_on _ _ _ (g.E.Engine.stands c.loop.tx h) _ (Saw g.E.Engine.is_shared g.E.Engine.begins g.E.Engine.allows h kc c.args.limits.room.used) n c.loop.self _ o ((rw w.in-Go.is at c.in_ok-turn.ensures.run) h n o.reads o.writes kc c.args.limits.room.used (c.loop.invariant.2 kc c.args.limits.room.used aw) o.holds),
+        λ j a. c.in_ok-turn.ensures.attempts j (c.loop.invariant.4 j a),
+      )
+      | in-Commit+in_ok-end-in-Commit+in_default w ↦
+          let e = (rw w.in-Commit.is at c.in_ok-turn.ensures.open) refl in
+          rw (w.self-is, w.tx-is) (
+            w.in_ok-end-in-Commit.ensures.ticks _ _ (rw e at (c.in_ok-turn.ensures.ticks _ c.loop.invariant.0)),
+            λ q. let no : Ready ≡ Open = sym w.in_ok-end-in-Commit.ensures.closed ∙ q in let bad : ⊥ = cc in absurd bad,
+            λ k used a. w.in_ok-end-in-Commit.ensures.awaits k used (c.in_ok-turn.ensures.awaits k used (c.loop.invariant.2 k used a)) w.in_default.is,
+            λ h n kc s aw.
+                let o = c.loop.invariant.3 h n kc s aw in
+                let u = (rw w.in-Commit.is at c.in_ok-turn.ensures.run) h n o.reads o.writes kc c.args.limits.room.used (c.loop.invariant.2 kc c.args.limits.room.used aw) o.holds in
+                let t = u.turn in
+                let k = (rw w.in_default.is at w.in_ok-end-in-Commit.ensures.run) h n t.0 t.1 kc c.args.limits.room.used (rw e at t.2) in
+                record { reads = []; writes = []; holds = k.1; comes = comes_turned c.args.program.now (bounds_of c.args.limits) (at c.args.self.now [] []) (at c.loop.self o.writes o.reads) _ _ _ _ Refuses o.comes u (t.3 Refuses ∙ k.0) },
+            λ j a. rw w.in_ok-end-in-Commit.ensures.tried (w.in_ok-end-in-Commit.ensures.attempts _ (c.in_ok-turn.ensures.attempts j (c.loop.invariant.4 j a))),
+          )
+    ]
+
+pub returns-clause-run : goal.returns-clause-run
+returns-clause-run g c = λ h n kc s aw. let o = c.loop.invariant.3 h n kc s aw in leaves_of _ _ _ _ _ _ _ o.holds

@@ -1,0 +1,105 @@
+-- What functions of the machine say of an instruction's meaning.
+use Rattle.std.specs.Prelude.{◌≡◌, ℕ, ◌+◌, ◌<◌, ◌^◌, List, [], ◌++◌, replicate, Bool, true, false, Result, Ok, Err}
+use Rattle.objects.specs.declared.op.Slot.{Slot}
+use Rattle.objects.specs.declared.op.Slot.TheVariants.{Empty}
+use Rattle.objects.specs.declared.op.Op.{Op}
+use Rattle.objects.specs.declared.op.Op.TheVariants as op
+use Rattle.objects.specs.declared.op.Use.{Use}
+use Rattle.objects.specs.declared.op.Use.TheVariants.{Indexes, Fits}
+use Rattle.objects.specs.declared.op.Element.TheVariants.{Load}
+use Rattle.objects.specs.declared.op.Doing.{Doing}
+use Rattle.objects.specs.declared.op.Doing.TheVariants as doing
+use Rattle.objects.specs.declared.op.Request.{Request}
+use Rattle.objects.specs.declared.op.Request.TheVariants.{Look, Read, Write}
+use Rattle.objects.specs.declared.op.Asking.{Asking}
+use Rattle.objects.specs.declared.op.Asking.TheVariants.{Return, Throw, Make, Head, Ask}
+use Rattle.objects.specs.semantics.Program.{Program}
+use Rattle.objects.specs.semantics.Step.{Did, Does, Wrong, Frame, Frames, Asked, Asks, Fails, Took, TooFew, take_args, on_doing}
+use Rattle.machine.specs.declared.failure.Failure.{Failure}
+use Rattle.machine.specs.declared.failure.Failure.TheVariants as failure
+
+-- memory may be short at any instruction
+abbrev pub Meets : Result Doing Failure → Frame → Did → Type 0
+Meets (Ok d) f x = x ≡ Does d f
+Meets (Err failure.Wrong) f x = x ≡ Wrong
+Meets (Err failure.NoMemory) f x = Unit {0}
+
+-- what is looked for isn't there, whatever would be done with it
+abbrev pub Lacks : {K : Type 0} → Failure → (K → Did) → Type 0
+Lacks {K} e on = (e ≡ failure.Wrong) × ((k : K) → on k ≡ Wrong)
+
+-- after the last frame none is left
+abbrev pub IsAsked : Asking → Frames → Asked → Type 0
+IsAsked (Return v) fs x = x ≡ Asks (Return v) []
+IsAsked (Throw o) fs x = x ≡ Asks (Throw o) []
+IsAsked a fs x = x ≡ Asks a fs
+
+-- memory may be short at any step
+abbrev pub IsStep : Result Asking Failure → Frames → Asked → Type 0
+IsStep (Ok a) fs x = IsAsked a fs x
+IsStep (Err failure.Wrong) fs x = x ≡ Fails
+IsStep (Err failure.NoMemory) fs x = Unit {0}
+
+-- the place that a request names has an address of 64 bits
+abbrev pub HasAddress : Request → Type 0
+HasAddress (Look p) = p.object + p.index < 2 ^ 64
+HasAddress (Read p t) = p.object + p.index < 2 ^ 64
+HasAddress (Write p x) = p.object + p.index < 2 ^ 64
+HasAddress q = Unit {0}
+
+-- so has the place of an element
+abbrev pub HasPlace : Use → Type 0
+HasPlace (Fits a p e) = p.object + p.index < 2 ^ 64
+HasPlace u = Unit {0}
+
+abbrev pub CanDo : Doing → Type 0
+CanDo (doing.Ask q) = HasAddress q
+CanDo (doing.Head o u) = HasPlace u
+CanDo d = Unit {0}
+
+-- the instruction after the one that asks has a number
+abbrev pub CanAsk : Asking → Frame → Type 0
+CanAsk (Ask q) f = HasAddress q × (f.pc + 1 < 2 ^ 64)
+CanAsk (Head o u) f = HasPlace u × (f.pc + 1 < 2 ^ 64)
+CanAsk (Make t n d) f = f.pc + 1 < 2 ^ 64
+CanAsk a f = Unit {0}
+
+-- frames are left
+abbrev pub GoesOn : Asking → Type 0
+GoesOn (Return v) = ⊥
+GoesOn (Throw o) = ⊥
+GoesOn a = Unit {0}
+
+-- whether an instruction is a plain load of an element, which reads no header
+abbrev pub loads_plain : Use → Bool
+loads_plain (Indexes i Load) = true
+loads_plain u = false
+
+-- what an instruction leaves to be done, seen from the step
+abbrev pub IsDone : Program → Result Doing Failure → Frame → Frames → Asked → Type 0
+IsDone P (Ok d) f fs x = x ≡ on_doing P d f fs
+IsDone P (Err failure.Wrong) f fs x = x ≡ Fails
+IsDone P (Err failure.NoMemory) f fs x = Unit {0}
+
+-- a frame at the start of a method, whose arguments were taken from the slots s and left s'
+abbrev pub IsEntered : ℕ → ℕ → ℕ → List Slot → List Slot → Frame → Result (Unit {0}) Failure → Type 0
+IsEntered m places more s s' f (Ok u) = (args : List Slot) × (take_args places [] s ≡ Took args s') × (f ≡ record { method = m; pc = 0; locals = args ++ replicate more Empty; stack = [] })
+IsEntered m places more s s' f (Err failure.Wrong) = take_args places [] s ≡ TooFew
+IsEntered m places more s s' f (Err failure.NoMemory) = Unit {0}
+
+-- instructions that call methods, or are of objects and arrays
+abbrev pub IsOfObjects : Op → Type 0
+IsOfObjects (op.InvokeStatic m) = Unit {0}
+IsOfObjects (op.InvokeSpecial m) = Unit {0}
+IsOfObjects (op.InvokeVirtual m c) = Unit {0}
+IsOfObjects (op.InvokeInterface m c) = Unit {0}
+IsOfObjects (op.InitLibrary c n) = Unit {0}
+IsOfObjects (op.New t) = Unit {0}
+IsOfObjects (op.NewArray t) = Unit {0}
+IsOfObjects op.ArrayLength = Unit {0}
+IsOfObjects (op.LoadElement t) = Unit {0}
+IsOfObjects (op.StoreElement t) = Unit {0}
+IsOfObjects (op.CheckCast c) = Unit {0}
+IsOfObjects (op.InstanceOf c) = Unit {0}
+IsOfObjects op.Throw = Unit {0}
+IsOfObjects o = ⊥

@@ -1,0 +1,154 @@
+//! What one instruction does to its frame (JVM Specification, Java SE 7, chapter 6).
+ghost use Rattle.std.specs.Prelude.{◌≡◌, ◌∷◌, ◌+◌, ◌<◌, ◌^◌, IfOk, MatchResult, slice_get, Some, None};
+ghost use Rattle.objects.specs.semantics.Program.{Program as JProgram, method_at};
+ghost use Rattle.objects.specs.semantics.Step.{Frames, does, step};
+ghost use Rattle.objects.specs.declared.op.Op.TheVariants as op;
+ghost use Rattle.machine.specs.declared.failure.Failure.TheVariants as failure;
+ghost use Rattle.machine.specs.Meets.{Meets, CanDo, IsDone, IsOfObjects};
+
+use crate::failure::Failure;
+use crate::frame::Frame;
+use hierarchy::program::{Method, Program};
+use jmodel::value::Value;
+use objects::op::{Doing, Op, Slot, Sort};
+use std::alloc::Global;
+
+/// The instruction at a place of a method, or `Wrong` where it has none.
+fn op_of(method: &Method, pc: usize) -> Result<&Op, Failure>
+    ensures op { MatchResult result (λ o. slice_get method.now.ops pc ≡ Some o.now) (λ e. (e ≡ failure.Wrong) × (slice_get method.now.ops pc ≡ None)) }
+    ensures next { IfOk result (λ _. pc + 1 < 2 ^ 64) }
+{
+    match method.ops().get(pc) {
+        Some(op) => Ok(op),
+        None => Err(Failure::Wrong),
+    }
+}
+
+impl Frame {
+    /// Does the instruction that the frame stands at, all but what lies outside the frame. `Wrong` where there is none.
+    #[inline(always)]
+    pub(crate) fn act_in(
+        &mut self,
+        alloc: Global,
+        program: &Program,
+        method: &Method,
+    ) -> Result<Doing, Failure>
+        requires { method_at program.now self.old.method ≡ Some method.now }
+        ensures does { (fs : Frames) → IsDone program.now result self.new fs (step program.now (self.old ∷ fs)) }
+        ensures can { IfOk result CanDo }
+        ensures place { (self.new.method ≡ self.old.method) × (self.new.pc ≡ self.old.pc) }
+        ensures next { IfOk result (λ _. self.new.pc + 1 < 2 ^ 64) }
+    {
+        let op = op_of(method, self.pc)?;
+        self.act(alloc, program, op)
+    }
+
+    /// Does one instruction, all but what lies outside the frame. `Wrong` where the frame hasn't what it needs.
+    #[inline(always)]
+    pub fn act(&mut self, alloc: Global, program: &Program, op: &Op) -> Result<Doing, Failure>
+        ensures does { Meets result self.new (does program.now op.now self.old) }
+        ensures can { IfOk result CanDo }
+        ensures place { (self.new.method ≡ self.old.method) × (self.new.pc ≡ self.old.pc) }
+    {
+        match op {
+            Op::Constant(value) => self.constant(*value),
+            Op::Text(n) => self.text(program, *n),
+            Op::Load(sort, i) => self.load(*sort, *i),
+            Op::Store(sort, i) => self.store(*sort, *i),
+            Op::Stack(r) => self.rearrange(*r),
+            Op::Binary(width, b) => self.binary(*width, *b),
+            Op::Shift(width, s) => self.shift(*width, *s),
+            Op::Divide(width, d) => self.divide(*width, *d),
+            Op::Unary(width, u) => self.unary(*width, *u),
+            Op::Convert(c) => self.convert(*c),
+            Op::CompareLongs => self.compare_longs(),
+            Op::Increment(i, n) => self.increment(*i, *n),
+            Op::Branch(test, to) => self.branch(*test, *to),
+            Op::BranchInts(test, to) => self.branch_ints(*test, *to),
+            Op::BranchNull(wanted, to) => self.branch_null(*wanted, *to),
+            Op::BranchReferences(wanted, to) => self.branch_references(*wanted, *to),
+            Op::Goto(to) => Ok(Doing::Jump(*to)),
+            Op::Switch { other, cases } => self.switch(*other, cases),
+            Op::GetContext => self.get_context(),
+            Op::Context(call) => self.context(*call),
+            Op::Return => Ok(Doing::Give(None)),
+            Op::ReturnValue(sort) => self.return_value(*sort),
+            Op::GetStatic(n) => self.get_static(program, *n),
+            Op::PutStatic(n) => self.put_static(program, *n),
+            Op::GetField { field, .. } => self.get_field(program, *field),
+            Op::PutField { field, .. } => self.put_field(program, *field),
+            op => self.act_on_objects(alloc, program, op),
+        }
+    }
+
+    /// The same of instructions that call methods, or are of objects and arrays; `Wrong` at any other.
+    fn act_on_objects(
+        &mut self,
+        alloc: Global,
+        program: &Program,
+        op: &Op,
+    ) -> Result<Doing, Failure>
+        requires { IsOfObjects op.now }
+        ensures does { Meets result self.new (does program.now op.now self.old) }
+        ensures can { IfOk result CanDo }
+        ensures place { (self.new.method ≡ self.old.method) × (self.new.pc ≡ self.old.pc) }
+    {
+        match op {
+            Op::InvokeStatic(n) => self.invoke_static(program, *n),
+            Op::InvokeSpecial(n) => self.invoke_special(program, *n),
+            Op::InvokeVirtual { method, .. } => self.invoke_virtual(program, *method),
+            Op::InvokeInterface { method, interface } => {
+                self.invoke_interface(alloc, program, *method, interface)
+            }
+            Op::InitLibrary { places, .. } => self.init_library(*places),
+            Op::New(of) => Ok(Doing::Make(*of, 0)),
+            Op::NewArray(of) => self.new_array(*of),
+            Op::ArrayLength => self.array_length(),
+            Op::LoadElement(_) => self.load_element(),
+            Op::StoreElement(word_type) => self.store_element(*word_type),
+            Op::CheckCast(class) => self.check_cast(alloc, class),
+            Op::InstanceOf(class) => self.instance_of(alloc, class),
+            Op::Throw => self.throw(program),
+            _ => Err(Failure::Wrong),
+        }
+    }
+
+    fn constant(&mut self, value: Value) -> Result<Doing, Failure>
+        ensures does { (P : JProgram) → Meets result self.new (does P (op.Constant value) self.old) }
+        ensures can { IfOk result CanDo }
+        ensures place { (self.new.method ≡ self.old.method) × (self.new.pc ≡ self.old.pc) }
+    {
+        self.stack.push_value(value)?;
+        Ok(Doing::Next)
+    }
+
+    fn text(&mut self, program: &Program, n: usize) -> Result<Doing, Failure>
+        ensures does { Meets result self.new (does program.now (op.Text n) self.old) }
+        ensures can { IfOk result CanDo }
+        ensures place { (self.new.method ≡ self.old.method) × (self.new.pc ≡ self.old.pc) }
+    {
+        let Some(object) = program.text(n) else {
+            return Err(Failure::Wrong);
+        };
+        self.stack.push(Slot::Ref(object))?;
+        Ok(Doing::Next)
+    }
+
+    fn return_value(&mut self, sort: Sort) -> Result<Doing, Failure>
+        ensures does { (P : JProgram) → Meets result self.new (does P (op.ReturnValue sort) self.old) }
+        ensures can { IfOk result CanDo }
+        ensures place { (self.new.method ≡ self.old.method) × (self.new.pc ≡ self.old.pc) }
+    {
+        let value = self.stack.take_value(sort)?;
+        Ok(Doing::Give(Some(value)))
+    }
+
+    fn get_context(&mut self) -> Result<Doing, Failure>
+        ensures does { (P : JProgram) → Meets result self.new (does P op.GetContext self.old) }
+        ensures can { IfOk result CanDo }
+        ensures place { (self.new.method ≡ self.old.method) × (self.new.pc ≡ self.old.pc) }
+    {
+        self.stack.push(Slot::Context)?;
+        Ok(Doing::Next)
+    }
+}

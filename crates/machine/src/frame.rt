@@ -1,0 +1,146 @@
+//! A frame (JVM Specification, Java SE 7, section 2.6).
+ghost use Rattle.std.specs.Prelude.{◌≡◌, ◌∷◌, [], IfOk, OnOk, ◌-◌, ◌++◌, replicate, ◌+◌, ◌<◌, ◌^◌};
+ghost use Rattle.objects.specs.semantics.Step.{next};
+
+use crate::failure::Failure;
+use crate::stack::{Locals, Stack};
+use hierarchy::program::{Entry, Program};
+use jmodel::value::Value;
+use objects::op::Slot;
+use std::alloc::{AllocError, Global};
+use std::marker::Model;
+
+/// A frame. A caller's place is that of its call.
+#[derive(Drop)]
+pub struct Frame {
+    pub method: usize,
+    pub pc: usize,
+    pub locals: Locals,
+    pub stack: Stack,
+}
+
+impl Model for Frame {
+    ghost use Rattle.objects.specs.semantics.Step.{Frame as JFrame};
+
+    ghost Value = { JFrame };
+
+    ghost view = { λ f. record { method = f.method; pc = f.pc; locals = f.locals; stack = f.stack } };
+}
+
+impl Frame {
+    ghost use Rattle.objects.specs.declared.op.Slot.TheVariants as slot;
+    ghost use Rattle.objects.specs.semantics.Step.{with_stack};
+    ghost use Rattle.objects.specs.semantics.Program.{is_counted};
+    ghost use Rattle.objects.specs.semantics.Value.{pushed};
+    ghost use Rattle.objects.specs.declared.op.Slot.{Slot as JSlot};
+    ghost use Rattle.machine.specs.Meets.{IsEntered};
+
+    /// A frame of no method. No memory.
+    pub(crate) fn empty(alloc: Global) -> Self {
+        Frame {
+            method: 0,
+            pc: 0,
+            locals: Locals::new(alloc),
+            stack: Stack::new(alloc),
+        }
+    }
+
+    /// A frame at the start of a method, with these arguments.
+    pub fn start(
+        alloc: Global,
+        method: usize,
+        entry: Entry,
+        args: Locals,
+    ) -> Result<Self, AllocError>
+        ensures { IfOk result (λ f. f ≡ record { method = method; pc = 0; locals = args ++ replicate (entry.locals - entry.places) slot.Empty; stack = [] }) }
+    {
+        let mut locals = args;
+        locals.add_empty(entry.locals.saturating_sub(entry.places))?;
+        Ok(Frame {
+            method,
+            pc: 0,
+            locals,
+            stack: Stack::new(alloc),
+        })
+    }
+
+    /// Becomes the frame at the start of a method, whose arguments it takes from its caller's stack. `Wrong` where these are too few.
+    pub(crate) fn enter(
+        &mut self,
+        method: usize,
+        entry: Entry,
+        from: &mut Stack,
+    ) -> Result<(), Failure>
+        ensures { IsEntered method entry.places (entry.locals - entry.places) from.old from.new self.new result }
+    {
+        self.method = method;
+        self.pc = 0;
+        self.stack.clear();
+        self.locals.take_args(from, entry.places)?;
+        self.locals
+            .add_empty(entry.locals.saturating_sub(entry.places))?;
+        Ok(())
+    }
+
+    /// The same frame with slots of its own.
+    pub fn copy(&self, alloc: Global) -> Result<Self, AllocError>
+        ensures { IfOk result (λ f. f ≡ self.now) }
+    {
+        Ok(Frame {
+            method: self.method,
+            pc: self.pc,
+            locals: self.locals.copy(alloc)?,
+            stack: self.stack.copy(alloc)?,
+        })
+    }
+
+    /// Whether the frame counts.
+    pub fn is_counted(&self, program: &Program) -> bool
+        ensures { result ≡ is_counted program.now self.now.method }
+    {
+        program.is_counted(self.method)
+    }
+
+    /// Goes on to another instruction.
+    pub fn jump(&mut self, to: usize)
+        ensures { self.new ≡ record self.old { pc = to } }
+    {
+        self.pc = to;
+    }
+
+    /// Enters an exception handler, whose stack has the exception alone.
+    pub fn enter_handler(&mut self, exception: u64) -> Result<(), AllocError>
+        ensures { OnOk result (self.new ≡ with_stack self.old (slot.Ref exception ∷ [])) }
+    {
+        self.stack.clear();
+        self.stack.push(Slot::Ref(exception))
+    }
+
+    /// Goes on to the next instruction, with a slot on the stack.
+    pub fn resume(&mut self, slot: Slot) -> Result<(), AllocError>
+        requires { self.old.pc + 1 < 2 ^ 64 }
+        ensures { OnOk result (self.new ≡ next (with_stack self.old (slot ∷ self.old.stack))) }
+    {
+        self.stack.push(slot)?;
+        self.advance();
+        Ok(())
+    }
+
+    /// Goes on to the next instruction, with a value on the stack.
+    pub fn resume_with(&mut self, value: Value) -> Result<(), AllocError>
+        requires { self.old.pc + 1 < 2 ^ 64 }
+        ensures { OnOk result (self.new ≡ next (with_stack self.old (pushed value self.old.stack))) }
+    {
+        self.stack.push_value(value)?;
+        self.advance();
+        Ok(())
+    }
+
+    /// Goes on to the next instruction.
+    pub fn advance(&mut self)
+        requires { self.old.pc + 1 < 2 ^ 64 }
+        ensures { self.new ≡ next self.old }
+    {
+        self.pc += 1;
+    }
+}

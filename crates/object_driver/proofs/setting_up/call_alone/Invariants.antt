@@ -1,6 +1,0 @@
-use Rattle.object_session.specs.Rule.{IsRuled}
-use Rattle.object_driver.specs.Memory.{used_at_first}
-use Rattle.object_driver.proofs.setting_up.call_alone.Given as goal
-
-abbrev pub ghosts-call_over : goal.ghosts-call_over
-ghosts-call_over a = record { first = a.memory.words.items; opened = used_at_first a.memory.used; rule = IsRuled a.original.now a.rewritten.now a.limits.size a.limits.budget a.limits.attempts }

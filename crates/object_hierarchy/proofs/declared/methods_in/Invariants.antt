@@ -1,7 +1,0 @@
-use Rattle.std.proofs.Common.{◌≡◌, map, take}
-use Rattle.jmodel.specs.Classes.{methods_in}
-use Rattle.object_hierarchy.proofs.declared.methods_in.Given as goal
-
--- the methods of the classes so far
-abbrev pub invariant-loop-class : goal.invariant-loop-class
-invariant-loop-class l = l.methods.items ≡ methods_in (map (λ c. c.now) (take l.class-index l.classes))

@@ -1,9 +1,0 @@
-use Rattle.std.proofs.Common.{◌-◌, ◌++◌, List, map}
-use Rattle.jmodel.specs.ClassFile.{ClassFile}
-use Rattle.jmodel.specs.Superclasses.{lineage}
-use Rattle.object_hierarchy.proofs.Upward.{IsOnTheWay}
-use Rattle.object_hierarchy.proofs.lineage.lineage.Given as goal
-
--- the classes so far, and those in the steps that are left
-abbrev pub invariant-loop-step : goal.invariant-loop-step
-invariant-loop-step l = IsOnTheWay (λ (above : List ClassFile). map (λ c. c.now) l.classes.items ++ above) l.places l.place (l.count - l._step) (lineage l.places l.name)

@@ -1,7 +1,0 @@
-use Rattle.std.proofs.Common.{sym, ap, ◌∙◌}
-use Rattle.jmodel.specs.Classes.{doubled_class}
-use Rattle.object_hierarchy.proofs.Single.{single_in_order}
-use Rattle.object_hierarchy.proofs.ordering.in_order.Goals as goal
-
-pub returns-clause-single : goal.returns-clause-single
-returns-clause-single c = ap doubled_class c.in_ok-sorted.ensures ∙ single_in_order c.args.files.now (sym c.in_ok-fault.ensures ∙ c.in_default.is)

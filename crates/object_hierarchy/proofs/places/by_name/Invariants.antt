@@ -1,8 +1,0 @@
-use Rattle.std.proofs.Common.{map, take}
-use Rattle.object_hierarchy.specs.Names.{AreFirst}
-use Rattle.object_hierarchy.specs.Places.{class_key}
-use Rattle.object_hierarchy.proofs.places.by_name.Given as goal
-
--- the places of the classes so far
-abbrev pub invariant-loop-place : goal.invariant-loop-place
-invariant-loop-place l = AreFirst l.places (map (λ c. class_key c.now) (take l.place l.classes))

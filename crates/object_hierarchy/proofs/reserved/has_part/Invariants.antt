@@ -1,7 +1,0 @@
-use Rattle.std.proofs.Common.{◌≡◌, drop}
-use Rattle.jmodel.specs.Linking.{has_part}
-use Rattle.object_hierarchy.proofs.reserved.has_part.Given as goal
-
--- the part doesn't begin before this place
-abbrev pub invariant-loop-i : goal.invariant-loop-i
-invariant-loop-i l = has_part l.part (drop l.i l.text) ≡ has_part l.part l.text

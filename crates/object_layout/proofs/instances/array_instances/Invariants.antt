@@ -1,7 +1,0 @@
-use Rattle.std.proofs.Common.{◌≡◌, map, take}
-use Rattle.objects.specs.TypeOrder.{named_by}
-use Rattle.object_layout.proofs.instances.array_instances.Given as goal
-
--- the names so far
-abbrev pub invariant-loop-element : goal.invariant-loop-element
-invariant-loop-element l = l.names.items ≡ map named_by (take l.element-index l.element-items)

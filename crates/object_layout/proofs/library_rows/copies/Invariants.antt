@@ -1,6 +1,0 @@
-use Rattle.std.proofs.Common.{◌≡◌, map, take}
-use Rattle.object_layout.proofs.library_rows.copies.Given as goal
-
--- copies of the names so far
-abbrev pub invariant-loop-name : goal.invariant-loop-name
-invariant-loop-name l = l.copied.items ≡ map (λ n. n.now) (take l.name-index l.names)

@@ -1,7 +1,0 @@
-use Rattle.std.proofs.Common.{ap, ◌∙◌}
-use Rattle.object_layout.specs.Library.{lineage_among}
-use Rattle.object_layout.proofs.LibraryRows.{lineage_is}
-use Rattle.object_layout.proofs.library_rows.library_lineage.Goals as goal
-
-pub returns : goal.returns
-returns c = c.in_ok-copies.ensures ∙ c.lineage_named.ensures ∙ ap (lineage_among c.args.name.now) c.lineages.ensures ∙ lineage_is c.args.name.now

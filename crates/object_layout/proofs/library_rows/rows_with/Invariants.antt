@@ -1,7 +1,0 @@
-use Rattle.std.proofs.Common.{◌≡◌, map, take}
-use Rattle.object_layout.specs.Library.{row_with}
-use Rattle.object_layout.proofs.library_rows.rows_with.Given as goal
-
--- the types of the classes so far
-abbrev pub invariant-loop-names : goal.invariant-loop-names
-invariant-loop-names l = l.rows.items ≡ map (λ k. row_with (map (λ n. n.now) k.now)) (take l.names-index l.all)

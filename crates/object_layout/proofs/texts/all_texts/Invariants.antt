@@ -1,7 +1,0 @@
-use Rattle.std.proofs.Common.{◌≡◌, map, take}
-use Rattle.object_layout.specs.Texts.{class_texts}
-use Rattle.object_layout.proofs.texts.all_texts.Given as goal
-
--- the texts of the classes so far
-abbrev pub invariant-loop-class : goal.invariant-loop-class
-invariant-loop-class l = map (λ t. t.now) l.texts.items ≡ class_texts (map (λ c. c.now) (take l.class-index l.classes))

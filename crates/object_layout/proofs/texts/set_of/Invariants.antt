@@ -1,8 +1,0 @@
-use Rattle.std.proofs.Common.{◌≡◌, map, reverse}
-use Rattle.objects.specs.Layout.{in_text_order}
-use Rattle.object_hierarchy.proofs.InOrder.{texts}
-use Rattle.object_layout.proofs.texts.set_of.Given as goal
-
--- the texts so far, of which the last one comes first
-abbrev pub invariant-loop-text : goal.invariant-loop-text
-invariant-loop-text l = texts l.set.keys ≡ in_text_order (texts (reverse (map (λ t. t.now) l.yielded)))

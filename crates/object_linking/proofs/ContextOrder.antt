@@ -1,9 +1,0 @@
--- Calls of the context, by their order.
-use Rattle.std.proofs.Common.{◌≡◌, refl}
-use Rattle.jmodel.specs.Pool.{MemberName}
-use Rattle.objects.specs.Decoding.{context_call}
-use Rattle.object_linking.specs.ContextCalls.{read_of, write_of, first_call}
-
-pub by_order : (n : MemberName) → first_call n ≡ context_call n
-unfolding read_of write_of
-by_order n = refl

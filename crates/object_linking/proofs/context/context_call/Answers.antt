@@ -1,6 +1,0 @@
-use Rattle.std.proofs.Common.{◌∙◌}
-use Rattle.object_linking.proofs.ContextOrder.{by_order}
-use Rattle.object_linking.proofs.context.context_call.Goals as goal
-
-pub returns : goal.returns
-returns c = c.first_call.ensures ∙ by_order c.args.r.now

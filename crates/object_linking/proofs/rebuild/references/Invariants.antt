@@ -1,7 +1,0 @@
-use Rattle.std.proofs.Common.{◌≡◌, Bool, map, take}
-use Rattle.jmodel.specs.Classes.{Declared}
-use Rattle.object_linking.proofs.rebuild.references.Given as goal
-
--- the references so far
-abbrev pub invariant-loop-method : goal.invariant-loop-method
-invariant-loop-method l = map (λ m. m.now) l.all.items ≡ map (λ (p : Declared × Bool). p.0) (take l.method-index l.methods)

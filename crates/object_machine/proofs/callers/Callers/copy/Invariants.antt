@@ -1,5 +1,0 @@
-use Rattle.std.proofs.Common.{◌≡◌, take, reverse}
-use Rattle.object_machine.proofs.callers.Callers.copy.Given as goal
-
-abbrev pub invariant-loop-frame : goal.invariant-loop-frame
-invariant-loop-frame l = l.callers ≡ reverse (take l.frame-index l.frame-items)

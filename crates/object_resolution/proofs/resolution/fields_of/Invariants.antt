@@ -1,8 +1,0 @@
-use Rattle.std.proofs.Common.{map}
-use Rattle.object_resolution.specs.Resolving.{any_member}
-use Rattle.object_resolution.proofs.Resolved.{AreUpTo}
-use Rattle.object_resolution.proofs.resolution.fields_of.Given as goal
-
--- the members of the classes so far
-abbrev pub invariant-loop-class : goal.invariant-loop-class
-invariant-loop-class l = AreUpTo any_member (λ c. c.fields) (map (λ c. c.now) l.classes) l.class-index l.table.items

@@ -1,7 +1,0 @@
-use Rattle.std.proofs.Common.{◌≡◌, false, map, take}
-use Rattle.object_script.specs.Script.{names_method}
-use Rattle.object_script.proofs.names.names_method.Given as goal
-
--- none so far
-abbrev pub invariant-loop-class : goal.invariant-loop-class
-invariant-loop-class l = names_method (map (λ c. c.now) (take l.class-index l.classes)) l.text ≡ false

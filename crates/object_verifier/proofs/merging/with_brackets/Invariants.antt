@@ -1,5 +1,0 @@
-use Rattle.std.proofs.Common.{◌≡◌, replicate}
-use Rattle.object_verifier.proofs.merging.with_brackets.Given as goal
-
-abbrev pub invariant-loop : goal.invariant-loop
-invariant-loop l = l.items.items ≡ replicate l.counter 91

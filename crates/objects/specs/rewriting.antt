@@ -1,0 +1,4 @@
+pub mod Attempt
+pub mod Events
+pub mod Relinking
+pub mod Rewriting

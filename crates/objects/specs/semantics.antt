@@ -1,0 +1,10 @@
+pub mod Call
+pub mod Opening
+pub mod Program
+pub mod Region
+pub mod Serial
+pub mod State
+pub mod Step
+pub mod Traps
+pub mod Value
+pub mod WordTypes

@@ -1,0 +1,32 @@
+use Rattle.std.proofs.Common.{◌≡◌, Bool, true, false, List, [], ◌∷◌, ◌++◌, map, take, cond, get_or, Bor, sym, ap, ◌∙◌}
+use Rattle.std.specs.Prelude.{filter}
+use Rattle.std.proofs.lemmas.List.{append-nil, map-append, take_all, get_or-map}
+use Rattle.std.proofs.lemmas.List.Elements.{filter_more}
+use Rattle.jmodel.specs.format.ClassFile.{Member}
+use Rattle.rewriter.proofs.share.chosen.Goals as goal
+use Rattle.rewriter.proofs.share.chosen.Goals.{then-flags-i+in_ok-push, else-flags-i}
+
+pushed : (xs : List (Bor Member)) (x : Bor Member) (ys : List (Bor Member)) → ys ≡ xs ++ x ∷ [] → map (λ (m : Bor Member). m.now) ys ≡ map (λ (m : Bor Member). m.now) xs ++ x.now ∷ []
+pushed xs x ys h = ap (map (λ (m : Bor Member). m.now)) h ∙ map-append (λ (m : Bor Member). m.now) xs (x ∷ [])
+
+pub loop-i-preserved : goal.loop-i-preserved
+loop-i-preserved c = λ p flags.
+    let methods = c.args.methods.now in
+    let method = c.index-methods-i.result in
+    let so_far = c.loop-i.invariant p flags in
+    let more = filter_more p methods c.loop-i.i method c.loop-i-test.true in
+    let flag : get_or c.args.flags.now c.loop-i.i false ≡ p (get_or methods c.loop-i.i method) = ap (λ (bs : List Bool). get_or bs c.loop-i.i false) flags ∙ get_or-map p methods c.loop-i.i method false c.loop-i-test.true in
+    let view = λ (ms : List (Bor Member)). map (λ (m : Bor Member). m.now) ms in
+    elim c.if-flags-i.branch [
+      | then-flags-i+in_ok-push w ↦ (
+          let chosen : p (get_or methods c.loop-i.i method) ≡ true = sym flag ∙ w.if-flags-i.true in
+          ap (λ v. view v.items) w.chosen-is ∙ pushed _ _ _ w.in_ok-push.ensures.items ∙ ap (λ (ms : List Member). ms ++ method ∷ []) so_far
+          ∙ ap (λ (m : Member). filter p (take c.loop-i.i methods) ++ m ∷ []) c.index-methods-i.is
+          ∙ sym (more ∙ ap (λ (b : Bool). filter p (take c.loop-i.i methods) ++ cond b (get_or methods c.loop-i.i method ∷ []) []) chosen))
+      | else-flags-i w ↦ (
+          let left : p (get_or methods c.loop-i.i method) ≡ false = sym flag ∙ w.if-flags-i.false in
+          ap (λ v. view v.items) w.chosen-is ∙ so_far ∙ sym (more ∙ ap (λ (b : Bool). filter p (take c.loop-i.i methods) ++ cond b (get_or methods c.loop-i.i method ∷ []) []) left ∙ append-nil (filter p (take c.loop-i.i methods))))
+    ]
+
+pub returns : goal.returns
+returns c = λ p flags. c.loop-i.invariant p flags ∙ ap (filter p) (take_all c.loop-i.i c.args.methods.now c.loop-i-test.false)

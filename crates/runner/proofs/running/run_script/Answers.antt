@@ -1,0 +1,70 @@
+use Rattle.std.proofs.Common.{◌≡◌, ◌∙◌, ap, sym, subst, List}
+use Rattle.std.specs.Prelude.{map}
+use Rattle.objects.specs.linking.Layout.{opening_state}
+use Rattle.jmodel.specs.format.ClassFile.{ClassFile}
+use Rattle.objects.specs.semantics.Opening.{Opening}
+use Rattle.objects.specs.linking.Linking.{initialisers_in}
+use Rattle.objects.proofs.Links.{links}
+use Rattle.jmodel.specs.history.Schedule.{ScriptPhase}
+use Rattle.script.specs.Script.{Script, IsScript}
+use Rattle.driver.specs.Runs.{AreScripted}
+use Rattle.runner.proofs.Scripted.{scripted, few_attempts, region_fits, lanes_fit}
+use Rattle.runner.specs.Faults.{EndsScript}
+use Rattle.runner.proofs.Lists.{err_is}
+use Rattle.runner.proofs.Together.{of_run, of_opening}
+use Rattle.runner.proofs.running.run_script.Goals as goal
+
+pub run_phases-requires-clause-scripted : goal.run_phases-requires-clause-scripted
+run_phases-requires-clause-scripted g c = λ κs lives.
+    let phases : c.as_slice.result.now ≡ c.in_ok-wanted.wanted.phases = c.as_slice.ensures.value ∙ ap (λ (s : Script). s.phases) c.wanted.view_is in
+    subst (λ (ks : List ScriptPhase). AreScripted c.args.original.now ks) (sym phases)
+    (scripted (map (λ k. k.now) c.args.classes.now) c.args.original.now c.in_ok-wanted.wanted c.args.script.now (links (map (λ k. k.now) c.args.classes.now) c.args.original.now c.requires.links) c.in_ok-wanted.ensures.script)
+
+pub run_phases-requires-clause-size : goal.run_phases-requires-clause-size
+run_phases-requires-clause-size g c = λ κs lives. c.in_ok-memory.ensures.size
+
+pub run_phases-requires-clause-attempts : goal.run_phases-requires-clause-attempts
+run_phases-requires-clause-attempts g c = λ κs lives.
+    let attempts : c.wanted.inside.attempts ≡ c.in_ok-wanted.wanted.attempts = ap (λ (s : Script). s.attempts) c.wanted.view_is in
+    rw attempts (few_attempts (map (λ k. k.now) c.args.classes.now) c.args.original.now c.in_ok-wanted.wanted c.args.script.now c.in_ok-wanted.ensures.script)
+
+pub run_phases-requires-clause-room_size : goal.run_phases-requires-clause-room_size
+run_phases-requires-clause-room_size g c = λ κs lives.
+    let size : c.wanted.inside.region ≡ c.in_ok-wanted.wanted.region = ap (λ (s : Script). s.region) c.wanted.view_is in
+    rw size (region_fits (map (λ k. k.now) c.args.classes.now) c.args.original.now c.in_ok-wanted.wanted c.args.script.now c.in_ok-wanted.ensures.script).1
+
+pub opened-requires-clause-room : goal.opened-requires-clause-room
+opened-requires-clause-room g c =
+    let size : c.wanted.inside.region ≡ c.in_ok-wanted.wanted.region = ap (λ (s : Script). s.region) c.wanted.view_is in
+    rw size (region_fits (map (λ k. k.now) c.args.classes.now) c.args.original.now c.in_ok-wanted.wanted c.args.script.now c.in_ok-wanted.ensures.script)
+
+pub opened-requires-clause-lanes : goal.opened-requires-clause-lanes
+opened-requires-clause-lanes g c =
+    let lanes : c.wanted.inside.lanes ≡ c.in_ok-wanted.wanted.lanes = ap (λ (s : Script). s.lanes) c.wanted.view_is in
+    rw lanes (lanes_fit (map (λ k. k.now) c.args.classes.now) c.args.original.now c.in_ok-wanted.wanted c.args.script.now c.in_ok-wanted.ensures.script)
+
+pub opened-requires-clause-attempts : goal.opened-requires-clause-attempts
+opened-requires-clause-attempts g c =
+    let attempts : c.wanted.inside.attempts ≡ c.in_ok-wanted.wanted.attempts = ap (λ (s : Script). s.attempts) c.wanted.view_is in
+    rw attempts (few_attempts (map (λ k. k.now) c.args.classes.now) c.args.original.now c.in_ok-wanted.wanted c.args.script.now c.in_ok-wanted.ensures.script)
+
+pub returns-in_err-memory-clause-cause : goal.returns-in_err-memory-clause-cause
+returns-in_err-memory-clause-cause g c =
+    let size : c.wanted.inside.region ≡ c.in_ok-wanted.wanted.region = ap (λ (s : Script). s.region) c.wanted.view_is in
+    let budget : c.wanted.inside.budget ≡ c.in_ok-wanted.wanted.budget = ap (λ (s : Script). s.budget) c.wanted.view_is in
+    err_is c.from_residual-in_err-memory.result c.in_err-memory.field-0.0 (EndsScript c.args.original.now (map (λ k. k.now) c.args.classes.now) c.args.script.now) c.from_residual-in_err-memory.ensures.1
+    (of_opening (map (λ k. k.now) c.args.classes.now) c.args.original.now c.args.script.now c.in_ok-wanted.wanted c.wanted.inside.region c.wanted.inside.budget c.in_err-memory.field-0.0 c.in_ok-wanted.ensures.script size budget c.in_err-memory.ensures.cause)
+
+pub returns-clause-run : goal.returns-clause-run
+returns-clause-run g c = λ files order is.
+    let P = c.args.original.now in
+    let cs = map (λ k. k.now) c.args.classes.now in
+    let wanted = c.in_ok-wanted.wanted in
+    let phases : c.as_slice.result.now ≡ wanted.phases = c.as_slice.ensures.value ∙ ap (λ (s : Script). s.phases) c.wanted.view_is in
+    let size : c.wanted.inside.region ≡ wanted.region = ap (λ (s : Script). s.region) c.wanted.view_is in
+    let budget : c.wanted.inside.budget ≡ wanted.budget = ap (λ (s : Script). s.budget) c.wanted.view_is in
+    let opened = c.in_ok-memory.ensures.opens in
+    let Ordered : List ClassFile → Type 0 = λ ds. Opening P c.wanted.inside.region c.wanted.inside.budget (opening_state ds) (initialisers_in ds P) opened.0 in
+    let Scripts : List ClassFile → Type 0 = λ ds. IsScript ds P c.args.script.now wanted in
+    of_run c.args.script.now files P wanted c.as_slice.result.now c.wanted.inside.region c.wanted.inside.budget c.in_ok-memory.memory c.in_ok-run_phases.field-0 is (subst Scripts (sym order) c.in_ok-wanted.ensures.script)
+    phases size budget opened.0 (subst Ordered (sym order) opened.1) c.in_ok-run_phases.ensures opened.2

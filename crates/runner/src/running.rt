@@ -1,0 +1,166 @@
+//! A run, from class files and a script to the text of its journal.
+ghost use Rattle.std.specs.Prelude.{◌≡◌, ◌≤◌, List, length, map, Some, Ok, IfOk, IfErr};
+ghost use Rattle.std.specs.List.{AllByRecursion};
+ghost use Rattle.jmodel.specs.format.ClassFile.{ClassFile as Form};
+ghost use Rattle.jmodel.specs.format.ClassRules.{IsClassFile};
+ghost use Rattle.objects.specs.linking.Classes.{in_order as order_of_classes};
+ghost use Rattle.objects.specs.linking.Linking.{linking};
+ghost use Rattle.objects.specs.laws.LinkingLaw.{AreRead};
+ghost use Rattle.rewriter.specs.Asked.{AreFiled};
+ghost use Rattle.session.specs.Rule.{IsReady};
+ghost use Rattle.script.specs.Script.{IsScript};
+ghost use Rattle.runner.specs.Headline.{IsRunnable, IsRunOf, AreCountsOf};
+ghost use Rattle.runner.specs.Kept.{AreOfRun};
+ghost use Rattle.runner.specs.Faults.{EndsRun, EndsScript};
+
+use crate::opening::opened;
+use crate::outcome::RunEnd;
+use crate::preparing::prepare;
+use crate::text::{answer_in, journal};
+use const_pool::ClassFile;
+use driver::{Journal, Limits, run_phases};
+use heap_layout::texts::fixed_words;
+use hierarchy::Program;
+use jmodel::{Bytes, Halt};
+use script::{Script, read_script};
+use std::alloc::Global;
+use std::thread::Threads;
+
+/// The program of class files, and the calls of a run on them.
+#[derive(Drop)]
+struct Ran {
+    program: Program,
+    calls: Journal,
+}
+
+/// How many calls of a run are placed and how many ran out of memory, and the text of the answer of one.
+#[derive(Drop)]
+pub struct Counts {
+    pub placed: usize,
+    pub unplaced: usize,
+    pub answer: Bytes,
+}
+
+/// Runs a script on class files, and gives the text of its journal.
+pub fn run_files<R: Threads + Sync>(
+    rt: &R,
+    alloc: Global,
+    files: &[ClassFile],
+    script: &[u8],
+) -> Result<Bytes, RunEnd>
+    requires few { length files.now ≤ 256 }
+    requires form { AllByRecursion IsClassFile files.now }
+    requires filed { AllByRecursion AreFiled files.now }
+    ensures run { IfOk result (λ text. IsRunOf files.now script.now text) }
+    ensures cause { IfErr result (EndsRun files.now script.now) }
+{
+    let ran = run_on(rt, alloc, files, script)?;
+    Ok(journal(
+        alloc,
+        &ran.program,
+        ran.calls.placed.as_slice(),
+        ran.calls.unplaced.as_slice(),
+    )?)
+}
+
+/// Runs a script on class files, and counts its calls. The answer is that of the first placed call of a phase, or `nomemory` where none is placed.
+pub fn count_calls<R: Threads + Sync>(
+    rt: &R,
+    alloc: Global,
+    files: &[ClassFile],
+    script: &[u8],
+    phase: u32,
+) -> Result<Counts, RunEnd>
+    requires few { length files.now ≤ 256 }
+    requires form { AllByRecursion IsClassFile files.now }
+    requires filed { AllByRecursion AreFiled files.now }
+    ensures run { IfOk result (λ c. AreCountsOf files.now script.now phase c.placed c.unplaced c.answer) }
+    ensures cause { IfErr result (EndsRun files.now script.now) }
+{
+    let ran = run_on(rt, alloc, files, script)?;
+    let answer = answer_in(alloc, ran.calls.placed.as_slice(), phase)?;
+    Ok(Counts {
+        placed: ran.calls.placed.len(),
+        unplaced: ran.calls.unplaced.len(),
+        answer,
+    })
+}
+
+/// Runs a script on class files.
+fn run_on<R: Threads + Sync>(
+    rt: &R,
+    alloc: Global,
+    files: &[ClassFile],
+    script: &[u8],
+) -> Result<Ran, RunEnd>
+    requires few { length files.now ≤ 256 }
+    requires form { AllByRecursion IsClassFile files.now }
+    requires filed { AllByRecursion AreFiled files.now }
+    ensures run { IfOk result (λ r. AreOfRun files.now script.now r.program r.calls) }
+    ensures cause { IfErr result (EndsRun files.now script.now) }
+{
+    let prepared = prepare(alloc, files)?;
+    let calls = run_script(
+        rt,
+        alloc,
+        prepared.classes.as_slice(),
+        &prepared.original,
+        &prepared.rewritten,
+        script,
+    )?;
+    Ok(Ran {
+        program: prepared.original,
+        calls,
+    })
+}
+
+/// The script that bytes are for classes and their program.
+fn script_of(
+    alloc: Global,
+    classes: &[&ClassFile],
+    program: &Program,
+    bytes: &[u8],
+) -> Result<Script, RunEnd>
+    ensures script { IfOk result (IsScript (map (λ c. c.now) classes.now) program.now bytes.now) }
+    ensures cause { IfErr result (EndsScript program.now (map (λ c. c.now) classes.now) bytes.now) }
+{
+    let fixed = fixed_words(alloc, classes)?;
+    match read_script(alloc, classes, program, fixed, bytes) {
+        Ok(script) => Ok(script),
+        Err(Halt::Refused(refusal)) => Err(RunEnd::BadScript(refusal)),
+        Err(Halt::NoMemory) => Err(RunEnd::NoMemory),
+    }
+}
+
+/// Runs a script on the program of classes by its rewriting.
+fn run_script<R: Threads + Sync>(
+    rt: &R,
+    alloc: Global,
+    classes: &[&ClassFile],
+    original: &Program,
+    rewritten: &Program,
+    script: &[u8],
+) -> Result<Journal, RunEnd>
+    requires read { AreRead (map (λ c. c.now) classes.now) }
+    requires links { linking (map (λ c. c.now) classes.now) ≡ Ok (Some original.now) }
+    requires ready { IsReady original.now rewritten.now }
+    ensures run { IfOk result (λ calls. (files : List Form) → order_of_classes files ≡ map (λ c. c.now) classes.now → IsRunnable files original.now → AreOfRun files script.now original.now calls) }
+    ensures cause { IfErr result (EndsScript original.now (map (λ c. c.now) classes.now) script.now) }
+{
+    let wanted = script_of(alloc, classes, original, script)?;
+    let limits = Limits {
+        budget: wanted.budget,
+        attempts: wanted.attempts,
+        size: wanted.region,
+    };
+    let memory = opened(alloc, classes, original, rewritten, wanted.lanes, limits)?;
+    Ok(run_phases(
+        rt,
+        alloc,
+        original,
+        rewritten,
+        memory,
+        limits,
+        wanted.phases.as_slice(),
+    )?)
+}

@@ -1,0 +1,279 @@
+//! Objects that aren't built: what makes them, and calls of constructors.
+ghost use Rattle.std.specs.Prelude.{◌≡◌, ◌+◌, ◌^◌, ◌<◌, ◌∷◌, true, IfOk, codes, drop, map, option_copied, replicate, slice_get};
+ghost use Rattle.std.specs.List.{list_all, list_any};
+ghost use Rattle.jmodel.specs.declared.typing.VType.TheVariants as type;
+ghost use Rattle.objects.specs.semantics.Program.{row_at};
+ghost use Rattle.objects.specs.typing.TypeOrder.{is_within, string_class};
+ghost use Rattle.objects.specs.typing.Typing.{become, constructs, direct_superclass, is_constructor, is_named, is_uninit, makes_new, new_class, on_each, on_top, row_in, special};
+ghost use Rattle.verifier.specs.Flows.{constructed, flow_of, may_construct};
+ghost use Rattle.verifier.specs.Rules.{are_taken};
+
+use crate::led::{Led, are_taken, single};
+use crate::members::{arguments, reversed};
+use crate::names::{classes_from, equal, string_class};
+use crate::order::{class_type, copy, is_below, push_copies, rest};
+use crate::rule::next;
+use hierarchy::{Method, Program, TypeEntry};
+use jmodel::VType;
+use objects::op::Op;
+use std::alloc::{AllocError, Global};
+
+/// Where an instruction stands: in a method of a program.
+#[derive(Drop)]
+pub struct Site<'a> {
+    pub program: &'a Program,
+    pub method: &'a Method,
+    pub pc: usize,
+}
+
+/// Whether two types are of one object that isn't built.
+fn is_uninit(item: &VType, other: &VType) -> bool
+    ensures { result ≡ is_uninit item.now other.now }
+{
+    match (item, other) {
+        (VType::Uninit(p), VType::Uninit(q)) => p == q,
+        (VType::UninitThis, VType::UninitThis) => true,
+        _ => false,
+    }
+}
+
+/// Types with another in place of each copy of an object that isn't built.
+fn replaced(
+    alloc: Global,
+    from: &[VType],
+    object: &VType,
+    by: &VType,
+) -> Result<Vec<VType>, AllocError>
+    ensures { IfOk result (λ v. v.items ≡ map (become object.now by.now) from.now) }
+{
+    let mut types = Vec::new(alloc);
+    for item in from {
+        let item = if is_uninit(object, item) { by } else { item };
+        types.push(copy(alloc, item)?)?;
+    }
+    Ok(types)
+}
+
+/// Whether a method is a constructor.
+pub fn is_constructor(method: &Method) -> bool
+    ensures { result ≡ is_constructor method.now }
+{
+    equal(method.name().name.as_slice(), b"<init>")
+}
+
+/// Whether an instruction of a method makes objects of a class.
+fn makes(program: &Program, op: Option<&Op>, class: &[u8]) -> bool
+    ensures { result ≡ is_named class.now (new_class program.now (option_copied op.entry)) }
+{
+    match op {
+        Some(Op::New(of)) => match program.row(*of) {
+            Some(row) => equal(row.name().as_slice(), class),
+            None => false,
+        },
+        _ => false,
+    }
+}
+
+/// Whether a class stands right above another.
+fn is_right_above(
+    alloc: Global,
+    program: &Program,
+    class: &[u8],
+    below: &[u8],
+) -> Result<bool, AllocError>
+    ensures { IfOk result (λ b. b ≡ is_named class.now (direct_superclass program.now below.now)) }
+{
+    let classes = classes_from(alloc, program, below)?;
+    match classes.get(1) {
+        Some(above) => Ok(equal(above.as_slice(), class)),
+        None => Ok(false),
+    }
+}
+
+/// Whether a constructor of a class may run over `this`: it is of the same class, or of the one right above.
+fn may_delegate(alloc: Global, site: &Site, class: &[u8]) -> Result<bool, AllocError>
+    ensures { IfOk result (λ b. b ≡ may_construct site.now.program.now site.now.method.now class.now type.UninitThis) }
+{
+    let own = site.method.name().class.as_slice();
+    if equal(class, own) {
+        return Ok(true);
+    }
+    is_right_above(alloc, site.program, class, own)
+}
+
+/// Whether a constructor of a class may run over an object.
+fn may_construct(
+    alloc: Global,
+    site: &Site,
+    class: &[u8],
+    object: &VType,
+) -> Result<bool, AllocError>
+    ensures { IfOk result (λ b. b ≡ may_construct site.now.program.now site.now.method.now class.now object.now) }
+{
+    match object {
+        VType::Uninit(place) => {
+            let op = site.method.ops().get(usize::from(*place));
+            Ok(makes(site.program, op, class))
+        }
+        VType::UninitThis => may_delegate(alloc, site, class),
+        _ => Ok(false),
+    }
+}
+
+/// The types after a constructor of a class has run over an object, where so many places are taken.
+fn constructed(
+    alloc: Global,
+    method: &Method,
+    class: &[u8],
+    entry: &TypeEntry,
+    object: &VType,
+    takes: usize,
+) -> Result<TypeEntry, AllocError>
+    ensures { IfOk result (λ h. h ≡ constructed method.now class.now entry.now object.now (drop takes entry.now.stack)) }
+{
+    let this = matches!(object, VType::UninitThis);
+    let class = if this {
+        method.name().class.as_slice()
+    } else {
+        class
+    };
+    let built = class_type(alloc, class)?;
+    let locals = replaced(alloc, entry.locals(), object, &built)?;
+    let stack = replaced(alloc, rest(entry.stack(), takes), object, &built)?;
+    Ok(TypeEntry::new(locals, stack, this || entry.built()))
+}
+
+/// Runs a constructor of a class over the object under so many places.
+#[tactic(auto, using(crate::proofs::Constructing::constructs_at))]
+fn constructs(
+    alloc: Global,
+    site: &Site,
+    class: &[u8],
+    entry: &TypeEntry,
+    places: usize,
+) -> Result<Option<Led>, AllocError>
+    requires { site.now.pc + 1 < 2 ^ 64 }
+    ensures { IfOk result (λ o. flow_of o ≡ on_top (drop places entry.now.stack) (λ t s. constructs site.now.program.now site.now.method.now site.now.pc class.now entry.now t s)) }
+{
+    let Some(object) = entry.stack().get(places) else {
+        return Ok(None);
+    };
+    if !may_construct(alloc, site, class, object)? {
+        return Ok(None);
+    }
+    let left = constructed(alloc, site.method, class, entry, object, places + 1)?;
+    let to = next(alloc, site.pc)?;
+    Ok(Some(Led { to, left }))
+}
+
+/// A call of a constructor (JVM Specification, Java SE 7, section 4.10.1.9, invokespecial). It gives nothing.
+#[tactic(auto, using(crate::proofs::Constructing::constructor_is))]
+pub fn invoke_constructor(
+    alloc: Global,
+    site: &Site,
+    called: &Method,
+    entry: &TypeEntry,
+) -> Result<Option<Led>, AllocError>
+    requires { site.now.pc + 1 < 2 ^ 64 }
+    ensures { IfOk result (λ o. flow_of o ≡ special true site.now.program.now site.now.method.now site.now.pc called.now entry.now) }
+{
+    if called.result().is_some() {
+        return Ok(None);
+    }
+    let takes = reversed(alloc, arguments(called))?;
+    if !are_taken(site.program, takes.as_slice(), entry.stack()) {
+        return Ok(None);
+    }
+    constructs(
+        alloc,
+        site,
+        called.name().class.as_slice(),
+        entry,
+        takes.len(),
+    )
+}
+
+/// Whether each type is within that of a class.
+fn are_below(program: &Program, types: &[VType], class: &[u8]) -> bool
+    ensures { result ≡ list_all (λ t. is_within program.now t (type.Ref class.now)) types.now }
+{
+    types
+        .iter()
+        .all(|item: &VType| is_below(program, item, class))
+}
+
+/// Whether so many of the topmost places have strings.
+#[tactic(auto, using(crate::proofs::Texts::alike_all, crate::proofs::Texts::alike_few))]
+fn are_texts(program: &Program, count: usize, stack: &[VType]) -> bool
+    ensures { result ≡ are_taken program.now (replicate count (type.Ref string_class)) stack.now }
+{
+    count <= stack.len() && are_below(program, &stack[..count], string_class())
+}
+
+/// A call of a constructor of a library class, over so many places with strings.
+pub fn init_library(
+    alloc: Global,
+    site: &Site,
+    class: &[u8],
+    places: usize,
+    entry: &TypeEntry,
+) -> Result<Option<Led>, AllocError>
+    requires { site.now.pc + 1 < 2 ^ 64 }
+    ensures { IfOk result (λ o. flow_of o ≡ on_each site.now.program.now (replicate places (type.Ref string_class)) entry.now.stack (λ s. on_top s (λ t s. constructs site.now.program.now site.now.method.now site.now.pc class.now entry.now t s))) }
+{
+    if are_texts(site.program, places, entry.stack()) {
+        constructs(alloc, site, class, entry, places)
+    } else {
+        Ok(None)
+    }
+}
+
+/// Whether some types have an object that isn't built.
+fn has_object(types: &[VType], object: &VType) -> bool
+    ensures { result ≡ list_any (is_uninit object.now) types.now }
+{
+    types.iter().any(|item: &VType| is_uninit(object, item))
+}
+
+/// The object that an instruction makes, as a type. Want of memory also for a place from 65536 on, which no method of a class
+/// file has.
+fn made_at(pc: usize) -> Result<VType, AllocError>
+    ensures { IfOk result (λ t. t ≡ type.Uninit pc) }
+{
+    match u16::try_from(pc) {
+        Ok(place) => Ok(VType::Uninit(place)),
+        Err(_) => Err(AllocError),
+    }
+}
+
+/// The types after an object was made, of which no copies made before are left.
+fn made_entry(alloc: Global, entry: &TypeEntry, object: VType) -> Result<TypeEntry, AllocError>
+    ensures { IfOk result (λ h. h ≡ record entry.now { locals = map (become object type.Top) entry.now.locals; stack = object ∷ entry.now.stack }) }
+{
+    let locals = replaced(alloc, entry.locals(), &object, &VType::Top)?;
+    let mut stack = single(alloc, object)?;
+    push_copies(alloc, &mut stack, entry.stack())?;
+    Ok(TypeEntry::new(locals, stack, entry.built()))
+}
+
+/// A new object (JVM Specification, Java SE 7, section 4.10.1.9, new). Want of memory also at a place from 65536 on.
+pub fn make_new(
+    alloc: Global,
+    site: &Site,
+    of: usize,
+    entry: &TypeEntry,
+) -> Result<Option<Led>, AllocError>
+    requires { site.now.pc + 1 < 2 ^ 64 }
+    ensures { IfOk result (λ o. flow_of o ≡ row_in (row_at site.now.program.now of) (λ r. makes_new (list_any (is_uninit (type.Uninit site.now.pc)) entry.now.stack) site.now.pc entry.now)) }
+{
+    if site.program.row(of).is_none() {
+        return Ok(None);
+    }
+    let object = made_at(site.pc)?;
+    if has_object(entry.stack(), &object) {
+        return Ok(None);
+    }
+    let left = made_entry(alloc, entry, object)?;
+    let to = next(alloc, site.pc)?;
+    Ok(Some(Led { to, left }))
+}

@@ -1,0 +1,306 @@
+//! The narrowest types above two.
+ghost use Rattle.std.specs.Prelude.{◌≡◌, ◌++◌, IfOk, Some, None, bytes_eq, drop, length, option_copied, option_map, replicate, if◌then◌else◌};
+ghost use Rattle.objects.specs.typing.Typing.{begins};
+ghost use Rattle.verifier.specs.Order.{array_over, class_descriptor, common_depth, join, join_all, join_base, first_common, join_class, join_described, join_other, join_element, join_name, joined, object_over, ref_or_top, under_object, wrapped};
+
+use crate::names::{
+    classes_from, equal, is_among, is_array, is_class_above, object_class, rest, without_last,
+};
+use hierarchy::{Program, TypeEntry};
+use jmodel::{Bytes, VType};
+use std::alloc::{AllocError, Global};
+
+/// The first of some names that is among others, if one is.
+fn first_common<'a>(names: &'a [Bytes], others: &[Bytes]) -> Option<&'a Bytes>
+    ensures { option_copied result ≡ first_common names.now others.now }
+{
+    names.iter().find(|name| is_among(name.as_slice(), others))
+}
+
+/// A name once more, where there is one.
+fn copied(alloc: Global, name: Option<&Bytes>) -> Result<Option<Bytes>, AllocError>
+    ensures { IfOk result (λ o. o ≡ option_copied name.entry) }
+{
+    match name {
+        Some(name) => Ok(Some(Bytes::from_slice(alloc, name.as_slice())?)),
+        None => Ok(None),
+    }
+}
+
+/// The nearest class that is above two, if one is.
+fn join_class(
+    alloc: Global,
+    program: &Program,
+    a: &[u8],
+    b: &[u8],
+) -> Result<Option<Bytes>, AllocError>
+    ensures { IfOk result (λ o. o ≡ join_class program.now a.now b.now) }
+{
+    let names = classes_from(alloc, program, a)?;
+    let others = classes_from(alloc, program, b)?;
+    copied(alloc, first_common(names.as_slice(), others.as_slice()))
+}
+
+/// Object, if a class is below it.
+fn object_over(alloc: Global, program: &Program, class: &[u8]) -> Result<Option<Bytes>, AllocError>
+    ensures { IfOk result (λ o. o ≡ object_over program.now class.now) }
+{
+    if is_class_above(program, class, object_class()) {
+        Ok(Some(Bytes::from_slice(alloc, object_class())?))
+    } else {
+        Ok(None)
+    }
+}
+
+/// The element Object, if a class is below it, by the rest of its descriptor.
+fn under_object(alloc: Global, program: &Program, class: &[u8]) -> Result<Option<Bytes>, AllocError>
+    ensures { IfOk result (λ o. o ≡ under_object program.now class.now) }
+{
+    if is_class_above(program, without_last(class), object_class()) {
+        Ok(Some(Bytes::from_slice(alloc, b"Ljava/lang/Object;")?))
+    } else {
+        Ok(None)
+    }
+}
+
+/// The descriptor of a class.
+fn class_descriptor(alloc: Global, name: &[u8]) -> Result<Bytes, AllocError>
+    ensures { IfOk result (λ d. d ≡ class_descriptor name.now) }
+{
+    let mut bytes = Vec::new(alloc);
+    bytes.push(76)?;
+    bytes.extend_from_slice(name)?;
+    bytes.push(59)?;
+    Ok(Bytes::from_vec(bytes))
+}
+
+/// The descriptor of a class, where there is one.
+fn described(alloc: Global, name: Option<Bytes>) -> Result<Option<Bytes>, AllocError>
+    ensures { IfOk result (λ o. o ≡ option_map class_descriptor name) }
+{
+    match name {
+        Some(name) => Ok(Some(class_descriptor(alloc, name.as_slice())?)),
+        None => Ok(None),
+    }
+}
+
+/// The descriptor of the nearest class that is above two, if one is, by their descriptors.
+fn join_described(
+    alloc: Global,
+    program: &Program,
+    a: &[u8],
+    b: &[u8],
+) -> Result<Option<Bytes>, AllocError>
+    ensures { IfOk result (λ o. o ≡ join_described program.now a.now b.now) }
+{
+    let a = without_last(rest(a, 1));
+    let b = without_last(rest(b, 1));
+    let name = join_class(alloc, program, a, b)?;
+    described(alloc, name)
+}
+
+/// Whether an element is of a class.
+fn is_class(element: &[u8]) -> bool
+    ensures { result ≡ begins 76 element.now }
+{
+    matches!(element.first(), Some(76))
+}
+
+/// The narrowest element above two, of which not both are of classes and not both are arrays, by their descriptors.
+fn join_other(
+    alloc: Global,
+    program: &Program,
+    a: &[u8],
+    b: &[u8],
+) -> Result<Option<Bytes>, AllocError>
+    ensures { IfOk result (λ o. o ≡ join_other program.now a.now b.now) }
+{
+    match (a.first(), b.first()) {
+        (Some(91), Some(76)) => under_object(alloc, program, rest(b, 1)),
+        (Some(76), Some(91)) => under_object(alloc, program, rest(a, 1)),
+        (Some(91 | 76), _) => Ok(None),
+        (Some(_), _) => join_same(alloc, a, b),
+        _ => Ok(None),
+    }
+}
+
+/// The narrowest element above two of which no more than one is an array, by their descriptors.
+#[tactic(auto, using(crate::proofs::Depths::base_classes, crate::proofs::Depths::base_first, crate::proofs::Depths::base_second))]
+fn join_base(
+    alloc: Global,
+    program: &Program,
+    a: &[u8],
+    b: &[u8],
+) -> Result<Option<Bytes>, AllocError>
+    ensures { IfOk result (λ o. o ≡ join_base program.now a.now b.now) }
+{
+    if is_class(a) && is_class(b) {
+        join_described(alloc, program, a, b)
+    } else {
+        join_other(alloc, program, a, b)
+    }
+}
+
+/// A descriptor, if it is another too.
+fn join_same(alloc: Global, a: &[u8], b: &[u8]) -> Result<Option<Bytes>, AllocError>
+    ensures { IfOk result (λ o. o ≡ (if bytes_eq a.now b.now then Some a.now else None)) }
+{
+    if equal(a, b) {
+        Ok(Some(Bytes::from_slice(alloc, a)?))
+    } else {
+        Ok(None)
+    }
+}
+
+/// How many brackets two descriptors both begin with.
+#[tactic(auto, using(crate::proofs::Depths::depth_more, crate::proofs::Depths::depth_end, crate::proofs::Depths::depth_past, crate::proofs::Depths::depth_none))]
+fn common_depth(a: &[u8], b: &[u8]) -> usize
+    ensures { result ≡ common_depth a.now b.now }
+{
+    for i in 0..a.len() {
+        if !is_array(rest(a, i)) || !is_array(rest(b, i)) {
+            return i;
+        }
+    }
+    a.len()
+}
+
+/// So many brackets, and bytes behind them.
+fn with_brackets(alloc: Global, count: usize, bytes: &[u8]) -> Result<Bytes, AllocError>
+    ensures { IfOk result (λ d. d ≡ replicate count 91 ++ bytes.now) }
+{
+    let mut items = Vec::new(alloc);
+    for _ in 0..count {
+        items.push(91)?;
+    }
+    items.extend_from_slice(bytes)?;
+    Ok(Bytes::from_vec(items))
+}
+
+/// Arrays so deep of an element; where there is none, of Object, and one less deep.
+fn wrapped(alloc: Global, depth: usize, base: Option<Bytes>) -> Result<Option<Bytes>, AllocError>
+    ensures { IfOk result (λ o. o ≡ wrapped depth base) }
+{
+    match base {
+        Some(element) => Ok(Some(with_brackets(alloc, depth, element.as_slice())?)),
+        None => match depth.checked_sub(1) {
+            Some(less) => Ok(Some(with_brackets(alloc, less, b"Ljava/lang/Object;")?)),
+            None => Ok(None),
+        },
+    }
+}
+
+/// The narrowest element above two, if one is, by their descriptors.
+#[tactic(auto, using(crate::proofs::Depths::element_is))]
+fn join_element(
+    alloc: Global,
+    program: &Program,
+    a: &[u8],
+    b: &[u8],
+) -> Result<Option<Bytes>, AllocError>
+    ensures { IfOk result (λ o. o ≡ join_element program.now a.now b.now) }
+{
+    let depth = common_depth(a, b);
+    let base = join_base(alloc, program, rest(a, depth), rest(b, depth))?;
+    wrapped(alloc, depth, base)
+}
+
+/// The narrowest array above two.
+fn join_arrays(alloc: Global, program: &Program, a: &[u8], b: &[u8]) -> Result<Bytes, AllocError>
+    ensures { IfOk result (λ n. n ≡ array_over (join_element program.now (drop 1 a.now) (drop 1 b.now))) }
+{
+    match join_element(alloc, program, rest(a, 1), rest(b, 1))? {
+        Some(element) => with_brackets(alloc, 1, element.as_slice()),
+        None => Bytes::from_slice(alloc, object_class()),
+    }
+}
+
+/// The narrowest class or array above two, if one is.
+fn join_name(
+    alloc: Global,
+    program: &Program,
+    a: &[u8],
+    b: &[u8],
+) -> Result<Option<Bytes>, AllocError>
+    ensures { IfOk result (λ o. o ≡ join_name program.now a.now b.now) }
+{
+    match (is_array(a), is_array(b)) {
+        (true, true) => Ok(Some(join_arrays(alloc, program, a, b)?)),
+        (true, false) => object_over(alloc, program, b),
+        (false, true) => object_over(alloc, program, a),
+        (false, false) => join_class(alloc, program, a, b),
+    }
+}
+
+/// The narrowest type above two references.
+fn join_references(
+    alloc: Global,
+    program: &Program,
+    a: &[u8],
+    b: &[u8],
+) -> Result<VType, AllocError>
+    ensures { IfOk result (λ t. t ≡ ref_or_top (join_name program.now a.now b.now)) }
+{
+    match join_name(alloc, program, a, b)? {
+        Some(name) => Ok(VType::Ref(name)),
+        None => Ok(VType::Top),
+    }
+}
+
+/// The narrowest type above two.
+pub fn join(alloc: Global, program: &Program, a: &VType, b: &VType) -> Result<VType, AllocError>
+    ensures { IfOk result (λ t. t ≡ join program.now a.now b.now) }
+{
+    match (a, b) {
+        (VType::Int, VType::Int) => Ok(VType::Int),
+        (VType::Long, VType::Long) => Ok(VType::Long),
+        (VType::Second, VType::Second) => Ok(VType::Second),
+        (VType::Null, VType::Null) => Ok(VType::Null),
+        (VType::Null, VType::Ref(n)) => {
+            join_references(alloc, program, n.as_slice(), n.as_slice())
+        }
+        (VType::Ref(m), VType::Null) => {
+            join_references(alloc, program, m.as_slice(), m.as_slice())
+        }
+        (VType::Ref(m), VType::Ref(n)) => {
+            join_references(alloc, program, m.as_slice(), n.as_slice())
+        }
+        (VType::Uninit(p), VType::Uninit(q)) if p == q => Ok(VType::Uninit(*p)),
+        (VType::UninitThis, VType::UninitThis) => Ok(VType::UninitThis),
+        _ => Ok(VType::Top),
+    }
+}
+
+/// The narrowest types above those of two lists of one length.
+#[tactic(auto, using(crate::proofs::Lists::join_step, crate::proofs::Lists::join_end))]
+fn join_all(
+    alloc: Global,
+    program: &Program,
+    a: &[VType],
+    b: &[VType],
+) -> Result<Vec<VType>, AllocError>
+    requires { length a.now ≡ length b.now }
+    ensures { IfOk result (λ v. v.items ≡ join_all program.now a.now b.now) }
+{
+    let mut types = Vec::new(alloc);
+    for (i, item) in a.iter().enumerate() {
+        types.push(join(alloc, program, item, &b[i])?)?;
+    }
+    Ok(types)
+}
+
+/// The narrowest types above two of as many places.
+pub fn joined(
+    alloc: Global,
+    program: &Program,
+    a: &TypeEntry,
+    b: &TypeEntry,
+) -> Result<TypeEntry, AllocError>
+    requires locals { length a.now.locals ≡ length b.now.locals }
+    requires stack { length a.now.stack ≡ length b.now.stack }
+    ensures { IfOk result (λ h. h ≡ joined program.now a.now b.now) }
+{
+    let locals = join_all(alloc, program, a.locals(), b.locals())?;
+    let stack = join_all(alloc, program, a.stack(), b.stack())?;
+    Ok(TypeEntry::new(locals, stack, a.built() && b.built()))
+}

@@ -1,0 +1,310 @@
+//! The search for a typing: a table so far, and the places that are still to be looked at.
+ghost use Rattle.std.specs.Prelude.{◌≡◌, ◌<◌, ◌∷◌, [], All, false, slice_get, IfOk, IfSome, IfNone, length, option_copied};
+ghost use Rattle.objects.specs.typing.Typing.{first_types, is_guarded, caught_type, types_at};
+ghost use Rattle.verifier.specs.Search.{are_locals_after, are_throwable, caught, change_of, each_to, Flows, is_alike, is_entered, is_ready, is_stack_under, IsPour, merged, next_local, next_under, starting, thrown};
+
+use crate::merging::joined;
+use crate::names::{conflict_class, name_read, throwable_class};
+use crate::order::{class_type, copies, fits_in, is_below};
+use hierarchy::{Method, Program, TypeEntry, Typing};
+use jmodel::VType;
+use objects::op::{Catch, Catches};
+use std::alloc::{AllocError, Global};
+use std::collections::BTreeSet;
+use std::marker::Model;
+
+/// A table, and the places whose types have changed since their instructions were looked at.
+#[derive(Drop)]
+pub struct Search {
+    table: Vec<Option<TypeEntry>>,
+    waiting: BTreeSet<usize>,
+}
+
+impl Model for Search {
+    ghost use Rattle.verifier.specs.Search.{State};
+
+    ghost Value = { State };
+
+    ghost view = { λ s. record { table = s.table.items; waiting = s.waiting.keys } };
+}
+
+/// Whether a local has the first place of a long, where the local before it had one or not; none where the two don't go
+/// together.
+fn next_local(after: bool, item: &VType) -> Option<bool>
+    ensures { result ≡ next_local after item.now }
+{
+    match item {
+        VType::Long if !after => Some(true),
+        VType::Second if after => Some(false),
+        VType::Long | VType::Second => None,
+        _ if !after => Some(false),
+        _ => None,
+    }
+}
+
+/// Whether locals may have these types.
+pub fn are_locals(types: &[VType]) -> bool
+    ensures { result ≡ are_locals_after false types.now }
+{
+    let mut after = false;
+    for item in types {
+        match next_local(after, item) {
+            Some(next) => after = next,
+            None => return false,
+        }
+    }
+    !after
+}
+
+/// Whether a place of the stack is the second one of a long, where the place just above it was one or not; none where the
+/// two don't go together.
+fn next_under(under: bool, item: &VType) -> Option<bool>
+    ensures { result ≡ next_under under item.now }
+{
+    match item {
+        VType::Long if under => Some(false),
+        VType::Second if !under => Some(true),
+        VType::Long | VType::Second | VType::Top => None,
+        _ if !under => Some(false),
+        _ => None,
+    }
+}
+
+/// Whether a stack may have these types.
+fn is_stack(stack: &[VType]) -> bool
+    ensures { result ≡ is_stack_under false stack.now }
+{
+    let mut under = false;
+    for item in stack {
+        match next_under(under, item) {
+            Some(next) => under = next,
+            None => return false,
+        }
+    }
+    !under
+}
+
+/// Whether a frame of the method may have this stack.
+pub fn is_ready(method: &Method, entry: &TypeEntry) -> bool
+    ensures { result ≡ is_ready method.now entry.now }
+{
+    entry.stack().len() <= method.max_stack() && is_stack(entry.stack())
+}
+
+/// Whether the types that a method begins with are those of a frame.
+pub fn is_entered(method: &Method, first: &TypeEntry) -> bool
+    requires { first.now ≡ first_types method.now }
+    ensures { result ≡ is_entered method.now }
+{
+    first.locals().len() == method.entry().locals && are_locals(first.locals())
+}
+
+/// What types do to those of a place that they flow to.
+enum Change {
+    Nothing,
+    Put(TypeEntry),
+    Refused,
+}
+
+/// Whether two entries have as many places.
+fn is_alike(a: &TypeEntry, b: &TypeEntry) -> bool
+    ensures { result ≡ is_alike a.now b.now }
+{
+    a.locals().len() == b.locals().len() && a.stack().len() == b.stack().len()
+}
+
+/// What types do to those of a place that has some.
+fn merged(
+    alloc: Global,
+    program: &Program,
+    to: usize,
+    out: &TypeEntry,
+    entry: &TypeEntry,
+) -> Result<Change, AllocError>
+    ensures { IfOk result (λ x. x ≡ merged program.now to out.now entry.now) }
+{
+    if !is_alike(out, entry) {
+        return Ok(Change::Refused);
+    }
+    if fits_in(program, out, entry) {
+        return Ok(Change::Nothing);
+    }
+    if to == 0 {
+        return Ok(Change::Refused);
+    }
+    Ok(Change::Put(joined(alloc, program, entry, out)?))
+}
+
+/// What types do to those of a place, if the table has the place.
+fn change_at(
+    alloc: Global,
+    program: &Program,
+    table: &[Option<TypeEntry>],
+    to: usize,
+    out: &TypeEntry,
+) -> Result<Change, AllocError>
+    ensures { IfOk result (λ x. x ≡ change_of program.now to out.now (slice_get table.now to)) }
+{
+    match table.get(to) {
+        None => Ok(Change::Refused),
+        Some(None) => Ok(Change::Put(joined(alloc, program, out, out)?)),
+        Some(Some(entry)) => merged(alloc, program, to, out, entry),
+    }
+}
+
+/// The type of the exceptions that an entry takes.
+fn caught_type(alloc: Global, program: &Program, catches: &Catches) -> Result<VType, AllocError>
+    ensures { IfOk result (λ t. t ≡ caught_type program.now catches.now) }
+{
+    match catches {
+        Catches::Conflict => class_type(alloc, conflict_class()),
+        Catches::Any => class_type(alloc, throwable_class()),
+        Catches::Of(name) => Ok(VType::Ref(name_read(alloc, program, name.as_slice())?)),
+    }
+}
+
+/// Whether an entry guards a place.
+pub fn is_guarded(entry: &Catch, pc: usize) -> bool
+    ensures { result ≡ is_guarded entry.now pc }
+{
+    entry.from <= pc && pc < entry.to
+}
+
+/// An exception of an entry over the locals of others.
+pub fn thrown(
+    alloc: Global,
+    program: &Program,
+    entry: &TypeEntry,
+    catch: &Catch,
+) -> Result<TypeEntry, AllocError>
+    ensures { IfOk result (λ h. h ≡ thrown program.now entry.now.locals entry.now.built catch.now) }
+{
+    let mut stack = Vec::new(alloc);
+    stack.push(caught_type(alloc, program, &catch.catches)?)?;
+    Ok(TypeEntry::new(copies(alloc, entry.locals())?, stack, entry.built()))
+}
+
+/// Whether each entry that guards a place takes exceptions.
+pub fn are_throwable(
+    alloc: Global,
+    program: &Program,
+    catches: &[Catch],
+    pc: usize,
+) -> Result<bool, AllocError>
+    ensures { IfOk result (λ b. b ≡ are_throwable program.now catches.now pc) }
+{
+    for entry in catches {
+        if is_guarded(entry, pc) {
+            let of = caught_type(alloc, program, &entry.catches)?;
+            if !is_below(program, &of, throwable_class()) {
+                return Ok(false);
+            }
+        }
+    }
+    Ok(true)
+}
+
+impl Search {
+    /// The search at its start: the first instruction is to be looked at.
+    pub fn start(alloc: Global, method: &Method, first: TypeEntry) -> Result<Self, AllocError>
+        requires some { 0 < length method.now.ops }
+        requires first { first ≡ first_types method.now }
+        ensures { IfOk result (λ s. s ≡ starting method.now) }
+    {
+        let mut table = Vec::new(alloc);
+        table.push(Some(first))?;
+        let others = method.ops().len() - 1;
+        for _ in 0..others {
+            table.push(None)?;
+        }
+        let mut waiting = BTreeSet::new(alloc);
+        waiting.insert(0)?;
+        Ok(Search { table, waiting })
+    }
+
+    /// Takes the least of the places that wait.
+    pub fn next(&mut self) -> Option<usize>
+        ensures none { IfNone result (self.old.waiting ≡ []) }
+        ensures taken { IfSome result (λ pc. self.old.waiting ≡ pc ∷ self.new.waiting) }
+        ensures least { IfSome result (λ pc. All (λ q. pc < q) self.new.waiting) }
+        ensures table { self.new.table ≡ self.old.table }
+    {
+        self.waiting.pop_first()
+    }
+
+    /// Lets types flow to a place. False where the place can't take them.
+    fn flow_to(
+        &mut self,
+        alloc: Global,
+        program: &Program,
+        to: usize,
+        out: &TypeEntry,
+    ) -> Result<bool, AllocError>
+        ensures { IfOk result (λ b. IsPour program.now to out.now self.old self.new b) }
+    {
+        match change_at(alloc, program, &self.table, to, out)? {
+            Change::Nothing => Ok(true),
+            Change::Refused => Ok(false),
+            Change::Put(types) => {
+                self.waiting.insert(to)?;
+                self.table[to] = Some(types);
+                Ok(true)
+            }
+        }
+    }
+
+    /// Lets types flow to each place where an instruction goes on. False where one can't take them.
+    pub fn flow_each(
+        &mut self,
+        alloc: Global,
+        program: &Program,
+        places: &[usize],
+        out: &TypeEntry,
+    ) -> Result<bool, AllocError>
+        ensures { IfOk result (λ b. Flows program.now (each_to places.now out.now) self.old self.new b) }
+    {
+        for to in places {
+            if !self.flow_to(alloc, program, *to, out)? {
+                return Ok(false);
+            }
+        }
+        Ok(true)
+    }
+
+    /// Lets the exceptions of a place flow, over these locals, to the place of each entry that guards it. False where one
+    /// can't take them.
+    pub fn flow_caught(
+        &mut self,
+        alloc: Global,
+        program: &Program,
+        catches: &[Catch],
+        pc: usize,
+        over: &TypeEntry,
+    ) -> Result<bool, AllocError>
+        ensures { IfOk result (λ b. Flows program.now (caught program.now catches.now pc over.now.locals over.now.built) self.old self.new b) }
+    {
+        for entry in catches {
+            if is_guarded(entry, pc) {
+                let out = thrown(alloc, program, over, entry)?;
+                if !self.flow_to(alloc, program, entry.at, &out)? {
+                    return Ok(false);
+                }
+            }
+        }
+        Ok(true)
+    }
+
+    /// The types of a place, if it has some.
+    pub fn entry(&self, pc: usize) -> Option<&TypeEntry>
+        ensures { option_copied result ≡ types_at self.now.table pc }
+    {
+        self.table.get(pc)?.as_ref()
+    }
+
+    /// The table.
+    pub fn into_typing(self) -> Typing
+        ensures { result ≡ self.table }
+    {
+        Typing::from_vec(self.table)
+    }
+}

@@ -1,0 +1,161 @@
+//! What stores do to the types before them.
+ghost use Rattle.std.specs.Prelude.{◌≡◌, ◌+◌, ◌^◌, ◌<◌, IfOk, drop, length, nat_lt, slice_set};
+ghost use Rattle.jmodel.specs.declared.typing.VType.TheVariants as type;
+ghost use Rattle.objects.specs.declared.op.Sort.TheVariants as sort;
+ghost use Rattle.objects.specs.typing.Typing.{freed, set_local, set_long, stores};
+ghost use Rattle.verifier.specs.Flows.{flow_of};
+
+use crate::led::Led;
+use crate::loads::{is_int_at, is_reference};
+use crate::order::{copies, copy, rest};
+use crate::rule::next;
+use crate::stack::has_long;
+use hierarchy::{Program, TypeEntry};
+use jmodel::VType;
+use objects::op::Sort;
+use std::alloc::{AllocError, Global};
+
+/// Leaves nothing in a local, if there is one.
+fn clear(locals: &mut Vec<VType>, local: usize)
+    ensures { locals.new.items ≡ slice_set locals.old.items local type.Top }
+{
+    if local < locals.len() {
+        locals[local] = VType::Top;
+    }
+}
+
+/// Of a long whose one place is written, the other has nothing left.
+fn free(locals: &mut Vec<VType>, local: usize)
+    ensures { locals.new.items ≡ freed local locals.old.items }
+{
+    match locals.get(local) {
+        Some(VType::Second) => clear(locals, local.saturating_sub(1)),
+        Some(VType::Long) => clear(locals, local + 1),
+        _ => {}
+    }
+}
+
+/// A store of a value of one place.
+fn set_local(
+    alloc: Global,
+    pc: usize,
+    entry: &TypeEntry,
+    local: usize,
+    item: VType,
+) -> Result<Option<Led>, AllocError>
+    requires { pc + 1 < 2 ^ 64 }
+    ensures { IfOk result (λ o. flow_of o ≡ set_local (nat_lt local (length entry.now.locals)) local item pc entry.now (drop 1 entry.now.stack)) }
+{
+    if local >= entry.locals().len() {
+        return Ok(None);
+    }
+    let mut locals = copies(alloc, entry.locals())?;
+    free(&mut locals, local);
+    locals[local] = item;
+    let stack = copies(alloc, rest(entry.stack(), 1))?;
+    let to = next(alloc, pc)?;
+    let left = TypeEntry::new(locals, stack, entry.built());
+    Ok(Some(Led { to, left }))
+}
+
+/// A store of a long.
+fn set_long(
+    alloc: Global,
+    pc: usize,
+    entry: &TypeEntry,
+    local: usize,
+) -> Result<Option<Led>, AllocError>
+    requires { pc + 1 < 2 ^ 64 }
+    ensures { IfOk result (λ o. flow_of o ≡ set_long (nat_lt (local + 1) (length entry.now.locals)) local pc entry.now (drop 2 entry.now.stack)) }
+{
+    if local >= entry.locals().len() || local + 1 >= entry.locals().len() {
+        return Ok(None);
+    }
+    let mut locals = copies(alloc, entry.locals())?;
+    free(&mut locals, local);
+    free(&mut locals, local + 1);
+    locals[local] = VType::Long;
+    locals[local + 1] = VType::Second;
+    let stack = copies(alloc, rest(entry.stack(), 2))?;
+    let to = next(alloc, pc)?;
+    let left = TypeEntry::new(locals, stack, entry.built());
+    Ok(Some(Led { to, left }))
+}
+
+/// A store of an int.
+#[tactic(auto, using(crate::proofs::Parts::store_int_is))]
+fn store_int(
+    alloc: Global,
+    program: &Program,
+    local: usize,
+    pc: usize,
+    entry: &TypeEntry,
+) -> Result<Option<Led>, AllocError>
+    requires { pc + 1 < 2 ^ 64 }
+    ensures { IfOk result (λ o. flow_of o ≡ stores program.now sort.Int local pc entry.now) }
+{
+    if is_int_at(entry.stack(), 0) {
+        set_local(alloc, pc, entry, local, VType::Int)
+    } else {
+        Ok(None)
+    }
+}
+
+/// A store of a reference, which may be of an object that isn't built.
+#[tactic(auto, using(crate::proofs::Parts::store_reference_is))]
+fn store_reference(
+    alloc: Global,
+    program: &Program,
+    local: usize,
+    pc: usize,
+    entry: &TypeEntry,
+) -> Result<Option<Led>, AllocError>
+    requires { pc + 1 < 2 ^ 64 }
+    ensures { IfOk result (λ o. flow_of o ≡ stores program.now sort.Reference local pc entry.now) }
+{
+    match entry.stack().first() {
+        Some(item) if is_reference(item) => {
+            set_local(alloc, pc, entry, local, copy(alloc, item)?)
+        }
+        _ => Ok(None),
+    }
+}
+
+/// A store of a long.
+#[tactic(auto, using(crate::proofs::Parts::store_long_is))]
+fn store_long(
+    alloc: Global,
+    program: &Program,
+    local: usize,
+    pc: usize,
+    entry: &TypeEntry,
+) -> Result<Option<Led>, AllocError>
+    requires { pc + 1 < 2 ^ 64 }
+    ensures { IfOk result (λ o. flow_of o ≡ stores program.now sort.Long local pc entry.now) }
+{
+    if has_long(entry.stack()) {
+        set_long(alloc, pc, entry, local)
+    } else {
+        Ok(None)
+    }
+}
+
+/// A store (JVM Specification, Java SE 7, section 4.10.1.9, istore, lstore and astore). What it overwrites half of is
+/// freed.
+pub fn stores(
+    alloc: Global,
+    program: &Program,
+    sort: Sort,
+    local: usize,
+    pc: usize,
+    entry: &TypeEntry,
+) -> Result<Option<Led>, AllocError>
+    requires { pc + 1 < 2 ^ 64 }
+    ensures { IfOk result (λ o. flow_of o ≡ stores program.now sort local pc entry.now) }
+{
+    match sort {
+        Sort::Int => store_int(alloc, program, local, pc, entry),
+        Sort::Long => store_long(alloc, program, local, pc, entry),
+        Sort::Reference => store_reference(alloc, program, local, pc, entry),
+    }
+}
