@@ -1,47 +1,28 @@
 #!/usr/bin/env python3
 """Measures the program on inputs that this script makes, and prints the tables of docs/PERFORMANCE.md.
 
-usage: tools/measure.py [NAME..]    all cases, or those whose names have one of these words
+    tools/measure.py [WORD..] [--program PATH]
 
-It runs ./deuce, so the program is built first where need be, and needs javac of Java 17. Each case runs three times. The table has the
-medians of seconds by the clock and of seconds of processors, and the largest memory.
+PATH is crates/deuce_main/out/deuce_main, which ./deuce builds, where none is given. It needs javac of Java 17. Each case
+runs three times, for at most 120 seconds and with at most 8 GB. The table has the status, the medians of seconds by the
+clock and of seconds of processors, and the largest memory.
 """
 
+import argparse
 import json
-import multiprocessing
 import os
-import statistics
-import subprocess
 import sys
 import tempfile
-import time
 
-TOP = os.path.dirname(os.path.dirname(os.path.abspath(__file__)))
-PROGRAM = f"{TOP}/crates/deuce_main/out/deuce_main"
+# The folder of the modules is part of the repository, and stays as it is.
+sys.dont_write_bytecode = True
+
+from common.building import PROGRAM, compile_sources
+from common.class_files import additions, interface_calls, late_jumps, many_places, null_loads
+from common.runs import apart, median, run
+
 ATOMIC = "import org.deuce.Atomic;\n"
-RUNS = 3
-
-
-def compiled(folder, sources):
-    """Compiles classes, given by name and text, and gives their files version 49."""
-    made = f"{folder}/classes"
-    os.makedirs(f"{folder}/src/org/deuce")
-    os.makedirs(made)
-    with open(f"{TOP}/examples/src/org/deuce/Atomic.java") as it:
-        sources = {**sources, "org/deuce/Atomic": it.read()}
-    for name, text in sources.items():
-        with open(f"{folder}/src/{name}.java", "w") as it:
-            it.write(text)
-    files = [f"{folder}/src/{name}.java" for name in sources]
-    javac = ["javac", "-source", "7", "-target", "7", "-g:none", "-nowarn", "-Xlint:-options"]
-    subprocess.run([*javac, "-d", made, *files], check=True)
-    os.remove(f"{made}/org/deuce/Atomic.class")
-    for name in os.listdir(made):
-        if name.endswith(".class"):
-            with open(f"{made}/{name}", "r+b") as it:
-                it.seek(6)
-                it.write(b"\0\x31")
-    return made
+RUNS, SECONDS, BYTES = 3, 120, 8 << 30
 
 
 def script(phases, lanes=1, **more):
@@ -110,6 +91,7 @@ def objects():
             @Atomic public static void link(int item) { Objects o = new Objects(); o.item = item; o.next = first; first = o; }
             @Atomic public static void links(int k) { for (int i = 0; i < k; i++) { link(i); } }
             @Atomic public static long walk() { long s = 0; for (Objects o = first; o != null; o = o.next) { s += o.item; } return s; }
+            @Atomic public static long both(int k) { links(k); return walk(); }
             @Atomic public static long fill(int k) {
                 int[] a = new int[k]; array = a; for (int i = 0; i < k; i++) { a[i] = i; }
                 return a[k - 1];
@@ -132,6 +114,10 @@ def loads(statements, dimensions):
     """A method of statements, each of which loads one array out of another as often as an array has dimensions."""
     chain = "[0]" * dimensions
     return {"Loads": f"{ATOMIC}public class Loads {{ static Object o; static Object{'[]' * dimensions} a; @Atomic public static void m() {{ {f'o = a{chain}; ' * statements}}} }}"}
+
+
+def made():
+    return script([on_lanes("Made.m(I)I", 1, 1, 0)])
 
 
 INC = "Counter.inc()I"
@@ -165,7 +151,22 @@ CASES = {
     "10,000 exceptions through 190 handlers": (objects, lambda: script([on_lanes("Objects.deep(I)I", 1, 10_000, 190)], region=1_048_576)),
     "256 classes one under another, an overridden method, 100,000 calls": (lambda: above(256), lambda: script([on_lanes("C0.call()I", 1, 100_000)], region=1_048_576)),
     "the same, a method that the first of them alone has": (lambda: above(256), lambda: script([on_lanes("C0.upper()I", 1, 100_000)], region=1_048_576)),
+    "10,000 exceptions through 198 handlers, in 200 frames": (objects, lambda: script([on_lanes("Objects.deep(I)I", 1, 10_000, 198)], region=1_048_576)),
+    "a list of 60,000 objects, made and walked in one call": (
+        objects,
+        lambda: script([on_lanes("Objects.both(I)J", 1, 1, 60_000)], budget=1_000_000, region=1_048_576),
+    ),
     "a method of 64,000 bytes that loads from arrays, refused": (lambda: loads(126, 250), lambda: script([on_lanes("Loads.m()V", 1, 1)])),
+    "a method of 65,534 bytes that loads from null arrays, refused": (lambda: null_loads(32_765), made),
+    "the same of 18,000 bytes": (lambda: null_loads(9_000), made),
+    "1,000 loads and then 999 additions": (lambda: additions(1_000), made),
+    "4,000 loads and then 3,999 additions": (lambda: additions(4_000), made),
+    "32,767 loads and then 32,766 additions, 65,534 bytes": (lambda: additions(32_767), made),
+    "199 late jumps, each of which widens one local more; 7,000 instructions before": (lambda: late_jumps(199, 7_000), made),
+    "the same, 14,000 instructions before": (lambda: late_jumps(199, 14_000), made),
+    "the same, 1,800 late jumps, 14,000 instructions before": (lambda: late_jumps(1_800, 14_000), made),
+    "a method of 65,534 bytes, 65,534 locals and as much stack": (lambda: many_places(65_534, 65_534), made),
+    "8,000 calls of an interface's method, whose descriptor has 60,000 bytes": (lambda: interface_calls(8_000, 59_995), made),
     "a script of 450,000 calls, refused": (counter, lambda: script([on_lanes(INC, 1, 450_000)])),
 }
 
@@ -176,43 +177,55 @@ BANKS = {
 }
 
 
-def measured(words):
-    """The seconds by the clock, those of processors, and the memory in MB, of one run."""
-    before = time.monotonic()
-    pid = os.posix_spawn(PROGRAM, [PROGRAM, *words], os.environ, file_actions=[(os.POSIX_SPAWN_OPEN, 1, "/dev/null", os.O_WRONLY, 0)])
-    _, _, used = os.wait4(pid, 0)
-    return time.monotonic() - before, used.ru_utime + used.ru_stime, used.ru_maxrss / 1024
-
-
 def make_inputs(folder, sources, script_text):
-    compiled(folder, sources())
+    """Makes the class files of a case, from sources or as they are, and its script."""
+    made = sources()
+    texts = {name: text for name, text in made.items() if isinstance(text, str)}
+    if texts:
+        compile_sources(folder, texts)
+    os.makedirs(f"{folder}/classes", exist_ok=True)
+    for name in made.keys() - texts.keys():
+        with open(f"{folder}/classes/{name}.class", "wb") as it:
+            it.write(made[name])
     if script_text:
         with open(f"{folder}/script.json", "w") as it:
             it.write(script_text())
 
 
-def print_row(name, clock, processors, memory):
-    print(f"| {name} | {statistics.median(clock):.2f} | {statistics.median(processors):.2f} | {max(memory):.0f} |", flush=True)
+def print_row(name, words):
+    """Runs a command within the limits, and prints what it took."""
+    runs = [run(["prlimit", f"--as={BYTES}", *words], SECONDS) for _ in range(RUNS)]
+    status = "no end" if runs[-1].status == 124 else runs[-1].status
+    told = [f"{median(runs, what):.2f}" for what in ("clock", "processors")]
+    print(f"| {name} | {status} | {' | '.join(told)} | {max(it.memory for it in runs):.0f} |", flush=True)
 
 
-def main(wanted):
-    subprocess.run([f"{TOP}/deuce"], stdout=subprocess.DEVNULL)
-    print("| What | Seconds by the clock | Seconds of processors | MB |\n|---|---|---|---|")
+def asked():
+    parser = argparse.ArgumentParser(description=__doc__, formatter_class=argparse.RawDescriptionHelpFormatter)
+    parser.add_argument("wanted", nargs="*", metavar="WORD", help="the cases whose names have one of these; all where none is given")
+    parser.add_argument("--program", default=PROGRAM, help="what is measured")
+    return parser.parse_args()
+
+
+def main():
+    words = asked()
+    program = os.path.abspath(words.program)
+
+    def is_wanted(name):
+        return not words.wanted or any(it in name for it in words.wanted)
+
+    print("| What | Status | Seconds by the clock | Seconds of processors | MB |\n|---|---|---|---|---|")
     for name, (sources, script_text) in CASES.items():
-        if wanted and not any(it in name for it in wanted):
-            continue
-        with tempfile.TemporaryDirectory() as folder:
-            # (a process of its own makes them, since the program would begin with the memory that this one took)
-            maker = multiprocessing.Process(target=make_inputs, args=(folder, sources, script_text))
-            maker.start()
-            maker.join()
-            words = ["run", f"{folder}/classes", f"{folder}/script.json"] if script_text else ["rewrite", f"{folder}/classes", f"{folder}/out"]
-            clock, processors, memory = zip(*[measured(words) for _ in range(RUNS)])
-        print_row(name, clock, processors, memory)
-    for name, words in BANKS.items():
-        if not wanted or any(it in name for it in wanted):
-            print_row(name, *zip(*[measured(words) for _ in range(RUNS)]))
+        if is_wanted(name):
+            with tempfile.TemporaryDirectory() as folder:
+                # (a process of its own makes them, since the program would begin with the memory that this one took)
+                apart(make_inputs, folder, sources, script_text)
+                command = ["run", f"{folder}/classes", f"{folder}/script.json"] if script_text else ["rewrite", f"{folder}/classes", f"{folder}/out"]
+                print_row(name, [program, *command])
+    for name, bank in BANKS.items():
+        if is_wanted(name):
+            print_row(name, [program, *bank])
 
 
 if __name__ == "__main__":
-    main(sys.argv[1:])
+    main()

@@ -18,7 +18,8 @@ import tempfile
 # The folder of the modules is part of the repository, and stays as it is.
 sys.dont_write_bytecode = True
 
-from random_java.building import TOP, Workshop
+from common.building import TOP
+from random_java.building import Workshop
 from random_java.comparing import compare_all, keep, summary
 from random_java.rows import write_rows
 

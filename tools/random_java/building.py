@@ -7,13 +7,11 @@ import shutil
 import subprocess
 from dataclasses import dataclass
 
+from common.building import JAVAC, compile_atomic, renumber
+
 from .programs import Program, make_program
 
 HERE = os.path.dirname(os.path.abspath(__file__))
-TOP = os.path.dirname(os.path.dirname(HERE))
-JAVAC = ("javac", "-source", "7", "-target", "7", "-g:none", "-nowarn", "-Xlint:none", "-Xmaxerrs", "10000")
-# Where the version of a class file stands, and version 49.
-VERSION_AT, VERSION = 6, b"\0\x31"
 # What a script may ask for at most.
 LIMITS = {"budget": 1_000_000, "region": 1_048_576}
 CLASS_LINE = re.compile(r"^.*/src/([^/]+)/\w+\.java:\d+: error: (.*)$", re.M)
@@ -34,8 +32,7 @@ class Workshop:
         self.folder = folder
         self.machine = f"{folder}/machine"  # what only the Java machine gets
         os.makedirs(self.machine)
-        annotation = f"{TOP}/examples/src/org/deuce/Atomic.java"
-        subprocess.run([*JAVAC, "-d", self.machine, annotation], check=True)
+        compile_atomic(self.machine)
         subprocess.run(["javac", "-nowarn", "-d", self.machine, f"{HERE}/Answers.java"], check=True)
 
     def build(self, seed, numbers):
@@ -61,7 +58,7 @@ class Workshop:
         while programs:
             names = [f"{self.folder}/src/{it.package}/{name}.java" for it in programs for name in it.sources]
             write(f"{self.folder}/sources", "\n".join(names))
-            words = [*JAVAC, "-cp", self.machine, "-d", f"{self.folder}/classes", f"@{self.folder}/sources"]
+            words = [*JAVAC, "-Xmaxerrs", "10000", "-cp", self.machine, "-d", f"{self.folder}/classes", f"@{self.folder}/sources"]
             done = subprocess.run(words, capture_output=True, text=True)
             if done.returncode == 0:
                 break
@@ -87,14 +84,6 @@ class Workshop:
     def copy_classes(self, program, folder):
         """Copies a program's class files under a folder, in the folder of its package."""
         shutil.copytree(f"{self.folder}/classes/{program.package}", f"{folder}/{program.package}")
-
-
-def renumber(folder):
-    """Gives the class files of a folder version 49."""
-    for name in os.listdir(folder):
-        with open(f"{folder}/{name}", "r+b") as file:
-            file.seek(VERSION_AT)
-            file.write(VERSION)
 
 
 def call_line(call):
