@@ -12,6 +12,7 @@ use std::snapshot::Snapshot;
 use tl2::attempt::{Calling, Ruled, Tl2};
 use tx_core::TxEnd;
 
+mod lazy;
 mod transfers;
 
 /// A call of a lane.

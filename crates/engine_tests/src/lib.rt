@@ -1,4 +1,4 @@
-//! Tests of the engines and of claims: `tx_core`, `tx_table`, `tl2` and `claims`. They stand apart, so that those crates are proved once and not a second
+//! Tests of the engines and of claims: `tx_core`, `tx_table`, `tl2`, `lsa` and `claims`. They stand apart, so that those crates are proved once and not a second
 //! time with their tests.
 #![tactic(auto)]
 

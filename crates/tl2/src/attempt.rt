@@ -1,41 +1,18 @@
 //! The attempts of one lane over a table of shared words.
-ghost use Rattle.std.specs.Prelude.{◌≡◌, ℕ, List, [], length, reverse};
+ghost use Rattle.std.specs.Prelude.{◌≡◌, ◌≢◌, ℕ, List, [], length, reverse};
 ghost use Rattle.jmodel.specs.history.Log.{Log};
 ghost use Rattle.jmodel.specs.history.History.{Entry};
 ghost use Rattle.tx_table.specs.Book.{Unticked};
-ghost use Rattle.tx_table.specs.Passes.{book, IsOf};
+ghost use Rattle.tx_table.specs.Passes.{book, IsOf, IsSettled};
 ghost use Rattle.tl2.specs.Logs.{IsLogged};
+ghost use Rattle.tl2.specs.declared.attempt.At.TheVariants.{Outside};
 
 use jmodel::access::Access;
 use std::alloc::Global;
 use std::snapshot::Snapshot;
 use tx_core::WriteLog;
-use tx_table::{Pass, Shared, Story};
-
-/// A story whose rule for entries is the same for all of its values.
-pub trait Ruled: Story {
-    ghost use Rattle.jmodel.specs.history.History.{Entry};
-
-    /// What may be committed.
-    ghost rule: { Entry → Type 0 };
-
-    ghost keeps: { (s : Self) (e : Entry) → rule e → (Self.story s).runs e };
-
-    ghost ruled: { (s : Self) (e : Entry) → (Self.story s).runs e → rule e };
-}
-
-/// Names a call, and what is known of the pass that makes it, for contracts alone.
-pub trait Calling {
-    ghost use Rattle.atomic_table.specs.Seated.{TableId};
-    ghost use Rattle.jmodel.specs.history.History.{Call};
-    ghost use Rattle.tx_table.specs.Book.{Book};
-
-    ghost call: { Self → Call };
-
-    /// The table of the pass that makes the calls, and its book as they began. Nothing is said of what came since where this is
-    /// left out.
-    ghost began: { TableId → Book → Type 0 } = { λ _ _. ⊥ };
-}
+use tx_table::{Pass, Shared};
+pub use tx_table::{Calling, Ruled};
 
 /// Where an engine stands.
 #[derive(Clone, Copy, Debug)]
@@ -61,6 +38,7 @@ pub struct Tl2<'a, T: Ruled, C> {
     pub(crate) at: At,
     pub(crate) alloc: Global,
     ghost sits: { IsOf shared.now.table.shared.table_id pass × ((book pass).face.held ≡ []) × ((book pass).face.stage ≡ Unticked) },
+    ghost settled: { at ≢ Outside → IsSettled pass },
     ghost logged: { IsLogged shared.now.words at reads.items (book pass) },
 }
 

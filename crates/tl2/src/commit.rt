@@ -4,7 +4,7 @@ ghost use Rattle.std.specs.List.Sorted.{IsStrictlyIncreasing};
 ghost use mathlib.Core.Option.{some as Found, none as Missing};
 ghost use Rattle.tx_table.specs.Book.{Unticked, Decided, In, lookup};
 ghost use Rattle.tx_table.specs.Plays.{lost_at, took};
-ghost use Rattle.tx_table.specs.Passes.{book, IsOf, IsSame};
+ghost use Rattle.tx_table.specs.Passes.{book, IsOf, IsSame, IsSettled};
 ghost use Rattle.tx_table.specs.Steps.{IsPast};
 ghost use Rattle.tl2.specs.Conflicts.{lost_to};
 ghost use Rattle.tl2.specs.Commits.{Holds, IsChecked, IsRest, IsTaking, MeansOnly};
@@ -26,7 +26,9 @@ fn take_one<T: Story>(
     requires heap { address < shared.now.words }
     requires ready { ((book pass.old).face.stage ≡ Unticked) × ((book pass.old).live ≡ true) }
     requires read { (b x : ℕ) → In (b, x) (book pass.old).reads → b % 4096 ≡ address % 4096 → was_read ≡ true }
+    requires settled { IsSettled pass.old }
     ensures same { IsSame pass.old pass.new }
+    ensures settled { IsSettled pass.new }
     ensures ok { IfOk result (λ word. book pass.new ≡ took (book pass.old) (address % 4096) word address) }
     ensures err { IfErr result (λ e. book pass.new ≡ lost_at (book pass.old) address e.word) }
     ensures conflict { IfErr result (λ e. (e.address ≡ address) × (e.upto ≡ (book pass.old).bound) × IsPast (book pass.old).bound e.word) }
@@ -39,7 +41,7 @@ fn take_one<T: Story>(
 }
 
 /// Gives the stripes back that are held, each with the word that it had.
-pub(crate) fn give_back<T: Story>(pass: &mut Pass, shared: &Shared<T>, held: &[Stripe])
+pub fn give_back<T: Story>(pass: &mut Pass, shared: &Shared<T>, held: &[Stripe])
     requires table { IsOf shared.now.table.shared.table_id pass.old }
     requires held { Holds held.now (book pass.old) }
     requires stage { (book pass.old).face.stage ≢ Decided }
@@ -65,7 +67,9 @@ pub(crate) fn take_all<T: Story>(
     requires heap { All (λ a. a < shared.now.words) (addresses_of stripes.old) }
     requires ready { ((book pass.old).face.held ≡ []) × ((book pass.old).face.stage ≡ Unticked) × ((book pass.old).live ≡ true) }
     requires read { (b x : ℕ) → In (b, x) (book pass.old).reads → All (λ s. b % 4096 ≡ number_of s → s.was_read ≡ true) stripes.old }
+    requires settled { IsSettled pass.old }
     ensures same { IsSame pass.old pass.new }
+    ensures settled { IfOk result (λ _. IsSettled pass.new) }
     ensures ok { IfOk result (λ _. IsTaking (book pass.old) (book pass.new) × Holds stripes.new (book pass.new) × (addresses_of stripes.new ≡ addresses_of stripes.old)) }
     ensures err { IfErr result (λ e. IsRest (lost_to (book pass.old) e ∷ []) 0 (book pass.old) (book pass.new) × ((book pass.new).face.held ≡ []) × ((book pass.new).face.stage ≡ Unticked)) }
     ensures conflict { IfErr result (λ e. (e.upto ≡ (book pass.old).bound) × IsPast (book pass.old).bound e.word × In e.address (addresses_of stripes.old)) }
@@ -95,6 +99,7 @@ pub(crate) fn validate_all<T: Story>(
     requires table { IsOf shared.now.table.shared.table_id pass.old }
     requires heap { All (λ a. a < shared.now.words) addresses.now }
     requires live { (book pass.old).live ≡ true }
+    requires settled { IsSettled pass.old }
     ensures same { IsSame pass.old pass.new }
     ensures ok { IfOk result (λ _. IsChecked addresses.now (book pass.old) (book pass.new)) }
     ensures err { IfErr result (λ e. (checked : List ℕ) × (book pass.new ≡ lost_at (record (book pass.old) { checked = checked }) e.address e.word)) }
@@ -109,7 +114,7 @@ pub(crate) fn validate_all<T: Story>(
 }
 
 /// Gives the stripes back that are held, with the tick as their version, once all is written.
-pub(crate) fn release_all<T: Story>(pass: &mut Pass, shared: &Shared<T>, held: &[Stripe])
+pub fn release_all<T: Story>(pass: &mut Pass, shared: &Shared<T>, held: &[Stripe])
     requires table { IsOf shared.now.table.shared.table_id pass.old }
     requires held { Holds held.now (book pass.old) }
     requires any { (book pass.old).face.held ≢ [] }

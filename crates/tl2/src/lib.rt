@@ -2,11 +2,11 @@
 #![tactic(auto)]
 
 pub mod attempt;
-mod commit;
+pub mod commit;
 pub mod ending;
 pub mod engine;
-mod plan;
+pub mod plan;
 pub mod reading;
-mod update;
+pub mod update;
 
 pub use attempt::{Calling, Ruled, Tl2};

@@ -15,7 +15,7 @@ const STRIPES: u64 = 4096;
 
 /// A stripe that a commit takes.
 #[derive(Clone, Copy, Debug)]
-pub(crate) struct Stripe {
+pub struct Stripe {
     /// An address on it that is written.
     pub address: u64,
     /// Whether one of its addresses was read.
@@ -26,7 +26,7 @@ pub(crate) struct Stripe {
 
 impl Stripe {
     /// Its number.
-    pub(crate) fn number(&self) -> u64
+    pub fn number(&self) -> u64
         ensures { result ≡ number_of self.now }
     {
         self.address % STRIPES
@@ -35,7 +35,7 @@ impl Stripe {
 
 /// The stripes and words of one commit.
 #[derive(Drop)]
-pub(crate) struct Plan {
+pub struct Plan {
     /// The stripes that are written, ascending.
     pub stripes: Vec<Stripe>,
     /// The addresses that were read and lie on none of these.
@@ -46,7 +46,7 @@ pub(crate) struct Plan {
 
 impl Plan {
     /// The plan for an attempt that wrote this, the oldest first, and read these addresses.
-    pub(crate) fn of(alloc: Global, writes: &[Access], reads: &[u64]) -> Result<Plan, NoMemory>
+    pub fn of(alloc: Global, writes: &[Access], reads: &[u64]) -> Result<Plan, NoMemory>
         ensures { IfOk result (λ p. IsPlan (pairs (reverse writes.now)) reads.now p.stripes.items p.read_elsewhere.items p.newest.items) }
     {
         let mut stripes = written_stripes(alloc, writes)?;
@@ -95,7 +95,7 @@ fn mark_read(
 }
 
 /// The last write of each address.
-fn newest_of(alloc: Global, writes: &[Access]) -> Result<Vec<Access>, NoMemory>
+pub fn newest_of(alloc: Global, writes: &[Access]) -> Result<Vec<Access>, NoMemory>
     ensures { IfOk result (λ v. IsListed (pairs (reverse writes.now)) v.items) }
 {
     let mut seen = BTreeSet::new(alloc);

@@ -7,7 +7,7 @@ ghost use Rattle.jmodel.specs.history.History.{Call, Entry};
 ghost use Rattle.tx_table.specs.Plays.{begun, finished, Reads};
 ghost use Rattle.tx_table.specs.Rule.{Snapshot as Learns};
 ghost use Rattle.tx_core.specs.Engine.{raised, Adds, MayEnd, IsOfWrites};
-ghost use Rattle.tx_table.specs.Passes.{book, IsOf, IsSame, IsKin};
+ghost use Rattle.tx_table.specs.Passes.{book, IsOf, IsSame, IsKin, IsSettled};
 ghost use Rattle.tl2.specs.Conflicts.{Meets};
 ghost use Rattle.tl2.specs.Standing.{IsOpen, IsLooked, IsLoaded, Awaits, Stands};
 
@@ -19,12 +19,13 @@ use tx_core::{Conflict, TxEnd};
 use tx_table::{Pass, Shared, Story};
 
 /// Begins an attempt of a pass at a call.
-fn begin_at<T: Story, C: Calling>(pass: &mut Pass, shared: &Shared<T>, _call: &Snapshot<C>)
+pub fn begin_at<T: Story, C: Calling>(pass: &mut Pass, shared: &Shared<T>, _call: &Snapshot<C>)
     ghost told: { Call }
     requires told { told ≡ C.call _call.now.value }
     requires table { IsOf shared.now.table.shared.table_id pass.old }
     requires free { ((book pass.old).face.held ≡ []) × ((book pass.old).face.stage ≡ Unticked) }
     ensures same { IsSame pass.old pass.new }
+    ensures settled { IsSettled pass.new }
     ensures book { book pass.new ≡ begun (book pass.old) told (book pass.new).bound }
     ensures later { (book pass.old).seen ≤ (book pass.new).bound }
     ensures snapshot { Learns (T.story shared.now.table.shared.key.story.value) (book pass.new) }
@@ -33,11 +34,16 @@ fn begin_at<T: Story, C: Calling>(pass: &mut Pass, shared: &Shared<T>, _call: &S
 }
 
 /// Ends a pass's attempt with an entry that wrote nothing.
-fn finish_with<T: Story>(pass: &mut Pass, shared: &Shared<T>, _answer: Snapshot<Answer>) -> Stamp
+pub fn finish_with<T: Story>(
+    pass: &mut Pass,
+    shared: &Shared<T>,
+    _answer: Snapshot<Answer>,
+) -> Stamp
     ghost entry: { Entry }
     requires table { IsOf shared.now.table.shared.table_id pass.old }
     requires ready { ((book pass.old).live ≡ true) × ((book pass.old).face.stage ≡ Unticked) }
     requires entry { Reads (T.story shared.now.table.shared.key.story.value) (book pass.old) entry }
+    requires settled { IsSettled pass.old }
     ensures same { IsSame pass.old pass.new }
     ensures book { book pass.new ≡ finished (book pass.old) entry }
     ensures stamp { result ≡ entry.stamp }

@@ -4,7 +4,7 @@ ghost use mathlib.Core.Option.{some as Found, none as Missing};
 ghost use Rattle.jmodel.specs.history.History.{Entry};
 ghost use Rattle.tx_table.specs.Book.{Map, Has, In, Unticked, Ticked, lookup, pairs};
 ghost use Rattle.tx_table.specs.Plays.{keys, lost_at, ticked_up, Fits, Updates};
-ghost use Rattle.tx_table.specs.Passes.{book, IsOf, IsSame};
+ghost use Rattle.tx_table.specs.Passes.{book, IsOf, IsSame, IsSettled};
 ghost use Rattle.tx_table.specs.Steps.{IsPast};
 ghost use Rattle.tl2.specs.Conflicts.{lost_to};
 ghost use Rattle.tl2.specs.Commits.{IsAdded, IsChecked, IsRest, MeansOnly, stored, update_of};
@@ -20,7 +20,7 @@ use tx_table::{Pass, Shared, Story};
 
 /// Moves the clock for an attempt that wrote this, the oldest first, and then looks once more at the stripes of these addresses that were
 /// read. Answers the clock's new value.
-fn tick_checked<T: Story>(
+pub fn tick_checked<T: Story>(
     pass: &mut Pass,
     shared: &Shared<T>,
     _writes: &[Access],
@@ -33,6 +33,7 @@ fn tick_checked<T: Story>(
     requires ready { ((book pass.old).face.stage ≡ Unticked) × ((book pass.old).live ≡ true) × ((book pass.old).ticks < 2 ^ 40) }
     requires held { (b : ℕ) → Has due b → Has (book pass.old).face.held (b % 4096) }
     requires due { (i y : ℕ) → lookup (book pass.old).face.held i ≡ Found y → (b : ℕ) × (b % 4096 ≡ i) × Has due b }
+    requires settled { IsSettled pass.old }
     ensures same { IsSame pass.old pass.new }
     ensures ok { IfOk result (λ at. ((book pass.old).seen < at) × IsChecked read_elsewhere.now (ticked_up (book pass.old) at due) (book pass.new)) }
     ensures err { IfErr result (λ e. (at : ℕ) × ((book pass.old).seen < at) × ((checked : List ℕ) × (book pass.new ≡ lost_at (record (ticked_up (book pass.old) at due) { checked = checked }) e.address e.word))) }
@@ -46,7 +47,7 @@ fn tick_checked<T: Story>(
 }
 
 /// Stores the last write of each address. The first of these stores decides the attempt and adds its entry.
-fn store_all<T: Story>(
+pub fn store_all<T: Story>(
     pass: &mut Pass,
     shared: &Shared<T>,
     newest: &[Access],
@@ -89,6 +90,7 @@ pub(crate) fn update<T: Story>(
     requires any { reverse writes.now ≢ [] }
     requires heap { All (λ l. l.address < shared.now.words) (reverse writes.now) × All (λ a. a < shared.now.words) (keys (book pass.old).reads) }
     requires plan { IsPlan (pairs (reverse writes.now)) (reverse (keys (book pass.old).reads)) plan.stripes.items plan.read_elsewhere.items plan.newest.items }
+    requires settled { IsSettled pass.old }
     requires entry { (t : ℕ) → Fits (T.story shared.now.table.shared.key.story.value) (book pass.old) (update_of (book pass.old) t (reverse writes.now) answer.value used.value) }
     ensures same { IsSame pass.old pass.new }
     ensures free { ((book pass.new).face.held ≡ []) × ((book pass.new).face.stage ≡ Unticked) }

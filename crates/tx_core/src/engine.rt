@@ -61,6 +61,9 @@ pub trait Engine {
     /// What is known of the word that was given for an address after the look.
     ghost loaded: { Self → ℕ → ℕ → Type 0 } = { λ _ _ _. Unit {0} };
 
+    /// The attempt has read an address. Nothing is said where this is left out.
+    ghost has_read: { Self → ℕ → Type 0 } = { λ _ _. ⊥ };
+
     /// How many attempts were begun. Nothing is said where this is left out.
     ghost attempts: { Self → ℕ → Type 0 } = { λ _ _. Unit {0} };
 
@@ -73,7 +76,7 @@ pub trait Engine {
         ensures attempts { (k : ℕ) → attempts self.old k → attempts self.new (k + 1) }
         ensures ticks { clock self.new ≡ clock self.old };
 
-    /// Before a read. No memory.
+    /// Before a read. A conflict is at the address, or at one that the attempt has read. No memory.
     fn before_read(&mut self, address: u64) -> Result<(), Conflict>
         requires { is_open self.old }
         ensures run { (h : List Entry) (n : ℕ) (r w : Log) → stands self.old h n r w
@@ -81,7 +84,7 @@ pub trait Engine {
         ensures open { IfOk result (λ _. is_open self.new) }
         ensures awaits { (c : Call) (used : ℕ) → awaits self.old c used → awaits self.new c used }
         ensures looked { IfOk result (λ _. looked self.new address) }
-        ensures conflict { IfErr result (λ e. e.address ≡ address) }
+        ensures conflict { IfErr result (λ e. (e.address ≡ address) ⊎ has_read self.old e.address) }
         ensures alone { is_alone self.old → is_alone self.new × IsOk result }
         ensures attempts { (k : ℕ) → attempts self.old k → attempts self.new k }
         ensures ticks { clock self.new ≡ clock self.old };

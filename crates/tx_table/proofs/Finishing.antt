@@ -122,6 +122,7 @@ module _ {S : Type 0} (key : Story) (s : State S Book) (r : IsKept key s) (me : 
     reads = λ b y l. dead l;
     checked = λ b y l. dead l;
     goal = λ l. dead l;
+    ahead = λ l u. dead l;
     look = λ l. tt;
     regions = λ q u f. ⊎_elim (λ (t : (e.call.region ≡ q) × ((region_of e).1 ≡ u)). (
       sym (ap r.keeper t.0) ∙ own_region,

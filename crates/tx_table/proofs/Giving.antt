@@ -103,6 +103,7 @@ module _ {S : Type 0} (key : Story) (s : State S Book) (r : IsKept key s) (me : 
     reads = λ b y l e. let g = mine.reads b y (lives l).0 e in (g.0, clear_turns (start key) (used_at key) W W' me turn (suc me) v.bound b (omega (arith, mine.known, mine.bounded)) g.1);
     checked = λ b y l c e. let g = mine.checked b y (lives l).0 c e in (g.0, clear_turns (start key) (used_at key) W W' me turn (suc me) v.goal b (mine.goal (lives l).0).1 g.1);
     goal = λ l. let g = mine.goal (lives l).0 in (g.0, omega (arith, g.1, clock_same));
+    ahead = λ l u. mine.ahead (lives l).0 (lives l).1;
     look = λ l. tt;
     regions = λ q u e. let g = mine.regions q u e in (g.0, g.1, g.2, λ l. g.3 (lives l).0);
   }

@@ -112,6 +112,7 @@ module _ {S : Type 0} (key : Story) (s : State S Book) (r : IsKept key s) (me : 
     reads = λ a x l. dead l;
     checked = λ a x l. dead l;
     goal = λ l. dead l;
+    ahead = λ l u. dead l;
     look = λ l. tt;
     regions = λ q u e. ⊎_elim (λ f. let g = mine.regions q u f in (keeps_else q me (λ h. apart (sym h)) g.0, g.1, (let l = g.2 in omega arith), λ l. dead l)) (λ f. let g = yours.regions q u f in (keeps_yours q g.0, g.1, (let l = g.2 in omega arith), λ l. dead l)) (lookup_append v.regions w.regions q u e);
   }
@@ -128,6 +129,7 @@ module _ {S : Type 0} (key : Story) (s : State S Book) (r : IsKept key s) (me : 
     reads = λ a x l. dead l;
     checked = λ a x l. dead l;
     goal = λ l. dead l;
+    ahead = λ l u. dead l;
     look = λ l. tt;
     regions = λ q u e. absurd (some-ne-none u (sym e));
   }

@@ -83,6 +83,7 @@ module _ (S : Type 0) (key : Story) (words : List ℕ) (wide : length words ≡ 
       reads = λ a x l. dead₀ l;
       checked = λ a x l. dead₀ l;
       goal = λ l. dead₀ l;
+      ahead = λ l u. dead₀ l;
       look = λ l. tt;
       regions = λ q g e. (refl, opened_region key.regions q g e, omega arith, λ l. omega arith);
     };

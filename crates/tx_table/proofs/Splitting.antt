@@ -134,6 +134,7 @@ module _ {S : Type 0} (key : Story) (s : State S Book) (r : IsKept key s) (me : 
     reads = mine.reads;
     checked = mine.checked;
     goal = mine.goal;
+    ahead = mine.ahead;
     look = mine.look;
     regions = λ q u e. mine.regions q u (lookup_only (inverse given) v.regions q u e).1;
   }
@@ -150,6 +151,7 @@ module _ {S : Type 0} (key : Story) (s : State S Book) (r : IsKept key s) (me : 
     reads = λ a x l e. absurd e;
     checked = λ a x d h e. absurd e;
     goal = λ l. let z : false ≡ true = l in cc z;
+    ahead = λ l u. let z : false ≡ true = l in cc z;
     look = λ l. tt;
     regions = λ q u e. let f = lookup_only given v.regions q u e in let g = mine.regions q u f.1 in (keeps_new q f.0 g.0, g.1, g.2, λ l. let z : false ≡ true = l in cc z);
   }

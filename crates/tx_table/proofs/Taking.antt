@@ -94,6 +94,7 @@ module _ {S : Type 0} (key : Story) (s : State S Book) (r : IsKept key s) (me : 
     reads = λ b y l e. let g = mine.reads b y l e in (g.0, clear_turns (start key) (used_at key) W W' me turn (suc me) v.bound b (omega (arith, mine.known, mine.bounded)) g.1);
     checked = λ b y l c e. let g = mine.checked b y l c e in (g.0, clear_turns (start key) (used_at key) W W' me turn (suc me) v.goal b (mine.goal l).1 g.1);
     goal = λ l. let g = mine.goal l in (g.0, omega (arith, g.1, clock_same));
+    ahead = mine.ahead;
     look = λ l. tt;
     regions = mine.regions;
   }

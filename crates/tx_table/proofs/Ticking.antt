@@ -108,6 +108,7 @@ module _ {S : Type 0} (key : Story) (s : State S Book) (r : IsKept key s) (me : 
     reads = λ b y l e. let g = mine.reads b y l e in (g.0, clear_turns (start key) (used_at key) W W' me turn (suc me) v.bound b low g.1);
     checked = λ b y l had. absurd had;
     goal = λ l. (omega (arith, low, next), omega (arith, clock_is, next));
+    ahead = λ l u. omega arith;
     look = λ l. tt;
     regions = λ q u e. let g = mine.regions q u e in (g.0, g.1, omega (arith, g.2, mine.known, next), g.3);
   }

@@ -69,6 +69,7 @@ module _ (o : ℕ → ℕ) (op : ℕ → ℕ) (W W' : World) (me : ℕ) where
       reads = λ a x live e. sees_turns (suc k) b.bound a x m low (h.reads a x live e);
       checked = λ a x live had e. sees_turns (suc k) b.goal a x m (h.goal live).1 (h.checked a x live had e);
       goal = λ live. let g = h.goal live in (g.0, omega (arith, g.1, T.later));
+      ahead = h.ahead;
       look = λ live. looks_turns (suc k) b.bound b.look m low (h.look live);
       regions = λ r u e. let g = h.regions r u e in let p = stay r (u, e) g.0 in
           (p.0, ap (region_after (op r)) p.1 ∙ g.1, omega (arith, ap top_of p.1, g.2), λ live. let q = g.3 live in omega (arith, q, ap top_of p.1));

@@ -104,6 +104,7 @@ module _ {S : Type 0} (key : Story) (s : State S Book) (r : IsKept key s) (me : 
     reads = λ b y l e. let z : true ≡ false = sym l ∙ mine.decided decided in cc z;
     checked = λ b y l. let z : true ≡ false = sym l ∙ mine.decided decided in cc z;
     goal = λ l. absurd (let z : true ≡ false = sym l ∙ mine.decided decided in cc z);
+    ahead = λ l u. absurd (let z : true ≡ false = sym l ∙ mine.decided decided in cc z);
     look = λ l. let z : true ≡ false = sym l ∙ mine.decided decided in cc z;
     regions = mine.regions;
   }

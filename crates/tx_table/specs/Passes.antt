@@ -1,7 +1,7 @@
 -- A pass and its table.
-use Rattle.std.specs.Prelude.{◌≡◌}
+use Rattle.std.specs.Prelude.{◌≡◌, ◌≤◌, true}
 use Rattle.atomic_table.specs.Seated.{TableId}
-use Rattle.tx_table.specs.Book.{Book}
+use Rattle.tx_table.specs.Book.{Book, Unticked}
 use Rattle.tx_table.specs.declared.shared.Pass.{Pass}
 
 -- what the pass knows
@@ -15,6 +15,11 @@ IsOf t p = p.seat.table_id ≡ t
 -- the same pass, before and after a step
 abbrev pub IsSame : Pass → Pass → Type 0
 IsSame p q = (q.seat.table_id ≡ p.seat.table_id) × (q.seat.id ≡ p.seat.id)
+
+-- The bound that the pass steps with is the one of its book, and no extension is open: the reads hold up to the bound, and none is to be
+-- validated up to a goal over it.
+abbrev pub IsSettled : Pass → Type 0
+IsSettled p = (p.bound ≡ (book p).bound) × ((book p).live ≡ true → (book p).face.stage ≡ Unticked → (book p).goal ≤ (book p).bound)
 
 -- the same pass between attempts: its number, its stripes, its regions, and what it may hand on
 abbrev pub IsKin : Book → Book → Type 0

@@ -93,9 +93,21 @@ abbrev pub checked_at : Look → Book → ℕ → Book
 checked_at (Had s u a x) v n = cond (n == 2 * u) (logged v a x) (lost_at v a n)
 checked_at _ v n = v
 
+-- the reads hold up to the goal, which is the bound from now on
+abbrev pub extended : Book → Book
+extended v = record v { bound = v.goal; seen = v.goal; look = Away; checked = [] }
+
+-- an extension begins, and the clock is n; the bound moves at once where the whole of the reads lies on stripes that are held
+abbrev pub extending : Book → Bool → ℕ → Book
+extending v whole n = cond whole (extended (record v { goal = n })) (record v { goal = n; look = Away; checked = [] })
+
+-- the stripe s was validated, as the last one of an extension or not
+abbrev pub passed : Book → ℕ → Bool → Book
+passed v s last = cond last (extended v) (record v { checked = s ∷ v.checked })
+
 -- the stripe s shows a free version up to the bound, or else the address a is lost
-abbrev pub validated : Book → ℕ → ℕ → ℕ → Book
-validated v a s n = cond (is_free n) (cond (fits v.bound n) (record v { checked = s ∷ v.checked }) (lost_at v a n)) (lost_at v a n)
+abbrev pub validated : Book → ℕ → Bool → ℕ → ℕ → Book
+validated v a last s n = cond (is_free n) (cond (fits v.bound n) (passed v s last) (lost_at v a n)) (lost_at v a n)
 
 -- the stripe s is held, for the address a
 abbrev pub took : Book → ℕ → ℕ → ℕ → Book

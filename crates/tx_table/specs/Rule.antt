@@ -152,6 +152,8 @@ module _ (o : ℕ → ℕ) (opening : ℕ → ℕ) (W : World) where
     pub reads : (a x : ℕ) → b.live ≡ true → In (a, x) b.reads → Sees (suc j) b.bound a x
     pub checked : (a x : ℕ) → b.live ≡ true → In (stripe a) b.checked → In (a, x) b.reads → Sees (suc j) b.goal a x
     pub goal : b.live ≡ true → (b.bound ≤ b.goal) × (b.goal ≤ W.clock)
+    -- an extension ends at no less than what is known of the clock
+    pub ahead : b.live ≡ true → b.face.stage ≡ Unticked → b.seen ≤ b.goal
     pub look : b.live ≡ true → Looks (suc j) b.bound b.look
     pub regions : (r : ℕ) (g : Region) → lookup b.regions r ≡ some g → Holds j b r g
 

@@ -6,7 +6,7 @@ use mathlib.Core.Option.{none}
 use Rattle.tx_table.specs.Book.{Book, Map, lookup}
 use Rattle.jmodel.specs.declared.value.Answer.TheVariants.{Spent}
 use Rattle.tx_table.specs.Rule.{Story, Rule}
-use Rattle.tx_table.specs.Plays.{no_call, begun, looked, loaded_at, checked_at, finished, validated, tried, ticked_up, decided_up, wrote_back, released, gave_up, Aims, word_in}
+use Rattle.tx_table.specs.Plays.{no_call, begun, looked, loaded_at, checked_at, finished, logged, extending, validated, tried, ticked_up, decided_up, wrote_back, released, gave_up, Aims, word_in}
 
 -- the rule, of a table's words and views
 abbrev pub IsKept : {S : Type 0} → Story → State S Book → Type 0
@@ -51,8 +51,15 @@ module _ {S : Type 0} where
   abbrev pub Finishes : Entry → Step S → Me S Book → ℕ → Me S Book → Type 0
   Finishes e st m n m' = m' ≡ (finished m.0 e, m.1)
 
-  abbrev pub Validates : ℕ → Step S → Me S Book → ℕ → Me S Book → Type 0
-  Validates a st m n m' = (m' ≡ (validated m.0 a (st.word - 1) n, m.1)) × Untouched (st.word - 1) m.0 n × Foreign (st.word - 1) m.0 n
+  -- a load of an address on a stripe that the pass holds logs the read
+  abbrev pub Loads_own : (Book → Type 0) → Step S → Me S Book → ℕ → Me S Book → Type 0
+  Loads_own says st m n m' = (m' ≡ (logged m.0 (st.word - 4097) n, m.1)) × says m'.0
+
+  abbrev pub Extends : Bool → Step S → Me S Book → ℕ → Me S Book → Type 0
+  Extends whole st m n m' = (m.0.seen ≤ n) × (m' ≡ (extending m.0 whole n, m.1))
+
+  abbrev pub Validates : ℕ → Bool → Step S → Me S Book → ℕ → Me S Book → Type 0
+  Validates a last st m n m' = (m' ≡ (validated m.0 a last (st.word - 1) n, m.1)) × Untouched (st.word - 1) m.0 n × Foreign (st.word - 1) m.0 n
 
   abbrev pub Takes : ℕ → Step S → Me S Book → ℕ → Me S Book → Type 0
   Takes a st m n m' = (m' ≡ (tried m.0 (st.word - 1) st.first a n, m.1)) × Unchanged (st.word - 1) m.0 n × Moved (st.word - 1) m.0 n × Foreign (st.word - 1) m.0 n

@@ -3,7 +3,7 @@ ghost use Rattle.std.specs.Prelude.{ℕ, Bool, false, []};
 ghost use Rattle.jmodel.specs.history.History.{Call, Entry};
 ghost use Rattle.tx_table.specs.Book.{Book, Map};
 ghost use Rattle.tx_table.specs.Plays.{first_book, spent_book, stays_here, goes_out, joined, no_call};
-ghost use Rattle.tx_table.specs.Steps.{IsKept, Nothing, no_entry, Begins, Looks_up, Loads, Rechecks, Finishes, Takes, Ticks, Validates, Decides, Writes_back, Releases, Gives};
+ghost use Rattle.tx_table.specs.Steps.{IsKept, Nothing, no_entry, Begins, Looks_up, Loads, Rechecks, Finishes, Loads_own, Extends, Takes, Ticks, Validates, Decides, Writes_back, Releases, Gives};
 
 use crate::shared::{Extent, Story};
 use atomic_table::{Join, Play, Split, TableRule};
@@ -73,13 +73,35 @@ impl Adding for Brand {
     ghost entry = { no_entry };
 }
 
-/// The address that a stripe is taken or validated for.
+/// The address that a stripe is taken for.
 pub(crate) trait Naming {
     ghost address: { ℕ };
 }
 
 impl Naming for Brand {
     ghost address = { 0 };
+}
+
+/// The address that a stripe is validated for, and whether it is the last one of an extension.
+pub(crate) trait Validating {
+    ghost address: { ℕ };
+
+    ghost last: { Bool };
+}
+
+impl Validating for Brand {
+    ghost address = { 0 };
+
+    ghost last = { false };
+}
+
+/// Whether all reads of an attempt whose bound is extended lie on stripes that it holds.
+pub(crate) trait Extending {
+    ghost whole: { Bool };
+}
+
+impl Extending for Brand {
+    ghost whole = { false };
 }
 
 /// The writes of an attempt.
@@ -167,8 +189,24 @@ pub(crate) struct Validate<G> {
     told: PhantomData<G>,
 }
 
-impl<G: Naming> Play<(), View> for Validate<G> {
-    ghost then = { Validates G.address };
+impl<G: Validating> Play<(), View> for Validate<G> {
+    ghost then = { Validates G.address G.last };
+}
+
+pub(crate) struct LoadOwn<G> {
+    told: PhantomData<G>,
+}
+
+impl<G: Checking> Play<(), View> for LoadOwn<G> {
+    ghost then = { Loads_own G.says };
+}
+
+pub(crate) struct Extend<G> {
+    told: PhantomData<G>,
+}
+
+impl<G: Extending> Play<(), View> for Extend<G> {
+    ghost then = { Extends G.whole };
 }
 
 pub(crate) struct Decide<G> {

@@ -36,6 +36,7 @@ impl<T: Story> Shared<T> {
         let pass = Pass {
             seat,
             bound: 0,
+            goal: 0,
             number: 0,
             tick: 0,
             fresh: 1_048_575,
@@ -61,6 +62,7 @@ impl<T: Story> Shared<T> {
         let Pass {
             seat,
             bound: _,
+            goal: _,
             number: _,
             tick: _,
             fresh: _,
@@ -110,6 +112,7 @@ impl Pass {
         Pass {
             seat,
             bound: 0,
+            goal: 0,
             number,
             tick: 0,
             fresh: 0,
@@ -129,6 +132,7 @@ impl Pass {
         let Pass {
             seat,
             bound: _,
+            goal: _,
             number: _,
             tick: _,
             fresh,

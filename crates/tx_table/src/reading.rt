@@ -5,7 +5,7 @@ ghost use mathlib.Core.Option.{none as Missing};
 ghost use Rattle.tx_table.specs.Book.{Book, lookup, Unticked, Saw};
 ghost use Rattle.tx_table.specs.Rule.{Snapshot};
 ghost use Rattle.tx_table.specs.Plays.{begun, lost_at, loaded_at, logged, value_in, finished, Aims, IsLoaded, Reads, word_in};
-ghost use Rattle.tx_table.specs.Passes.{book, IsOf, IsSame};
+ghost use Rattle.tx_table.specs.Passes.{book, IsOf, IsSame, IsSettled};
 ghost use Rattle.tx_table.specs.Steps.{IsPast};
 
 use crate::law::{Adding, Begin, Beginning, Checking, Finish, Load, Look, Looking, Recheck};
@@ -21,6 +21,7 @@ impl Pass {
         requires table { IsOf s.now.table.shared.table_id self.old }
         requires free { ((book self.old).face.held ≡ []) × ((book self.old).face.stage ≡ Unticked) }
         ensures same { IsSame self.old self.new }
+        ensures settled { IsSettled self.new }
         ensures book { book self.new ≡ begun (book self.old) call result }
         ensures later { (book self.old).seen ≤ result }
         ensures snapshot { Snapshot (T.story s.now.table.shared.key.story.value) (book self.new) }
@@ -33,11 +34,13 @@ impl Pass {
         requires free { ((book self.old).face.held ≡ []) × ((book self.old).face.stage ≡ Unticked) }
         requires tells { (b : Book) → Snapshot (T.story s.now.table.shared.key.story.value) b → G.says b }
         ensures same { IsSame self.old self.new }
+        ensures settled { IsSettled self.new }
         ensures book { book self.new ≡ begun (book self.old) G.call result }
         ensures later { (book self.old).seen ≤ result }
         ensures says { G.says (book self.new) }
     {
         self.bound = s.table.shared.load::<Begin<G>>(&mut self.seat, 0);
+        self.goal = self.bound;
         self.bound
     }
 
@@ -46,9 +49,11 @@ impl Pass {
     /// meets none at a stripe that it does not hold.
     pub fn look<T: Story>(&mut self, s: &Shared<T>, a: u64, newer: bool) -> Result<u64, Conflict>
         requires table { IsOf s.now.table.shared.table_id self.old }
+        requires settled { IsSettled self.old }
         requires heap { a < s.now.words }
         requires live { (book self.old).live ≡ true }
         ensures same { IsSame self.old self.new }
+        ensures settled { IsSettled self.new }
         ensures ok { IfOk result (λ w. (w % 2 ≡ 0) × ((newer ≡ true) ⊎ (w ≤ 2 * (book self.old).bound)) × (book self.new ≡ record (book self.old) { look = Saw (a % 4096) (w / 2) })) }
         ensures err { IfErr result (λ e. ((e.word % 2 ≢ 0) ⊎ ((newer ≡ false) × (2 * (book self.old).bound < e.word))) × (book self.new ≡ lost_at (book self.old) a e.word)) }
         ensures conflict { IfErr result (λ e. (e.address ≡ a) × (e.upto ≡ (book self.old).bound)) }
@@ -65,10 +70,12 @@ impl Pass {
         newer: bool,
     ) -> Result<u64, Conflict>
         requires table { IsOf s.now.table.shared.table_id self.old }
+        requires settled { IsSettled self.old }
         requires heap { a < s.now.words }
         requires told { (G.address ≡ a) × (G.newer ≡ newer) }
         requires live { (book self.old).live ≡ true }
         ensures same { IsSame self.old self.new }
+        ensures settled { IsSettled self.new }
         ensures ok { IfOk result (λ w. (w % 2 ≡ 0) × ((newer ≡ true) ⊎ (w ≤ 2 * (book self.old).bound)) × (book self.new ≡ record (book self.old) { look = Saw (a % 4096) (w / 2) })) }
         ensures err { IfErr result (λ e. ((e.word % 2 ≢ 0) ⊎ ((newer ≡ false) × (2 * (book self.old).bound < e.word))) × (book self.new ≡ lost_at (book self.old) a e.word)) }
         ensures conflict { IfErr result (λ e. (e.address ≡ a) × (e.upto ≡ (book self.old).bound)) }
@@ -87,9 +94,11 @@ impl Pass {
     /// Loads an address at whose stripe a look is in flight.
     pub fn load<T: Story>(&mut self, s: &Shared<T>, a: u64) -> u64
         requires table { IsOf s.now.table.shared.table_id self.old }
+        requires settled { IsSettled self.old }
         requires heap { a < s.now.words }
         requires looked { ((book self.old).live ≡ true) × Aims (book self.old).look (a % 4096) }
         ensures same { IsSame self.old self.new }
+        ensures settled { IsSettled self.new }
         ensures book { book self.new ≡ loaded_at (book self.old).look (book self.old) a result }
     {
         s.table
@@ -101,9 +110,11 @@ impl Pass {
     /// conflict, which ends the reading; it is held, or has a version over the bound.
     pub fn recheck<T: Story>(&mut self, s: &Shared<T>, a: u64) -> Result<(), Conflict>
         requires table { IsOf s.now.table.shared.table_id self.old }
+        requires settled { IsSettled self.old }
         requires heap { a < s.now.words }
         requires looked { ((book self.old).live ≡ true) × ((book self.old).face.stage ≡ Unticked) × IsLoaded (book self.old).look a (book self.old).bound }
         ensures same { IsSame self.old self.new }
+        ensures settled { IsSettled self.new }
         ensures ok { IfOk result (λ _. book self.new ≡ logged (book self.old) a (value_in (book self.old).look)) }
         ensures snapshot { IfOk result (λ _. Snapshot (T.story s.now.table.shared.key.story.value) (book self.new)) }
         ensures err { IfErr result (λ e. (e.word ≢ word_in (book self.old).look 0) × (book self.new ≡ lost_at (book self.old) a e.word)) }
@@ -117,10 +128,12 @@ impl Pass {
 
     fn recheck_as<T: Story, G: Checking>(&mut self, s: &Shared<T>, a: u64) -> Result<(), Conflict>
         requires table { IsOf s.now.table.shared.table_id self.old }
+        requires settled { IsSettled self.old }
         requires heap { a < s.now.words }
         requires looked { ((book self.old).live ≡ true) × ((book self.old).face.stage ≡ Unticked) × IsLoaded (book self.old).look a (book self.old).bound }
         requires tells { (b : Book) → Snapshot (T.story s.now.table.shared.key.story.value) b → G.says b }
         ensures same { IsSame self.old self.new }
+        ensures settled { IsSettled self.new }
         ensures ok { IfOk result (λ _. book self.new ≡ logged (book self.old) a (value_in (book self.old).look)) }
         ensures says { IfOk result (λ _. G.says (book self.new)) }
         ensures err { IfErr result (λ e. (e.word ≢ word_in (book self.old).look 0) × (book self.new ≡ lost_at (book self.old) a e.word)) }
@@ -144,9 +157,11 @@ impl Pass {
     pub fn finish<T: Story>(&mut self, s: &Shared<T>) -> Stamp
         ghost entry: { Entry }
         requires table { IsOf s.now.table.shared.table_id self.old }
+        requires settled { IsSettled self.old }
         requires ready { ((book self.old).live ≡ true) × ((book self.old).face.stage ≡ Unticked) }
         requires entry { Reads (T.story s.now.table.shared.key.story.value) (book self.old) entry }
         ensures same { IsSame self.old self.new }
+        ensures settled { IsSettled self.new }
         ensures book { book self.new ≡ finished (book self.old) entry }
         ensures stamp { result ≡ entry.stamp }
     {
@@ -155,9 +170,11 @@ impl Pass {
 
     fn finish_as<T: Story, G: Adding>(&mut self, s: &Shared<T>) -> Stamp
         requires table { IsOf s.now.table.shared.table_id self.old }
+        requires settled { IsSettled self.old }
         requires ready { ((book self.old).live ≡ true) × ((book self.old).face.stage ≡ Unticked) }
         requires entry { Reads (T.story s.now.table.shared.key.story.value) (book self.old) G.entry }
         ensures same { IsSame self.old self.new }
+        ensures settled { IsSettled self.new }
         ensures book { book self.new ≡ finished (book self.old) G.entry }
         ensures stamp { result ≡ G.entry.stamp }
     {

@@ -29,15 +29,17 @@ pub struct Shared<T: Story> {
     ghost sized: { (words ≡ table.shared.key.words) × (words + 4097 ≡ table.shared.table_id.words) × (table.shared.table_id.words < 2 ^ 32) × (table.shared.table_id.slots ≡ 0) },
 }
 
-/// What one thread steps with: its number, its clock steps, and its attempt's bound, tick and the word of its last look.
+/// What one thread steps with: its number, its clock steps, and its attempt's bound, the clock up to which it validates, its tick and the word of its
+/// last look.
 #[derive(Drop)]
 pub struct Pass {
     pub seat: Seat<(), View>,
     pub(crate) bound: u64,
+    pub(crate) goal: u64,
     pub(crate) number: u64,
     pub(crate) tick: u64,
     pub(crate) fresh: u64,
     pub(crate) ticks: u64,
     pub(crate) word: u64,
-    ghost tied: { (bound ≡ seat.me.0.bound) × (number ≡ seat.me.0.face.number) × (tick ≡ seat.me.0.face.tick) × (number < 2 ^ 20) × (tick < 2 ^ 62) × (fresh ≡ seat.me.0.fresh) × (ticks ≡ seat.me.0.ticks) × (0 < seat.me.0.numbers) × (seat.me.1 ≡ []) × (word ≡ word_in seat.me.0.look word) },
+    ghost tied: { (goal ≡ seat.me.0.goal) × (number ≡ seat.me.0.face.number) × (tick ≡ seat.me.0.face.tick) × (number < 2 ^ 20) × (tick < 2 ^ 62) × (fresh ≡ seat.me.0.fresh) × (ticks ≡ seat.me.0.ticks) × (0 < seat.me.0.numbers) × (seat.me.1 ≡ []) × (word ≡ word_in seat.me.0.look word) },
 }

@@ -1,15 +1,15 @@
 //! The steps of an attempt that writes.
-ghost use Rattle.std.specs.Prelude.{◌≡◌, ◌≢◌, ◌⊎◌, ◌≤◌, ◌<◌, ◌+◌, ◌*◌, ◌/◌, ◌%◌, ◌^◌, ◌∷◌, [], ℕ, Bool, true, false, IfOk, IfErr, IsOk};
+ghost use Rattle.std.specs.Prelude.{◌≡◌, ◌≢◌, ◌⊎◌, ◌≤◌, ◌<◌, ◌+◌, ◌*◌, ◌/◌, ◌%◌, ◌^◌, [], ℕ, Bool, true, false, IfOk, IfErr, IsOk};
 ghost use mathlib.Core.Option.{some as Found, none as Missing};
 ghost use Rattle.jmodel.specs.history.History.{Entry};
 ghost use Rattle.tx_table.specs.Book.{Map, lookup, Has, In, Unticked, Ticked, Decided};
-ghost use Rattle.tx_table.specs.Plays.{lost_at, took, ticked_up, decided_up, wrote_back, released, gave_up, Updates, Aims, word_in};
-ghost use Rattle.tx_table.specs.Passes.{book, IsOf, IsSame};
+ghost use Rattle.tx_table.specs.Plays.{lost_at, took, passed, ticked_up, decided_up, wrote_back, released, gave_up, Updates, Aims, word_in};
+ghost use Rattle.tx_table.specs.Passes.{book, IsOf, IsSame, IsSettled};
 ghost use Rattle.tx_table.specs.Steps.{IsPast};
 
 use crate::law::{
-    Adding, Decide, Keeping, Naming, ReleaseNew, ReleaseOld, Take, Tick, Validate, WriteBack,
-    Writing,
+    Adding, Decide, Keeping, Naming, ReleaseNew, ReleaseOld, Take, Tick, Validate, Validating,
+    WriteBack, Writing,
 };
 use crate::shared::{Pass, Shared, Story};
 use std::marker::Brand;
@@ -27,10 +27,12 @@ impl Pass {
     /// word is a conflict, which ends the reading.
     pub fn take<T: Story>(&mut self, s: &Shared<T>, a: u64, word: u64) -> Result<(), Conflict>
         requires table { IsOf s.now.table.shared.table_id self.old }
+        requires settled { IsSettled self.old }
         requires heap { a < s.now.words }
         requires ready { ((book self.old).face.stage ≡ Unticked) × ((book self.old).live ≡ true) × (word % 2 ≡ 0) }
         requires fits { (b x : ℕ) → In (b, x) (book self.old).reads → b % 4096 ≡ a % 4096 → word ≤ 2 * (book self.old).bound }
         ensures same { IsSame self.old self.new }
+        ensures settled { IsSettled self.new }
         ensures ok { IfOk result (λ _. book self.new ≡ took (book self.old) (a % 4096) word a) }
         ensures err { IfErr result (λ e. (e.word ≢ word) × (book self.new ≡ lost_at (book self.old) a e.word)) }
         ensures past { Aims (book self.old).look (a % 4096) → word ≡ word_in (book self.old).look 0 → IfErr result (λ e. IsPast (book self.old).bound e.word) }
@@ -48,11 +50,13 @@ impl Pass {
         word: u64,
     ) -> Result<(), Conflict>
         requires table { IsOf s.now.table.shared.table_id self.old }
+        requires settled { IsSettled self.old }
         requires heap { a < s.now.words }
         requires told { G.address ≡ a }
         requires ready { ((book self.old).face.stage ≡ Unticked) × ((book self.old).live ≡ true) × (word % 2 ≡ 0) }
         requires fits { (b x : ℕ) → In (b, x) (book self.old).reads → b % 4096 ≡ a % 4096 → word ≤ 2 * (book self.old).bound }
         ensures same { IsSame self.old self.new }
+        ensures settled { IsSettled self.new }
         ensures ok { IfOk result (λ _. book self.new ≡ took (book self.old) (a % 4096) word a) }
         ensures err { IfErr result (λ e. (e.word ≢ word) × (book self.new ≡ lost_at (book self.old) a e.word)) }
         ensures past { Aims (book self.old).look (a % 4096) → word ≡ word_in (book self.old).look 0 → IfErr result (λ e. IsPast (book self.old).bound e.word) }
@@ -76,10 +80,12 @@ impl Pass {
     pub fn tick<T: Story>(&mut self, s: &Shared<T>) -> u64
         ghost due: { Map ℕ }
         requires table { IsOf s.now.table.shared.table_id self.old }
+        requires settled { IsSettled self.old }
         requires ready { ((book self.old).face.stage ≡ Unticked) × ((book self.old).live ≡ true) × ((book self.old).ticks < 2 ^ 40) }
         requires held { (b : ℕ) → Has due b → Has (book self.old).face.held (b % 4096) }
         requires due { (i y : ℕ) → lookup (book self.old).face.held i ≡ Found y → (b : ℕ) × (b % 4096 ≡ i) × Has due b }
         ensures same { IsSame self.old self.new }
+        ensures settled { IsSettled self.new }
         ensures book { book self.new ≡ ticked_up (book self.old) result due }
         ensures later { (book self.old).seen < result }
     {
@@ -88,55 +94,19 @@ impl Pass {
 
     fn tick_as<T: Story, G: Writing>(&mut self, s: &Shared<T>) -> u64
         requires table { IsOf s.now.table.shared.table_id self.old }
+        requires settled { IsSettled self.old }
         requires ready { ((book self.old).face.stage ≡ Unticked) × ((book self.old).live ≡ true) × ((book self.old).ticks < 2 ^ 40) }
         requires held { (b : ℕ) → Has G.due b → Has (book self.old).face.held (b % 4096) }
         requires due { (i y : ℕ) → lookup (book self.old).face.held i ≡ Found y → (b : ℕ) × (b % 4096 ≡ i) × Has G.due b }
         ensures same { IsSame self.old self.new }
+        ensures settled { IsSettled self.new }
         ensures book { book self.new ≡ ticked_up (book self.old) result G.due }
         ensures later { (book self.old).seen < result }
     {
         self.ticks += 1;
         self.tick = s.table.shared.fetch_add::<Tick<G>>(&mut self.seat, 0, 1) + 1;
+        self.goal = self.tick;
         self.tick
-    }
-
-    /// Looks once more at the stripe of an address that was read. A stripe that is held, or whose version is over the bound, is
-    /// a conflict, which ends the reading.
-    pub fn validate<T: Story>(&mut self, s: &Shared<T>, a: u64) -> Result<(), Conflict>
-        requires table { IsOf s.now.table.shared.table_id self.old }
-        requires heap { a < s.now.words }
-        requires live { (book self.old).live ≡ true }
-        ensures same { IsSame self.old self.new }
-        ensures ok { IfOk result (λ _. book self.new ≡ record (book self.old) { checked = (a % 4096) ∷ (book self.old).checked }) }
-        ensures err { IfErr result (λ e. IsPast (book self.old).bound e.word × (book self.new ≡ lost_at (book self.old) a e.word)) }
-        ensures conflict { IfErr result (λ e. (e.address ≡ a) × (e.upto ≡ (book self.old).bound)) }
-        ensures other { lookup (book self.old).face.held (a % 4096) ≡ Missing → IfErr result (λ e. e.word ≢ 2 * (book self.old).face.number + 1) }
-        ensures sole { (book self.old).numbers ≡ 2 ^ 20 → lookup (book self.old).face.held (a % 4096) ≡ Missing → IsOk result }
-    {
-        self.validate_as::<T, Brand>(s, a)
-    }
-
-    fn validate_as<T: Story, G: Naming>(&mut self, s: &Shared<T>, a: u64) -> Result<(), Conflict>
-        requires table { IsOf s.now.table.shared.table_id self.old }
-        requires heap { a < s.now.words }
-        requires told { G.address ≡ a }
-        requires live { (book self.old).live ≡ true }
-        ensures same { IsSame self.old self.new }
-        ensures ok { IfOk result (λ _. book self.new ≡ record (book self.old) { checked = (a % 4096) ∷ (book self.old).checked }) }
-        ensures err { IfErr result (λ e. IsPast (book self.old).bound e.word × (book self.new ≡ lost_at (book self.old) a e.word)) }
-        ensures conflict { IfErr result (λ e. (e.address ≡ a) × (e.upto ≡ (book self.old).bound)) }
-        ensures other { lookup (book self.old).face.held (a % 4096) ≡ Missing → IfErr result (λ e. e.word ≢ 2 * (book self.old).face.number + 1) }
-        ensures sole { (book self.old).numbers ≡ 2 ^ 20 → lookup (book self.old).face.held (a % 4096) ≡ Missing → IsOk result }
-    {
-        let stripe = (a % 4096) as usize;
-        let word = s
-            .table
-            .shared
-            .load::<Validate<G>>(&mut self.seat, stripe + 1);
-        if word % 2 == 1 || word / 2 > self.bound {
-            return Err(self.conflict(a, word));
-        }
-        Ok(())
     }
 
     /// Stores the first of the writes, which decides the attempt: its entry, which contracts alone see, is added.
@@ -198,6 +168,7 @@ impl Pass {
         requires table { IsOf s.now.table.shared.table_id self.old }
         requires ready { (stripe < 4096) × ((book self.old).face.stage ≢ Decided) × (lookup (book self.old).face.held stripe ≡ Found word) × (kept ≡ true → ((book self.old).live ≡ true) × ((book self.old).face.stage ≡ Unticked)) }
         ensures same { IsSame self.old self.new }
+        ensures settled { IsSettled self.old → IsSettled self.new }
         ensures book { book self.new ≡ gave_up (book self.old) stripe kept }
     {
         self.release_old_as::<T, Brand>(s, stripe, word);
@@ -207,6 +178,7 @@ impl Pass {
         requires table { IsOf s.now.table.shared.table_id self.old }
         requires ready { (stripe < 4096) × ((book self.old).face.stage ≢ Decided) × (lookup (book self.old).face.held stripe ≡ Found word) × (G.kept ≡ true → ((book self.old).live ≡ true) × ((book self.old).face.stage ≡ Unticked)) }
         ensures same { IsSame self.old self.new }
+        ensures settled { IsSettled self.old → IsSettled self.new }
         ensures book { book self.new ≡ gave_up (book self.old) stripe G.kept }
     {
         s.table

@@ -6,7 +6,7 @@ ghost use Rattle.tx_table.specs.Plays.{first_book, stays_here, goes_out};
 ghost use Rattle.tx_table.specs.Passes.{book, IsOf, IsSame};
 ghost use Rattle.tl2.specs.Trials.{StandsSomehow, IsWaiting, IsStarting, IsEnding, of_lane, regions_below};
 
-use super::{CallAt, tries};
+use super::{CallAt, lazy, tries};
 use jmodel::NoMemory;
 use jmodel::access::Access;
 use std::alloc::Global;
@@ -16,12 +16,12 @@ use tl2::attempt::{Ruled, Tl2};
 use tx_table::{Pass, Shared, Story};
 
 /// How many moves each lane makes.
-const MOVES: u64 = 1_000;
+pub(super) const MOVES: u64 = 1_000;
 
 /// A story of these words, sixteen lanes, and any entries.
 #[derive(Drop)]
-struct Accounts {
-    words: Vec<u64>,
+pub(super) struct Accounts {
+    pub(super) words: Vec<u64>,
 }
 
 impl Story for Accounts {
@@ -43,13 +43,13 @@ impl Ruled for Accounts {
 
 /// A lane's number, and the pass that it starts with.
 #[derive(Drop)]
-struct Lane {
-    number: u64,
-    pass: Pass,
+pub(super) struct Lane {
+    pub(super) number: u64,
+    pub(super) pass: Pass,
 }
 
 /// The address of one of 64 accounts, of which 16 lie on each of 4 stripes.
-fn account(n: u64) -> u64 {
+pub(super) fn account(n: u64) -> u64 {
     n % 4 + 4096 * (n / 4 % 16)
 }
 
@@ -131,9 +131,22 @@ fn lanes_of(
     Ok(lanes)
 }
 
+/// What a thread does by the engine that is wanted.
+fn runs_by(is_lazy: bool, alloc: Global, shared: &Shared<Accounts>, lane: Lane) -> (u64, Pass)
+    requires { IsStarting shared.now.table.shared.table_id lane.number lane.pass }
+    ensures { IsEnding shared.now.table.shared.table_id result.1 }
+{
+    if is_lazy {
+        lazy::runs(alloc, shared, lane)
+    } else {
+        runs(alloc, shared, lane)
+    }
+}
+
 /// Each lane on a thread of its own: how many moves it made, and its pass.
 fn all_run<R: Threads + Sync>(
     rt: &R,
+    is_lazy: bool,
     alloc: Global,
     shared: &Shared<Accounts>,
     lanes: Vec<Lane>,
@@ -142,7 +155,7 @@ fn all_run<R: Threads + Sync>(
     ensures len { IfOk result (λ ended. length ended.items ≡ length lanes.items) }
     ensures ended { IfOk result (λ ended. All (λ l. IsEnding shared.now.table.shared.table_id l.1) ended.items) }
 {
-    Ok(map_vec(rt, lanes, &|lane| runs(alloc, shared, lane))?)
+    Ok(map_vec(rt, lanes, &|lane| runs_by(is_lazy, alloc, shared, lane))?)
 }
 
 /// Joins the passes, and answers whether each lane made all of its moves.
@@ -176,19 +189,34 @@ fn are_moved(before: &[u64], after: &[u64]) -> bool {
     before != after && total(before) == total(after)
 }
 
-#[test]
-fn sixteen_threads_move_amounts_between_accounts(rt: HostRuntime) -> Result<(), NoMemory> {
-    let words = Vec::from_elem(rt.alloc(), 100u64, 65_536)?;
+/// Whether sixteen threads made all of their moves, and left words with the same sum.
+fn all_move<R: Threads + Sync>(rt: &R, is_lazy: bool, alloc: Global) -> Result<bool, NoMemory> {
+    let words = Vec::from_elem(alloc, 100u64, 65_536)?;
     let told = Accounts {
         words: words.clone()?,
     };
-    let (shared, mut pass) = Shared::open(rt.alloc(), words, Snapshot::of(&told))?;
-    let lanes = lanes_of(rt.alloc(), &shared, &mut pass)?;
-    let ended = all_run(&rt, rt.alloc(), &shared, lanes)?;
+    let (shared, mut pass) = Shared::open(alloc, words, Snapshot::of(&told))?;
+    let lanes = lanes_of(alloc, &shared, &mut pass)?;
+    let ended = all_run(rt, is_lazy, alloc, &shared, lanes)?;
     let all = join_all(&shared, &mut pass, ended);
-    let Ok(left) = shared.close(rt.alloc(), pass) else {
+    let Ok(left) = shared.close(alloc, pass) else {
         return Err(NoMemory);
     };
-    assert!(rt; all && are_moved(&told.words, &left));
+    Ok(all && are_moved(&told.words, &left))
+}
+
+#[test]
+fn sixteen_threads_move_amounts_between_accounts(rt: HostRuntime) -> Result<(), NoMemory> {
+    let moved = all_move(&rt, false, rt.alloc())?;
+    assert!(rt; moved);
+    Ok(())
+}
+
+#[test]
+fn sixteen_threads_move_amounts_and_take_stripes_as_they_write(
+    rt: HostRuntime,
+) -> Result<(), NoMemory> {
+    let moved = all_move(&rt, true, rt.alloc())?;
+    assert!(rt; moved);
     Ok(())
 }

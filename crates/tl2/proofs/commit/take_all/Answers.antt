@@ -70,5 +70,6 @@ loop-i-preserved g c =
       addresses = addresses_kept ss n c.in-Ok.word more ∙ i.addresses;
       later = drop-set-lt (n + 1) ss n (record s { word = c.in-Ok.word }) (omega arith) ∙ (same_later ss c.args.stripes.now n more most i.later).1;
       taking = taking_one (book c.args.pass.now) (book c.loop-i.pass) (number_of s) c.in-Ok.word s.address i.taking;
+      settled = rw c.in-Ok.ensures.ok at c.take_one.ensures.settled;
       means = λ a. ⊎_elim (λ (e : a ≡ s.address). inr (subst (λ (k : ℕ). In k all) (sym e) here)) (i.means a);
     })

@@ -9,7 +9,7 @@ use Rattle.tl2.proofs.Rests.{err_says}
 use Rattle.tl2.proofs.commit.validate_all.Goals as goal
 
 pub loop-address-init : goal.loop-address-init
-loop-address-init g c = let v = book c.args.pass.now in record { same = (refl, refl); checked = (v.checked, refl, All-nil (λ (a : ℕ). In (a % 4096) v.checked)) }
+loop-address-init g c = let v = book c.args.pass.now in record { same = (refl, refl); checked = (v.checked, refl, All-nil (λ (a : ℕ). In (a % 4096) v.checked)); settled = c.requires.settled }
 
 pub loop-address-preserved : goal.loop-address-preserved
 loop-address-preserved g c =
@@ -18,6 +18,7 @@ loop-address-preserved g c =
     rw c.in_ok-validate.ensures.ok (record {
       same = same;
       checked = checked_more c.args.addresses.now c.loop-address.address-index (book c.args.pass.now) (book c.loop-address.pass) c.loop-address-test.true i.checked;
+      settled = rw c.in_ok-validate.ensures.ok at (c.validate.ensures.settled refl i.settled);
     })
 
 pub returns-clause-ok : goal.returns-clause-ok

@@ -8,14 +8,14 @@ use Rattle.tl2.specs.declared.plan.Stripe.{Stripe}
 use Rattle.tl2.specs.Commits.{Holds}
 use Rattle.tl2.specs.Plans.{addresses_of, words_of, IsListed}
 use Rattle.tl2.proofs.Members.{all_in}
-use Rattle.tl2.proofs.Updating.{bounded, read_tells, elsewhere_read, elsewhere_fits, stripes_fit, due_held, held_due, elsewhere_free, all_safe, some_held, means_stored, means_lost, newest_some, newest_fits, ticked_then, ticked_lost, updates, added}
+use Rattle.tl2.proofs.Updating.{bounded, holding, read_tells, elsewhere_read, elsewhere_fits, stripes_fit, due_held, held_due, elsewhere_free, all_safe, some_held, means_stored, means_lost, newest_some, newest_fits, ticked_then, ticked_lost, updates, added}
 use Rattle.tl2.proofs.Rests.{err_says}
 use Rattle.tl2.proofs.update.update.Goals as goal
 
 pub take_all-requires-clause-heap : goal.take_all-requires-clause-heap
 take_all-requires-clause-heap g c =
     let words = c.args.shared.now.words in
-    rw c.deref_mut.ensures.value (stripes_fit (book c.args.pass.now).reads c.requires.plan words (bounded words (reverse c.args.writes.now) c.requires.heap.0))
+    rw c.deref_mut.ensures.value (stripes_fit (book c.args.pass.now).reads (holding c.requires.plan) words (bounded words (reverse c.args.writes.now) c.requires.heap.0))
 
 pub take_all-requires-clause-read : goal.take_all-requires-clause-read
 take_all-requires-clause-read g c = rw c.deref_mut.ensures.value (read_tells (book c.args.pass.now).reads c.requires.plan)
@@ -36,7 +36,7 @@ returns-in_err-take_all-clause-means g c = λ a i.
 pub tick_checked-requires : goal.tick_checked-requires
 tick_checked-requires g c κs within =
     let m = (book c.args.pass.now).reads in
-    let p = c.requires.plan in
+    let p = holding c.requires.plan in
     let v1 = book c.take_all.new.pass in
     let ok = c.in_ok-take_all.ensures.ok in
     let taken : List Stripe = c.take_all.new.stripes in
@@ -44,7 +44,7 @@ tick_checked-requires g c κs within =
     let words = c.args.shared.now.words in
     let heap : All (λ a. a < words) c.deref.result.now = rw c.deref.ensures.value (elsewhere_fits m p words c.requires.heap.1) in
     let ticks = ok.0.rest.ticks in
-    (within, (refl, (c.take_all.ensures.same.0 ∙ c.requires.table, (heap, ((ok.0.stage, ok.0.live, omega arith), (due_held m p taken same v1 ok.1, held_due m p taken same v1 ok.1))))))
+    (within, (refl, (c.take_all.ensures.same.0 ∙ c.requires.table, (heap, ((ok.0.stage, ok.0.live, omega arith), (due_held m p taken same v1 ok.1, (held_due m p taken same v1 ok.1, c.in_ok-take_all.ensures.settled)))))))
 
 pub store_all-requires : goal.store_all-requires
 store_all-requires g c κs within =
@@ -71,7 +71,7 @@ store_all-requires g c κs within =
             (
               (k.stage, k.live, rw k.due newest),
               (
-                rw k.reads (all_safe v.reads c.requires.plan taken same v3 holds (ticked_up v1 t (pairs w)) (rw c.deref.ensures.value at checked.1)),
+                rw k.reads (all_safe v.reads (holding c.requires.plan) taken same v3 holds (ticked_up v1 t (pairs w)) (rw c.deref.ensures.value at checked.1)),
                 updates t w v v3 c.args.answer.value c.args.used.value k story (c.requires.entry t),
               ),
             ),
@@ -88,7 +88,7 @@ release_all-requires-clause-any g c =
     let same : addresses_of taken ≡ addresses_of c.args.plan.stripes.items = ok.2 ∙ ap addresses_of c.deref_mut.ensures.value in
     let is : (book c.store_all.new.pass).face.held ≡ v1.face.held =
     ap (λ (b : Book). b.face.held) c.store_all.ensures.book.2 ∙ ap (λ (b : Book). b.face.held) c.in-Ok.ensures.ok.1.1 in
-    let some = some_held (reverse c.args.writes.now) v1.face.held c.requires.any (due_held (book c.args.pass.now).reads c.requires.plan taken same v1 ok.1) in
+    let some = some_held (reverse c.args.writes.now) v1.face.held c.requires.any (due_held (book c.args.pass.now).reads (holding c.requires.plan) taken same v1 ok.1) in
     λ e. some (sym is ∙ e)
 
 pub returns-in-Ok-clause-ok : goal.returns-in-Ok-clause-ok
@@ -109,7 +109,7 @@ returns-in-Ok-clause-means g c =
     let book_is = c.store_all.ensures.book in
     let v3 = book c.tick_checked.new.pass in
     let means = rw c.deref_mut.ensures.value at c.take_all.ensures.means in
-    means_stored (book c.args.pass.now).reads c.requires.plan (book c.args.pass.now) (book c.take_all.new.pass) means c.in-Ok.at checked.0 (update_entry v3 c.args.answer.value c.args.used.value) book_is.0 v3 (book c.store_all.new.pass)
+    means_stored (book c.args.pass.now).reads (holding c.requires.plan) (book c.args.pass.now) (book c.take_all.new.pass) means c.in-Ok.at checked.0 (update_entry v3 c.args.answer.value c.args.used.value) book_is.0 v3 (book c.store_all.new.pass)
     (book c.release_all.new.pass) checked.1 book_is.2 c.release_all.ensures.wants
 
 pub returns-in-Err-clause-free : goal.returns-in-Err-clause-free
@@ -119,14 +119,14 @@ returns-in-Err-clause-free g c =
     let taken : List Stripe = c.take_all.new.stripes in
     let same : addresses_of taken ≡ addresses_of c.args.plan.stripes.items = ok.2 ∙ ap addresses_of c.deref_mut.ensures.value in
     let is : (book c.tick_checked.new.pass).face.held ≡ v1.face.held = ap (λ (b : Book). b.face.held) c.in-Err.ensures.err.2.1 in
-    let some = some_held (reverse c.args.writes.now) v1.face.held c.requires.any (due_held (book c.args.pass.now).reads c.requires.plan taken same v1 ok.1) in
+    let some = some_held (reverse c.args.writes.now) v1.face.held c.requires.any (due_held (book c.args.pass.now).reads (holding c.requires.plan) taken same v1 ok.1) in
     (c.give_back.ensures.free, c.give_back.ensures.over (λ e. some (sym is ∙ e)))
 
 pub returns-in-Err-clause-conflict : goal.returns-in-Err-clause-conflict
 returns-in-Err-clause-conflict g c =
     let k = c.in-Err.ensures.conflict in
     let bound = c.in_ok-take_all.ensures.ok.0.rest.bound in
-    let read = elsewhere_read (book c.args.pass.now).reads c.requires.plan c.in-Err.conflict.address (rw c.deref.ensures.value at k.2) in
+    let read = elsewhere_read (book c.args.pass.now).reads (holding c.requires.plan) c.in-Err.conflict.address (rw c.deref.ensures.value at k.2) in
     (k.0 ∙ bound, subst (λ (n : ℕ). IsPast n c.in-Err.conflict.word) bound k.1, inr read.0)
 
 pub returns-in-Err-clause-err : goal.returns-in-Err-clause-err
@@ -138,7 +138,7 @@ returns-in-Err-clause-err g c =
     let same : addresses_of taken ≡ addresses_of c.args.plan.stripes.items = ok.2 ∙ ap addresses_of c.deref_mut.ensures.value in
     let lost = c.in-Err.ensures.err in
     let held : (book c.tick_checked.new.pass).face.held ≡ v1.face.held = ap (λ (b : Book). b.face.held) lost.2.1 in
-    let some = some_held w v1.face.held c.requires.any (due_held (book c.args.pass.now).reads c.requires.plan taken same v1 ok.1) in
+    let some = some_held w v1.face.held c.requires.any (due_held (book c.args.pass.now).reads (holding c.requires.plan) taken same v1 ok.1) in
     let over = c.give_back.ensures.over (λ e. some (sym held ∙ e)) in
     (1, omega arith, ticked_lost lost.0 (pairs w) lost.2.0 c.in-Err.conflict (book c.args.pass.now) v1 (book c.tick_checked.new.pass) (book c.give_back.new.pass) lost.1 c.in-Err.ensures.conflict.0 ok.0 lost.2.1 c.give_back.ensures.rest over)
 
@@ -146,7 +146,7 @@ pub returns-in-Err-clause-means : goal.returns-in-Err-clause-means
 returns-in-Err-clause-means g c =
     let lost = c.in-Err.ensures.err in
     let means = rw c.deref_mut.ensures.value at c.take_all.ensures.means in
-    means_lost (book c.args.pass.now).reads c.requires.plan (book c.args.pass.now) (book c.take_all.new.pass) means lost.0 lost.2.0 c.in-Err.conflict.address c.in-Err.conflict.word (book c.tick_checked.new.pass)
+    means_lost (book c.args.pass.now).reads (holding c.requires.plan) (book c.args.pass.now) (book c.take_all.new.pass) means lost.0 lost.2.0 c.in-Err.conflict.address c.in-Err.conflict.word (book c.tick_checked.new.pass)
     (book c.give_back.new.pass) lost.2.1 c.give_back.ensures.wants
 
 pub returns-in-Err-clause-other : goal.returns-in-Err-clause-other
@@ -154,7 +154,7 @@ returns-in-Err-clause-other g c =
     let ok = c.in_ok-take_all.ensures.ok in
     let taken : List Stripe = c.take_all.new.stripes in
     let same : addresses_of taken ≡ addresses_of c.args.plan.stripes.items = ok.2 ∙ ap addresses_of c.deref_mut.ensures.value in
-    let free : All (λ (a : ℕ). lookup (book c.take_all.new.pass).face.held (a % 4096) ≡ none) c.deref.result.now = rw c.deref.ensures.value (elsewhere_free (book c.args.pass.now).reads c.requires.plan taken same (book c.take_all.new.pass) ok.1) in
+    let free : All (λ (a : ℕ). lookup (book c.take_all.new.pass).face.held (a % 4096) ≡ none) c.deref.result.now = rw c.deref.ensures.value (elsewhere_free (book c.args.pass.now).reads (holding c.requires.plan) taken same (book c.take_all.new.pass) ok.1) in
     rw ok.0.rest.number at (c.in-Err.ensures.other free)
 
 pub returns-in-Err-clause-sole : goal.returns-in-Err-clause-sole
@@ -162,5 +162,5 @@ returns-in-Err-clause-sole g c = λ whole.
     let ok = c.in_ok-take_all.ensures.ok in
     let taken : List Stripe = c.take_all.new.stripes in
     let same : addresses_of taken ≡ addresses_of c.args.plan.stripes.items = ok.2 ∙ ap addresses_of c.deref_mut.ensures.value in
-    let free : All (λ (a : ℕ). lookup (book c.take_all.new.pass).face.held (a % 4096) ≡ none) c.deref.result.now = rw c.deref.ensures.value (elsewhere_free (book c.args.pass.now).reads c.requires.plan taken same (book c.take_all.new.pass) ok.1) in
+    let free : All (λ (a : ℕ). lookup (book c.take_all.new.pass).face.held (a % 4096) ≡ none) c.deref.result.now = rw c.deref.ensures.value (elsewhere_free (book c.args.pass.now).reads (holding c.requires.plan) taken same (book c.take_all.new.pass) ok.1) in
     c.in-Err.ensures.sole (ok.0.rest.numbers ∙ whole) free

@@ -10,7 +10,7 @@ finish_with-stamp-requires g c κs within =
     let o = c.requires.open in
     let story = g.T.Story.story c.args.self.now.shared.now.table.shared.key.story.value in
     let runs = g.met.T.Ruled.keeps c.args.self.now.shared.now.table.shared.key.story.value _ (m.allowed.anywhere (record { at = v.bound; update = false })) in
-    (within, (c.args.self.now.sits.0, ((o.0, c.args.self.now.sits.2), reader_fits story (g.C.Calling.call c.args.self.now.call.value) v m.call m.used m.reads c.args.answer.value o.1 m.awaits (m.stands.reads (inside _ _ _ o.2)) runs)))
+    (within, (c.args.self.now.sits.0, ((o.0, c.args.self.now.sits.2), (reader_fits story (g.C.Calling.call c.args.self.now.call.value) v m.call m.used m.reads c.args.answer.value o.1 m.awaits (m.stands.reads (inside _ _ _ o.2)) runs, c.args.self.now.settled (inside _ _ _ o.2)))))
 
 pub returns-clause-run : goal.returns-clause-run
 returns-clause-run g c = λ h n r w s.

@@ -1,0 +1,78 @@
+use Rattle.std.proofs.Common.{◌≡◌, ◌<◌, ◌++◌, ◌∙◌, ℕ, true, false, [], ◌∷◌, refl, sym, ap, arith}
+use Rattle.jmodel.specs.declared.access.Access.{Access}
+use Rattle.jmodel.specs.history.Log.{access}
+use Rattle.tx_table.specs.Book.{Book, Face, Map}
+use Rattle.tx_table.specs.Plays.{keys}
+use Rattle.tx_table.specs.Passes.{book}
+use Rattle.tl2.specs.declared.plan.Stripe.{Stripe}
+use Rattle.tl2.specs.declared.attempt.At.TheVariants.{Inside}
+use Rattle.tl2.proofs.Entries.{inside}
+use Rattle.lsa.proofs.Owned.{holds_from, holds_to, holds_taken, owning_taken, tells_more}
+use Rattle.lsa.proofs.Stepping.{standing, inside_stands, outside_stands, snapshot_still, stands_taken, stands_lost, stands_wrote}
+use Rattle.lsa.proofs.attempt.Lsa.on_write.Goals as goal
+
+pub returns-then-contains-clause-run : goal.returns-then-contains-clause-run
+returns-then-contains-clause-run g c = λ h n r w s.
+    let e = c.args.self.now in
+    let low : c.args.address < e.shared.now.words = omega (arith, c.if-address-self.false) in
+    standing refl (stands_wrote g.C.Calling.began e.shared.now.words e.at e.writes.items c.push.new.self.items e.pass h n r w (access c.args.address c.args.word) low c.in-Ok.ensures.items (inside_stands (inside _ _ _ c.requires.2) s))
+
+pub take_free-requires-clause-own : goal.take_free-requires-clause-own
+take_free-requires-clause-own g c =
+    let e = c.args.self.now in
+    tells_more e.stripes.items e.own e.writes.items (book e.pass) (e.owns (inside _ _ _ c.requires.2)) (holds_from e.stripes.items (book e.pass) e.sits.2) c.make_room.new.own c.args.address
+    (sym c.contains.ensures ∙ c.if-contains.false) c.in-Ok-make_room.ensures.own
+
+pub invariant_of-self-in-Ok-take_free : goal.invariant_of-self-in-Ok-take_free
+invariant_of-self-in-Ok-take_free g c =
+    let e = c.args.self.now in
+    let v = book e.pass in
+    let w = book c.take_free.new.pass in
+    let within = inside _ _ _ c.requires.2 in
+    let t = c.in-Ok-take_free.ensures.ok in
+    let l : Access = access c.args.address c.args.word in
+    let place : Stripe = record { address = c.args.address; was_read = false; word = c.in-Ok-take_free.old } in
+    let push = c.fill_last.ensures e.stripes.items (record { address = c.args.address; was_read = false; word = 0 }) c.in-Ok-make_room.ensures.ok in
+    let free = sym c.contains.ensures ∙ c.if-contains.false in
+    let owns = e.owns within in
+    let holds = holds_from e.stripes.items v e.sits.2 in
+    let taken = holds_taken e.stripes.items c.fill_last.new.stripes.items e.own c.make_room.new.own e.writes.items c.push.new.self.items v w l c.in-Ok-take_free.old place c.in-Ok.ensures.items free
+    c.in-Ok-make_room.ensures.own t owns holds refl refl push in
+    let read = e.logged within in
+    record {
+      sits = (
+        c.take_free.ensures.same.0 ∙ e.sits.0,
+        ap (λ (b : Book). b.face.stage) t.took ∙ ap (λ (f : Face). f.stage) t.on.face ∙ e.sits.1,
+        holds_to c.fill_last.new.stripes.items w taken,
+      );
+      settled = λ z. (c.in-Ok-take_free.ensures.settled, ap (λ (b : Book). b.bound) t.took ∙ t.on.even (e.settled within).1 ∙ sym (ap (λ (b : Book). b.seen) t.took));
+      logged = λ z. (read.0 ∙ ap (λ (m : Map ℕ). keys m) (sym (ap (λ (b : Book). b.reads) t.took ∙ t.on.reads)), read.1);
+      owns = λ z. owning_taken e.stripes.items c.fill_last.new.stripes.items e.own c.make_room.new.own e.writes.items c.push.new.self.items v w l c.in-Ok-take_free.old place c.in-Ok.ensures.items free
+          c.in-Ok-make_room.ensures.own t owns holds refl refl push;
+    }
+
+pub returns-in-Ok-take_free-clause-run : goal.returns-in-Ok-take_free-clause-run
+returns-in-Ok-take_free-clause-run g c = λ h n r w s.
+    let e = c.args.self.now in
+    let within = inside _ _ _ c.requires.2 in
+    let low : c.args.address < e.shared.now.words = omega (arith, c.if-address-self.false) in
+    let taken = stands_taken g.C.Calling.began e.shared.now.words e.at e.writes.items e.pass c.take_free.new.pass h n r w c.take_free.ensures.same (inside_stands within s) Inside c.args.address c.in-Ok-take_free.old within
+    c.in-Ok-take_free.ensures.ok in
+    standing refl (stands_wrote g.C.Calling.began e.shared.now.words Inside e.writes.items c.push.new.self.items c.take_free.new.pass h n r w (access c.args.address c.args.word) low c.in-Ok.ensures.items taken)
+
+pub returns-in-Ok-take_free-clause-snapshot : goal.returns-in-Ok-take_free-clause-snapshot
+returns-in-Ok-take_free-clause-snapshot g c =
+    let e = c.args.self.now in
+    let t = c.in-Ok-take_free.ensures.ok in
+    snapshot_still (g.T.Story.story e.shared.now.table.shared.key.story.value) (book e.pass) (book c.take_free.new.pass) (ap (λ (b : Book). b.reads) t.took ∙ t.on.reads) (ap (λ (b : Book). b.regions) t.took ∙ t.on.regions)
+
+pub returns-in-Err-clause-run : goal.returns-in-Err-clause-run
+returns-in-Err-clause-run g c = λ h n r w s.
+    let e = c.args.self.now in
+    outside_stands (stands_lost g.C.Calling.began e.shared.now.words e.at e.writes.items e.pass c.take_free.new.pass h n r w c.take_free.ensures.same (inside_stands (inside _ _ _ c.requires.2) s) c.in-Err.conflict
+    (λ whole. let no : false ≡ true = c.in-Err.ensures.sole whole in cc no) c.in-Err.ensures.err)
+
+pub returns-in-Err-clause-snapshot : goal.returns-in-Err-clause-snapshot
+returns-in-Err-clause-snapshot g c =
+    let e = c.args.self.now in
+    snapshot_still (g.T.Story.story e.shared.now.table.shared.key.story.value) (book e.pass) (book c.take_free.new.pass) c.in-Err.ensures.err.meets.reads c.in-Err.ensures.err.regions

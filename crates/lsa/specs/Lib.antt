@@ -1,0 +1,4 @@
+pub mod Standing
+pub mod Owning
+pub mod Conflicts
+pub mod Trials
