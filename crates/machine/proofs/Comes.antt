@@ -19,13 +19,13 @@ use Rattle.machine.specs.declared.running.Running.{Running}
 use Rattle.machine.specs.Running.{Holds, IsFinished, IsCommit}
 use Rattle.machine.specs.Meets.{IsStep}
 
-run-append : (P : Program) (B : Bounds) (us vs : List Reply) (c : Run) → run P B (us ++ vs) c ≡ run P B vs (run P B us c)
-run-append P B [] vs c = refl
-run-append P B (u ∷ us) vs c = run-append P B us vs (next_run P B u c)
+pub run_append : (P : Program) (B : Bounds) (us vs : List Reply) (c : Run) → run P B (us ++ vs) c ≡ run P B vs (run P B us c)
+run_append P B [] vs c = refl
+run_append P B (u ∷ us) vs c = run_append P B us vs (next_run P B u c)
 
 -- a run from c to d, and one from there on
 pub comes_trans : (P : Program) (B : Bounds) (c d e : Run) → Comes P B c d → Comes P B d e → Comes P B c e
-comes_trans P B c d e (us, p) (vs, q) = (us ++ vs, run-append P B us vs c ∙ rw p q)
+comes_trans P B c d e (us, p) (vs, q) = (us ++ vs, run_append P B us vs c ∙ rw p q)
 
 pub comes_here : (P : Program) (B : Bounds) (c : Run) → Comes P B c c
 comes_here P B c = ([], refl)
@@ -70,25 +70,6 @@ closed_step P B fs gs m w r (Ask q) e = ap (λ (x : Asked). on_asked P B x Close
 -- a step that fails is stuck
 pub fails : (P : Program) (B : Bounds) (fs : Frames) (m : Meter) (w r : Log) → step P fs ≡ Fails → next_run P B (Gives 0) (On Closed fs m w r) ≡ Stuck r
 fails P B fs m w r e = ap (λ (x : Asked). on_asked P B x Closed (Gives 0) m w r) e
-
--- a run after the commit ends on an error
-pub finish_fails : (P : Program) (B : Bounds) (c : Run) (fs gs : Frames) (m : Meter) (w r : Log) (e : Failure) → Comes P B c (On Closed fs m w r)
-    → IsStep (Err e) gs (step P fs) → IsFinished P B c m w r (Err e)
-finish_fails P B c fs gs m w r failure.Wrong h e = comes_on P B c _ _ (Gives 0) h (fails P B fs m w r e)
-finish_fails P B c fs gs m w r failure.NoMemory h e = tt
-
--- a run that comes to another ends as that does
-pub finish_from : (P : Program) (B : Bounds) (c d : Run) (m : Meter) (w r : Log) (x : Result Answer Failure) → Comes P B c d → IsFinished P B d m w r x → IsFinished P B c m w r x
-finish_from P B c d m w r (Ok x) h t = (comes_trans P B c d _ h t.0, t.1)
-finish_from P B c d m w r (Err failure.Wrong) h t = comes_trans P B c d (Stuck r) h t
-finish_from P B c d m w r (Err failure.NoMemory) h t = tt
-
--- a commit whose call has no value
-pub commit_fails : (P : Program) (B : Bounds) (c : Reply → Run) (A : Call → ℕ → Type 0) (allows : Entry → Type 0) (K : Log → Type 0) (S : List Entry → ℕ → Log → Log → Type 0) (h : List Entry) (n : ℕ) (r w : Log) (a : Running) (m : Meter) (e : Failure)
-    → IsFinished P B (c (Gives 0)) m w r (Err e) → Holds (S h) K n a.stage a.tried r w → IsCommit P B c A allows K S h n m r w a (Err e)
-commit_fails P B c A allows K S h n r w a m failure.Wrong f s = (s, f)
-commit_fails P B c A allows K S h n r w a m failure.NoMemory f s =
-    record { conflicts = s.conflicts; reads = r; writes = w; later = s.later; stands = s.stands; idle = s.idle }
 
 abbrev IsWanting : Asking → Type 0
 IsWanting a = (a ≡ Turn) ⊎ (((x : Bool) × (a ≡ Enter x)) ⊎ (((x : ℕ) × (a ≡ Raise x)) ⊎ (((x : ℕ) × (y : ℕ) × (z : Made) × (a ≡ Make x y z)) ⊎ (((x : ℕ) × (y : Use) × (a ≡ Head x y)) ⊎ ((x : Request) × (a ≡ Ask x))))))

@@ -1,5 +1,5 @@
 -- Instructions that ask for nothing, one after another.
-use Rattle.std.proofs.Common.{◌≡◌, ℕ, suc, Bool, true, false, ◌&&◌, nat_le, ◌∷◌, Result, Ok, Err, Option, Some, None, option_and_then, slice_get, refl, ap, ◌∙◌}
+use Rattle.std.proofs.Common.{◌≡◌, ℕ, suc, Bool, true, false, ◌&&◌, nat_le, [], ◌∷◌, Result, Ok, Err, Option, Some, None, option_and_then, slice_get, refl, ap, ◌∙◌}
 use Rattle.objects.specs.declared.op.Op.{Op}
 use Rattle.objects.specs.declared.op.Doing.{Doing}
 use Rattle.objects.specs.declared.op.Doing.TheVariants.{Next, Jump}
@@ -7,13 +7,13 @@ use Rattle.objects.specs.declared.op.Phase.{Phase}
 use Rattle.objects.specs.declared.op.Phase.TheVariants.{Open}
 use Rattle.objects.specs.semantics.Program.{Program, Method, method_at, op_at, is_counted, is_counted_in}
 use Rattle.objects.specs.semantics.Step.{Frame, Frames, Asked, Does, Wrong, Fails, step, acts, does, next, at as at_place, jumps, goes, on_did, on_doing}
-use Rattle.objects.specs.rewriting.Attempt.{Log, Bounds, Meter, Run, On, Gives, on_asked, next_run, with_turns, Comes}
+use Rattle.objects.specs.rewriting.Attempt.{Log, Bounds, Meter, Run, On, Gives, on_asked, next_run, with_turns}
 use Rattle.machine.specs.declared.failure.Failure.{Failure}
 use Rattle.machine.specs.declared.failure.Failure.TheVariants as failure
 use Rattle.machine.specs.declared.running.Running.{Running}
 use Rattle.machine.specs.Meets.{Meets, IsDone}
-use Rattle.machine.specs.Running.{at, meter, phase_of}
-use Rattle.machine.proofs.Comes.{comes_on}
+use Rattle.machine.specs.Running.{at, meter, phase_of, Way}
+use Rattle.machine.proofs.Ways.{way_quiet, step_tells, jump_quiet}
 
 -- the instruction that a frame stands at
 pub step_at : (P : Program) (f : Frame) (fs : Frames) (o : Op) → op_at P f.method f.pc ≡ Some o → step P (f ∷ fs) ≡ on_did P (does P o f) fs
@@ -74,11 +74,16 @@ jumps_turn P B counts to k f fs m w r e h t =
 
 module _ (P : Program) (B : Bounds) (c : Run) (a b : Running) (w r : Log) where
   -- one more instruction that goes on behind it
-  pub goes_next : (g : Frame) → Comes P B c (at a w r) → step P (a.frame ∷ a.callers) ≡ on_doing P Next g a.callers
-      → b.frame ≡ next g → b.callers ≡ a.callers → b.stage ≡ a.stage → meter b ≡ meter a → Comes P B c (at b w r)
-  goes_next g k e f cs s m = comes_on P B c (at a w r) (at b w r) (Gives 0) k (runs_step P B (a.frame ∷ a.callers) _ (phase_of a.stage) (meter a) w r e ∙ rw (f, cs, s, m) refl)
+  pub goes_next : (g : Frame) → Way P B c [] (at a w r) → step P (a.frame ∷ a.callers) ≡ on_doing P Next g a.callers
+      → b.frame ≡ next g → b.callers ≡ a.callers → b.stage ≡ a.stage → meter b ≡ meter a → Way P B c [] (at b w r)
+  goes_next g k e f cs s m =
+      way_quiet P B c (at a w r) (at b w r) (Gives 0) k (runs_step P B (a.frame ∷ a.callers) _ (phase_of a.stage) (meter a) w r e ∙ rw (f, cs, s, m) refl)
+      (step_tells P B (Gives 0) (phase_of a.stage) (a.frame ∷ a.callers) (meter a) w r (on_doing P Next g a.callers) [] e refl)
 
   -- or one that jumps
-  pub goes_jump : (g : Frame) (to : ℕ) → Comes P B c (at a w r) → step P (a.frame ∷ a.callers) ≡ on_doing P (Jump to) g a.callers
-      → on_asked P B (jumps P to g a.callers) (phase_of a.stage) (Gives 0) (meter a) w r ≡ at b w r → Comes P B c (at b w r)
-  goes_jump g to k e j = comes_on P B c (at a w r) (at b w r) (Gives 0) k (runs_step P B (a.frame ∷ a.callers) _ (phase_of a.stage) (meter a) w r e ∙ j)
+  pub goes_jump : (g : Frame) (to : ℕ) → Way P B c [] (at a w r) → step P (a.frame ∷ a.callers) ≡ on_doing P (Jump to) g a.callers
+      → on_asked P B (jumps P to g a.callers) (phase_of a.stage) (Gives 0) (meter a) w r ≡ at b w r → Way P B c [] (at b w r)
+  goes_jump g to k e j =
+      way_quiet P B c (at a w r) (at b w r) (Gives 0) k (runs_step P B (a.frame ∷ a.callers) _ (phase_of a.stage) (meter a) w r e ∙ j)
+      (step_tells P B (Gives 0) (phase_of a.stage) (a.frame ∷ a.callers) (meter a) w r (jumps P to g a.callers) [] e
+      (jump_quiet P B (is_counted P g.method && nat_le to g.pc) (at_place to g ∷ a.callers) (phase_of a.stage) (Gives 0) (meter a)))

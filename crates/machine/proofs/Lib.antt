@@ -1,5 +1,7 @@
 pub mod Turning
 pub mod Comes
+pub mod Ways
+pub mod Finishing
 pub mod Ends
 pub mod Going
 pub mod Knowing
@@ -8,3 +10,4 @@ pub mod Throwing
 pub mod Slots
 pub mod Soundly
 pub mod Indexing
+pub mod ExampleEvents

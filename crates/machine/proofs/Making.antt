@@ -1,17 +1,23 @@
 -- Objects that a call makes.
-use Rattle.std.proofs.Common.{◌≡◌, ℕ, ◌+◌, List, [], ◌∷◌, Ok, Option, Some, None, Bool, true, false, refl, sym, subst, ap, ◌∙◌}
+use Rattle.std.proofs.Common.{◌≡◌, ℕ, ◌+◌, List, [], ◌∷◌, Ok, Err, Option, Some, None, Bool, true, false, refl, sym, subst, ap, ◌∙◌}
 use Rattle.objects.specs.declared.op.Made.{Made}
 use Rattle.objects.specs.declared.op.Made.TheVariants.{Pushed, Raised}
 use Rattle.objects.specs.declared.op.Phase.TheVariants.{Open}
+use Rattle.objects.specs.declared.event.Event.{Event}
+use Rattle.objects.specs.declared.event.Event.TheVariants.{Wrote}
+use Rattle.objects.specs.rewriting.Events.{made_events, header_events}
 use Rattle.objects.specs.semantics.Program.{Row, Holds, Words, Elements, Program, row_at}
 use Rattle.objects.specs.semantics.Region.{has_words, next_reference}
 use Rattle.objects.specs.semantics.State.{Object, header, words_of, object_of}
 use Rattle.objects.specs.semantics.Step.{Frames, unwinds}
 use Rattle.objects.specs.rewriting.Attempt.{Log, Bounds, Meter, Run, Reply, Gives, Refuses, access, Stuck, unwound, on_made, on_thrown, meter_thrown, meter_with, makes, made, making}
+use Rattle.machine.specs.declared.failure.Failure.{Failure}
+use Rattle.machine.specs.declared.failure.Failure.TheVariants as failure
 use Rattle.machine.specs.declared.running.Running.{Running}
 use Rattle.machine.specs.declared.running.Todo.TheVariants.{Heap}
 use Rattle.machine.specs.declared.make.Fresh.{Fresh}
-use Rattle.machine.specs.Running.{frames, meter, land, settled, IsFresh}
+use Rattle.machine.specs.Running.{frames, meter, land, settled, IsTurn, IsFresh}
+use Rattle.machine.proofs.Ways.{nothing_told}
 
 -- an object has the type that it was made of
 pub of_type : (t n : ℕ) (c : Row) → (object_of t n c).type ≡ t
@@ -56,3 +62,27 @@ module _ (P : Program) (B : Bounds) (t n : ℕ) (d : Made) (a : Running) (w r : 
             ≡ settled e P B (next_reference B.region a.used) t (record (meter a) { used = a.used + x.words }) (frames a) (access (next_reference B.region a.used) x.header ∷ w) r
         at_next Pushed = rw (f.words, f.header_is) refl
         at_next Raised = rw (f.words, f.header_is) (ap (λ (k : ℕ). on_thrown B (unwinds P (next_reference B.region a.used) k (frames a)) (meter_thrown (next_reference B.region a.used) k (meter_with b (meter a))) (access (next_reference B.region a.used) (header b) ∷ w) r) (of_type t n f.row))
+
+module _ (P : Program) (B : Bounds) (t n : ℕ) (a : Running) (x : Fresh) (f : IsFresh P t n x) where
+  -- what its header's writing tells
+  tells_by : (v : Reply) (room : Bool) → has_words B.region a.used x.words ≡ room → made_events (row_at P t) t n v B (meter a) ≡ header_events room v (next_reference B.region a.used)
+  tells_by v room e =
+      ap (λ (c : Option Row). made_events c t n v B (meter a)) f.there ∙ ap (λ (k : ℕ). header_events (has_words B.region a.used k) v (next_reference B.region a.used)) (sym f.words)
+      ∙ ap (λ (y : Bool). header_events y v (next_reference B.region a.used)) e
+
+  pub full_tells : (v : Reply) → has_words B.region a.used x.words ≡ false → made_events (row_at P t) t n v B (meter a) ≡ []
+  full_tells v full = tells_by v false full
+
+  pub refused_tells : has_words B.region a.used x.words ≡ true → made_events (row_at P t) t n Refuses B (meter a) ≡ []
+  refused_tells there = tells_by Refuses true there
+
+  pub given_tells : (reference : ℕ) → has_words B.region a.used x.words ≡ true → reference ≡ next_reference B.region a.used → made_events (row_at P t) t n (Gives 0) B (meter a) ≡ Wrote reference ∷ []
+  given_tells reference there lies = tells_by (Gives 0) true there ∙ rw lies refl
+
+-- a type that isn't there, or one too large
+pub make_fails : (P : Program) (B : Bounds) (t n : ℕ) (d : Made) (a a' : Running) (w r : Log) (T : List Event → Type 0) (H : Log → Log → Type 0) (e : Failure)
+    → (e ≡ failure.Wrong → row_at P t ≡ None) → T [] → H r w
+    → IsTurn B (λ v. making Open t n d v P B (frames a) (meter a) w r) (λ v es. es ≡ made_events (row_at P t) t n v B (meter a)) T H a' (Err e)
+make_fails P B t n d a a' w r T H failure.Wrong q k h =
+    (r, w, h, (Gives 0, make_none P B t n d a w r (Gives 0) (q refl), ([], sym (ap (λ (c : Option Row). made_events c t n (Gives 0) B (meter a)) (q refl)), tt, k)))
+make_fails P B t n d a a' w r T H failure.NoMemory q k h = (r, w, h, nothing_told T k)

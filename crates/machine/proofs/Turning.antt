@@ -1,6 +1,8 @@
 -- One turn of a call, from what the engine and the frames do.
-use Rattle.std.proofs.Common.{◌≡◌, ℕ, zero, suc, true, false, [], ◌∷◌, Some, None, Result, Ok, Err, Option, ◌⊎◌, inl, inr, refl, ap, subst, sym, ◌∙◌}
+use Rattle.std.proofs.Common.{◌≡◌, ℕ, zero, suc, true, false, List, [], ◌∷◌, ◌++◌, Some, None, Result, Ok, Err, Option, ◌⊎◌, inl, inr, refl, ap, subst, sym, ◌∙◌}
+use Rattle.std.proofs.lemmas.List.{append_assoc}
 use Rattle.jmodel.specs.declared.value.Value.{Value}
+use Rattle.objects.specs.declared.event.Event.{Event}
 use Rattle.objects.specs.declared.op.Doing.{Doing}
 use Rattle.objects.specs.declared.op.Place.{Place}
 use Rattle.objects.specs.declared.op.WordType.{WordType}
@@ -15,9 +17,10 @@ use Rattle.objects.specs.declared.op.Phase.{Phase}
 use Rattle.objects.specs.declared.op.Phase.TheVariants.{Ready, Open, Doomed, Closed}
 use Rattle.objects.specs.semantics.Value.{pushed, value_of}
 use Rattle.objects.specs.semantics.Program.{Program}
-use Rattle.objects.specs.semantics.Step.{Frames, Asked, Asks, step, on_doing, resumed}
+use Rattle.objects.specs.semantics.Step.{Frames, Asked, Asks, Fails, step, on_doing, resumed}
 use Rattle.objects.specs.rewriting.Attempt.{Comes, Log, Bounds, Meter, Run, On, Stuck, Reply, Gives, returned, threw, address, answered, written, recorded, on_read, on_head, heads, heading, making, followed, on_asking, on_asked, next_run, turned, with_turns, with_depth, entered}
 use Rattle.objects.specs.rewriting.Attempt as attempt
+use Rattle.objects.specs.rewriting.Events.{AreOfAsking, AreOfStep, AreOfHead, AreOfHeader, AreOpen}
 use Rattle.machine.specs.declared.failure.Failure.{Failure}
 use Rattle.machine.specs.declared.failure.Failure.TheVariants as failure
 use Rattle.machine.specs.declared.running.Running.{Running}
@@ -26,20 +29,20 @@ use Rattle.machine.specs.declared.running.Todo.TheVariants.{Go, Commit, Budget, 
 use Rattle.machine.specs.declared.running.Stage.{Stage}
 use Rattle.machine.specs.declared.running.Stage.TheVariants as stage
 use Rattle.machine.specs.Meets.{IsStep, GoesOn, loads_plain}
-use Rattle.machine.specs.Running.{at, frames, meter, phase_of, Lands, Waits, IsNotHead, IsHeaded, IsFollowed, Following, IsTurn, IsPlain, HasTurned}
-use Rattle.machine.proofs.Comes.{comes_here, comes_trans, comes_on}
+use Rattle.machine.specs.Running.{at, frames, meter, phase_of, Lands, Waits, IsNotHead, IsHeaded, IsFollowed, Following, Way, Told, IsTurn, IsPlain, HasTurned}
+use Rattle.machine.proofs.Ways.{none_told, nothing_told, none_after, told_as, open_append, way_here, way_trans, way_more, step_tells}
 
--- a reply, and what holds after it, make a turn
-pub turn_of : (B : Bounds) (f : Reply → Run) (H : Log → Log → Type 0) (a : Running) (result : Result Todo Failure) (r w : Log) (v : Reply)
-    → H r w → Lands B (f v) a w r result → IsTurn B f H a result
-turn_of B f H a (Ok Go) r w v h e = (r, w, h, (v, e))
-turn_of B f H a (Ok Commit) r w v h e = absurd e
-turn_of B f H a (Ok Budget) r w v h e = (r, w, h, (v, e))
-turn_of B f H a (Ok Depth) r w v h e = (r, w, h, (v, e))
-turn_of B f H a (Ok (Heap k)) r w v h e = (r, w, h, (v, e))
-turn_of B f H a (Ok Spent) r w v h e = (r, w, h, (v, e))
-turn_of B f H a (Err failure.Wrong) r w v h e = (r, w, h, (v, e))
-turn_of B f H a (Err failure.NoMemory) r w v h e = (r, w, h)
+-- a reply, what was told, and what holds after it, make a turn
+pub turn_of : (B : Bounds) (f : Reply → Run) (D : Reply → List Event → Type 0) (T : List Event → Type 0) (H : Log → Log → Type 0) (a : Running) (result : Result Todo Failure) (r w : Log) (v : Reply)
+    → H r w → Lands B (f v) a w r result → Told (D v) T → IsTurn B f D T H a result
+turn_of B f D T H a (Ok Go) r w v h e t = (r, w, h, (v, e, t))
+turn_of B f D T H a (Ok Commit) r w v h e t = absurd e
+turn_of B f D T H a (Ok Budget) r w v h e t = (r, w, h, (v, e, t))
+turn_of B f D T H a (Ok Depth) r w v h e t = (r, w, h, (v, e, t))
+turn_of B f D T H a (Ok (Heap k)) r w v h e t = (r, w, h, (v, e, t))
+turn_of B f D T H a (Ok Spent) r w v h e t = (r, w, h, (v, e, t))
+turn_of B f D T H a (Err failure.Wrong) r w v h e t = (r, w, h, (v, e, t))
+turn_of B f D T H a (Err failure.NoMemory) r w v h e t = (r, w, h, none_told (D v) T t)
 
 -- a read of what the engine vouched for
 pub reads : (p : Place) (t : WordType) (P : Program) (fs : Frames) (m : Meter) (w r : Log) (a word : ℕ) → a ≡ address p → word ≡ answered w a word
@@ -68,59 +71,121 @@ turned_entered B Open gs m w r = with_turns_depth B m.turns gs m w r
 turned_entered B Doomed gs m w r = refl
 turned_entered B Closed gs m w r = refl
 
--- a turn of an equal run
-pub turn_as : (B : Bounds) (f g : Reply → Run) (H : Log → Log → Type 0) (a : Running) (result : Result Todo Failure)
-    → ((v : Reply) → f v ≡ g v) → IsTurn B g H a result → IsTurn B f H a result
-turn_as B f g H a (Ok Go) e t = (t.0, t.1, t.2, (t.3.0, e t.3.0 ∙ t.3.1))
-turn_as B f g H a (Ok Commit) e t = (t.0, t.1, t.2, λ v. e v ∙ t.3 v)
-turn_as B f g H a (Ok Budget) e t = (t.0, t.1, t.2, (t.3.0, e t.3.0 ∙ t.3.1))
-turn_as B f g H a (Ok Depth) e t = (t.0, t.1, t.2, (t.3.0, e t.3.0 ∙ t.3.1))
-turn_as B f g H a (Ok (Heap k)) e t = (t.0, t.1, t.2, (t.3.0, e t.3.0 ∙ t.3.1))
-turn_as B f g H a (Ok Spent) e t = (t.0, t.1, t.2, (t.3.0, e t.3.0 ∙ t.3.1))
-turn_as B f g H a (Err failure.Wrong) e t = (t.0, t.1, t.2, (t.3.0, e t.3.0 ∙ t.3.1))
-turn_as B f g H a (Err failure.NoMemory) e t = t
+-- a turn of an equal run, told of from another place
+pub turn_as : (B : Bounds) (f g : Reply → Run) (D D' : Reply → List Event → Type 0) (T T' : List Event → Type 0) (H : Log → Log → Type 0) (a : Running) (result : Result Todo Failure)
+    → ((v : Reply) → f v ≡ g v) → ((v : Reply) (es : List Event) → D' v es → D v es) → ((es : List Event) → T' es → T es) → IsTurn B g D' T' H a result → IsTurn B f D T H a result
+turn_as B f g D D' T T' H a (Ok Go) e d k t = (t.0, t.1, t.2, (t.3.0, e t.3.0 ∙ t.3.1, told_as (D' t.3.0) (D t.3.0) T' T (d t.3.0) k t.3.2))
+turn_as B f g D D' T T' H a (Ok Commit) e d k t = (t.0, t.1, t.2, (λ v. e v ∙ t.3 v), ((λ v. d v [] (t.4.0 v)), k [] t.4.1))
+turn_as B f g D D' T T' H a (Ok Budget) e d k t = (t.0, t.1, t.2, (t.3.0, e t.3.0 ∙ t.3.1, told_as (D' t.3.0) (D t.3.0) T' T (d t.3.0) k t.3.2))
+turn_as B f g D D' T T' H a (Ok Depth) e d k t = (t.0, t.1, t.2, (t.3.0, e t.3.0 ∙ t.3.1, told_as (D' t.3.0) (D t.3.0) T' T (d t.3.0) k t.3.2))
+turn_as B f g D D' T T' H a (Ok (Heap x)) e d k t = (t.0, t.1, t.2, (t.3.0, e t.3.0 ∙ t.3.1, told_as (D' t.3.0) (D t.3.0) T' T (d t.3.0) k t.3.2))
+turn_as B f g D D' T T' H a (Ok Spent) e d k t = (t.0, t.1, t.2, (t.3.0, e t.3.0 ∙ t.3.1, told_as (D' t.3.0) (D t.3.0) T' T (d t.3.0) k t.3.2))
+turn_as B f g D D' T T' H a (Err failure.Wrong) e d k t = (t.0, t.1, t.2, (t.3.0, e t.3.0 ∙ t.3.1, told_as (D' t.3.0) (D t.3.0) T' T (d t.3.0) k t.3.2))
+turn_as B f g D D' T T' H a (Err failure.NoMemory) e d k t = (t.0, t.1, t.2, none_after T' T [] tt k t.3)
 
 -- a run whose step asks waits for that
 pub waits_step : (P : Program) (B : Bounds) (b : Running) (f : Frames) (x : Asking) (w r : Log) → IsStep (Ok x) (frames b) (step P f) → Waits P B x b w r (On (phase_of b.stage) f (meter b) w r)
-waits_step P B b f A.Go w r e v = asks P B v (phase_of b.stage) f (frames b) (meter b) w r A.Go e
-waits_step P B b f A.Turn w r e v = asks P B v (phase_of b.stage) f (frames b) (meter b) w r A.Turn e
-waits_step P B b f (A.Enter d) w r e v = asks P B v (phase_of b.stage) f (frames b) (meter b) w r (A.Enter d) e
-waits_step P B b f (A.Return x) w r e v = asks P B v (phase_of b.stage) f [] (meter b) w r (A.Return x) e
-waits_step P B b f (A.Throw o) w r e v = asks P B v (phase_of b.stage) f [] (meter b) w r (A.Throw o) e
-waits_step P B b f (A.Raise o) w r e v = asks P B v (phase_of b.stage) f (frames b) (meter b) w r (A.Raise o) e
-waits_step P B b f (A.Make t n d) w r e v = asks P B v (phase_of b.stage) f (frames b) (meter b) w r (A.Make t n d) e
-waits_step P B b f (A.Head o u) w r e v = asks P B v (phase_of b.stage) f (frames b) (meter b) w r (A.Head o u) e
-waits_step P B b f (A.Ask q) w r e v = asks P B v (phase_of b.stage) f (frames b) (meter b) w r (A.Ask q) e
+waits_step P B b f x w r e = ((λ v. by x e v), (λ v es d. tells x e v es d))
+  where
+    by : (x : Asking) → IsStep (Ok x) (frames b) (step P f) → (v : Reply) → next_run P B v (On (phase_of b.stage) f (meter b) w r) ≡ on_asking P B x (phase_of b.stage) v (frames b) (meter b) w r
+    by A.Go e v = asks P B v (phase_of b.stage) f (frames b) (meter b) w r A.Go e
+    by A.Turn e v = asks P B v (phase_of b.stage) f (frames b) (meter b) w r A.Turn e
+    by (A.Enter d) e v = asks P B v (phase_of b.stage) f (frames b) (meter b) w r (A.Enter d) e
+    by (A.Return x) e v = asks P B v (phase_of b.stage) f [] (meter b) w r (A.Return x) e
+    by (A.Throw o) e v = asks P B v (phase_of b.stage) f [] (meter b) w r (A.Throw o) e
+    by (A.Raise o) e v = asks P B v (phase_of b.stage) f (frames b) (meter b) w r (A.Raise o) e
+    by (A.Make t n d) e v = asks P B v (phase_of b.stage) f (frames b) (meter b) w r (A.Make t n d) e
+    by (A.Head o u) e v = asks P B v (phase_of b.stage) f (frames b) (meter b) w r (A.Head o u) e
+    by (A.Ask q) e v = asks P B v (phase_of b.stage) f (frames b) (meter b) w r (A.Ask q) e
+
+    tells : (x : Asking) → IsStep (Ok x) (frames b) (step P f) → (v : Reply) (es : List Event) → AreOfAsking P B x (phase_of b.stage) v (meter b) es → AreOfStep P B v (On (phase_of b.stage) f (meter b) w r) es
+    tells A.Go e v es d = step_tells P B v (phase_of b.stage) f (meter b) w r (Asks A.Go (frames b)) es e d
+    tells A.Turn e v es d = step_tells P B v (phase_of b.stage) f (meter b) w r (Asks A.Turn (frames b)) es e d
+    tells (A.Enter x) e v es d = step_tells P B v (phase_of b.stage) f (meter b) w r (Asks (A.Enter x) (frames b)) es e d
+    tells (A.Return x) e v es d = step_tells P B v (phase_of b.stage) f (meter b) w r (Asks (A.Return x) []) es e d
+    tells (A.Throw o) e v es d = step_tells P B v (phase_of b.stage) f (meter b) w r (Asks (A.Throw o) []) es e d
+    tells (A.Raise o) e v es d = step_tells P B v (phase_of b.stage) f (meter b) w r (Asks (A.Raise o) (frames b)) es e d
+    tells (A.Make t n x) e v es d = step_tells P B v (phase_of b.stage) f (meter b) w r (Asks (A.Make t n x) (frames b)) es e d
+    tells (A.Head o u) e v es d = step_tells P B v (phase_of b.stage) f (meter b) w r (Asks (A.Head o u) (frames b)) es e d
+    tells (A.Ask q) e v es d = step_tells P B v (phase_of b.stage) f (meter b) w r (Asks (A.Ask q) (frames b)) es e d
 
 -- a run that comes to another turns as that does
-pub turned_from : (P : Program) (B : Bounds) (c d : Run) (H : Log → Log → Type 0) (a : Running) (result : Result Todo Failure) → Comes P B c d → HasTurned P B d H a result → HasTurned P B c H a result
-turned_from P B c d H a result k u = record { before = u.before; comes = comes_trans P B c d u.before k u.comes; turn = u.turn }
+pub turned_from : (P : Program) (B : Bounds) (c d : Run) (ds : List Event) (T T' : List Event → Type 0) (H : Log → Log → Type 0) (a : Running) (result : Result Todo Failure)
+    → Way P B c ds d → AreOpen ds → ((es : List Event) → T es → T' (ds ++ es)) → HasTurned P B d T H a result → HasTurned P B c T' H a result
+turned_from P B c d ds T T' H a result k o f u = record {
+  before = u.before;
+  events = ds ++ u.events;
+  no_entry = open_append ds u.events o u.no_entry;
+  comes = way_trans P B c d u.before ds u.events k u.comes;
+  turn = turn_as B (λ v. next_run P B v u.before) (λ v. next_run P B v u.before) (λ v es. AreOfStep P B v u.before es) (λ v es. AreOfStep P B v u.before es)
+      (λ es. T' ((ds ++ u.events) ++ es)) (λ es. T (u.events ++ es)) H a result (λ v. refl) (λ v es t. t)
+      (λ es t. subst T' (sym (append_assoc ds u.events es)) (f (u.events ++ es) t)) u.turn;
+}
 
 -- what a run waits for is served
-pub turned_waiting : (P : Program) (B : Bounds) (x : Asking) (a a' : Running) (w r : Log) (c : Run) (H : Log → Log → Type 0) (result : Result Todo Failure)
-    → Waits P B x a w r c → IsTurn B (λ v. on_asking P B x (phase_of a.stage) v (frames a) (meter a) w r) H a' result → HasTurned P B c H a' result
-turned_waiting P B x a a' w r c H result e t = record { before = c; comes = comes_here P B c; turn = turn_as B (λ v. next_run P B v c) (λ v. on_asking P B x (phase_of a.stage) v (frames a) (meter a) w r) H a' result e t }
+pub turned_waiting : (P : Program) (B : Bounds) (x : Asking) (a a' : Running) (w r : Log) (c : Run) (T : List Event → Type 0) (H : Log → Log → Type 0) (result : Result Todo Failure)
+    → Waits P B x a w r c → IsTurn B (λ v. on_asking P B x (phase_of a.stage) v (frames a) (meter a) w r) (λ v. AreOfAsking P B x (phase_of a.stage) v (meter a)) T H a' result → HasTurned P B c T H a' result
+turned_waiting P B x a a' w r c T H result e t = record {
+  before = c;
+  events = [];
+  no_entry = tt;
+  comes = way_here P B c;
+  turn = turn_as B (λ v. next_run P B v c) (λ v. on_asking P B x (phase_of a.stage) v (frames a) (meter a) w r) (λ v es. AreOfStep P B v c es) (λ v. AreOfAsking P B x (phase_of a.stage) v (meter a)) T T H a' result e.0 e.1 (λ es k. k) t;
+}
 
 -- an error among instructions that ask for nothing
-pub plain_fails : (P : Program) (B : Bounds) (a b a' : Running) (H : Log → Log → Type 0) (e : Failure) (w r : Log)
-    → IsPlain P a b (Err e) → H r w → HasTurned P B (at a w r) H a' (Err e)
-plain_fails P B a b a' H failure.Wrong w r k h = record {
+pub plain_fails : (P : Program) (B : Bounds) (a b a' : Running) (T : List Event → Type 0) (H : Log → Log → Type 0) (e : Failure) (w r : Log)
+    → IsPlain P a b (Err e) → T [] → H r w → HasTurned P B (at a w r) T H a' (Err e)
+plain_fails P B a b a' T H failure.Wrong w r k t h = record {
   before = On (phase_of b.stage) (k.frame ∷ b.callers) (meter b) w r;
+  events = [];
+  no_entry = tt;
   comes = k.comes B w r;
-  turn = (r, w, h, (Gives 0, ap (λ (x : Asked). on_asked P B x (phase_of b.stage) (Gives 0) (meter b) w r) (k.does b.callers)));
+  turn = (
+    r,
+    w,
+    h,
+    (
+      Gives 0,
+      ap (λ (x : Asked). on_asked P B x (phase_of b.stage) (Gives 0) (meter b) w r) (k.does b.callers),
+      ([], step_tells P B (Gives 0) (phase_of b.stage) (k.frame ∷ b.callers) (meter b) w r Fails [] (k.does b.callers) refl, tt, t),
+    ),
+  );
 }
-plain_fails P B a b a' H failure.NoMemory w r k h = record { before = On (phase_of b.stage) (k.frame ∷ b.callers) (meter b) w r; comes = k.comes B w r; turn = (r, w, h) }
+plain_fails P B a b a' T H failure.NoMemory w r k t h = record {
+  before = On (phase_of b.stage) (k.frame ∷ b.callers) (meter b) w r;
+  events = [];
+  no_entry = tt;
+  comes = k.comes B w r;
+  turn = (r, w, h, nothing_told T t);
+}
 
 -- an error behind them
-pub settle_fails : (P : Program) (B : Bounds) (a b a' : Running) (d : Doing) (gs : Frames) (H : Log → Log → Type 0) (e : Failure) (w r : Log)
-    → (k : IsPlain P a b (Ok d)) → IsStep (Err e) gs (on_doing P d b.frame b.callers) → H r w → HasTurned P B (at a w r) H a' (Err e)
-settle_fails P B a b a' d gs H failure.Wrong w r k s h = record {
+pub settle_fails : (P : Program) (B : Bounds) (a b a' : Running) (d : Doing) (gs : Frames) (T : List Event → Type 0) (H : Log → Log → Type 0) (e : Failure) (w r : Log)
+    → (k : IsPlain P a b (Ok d)) → IsStep (Err e) gs (on_doing P d b.frame b.callers) → T [] → H r w → HasTurned P B (at a w r) T H a' (Err e)
+settle_fails P B a b a' d gs T H failure.Wrong w r k s t h = record {
   before = On (phase_of b.stage) (k.frame ∷ b.callers) (meter b) w r;
+  events = [];
+  no_entry = tt;
   comes = k.comes B w r;
-  turn = (r, w, h, (Gives 0, ap (λ (x : Asked). on_asked P B x (phase_of b.stage) (Gives 0) (meter b) w r) (k.does b.callers ∙ s)));
+  turn = (
+    r,
+    w,
+    h,
+    (
+      Gives 0,
+      ap (λ (x : Asked). on_asked P B x (phase_of b.stage) (Gives 0) (meter b) w r) (k.does b.callers ∙ s),
+      ([], step_tells P B (Gives 0) (phase_of b.stage) (k.frame ∷ b.callers) (meter b) w r Fails [] (k.does b.callers ∙ s) refl, tt, t),
+    ),
+  );
 }
-settle_fails P B a b a' d gs H failure.NoMemory w r k s h =
-    record { before = On (phase_of b.stage) (k.frame ∷ b.callers) (meter b) w r; comes = k.comes B w r; turn = (r, w, h) }
+settle_fails P B a b a' d gs T H failure.NoMemory w r k s t h = record {
+  before = On (phase_of b.stage) (k.frame ∷ b.callers) (meter b) w r;
+  events = [];
+  no_entry = tt;
+  comes = k.comes B w r;
+  turn = (r, w, h, nothing_told T t);
+}
 
 -- a step as an instruction left it to be done
 pub step_is : (gs : Frames) (x : Asking) (y z : Asked) → y ≡ z → IsStep (Ok x) gs z → IsStep (Ok x) gs y
@@ -139,58 +204,80 @@ throws_early P stage.Open o m w r = refl
 throws_early P stage.Doomed o m w r = refl
 
 -- so what is given or thrown to nobody is wrong there
-pub answer_early : (P : Program) (B : Bounds) (a : Running) (x : Asking) (w r : Log) (H : Log → Log → Type 0)
-    → ((v : Option Value) × (x ≡ A.Return v)) ⊎ (((o : ℕ) × (x ≡ A.Throw o)) ⊎ ((o : ℕ) × (u : Use) × (x ≡ A.Head o u))) → IsNotHead x → H r w
-    → IsTurn B (λ v. on_asking P B x (phase_of a.stage) v (frames a) (meter a) w r) H a (Err failure.Wrong)
-answer_early P B a x w r H (inl (y, q)) other h = (r, w, h, (Gives 0, rw q (gives_early a.stage y (meter a) w r)))
-answer_early P B a x w r H (inr (inl (o, q))) other h = (r, w, h, (Gives 0, rw q (throws_early P a.stage o (meter a) w r)))
-answer_early P B a x w r H (inr (inr (o, u, q))) other h = let no : ⊥ = rw q at other in absurd no
+pub answer_early : (P : Program) (B : Bounds) (a : Running) (x : Asking) (w r : Log) (T : List Event → Type 0) (H : Log → Log → Type 0)
+    → ((v : Option Value) × (x ≡ A.Return v)) ⊎ (((o : ℕ) × (x ≡ A.Throw o)) ⊎ ((o : ℕ) × (u : Use) × (x ≡ A.Head o u))) → IsNotHead x → T [] → H r w
+    → IsTurn B (λ v. on_asking P B x (phase_of a.stage) v (frames a) (meter a) w r) (λ v. AreOfAsking P B x (phase_of a.stage) v (meter a)) T H a (Err failure.Wrong)
+answer_early P B a x w r T H (inl (y, q)) other t h = (r, w, h, (Gives 0, rw q (gives_early a.stage y (meter a) w r), ([], rw q refl, tt, t)))
+answer_early P B a x w r T H (inr (inl (o, q))) other t h = (r, w, h, (Gives 0, rw q (throws_early P a.stage o (meter a) w r), ([], rw q refl, tt, t)))
+answer_early P B a x w r T H (inr (inr (o, u, q))) other t h = let no : ⊥ = rw q at other in absurd no
 
--- an error at a header is one of the turn
-pub head_fails : (P : Program) (B : Bounds) (x : Asking) (a a' : Running) (c : Run) (f : Reply → Run) (H H' : Log → Log → Type 0) (e : Failure) → (k : Following P B H c x a)
-    → ((v : Reply) → next_run P B v k.run ≡ f v) → IsHeaded f H' a' (Err e) → HasTurned P B c H' a' (Err e)
-head_fails P B x a a' c f H H' failure.Wrong k q t = record { before = k.run; comes = k.comes; turn = (t.0, t.1, t.2, (t.3.0, q t.3.0 ∙ t.3.1)) }
-head_fails P B x a a' c f H H' failure.NoMemory k q t = record { before = k.run; comes = k.comes; turn = (t.0, t.1, t.2) }
+module _ (P : Program) (B : Bounds) (x : Asking) (a a' : Running) (c : Run) (f : Reply → Run) (D : Reply → List Event → Type 0) (T T' T'' : List Event → Type 0) (H H' : Log → Log → Type 0) (k : Following P B T H c x a)
+    (q : (v : Reply) → next_run P B v k.run ≡ f v) (d : (v : Reply) (es : List Event) → D v es → AreOfStep P B v k.run es) (j : (es : List Event) → T' es → T'' (k.events ++ es)) where
+  -- an error at a header is one of the turn
+  pub head_fails : (e : Failure) → IsHeaded f D T' H' a' (Err e) → HasTurned P B c T'' H' a' (Err e)
+  head_fails failure.Wrong t = record {
+    before = k.run;
+    events = k.events;
+    no_entry = k.no_entry;
+    comes = k.comes;
+    turn = (t.0, t.1, t.2, (t.3.0, q t.3.0 ∙ t.3.1, told_as (D t.3.0) (λ es. AreOfStep P B t.3.0 k.run es) T' (λ es. T'' (k.events ++ es)) (d t.3.0) j t.3.2));
+  }
+  head_fails failure.NoMemory t = record {
+    before = k.run;
+    events = k.events;
+    no_entry = k.no_entry;
+    comes = k.comes;
+    turn = (t.0, t.1, t.2, none_after T' (λ es. T'' (k.events ++ es)) [] tt j t.3);
+  }
 
--- a header was read, and the instruction went on
-pub head_goes : (P : Program) (B : Bounds) (x : Asking) (a a' : Running) (c : Run) (f : Reply → Run) (H H' : Log → Log → Type 0) (next : Option Asking) → next ≡ None → (k : Following P B H c x a)
-    → ((v : Reply) → next_run P B v k.run ≡ f v) → IsHeaded f H' a' (Ok next) → HasTurned P B c H' a' (Ok Go)
-head_goes P B x a a' c f H H' next e k q t =
-    let u : IsHeaded f H' a' (Ok None) = subst (λ (y : Option Asking). IsHeaded f H' a' (Ok y)) e t in
-    record { before = k.run; comes = k.comes; turn = (u.0, u.1, u.2, (u.3.0, q u.3.0 ∙ u.3.1)) }
+  -- a header was read, and the instruction went on
+  pub head_goes : (next : Option Asking) → next ≡ None → IsHeaded f D T' H' a' (Ok next) → HasTurned P B c T'' H' a' (Ok Go)
+  head_goes next e t =
+      let u : IsHeaded f D T' H' a' (Ok None) = subst (λ (y : Option Asking). IsHeaded f D T' H' a' (Ok y)) e t in
+      record {
+        before = k.run;
+        events = k.events;
+        no_entry = k.no_entry;
+        comes = k.comes;
+        turn = (u.0, u.1, u.2, (u.3.0, q u.3.0 ∙ u.3.1, told_as (D u.3.0) (λ es. AreOfStep P B u.3.0 k.run es) T' (λ es. T'' (k.events ++ es)) (d u.3.0) j u.3.2));
+      }
 
--- or asks for more
-pub head_asks : (P : Program) (B : Bounds) (x y : Asking) (a a' : Running) (c : Run) (f : Reply → Run) (H H' : Log → Log → Type 0) (next : Option Asking) → next ≡ Some y → a'.stage ≡ stage.Open → (k : Following P B H c x a)
-    → ((v : Reply) → next_run P B v k.run ≡ f v) → IsHeaded f H' a' (Ok next) → Following P B H' c y a'
-head_asks P B x y a a' c f H H' next e opened k q t =
-    let u : IsHeaded f H' a' (Ok (Some y)) = subst (λ (z : Option Asking). IsHeaded f H' a' (Ok z)) e t in
-    record {
-      reads = u.0;
-      writes = u.1;
-      run = attempt.Asking y (frames a') (meter a') u.1 u.0;
-      holds = u.2;
-      comes = comes_on P B c k.run _ u.3.0 k.comes (q u.3.0 ∙ u.3.1);
-      waits = λ v. rw opened refl;
-    }
+  -- or asks for more
+  pub head_asks : (y : Asking) (next : Option Asking) → next ≡ Some y → a'.stage ≡ stage.Open → IsHeaded f D T' H' a' (Ok next) → Following P B T'' H' c y a'
+  head_asks y next e opened t =
+      let u : IsHeaded f D T' H' a' (Ok (Some y)) = subst (λ (z : Option Asking). IsHeaded f D T' H' a' (Ok z)) e t in
+      record {
+        reads = u.0;
+        writes = u.1;
+        run = attempt.Asking y (frames a') (meter a') u.1 u.0;
+        holds = u.2;
+        events = k.events ++ u.3.2.0;
+        no_entry = open_append k.events u.3.2.0 k.no_entry u.3.2.2;
+        comes = way_more P B c k.run _ u.3.0 k.events u.3.2.0 k.comes (q u.3.0 ∙ u.3.1) (d u.3.0 u.3.2.0 u.3.2.1);
+        waits = ((λ v. rw opened refl), (λ v es g. rw opened at g));
+        told = j u.3.2.0 u.3.2.3;
+      }
 
 -- a run that waits for a header
 pub waits_head : (P : Program) (B : Bounds) (x : Asking) (o : ℕ) (u : Use) (a : Running) (w r : Log) (c : Run) → x ≡ A.Head o u → Waits P B x a w r c
     → (v : Reply) → next_run P B v c ≡ heading (phase_of a.stage) v P u o (frames a) (meter a) w r
-waits_head P B x o u a w r c e k v = k v ∙ rw e refl
+waits_head P B x o u a w r c e k v = k.0 v ∙ rw e refl
 
--- what is waited for by another name
-pub waits_same : (P : Program) (B : Bounds) (x y : Asking) (a : Running) (w r : Log) (c : Run) → y ≡ x → Waits P B x a w r c → Waits P B y a w r c
-waits_same P B x y a w r c e k = rw e k
+-- and what it tells
+pub waits_head_tells : (P : Program) (B : Bounds) (x : Asking) (o : ℕ) (u : Use) (a : Running) (w r : Log) (c : Run) → x ≡ A.Head o u → Waits P B x a w r c
+    → (v : Reply) (es : List Event) → AreOfAsking P B (A.Head o u) (phase_of a.stage) v (meter a) es → AreOfStep P B v c es
+waits_head_tells P B x o u a w r c e k v es d = k.1 v es (rw e d)
 
 -- a run that follows from the start of an instruction's asking
-pub follows_here : (P : Program) (B : Bounds) (H : Log → Log → Type 0) (c : Run) (x : Asking) (a : Running) (w r : Log) → H r w → Waits P B x a w r c → Following P B H c x a
-follows_here P B H c x a w r h k = record { reads = r; writes = w; run = c; holds = h; comes = comes_here P B c; waits = k }
+pub follows_here : (P : Program) (B : Bounds) (T : List Event → Type 0) (H : Log → Log → Type 0) (c : Run) (x : Asking) (a : Running) (w r : Log) → T [] → H r w → Waits P B x a w r c → Following P B T H c x a
+follows_here P B T H c x a w r t h k = record { reads = r; writes = w; run = c; holds = h; events = []; no_entry = tt; comes = way_here P B c; waits = k; told = t }
 
 -- where an instruction stands that was told a header, after the engine's reply
-pub headed_of : (x : Run) (f : Reply → Run) (H : Log → Log → Type 0) (a : Running) (result : Result (Option Asking) Failure) (r w : Log) (v : Reply) → f v ≡ x → H r w → IsFollowed x a w r result → IsHeaded f H a result
-headed_of x f H a (Ok next) r w v e h t = (r, w, h, (v, e ∙ t))
-headed_of x f H a (Err failure.Wrong) r w v e h t = (r, w, h, (v, e ∙ t))
-headed_of x f H a (Err failure.NoMemory) r w v e h t = (r, w, h)
+pub headed_of : (x : Run) (f : Reply → Run) (D : Reply → List Event → Type 0) (T : List Event → Type 0) (H : Log → Log → Type 0) (a : Running) (result : Result (Option Asking) Failure) (r w : Log) (v : Reply)
+    → f v ≡ x → H r w → IsFollowed x a w r result → Told (D v) T → IsHeaded f D T H a result
+headed_of x f D T H a (Ok next) r w v e h t g = (r, w, h, (v, e ∙ t, g))
+headed_of x f D T H a (Err failure.Wrong) r w v e h t g = (r, w, h, (v, e ∙ t, g))
+headed_of x f D T H a (Err failure.NoMemory) r w v e h t g = (r, w, h, none_told (D v) T g)
 
 -- what is told a header asks for more
 pub followed_asks : (x : Asked) (a : Asking) (b : Running) (w r : Log) → ¬ (a ≡ A.Go) → GoesOn a → IsStep (Ok a) (frames b) x → followed x (meter b) w r ≡ attempt.Asking a (frames b) (meter b) w r
@@ -230,6 +317,32 @@ heads_plain v P (U.Tests c) o fs m w r e = let no : ⊥ = cc in absurd no
 heads_plain v P U.Measures o fs m w r e = let no : ⊥ = cc in absurd no
 heads_plain v P (U.Fits a p x) o fs m w r e = let no : ⊥ = cc in absurd no
 
+-- a header's events
+pub head_tells : (u : Use) (v : Reply) (o : ℕ) (es : List Event) → loads_plain u ≡ false → AreOfHeader v o es → AreOfHead u v o es
+head_tells (U.Selects k) v o es e t = t
+head_tells (U.Implements k c) v o es e t = t
+head_tells (U.Casts c) v o es e t = t
+head_tells (U.Tests c) v o es e t = t
+head_tells U.Measures v o es e t = t
+head_tells (U.Indexes i element.Load) v o es e t = let no : ⊥ = cc in absurd no
+head_tells (U.Indexes i (element.Store x)) v o es e t = t
+head_tells (U.Indexes i element.Look) v o es e t = t
+head_tells (U.Indexes i (element.Write x)) v o es e t = t
+head_tells (U.Fits a p x) v o es e t = t
+
+-- a plain load tells nothing
+pub plain_tells : (u : Use) (v : Reply) (o : ℕ) → loads_plain u ≡ true → AreOfHead u v o []
+plain_tells (U.Indexes i element.Load) v o e = refl
+plain_tells (U.Indexes i (element.Store x)) v o e = let no : ⊥ = cc in absurd no
+plain_tells (U.Indexes i element.Look) v o e = let no : ⊥ = cc in absurd no
+plain_tells (U.Indexes i (element.Write x)) v o e = let no : ⊥ = cc in absurd no
+plain_tells (U.Selects k) v o e = let no : ⊥ = cc in absurd no
+plain_tells (U.Implements k c) v o e = let no : ⊥ = cc in absurd no
+plain_tells (U.Casts c) v o e = let no : ⊥ = cc in absurd no
+plain_tells (U.Tests c) v o e = let no : ⊥ = cc in absurd no
+plain_tells U.Measures v o e = let no : ⊥ = cc in absurd no
+plain_tells (U.Fits a p x) v o e = let no : ⊥ = cc in absurd no
+
 -- outside an attempt none is
 pub head_outside : (s : Stage) (v : Reply) (P : Program) (u : Use) (o : ℕ) (fs : Frames) (m : Meter) (w r : Log) → (s ≡ stage.Ready) ⊎ (s ≡ stage.Doomed) → heading (phase_of s) v P u o fs m w r ≡ Stuck r
 head_outside s v P u o fs m w r (inl e) = rw e refl
@@ -239,6 +352,15 @@ head_outside s v P u o fs m w r (inr e) = rw e refl
 pub make_outside : (s : Stage) (t n : ℕ) (d : Made) (v : Reply) (P : Program) (B : Bounds) (fs : Frames) (m : Meter) (w r : Log) → (s ≡ stage.Ready) ⊎ (s ≡ stage.Doomed) → making (phase_of s) t n d v P B fs m w r ≡ Stuck r
 make_outside s t n d v P B fs m w r (inl e) = rw e refl
 make_outside s t n d v P B fs m w r (inr e) = rw e refl
+
+-- and nothing is told there
+pub head_outside_tells : (P : Program) (B : Bounds) (s : Stage) (o : ℕ) (u : Use) (v : Reply) (m : Meter) → (s ≡ stage.Ready) ⊎ (s ≡ stage.Doomed) → AreOfAsking P B (A.Head o u) (phase_of s) v m []
+head_outside_tells P B s o u v m (inl e) = rw e refl
+head_outside_tells P B s o u v m (inr e) = rw e refl
+
+pub make_outside_tells : (P : Program) (B : Bounds) (s : Stage) (t n : ℕ) (d : Made) (v : Reply) (m : Meter) → (s ≡ stage.Ready) ⊎ (s ≡ stage.Doomed) → AreOfAsking P B (A.Make t n d) (phase_of s) v m []
+make_outside_tells P B s t n d v m (inl e) = rw e refl
+make_outside_tells P B s t n d v m (inr e) = rw e refl
 
 -- an error is told as one of a header
 pub lands_followed : (B : Bounds) (x : Run) (a : Running) (w r : Log) (e : Failure) → Lands B x a w r (Err e) → IsFollowed x a w r (Err e)

@@ -1,4 +1,6 @@
 pub mod Meets
 pub mod Machine
+pub mod Telling
 pub mod Running
 pub mod Sound
+pub mod Gates

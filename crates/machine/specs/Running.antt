@@ -5,6 +5,8 @@ use Rattle.jmodel.specs.declared.value.Answer.{Answer}
 use Rattle.jmodel.specs.declared.value.Answer.TheVariants as answer
 use Rattle.objects.specs.declared.op.Phase.{Phase}
 use Rattle.objects.specs.declared.op.Phase.TheVariants as phase
+use Rattle.objects.specs.declared.event.Event.{Event}
+use Rattle.objects.specs.declared.event.Event.TheVariants as event
 use Rattle.objects.specs.declared.op.Doing.{Doing}
 use Rattle.objects.specs.semantics.Program.{Row, Program, is_counted, row_at}
 use Rattle.objects.specs.semantics.Step.{Frame, Frames, step, jumps, unwinds, resumed, at as at_place}
@@ -14,7 +16,8 @@ use Rattle.objects.specs.declared.op.Asking.TheVariants.{Head}
 use Rattle.objects.specs.declared.op.Made.{Made}
 use Rattle.objects.specs.declared.op.Made.TheVariants.{Pushed, Raised}
 use Rattle.objects.specs.declared.op.Slot.TheVariants as slot
-use Rattle.objects.specs.rewriting.Attempt.{Thrown as ThrownAs, Log, Bounds, Meter, Run, On, Asking, Ended, Stuck, Reply, Gives, Refuses, set_back, on_asked, on_asking, on_commit, on_thrown, meter_thrown, next_run, Comes, run_start}
+use Rattle.objects.specs.rewriting.Attempt.{Thrown as ThrownAs, Log, Bounds, Meter, Run, On, Asking, Ended, Stuck, Reply, Gives, Refuses, set_back, on_asked, on_asking, on_commit, on_thrown, meter_thrown, next_run, run, Comes, run_start}
+use Rattle.objects.specs.rewriting.Events.{AreOfAsking, AreOfStep, AreOfRun, AreOpen}
 use Rattle.jmodel.specs.history.History.{Call, Entry, Words, made}
 use Rattle.machine.specs.declared.failure.Failure.{Failure}
 use Rattle.machine.specs.declared.failure.Failure.TheVariants as failure
@@ -27,6 +30,7 @@ use Rattle.machine.specs.declared.running.Running.{Running}
 use Rattle.machine.specs.declared.machine.End.{End}
 use Rattle.machine.specs.Machine.{IsUnplaced}
 use Rattle.machine.specs.Meets.{IsDone}
+use Rattle.machine.specs.Telling.{TellsNone}
 use Rattle.tx_core.specs.Engine.{IsAllowed, IsOfWrites, IsSnapshot, LeadsTo}
 use Rattle.machine.specs.declared.make.Fresh.{Fresh}
 
@@ -104,26 +108,35 @@ Lands B x a w r (Err failure.NoMemory) = Unit {0}
 Lands B x a w r (Ok Commit) = ⊥
 Lands B x a w r result = x ≡ land B a w r result
 
--- a turn of the machine: f is the next run by the engine's reply, and H what holds after it
-abbrev pub IsTurn : Bounds → (Reply → Run) → (Log → Log → Type 0) → Running → Result Todo Failure → Type 0
-IsTurn B f H a (Err failure.NoMemory) = (r : Log) × (w : Log) × H r w
-IsTurn B f H a (Ok Commit) = (r : Log) × (w : Log) × H r w × ((v : Reply) → f v ≡ on_commit B v (frames a) (meter a) w r)
-IsTurn B f H a result = (r : Log) × (w : Log) × H r w × ((v : Reply) × (f v ≡ land B a w r result))
+-- a run from c comes to d, and tells these events on its way
+abbrev pub Way : Program → Bounds → Run → List Event → Run → Type 0
+Way P B c es d = (vs : List Reply) × (run P B vs c ≡ d) × AreOfRun P B vs c es
+
+-- what a gate was told of a step: events that are of it by D, and no entry
+abbrev pub Told : (List Event → Type 0) → (List Event → Type 0) → Type 0
+Told D T = (es : List Event) × D es × AreOpen es × T es
+
+-- A turn of the machine: f is the next run by the engine's reply, D its events by the reply, T what the gate was told, and H what holds after it.
+abbrev pub IsTurn : Bounds → (Reply → Run) → (Reply → List Event → Type 0) → (List Event → Type 0) → (Log → Log → Type 0) → Running → Result Todo Failure → Type 0
+IsTurn B f D T H a (Err failure.NoMemory) = (r : Log) × (w : Log) × H r w × TellsNone T
+IsTurn B f D T H a (Ok Commit) = (r : Log) × (w : Log) × H r w × ((v : Reply) → f v ≡ on_commit B v (frames a) (meter a) w r) × (((v : Reply) → D v []) × T [])
+IsTurn B f D T H a result = (r : Log) × (w : Log) × H r w × ((v : Reply) × (f v ≡ land B a w r result) × Told (D v) T)
 
 -- a run that waits for this to be served
 abbrev pub Waits : Program → Bounds → Wanted → Running → Log → Log → Run → Type 0
-Waits P B asking a w r c = (v : Reply) → next_run P B v c ≡ on_asking P B asking (phase_of a.stage) v (frames a) (meter a) w r
+Waits P B asking a w r c = ((v : Reply) → next_run P B v c ≡ on_asking P B asking (phase_of a.stage) v (frames a) (meter a) w r)
+    × ((v : Reply) (es : List Event) → AreOfAsking P B asking (phase_of a.stage) v (meter a) es → AreOfStep P B v c es)
 
 -- Where an instruction stands whose header was read: it goes on, or asks for more.
 abbrev pub goes_on : Running → Log → Log → Option Wanted → Run
 goes_on a w r None = at a w r
 goes_on a w r (Some asking) = Asking asking (frames a) (meter a) w r
 
--- the reading of a header: f is the next run by the engine's reply, and H what holds after it
-abbrev pub IsHeaded : (Reply → Run) → (Log → Log → Type 0) → Running → Result (Option Wanted) Failure → Type 0
-IsHeaded f H a (Ok next) = (r : Log) × (w : Log) × H r w × ((v : Reply) × (f v ≡ goes_on a w r next))
-IsHeaded f H a (Err failure.Wrong) = (r : Log) × (w : Log) × H r w × ((v : Reply) × (f v ≡ Stuck r))
-IsHeaded f H a (Err failure.NoMemory) = (r : Log) × (w : Log) × H r w
+-- the reading of a header: f is the next run by the engine's reply, D its events by the reply, T what the gate was told, and H what holds after it
+abbrev pub IsHeaded : (Reply → Run) → (Reply → List Event → Type 0) → (List Event → Type 0) → (Log → Log → Type 0) → Running → Result (Option Wanted) Failure → Type 0
+IsHeaded f D T H a (Ok next) = (r : Log) × (w : Log) × H r w × ((v : Reply) × (f v ≡ goes_on a w r next) × Told (D v) T)
+IsHeaded f D T H a (Err failure.Wrong) = (r : Log) × (w : Log) × H r w × ((v : Reply) × (f v ≡ Stuck r) × Told (D v) T)
+IsHeaded f D T H a (Err failure.NoMemory) = (r : Log) × (w : Log) × H r w × TellsNone T
 
 -- where an instruction stands that was told a header
 abbrev pub IsFollowed : Run → Running → Log → Log → Result (Option Wanted) Failure → Type 0
@@ -136,14 +149,17 @@ abbrev pub settled : Made → Program → Bounds → ℕ → ℕ → Meter → F
 settled Pushed P B o t m fs w r = On phase.Open (resumed (slot.Ref o ∷ []) fs) m w r
 settled Raised P B o t m fs w r = on_thrown B (unwinds P o t fs) (meter_thrown o t m) w r
 
--- a run that began as c has come to where an instruction waits for this; H says what holds of its reads and writes
-pub record Following (P : Program) (B : Bounds) (H : Log → Log → Type 0) (c : Run) (x : Wanted) (a : Running) : Type 0 where
+-- A run that began as c has come to where an instruction waits for this. T says what the gate was told, and H what holds of its reads and writes.
+pub record Following (P : Program) (B : Bounds) (T : List Event → Type 0) (H : Log → Log → Type 0) (c : Run) (x : Wanted) (a : Running) : Type 0 where
   pub reads : Log
   pub writes : Log
   pub run : Run
   pub holds : H reads writes
-  pub comes : Comes P B c run
+  pub events : List Event
+  pub no_entry : AreOpen events
+  pub comes : Way P B c events run
   pub waits : Waits P B x a writes reads run
+  pub told : T events
 
 abbrev pub IsNotHead : Wanted → Type 0
 IsNotHead (Head o u) = ⊥
@@ -167,14 +183,16 @@ pub record HasJumped (to : ℕ) (counts : Bool) (a a' : Running) : Type 0 where
 -- Instructions that ask for nothing, and one behind them, which stands in this frame and leaves this to be done.
 pub record IsPlain (P : Program) (a a' : Running) (result : Result Doing Failure) : Type 0 where
   pub frame : Frame
-  pub comes : (B : Bounds) (w r : Log) → Comes P B (at a w r) (On (phase_of a'.stage) (frame ∷ a'.callers) (meter a') w r)
+  pub comes : (B : Bounds) (w r : Log) → Way P B (at a w r) [] (On (phase_of a'.stage) (frame ∷ a'.callers) (meter a') w r)
   pub does : (fs : Frames) → IsDone P result a'.frame fs (step P (frame ∷ fs))
 
--- instructions that ask for nothing, and a turn of the machine behind them
-pub record HasTurned (P : Program) (B : Bounds) (c : Run) (H : Log → Log → Type 0) (a : Running) (result : Result Todo Failure) : Type 0 where
+-- instructions that ask for nothing but headers, and a turn of the machine behind them
+pub record HasTurned (P : Program) (B : Bounds) (c : Run) (T : List Event → Type 0) (H : Log → Log → Type 0) (a : Running) (result : Result Todo Failure) : Type 0 where
   pub before : Run
-  pub comes : Comes P B c before
-  pub turn : IsTurn B (λ v. next_run P B v before) H a result
+  pub events : List Event
+  pub no_entry : AreOpen events
+  pub comes : Way P B c events before
+  pub turn : IsTurn B (λ v. next_run P B v before) (λ v es. AreOfStep P B v before es) (λ es. T (events ++ es)) H a result
 
 -- the wrapper returns or throws
 abbrev pub IsLast : Answer → Type 0
@@ -184,8 +202,8 @@ IsLast x = ⊥
 
 -- what the code after a commit comes to
 abbrev pub IsFinished : Program → Bounds → Run → Meter → Log → Log → Result Answer Failure → Type 0
-IsFinished P B c m w r (Ok x) = Comes P B c (Ended x m w r) × IsLast x
-IsFinished P B c m w r (Err failure.Wrong) = Comes P B c (Stuck r)
+IsFinished P B c m w r (Ok x) = Way P B c [] (Ended x m w r) × IsLast x
+IsFinished P B c m w r (Err failure.Wrong) = Way P B c [] (Stuck r)
 IsFinished P B c m w r (Err failure.NoMemory) = Unit {0}
 
 -- An entry of the awaited call that ended so, with these reads and writes, was added where it is allowed. Each attempt before its own met a
@@ -211,10 +229,15 @@ pub record MayCommit (P : Program) (B : Bounds) (a : Running) (allows : Entry �
 
 -- a commit: c is the run by the engine's reply
 abbrev pub IsCommit : Program → Bounds → (Reply → Run) → (Call → ℕ → Type 0) → (Entry → Type 0) → (Log → Type 0) → (List Entry → ℕ → Log → Log → Type 0) → List Entry → ℕ → Meter → Log → Log → Running → Result (Option End) Failure → Type 0
-IsCommit P B c A allows K S h n m r w a (Ok (Some e)) = (Comes P B (c (Gives 0)) (Ended e.answer m w r) × IsLast e.answer × (e.used ≡ m.used)) × HasAdded A allows S h n B.used m.tried e r w
+IsCommit P B c A allows K S h n m r w a (Ok (Some e)) = (Way P B (c (Gives 0)) [] (Ended e.answer m w r) × IsLast e.answer × (e.used ≡ m.used)) × HasAdded A allows S h n B.used m.tried e r w
 IsCommit P B c A allows K S h n m r w a (Ok None) = (c Refuses ≡ at a [] []) × Holds (S h) K n a.stage a.tried [] []
-IsCommit P B c A allows K S h n m r w a (Err failure.Wrong) = Holds (S h) K n a.stage a.tried r w × Comes P B (c (Gives 0)) (Stuck r)
+IsCommit P B c A allows K S h n m r w a (Err failure.Wrong) = Holds (S h) K n a.stage a.tried r w × Way P B (c (Gives 0)) [] (Stuck r)
 IsCommit P B c A allows K S h n m r w a (Err failure.NoMemory) = Leaves (S h) n a.stage
+
+-- what a commit told
+abbrev pub TellsCommit : (List Event → Type 0) → Result (Option End) Failure → Type 0
+TellsCommit T (Ok (Some e)) = T (event.Ended ∷ [])
+TellsCommit T result = T []
 
 -- the start of a call
 abbrev pub IsStarted : Program → Bounds → ℕ → List Value → Result Running Failure → Type 0
@@ -222,29 +245,32 @@ IsStarted P B m args (Ok a) = (run_start P B m args ≡ at a [] []) × (a.stage 
 IsStarted P B m args (Err failure.Wrong) = run_start P B m args ≡ Stuck []
 IsStarted P B m args (Err failure.NoMemory) = Unit {0}
 
--- a run that ended with an entry; T says how many attempts were begun
-pub record Ends (P : Program) (B : Bounds) (c : Run) (A : Call → ℕ → Type 0) (allows : Entry → Type 0) (T : ℕ → Type 0) (S : List Entry → ℕ → Log → Log → Type 0) (h : List Entry) (n : ℕ) (e : End) : Type 0 where
+-- a run that ended with an entry; T says how many attempts were begun, and G what the gate was told
+pub record Ends (P : Program) (B : Bounds) (c : Run) (A : Call → ℕ → Type 0) (allows : Entry → Type 0) (T : ℕ → Type 0) (G : List Event → Type 0) (S : List Entry → ℕ → Log → Log → Type 0) (h : List Entry) (n : ℕ) (e : End) : Type 0 where
   pub reads : Log
   pub writes : Log
   pub meter_then : Meter
-  pub comes : Comes P B c (Ended e.answer meter_then writes reads)
+  pub steps : List Event
+  pub comes : Way P B c steps (Ended e.answer meter_then writes reads)
   pub leaves : meter_then.used ≡ e.used
   pub begun : T meter_then.tried
   pub added : HasAdded A allows S h n B.used meter_then.tried e reads writes
+  pub told : G (steps ++ event.Ended ∷ [])
 
 -- the attempts were used up, each by a conflict
-pub record IsSpent (P : Program) (B : Bounds) (c : Run) (T : ℕ → Type 0) (S : ℕ → Log → Log → Type 0) (n : ℕ) (e : End) : Type 0 where
+pub record IsSpent (P : Program) (B : Bounds) (c : Run) (T : ℕ → Type 0) (G : List Event → Type 0) (S : ℕ → Log → Log → Type 0) (n : ℕ) (e : End) : Type 0 where
   pub meter_then : Meter
   pub begun : T meter_then.tried
   pub comes : Comes P B c (Ended answer.Spent meter_then [] [])
   pub stands : S (n + meter_then.tried) [] []
   pub unplaced : IsUnplaced B e
+  pub tells : TellsNone G
 
 -- how a run ends, by its answer
-abbrev pub IsEndBy : Answer → Program → Bounds → Run → (Call → ℕ → Type 0) → (Entry → Type 0) → (ℕ → Type 0) → (List Entry → ℕ → Log → Log → Type 0) → List Entry → ℕ → End → Type 0
-IsEndBy answer.Spent P B c A allows T S h n e = IsSpent P B c T (S h) n e
-IsEndBy answer.NoMemory P B c A allows T S h n e = ⊥
-IsEndBy x P B c A allows T S h n e = Ends P B c A allows T S h n e
+abbrev pub IsEndBy : Answer → Program → Bounds → Run → (Call → ℕ → Type 0) → (Entry → Type 0) → (ℕ → Type 0) → (List Event → Type 0) → (List Entry → ℕ → Log → Log → Type 0) → List Entry → ℕ → End → Type 0
+IsEndBy answer.Spent P B c A allows T G S h n e = IsSpent P B c T G (S h) n e
+IsEndBy answer.NoMemory P B c A allows T G S h n e = ⊥
+IsEndBy x P B c A allows T G S h n e = Ends P B c A allows T G S h n e
 
 -- a run that is stuck, and what is known of its reads
 pub record IsStuckBy (P : Program) (B : Bounds) (c : Run) (K : Log → Type 0) : Type 0 where
@@ -253,14 +279,17 @@ pub record IsStuckBy (P : Program) (B : Bounds) (c : Run) (K : Log → Type 0) :
   pub knew : (reads ≡ []) ⊎ K reads
 
 -- how a run ends; E says what is known after an error, and K of the reads of one that is stuck
-abbrev pub IsEnd : Program → Bounds → Run → (Call → ℕ → Type 0) → (Entry → Type 0) → (ℕ → Type 0) → (List Entry → ℕ → Log → Log → Type 0) → List Entry → ℕ → Type 0 → (Log → Type 0) → Result End Failure → Type 0
-IsEnd P B c A allows T S h n E K (Ok e) = IsEndBy e.answer P B c A allows T S h n e
-IsEnd P B c A allows T S h n E K (Err failure.Wrong) = E × IsStuckBy P B c K
-IsEnd P B c A allows T S h n E K (Err failure.NoMemory) = E
+abbrev pub IsEnd : Program → Bounds → Run → (Call → ℕ → Type 0) → (Entry → Type 0) → (ℕ → Type 0) → (List Event → Type 0) → (List Entry → ℕ → Log → Log → Type 0) → List Entry → ℕ → Type 0 → (Log → Type 0) → Result End Failure → Type 0
+IsEnd P B c A allows T G S h n E K (Ok e) = IsEndBy e.answer P B c A allows T G S h n e
+IsEnd P B c A allows T G S h n E K (Err failure.Wrong) = E × IsStuckBy P B c K × TellsNone G
+IsEnd P B c A allows T G S h n E K (Err failure.NoMemory) = E × TellsNone G
 
--- a call that began as c has come to where it stands
-pub record OnWay (P : Program) (B : Bounds) (c : Run) (S : ℕ → Log → Log → Type 0) (K : Log → Type 0) (n : ℕ) (a : Running) : Type 0 where
+-- a call that began as c has come to where it stands; T says what the gate was told
+pub record OnWay (P : Program) (B : Bounds) (c : Run) (T : List Event → Type 0) (S : ℕ → Log → Log → Type 0) (K : Log → Type 0) (n : ℕ) (a : Running) : Type 0 where
   pub reads : Log
   pub writes : Log
   pub holds : Holds S K n a.stage a.tried reads writes
-  pub comes : Comes P B c (at a writes reads)
+  pub events : List Event
+  pub no_entry : AreOpen events
+  pub comes : Way P B c events (at a writes reads)
+  pub told : T events

@@ -8,17 +8,20 @@ ghost use Rattle.objects.specs.declared.op.Phase.TheVariants as phase;
 ghost use Rattle.objects.specs.declared.op.Slot.TheVariants as slot;
 ghost use Rattle.machine.specs.declared.running.Stage.TheVariants as stage;
 ghost use Rattle.machine.specs.Machine.{bounds_of};
-ghost use Rattle.machine.specs.Running.{frames, meter, thrown_of, Saw, Holds, IsWithin, IsFinished, MayCommit, IsCommit};
+ghost use Rattle.machine.specs.Running.{frames, meter, thrown_of, Saw, Holds, IsWithin, IsFinished, MayCommit, IsCommit, TellsCommit};
+ghost use Rattle.objects.specs.rewriting.Events.{Grows};
 
 use crate::callers::Callers;
 use crate::failure::Failure;
 use crate::frame::Frame;
+use crate::gate::Gate;
 use crate::machine::{End, Limits};
 use crate::room::Thrown;
 use crate::running::{Running, Stage};
 use crate::step::step;
 use hierarchy::program::Program;
 use jmodel::value::Answer;
+use objects::event::Event;
 use objects::op::{Asking, Slot};
 use std::alloc::Global;
 use std::snapshot::Snapshot;
@@ -93,12 +96,13 @@ impl Running {
     }
 
     /// Commits the attempt. Answers how the call ends, or none where the engine refused.
-    pub fn commit<E: Engine>(
+    pub fn commit<E: Engine, G: Gate>(
         &mut self,
         alloc: Global,
         program: &Program,
         limits: Limits,
         engine: &mut E,
+        gate: &mut G,
     ) -> Result<Option<End>, Failure>
         requires next { self.old.frame.pc + 1 < 2 ^ 64 }
         requires open { self.old.stage ≡ stage.Open }
@@ -107,6 +111,7 @@ impl Running {
         requires allowed { E.is_shared → MayCommit program.now (bounds_of limits) self.old E.allows (E.stands engine.old) (E.awaits engine.old) }
         ensures run { (h : List Entry) (n : ℕ) (r w : Log) (k : Call) (used : ℕ) → Holds (E.stands engine.old h) (Saw E.is_shared E.begins E.allows h k used) n stage.Open self.old.tried r w
             → IsCommit program.now (bounds_of limits) (λ v. on_commit (bounds_of limits) v (frames self.old) (meter self.old) w r) (E.awaits engine.old) E.allows (Saw E.is_shared E.begins E.allows h k used) (E.stands engine.new) h n (meter self.old) r w self.new result }
+        ensures told { TellsCommit (Grows (G.told gate.old) (G.told gate.new)) result }
         ensures attempts { (k : ℕ) → E.attempts engine.old k → E.attempts engine.new k }
         ensures tried { self.new.tried ≡ self.old.tried }
         ensures ticks { (t attempts : ℕ) → IsWithin t attempts (E.clock engine.old) stage.Open self.old.tried
@@ -117,6 +122,7 @@ impl Running {
         let answer = self.answer_committed(alloc, program)?;
         match engine.commit(Snapshot::of(&answer), Snapshot::of(&self.used)) {
             Ok(stamp) => {
+                gate.at(Event::Ended);
                 self.stage = Stage::Ready;
                 Ok(Some(End {
                     answer,

@@ -12,6 +12,7 @@ mod context;
 pub mod failure;
 mod fields;
 pub mod frame;
+pub mod gate;
 mod locals;
 pub mod machine;
 mod make;
@@ -26,5 +27,7 @@ mod told;
 mod turn;
 pub mod value;
 
+pub use gate::{Gate, LogGate, Open};
 pub use machine::{End, Limits, Machine, Stuck};
+pub use objects::event::Event;
 pub use room::Room;

@@ -1,5 +1,5 @@
 //! Calls of rewritten code, as transactions over an engine.
-ghost use Rattle.std.specs.Prelude.{◌≡◌, ◌⊎◌, IsOk, ◌≤◌, ◌<◌, ◌+◌, ◌*◌, ◌^◌, ℕ, List, []};
+ghost use Rattle.std.specs.Prelude.{◌≡◌, ◌⊎◌, IsOk, ◌≤◌, ◌<◌, ◌+◌, ◌*◌, ◌^◌, ℕ, List, [], ◌∷◌};
 ghost use Rattle.objects.specs.rewriting.Attempt.{Log, run_start};
 ghost use Rattle.jmodel.specs.history.History.{Call, Entry, Words};
 ghost use Rattle.objects.specs.semantics.Program.{Program as JProgram};
@@ -7,14 +7,19 @@ ghost use Rattle.objects.specs.typing.Typing.{Table};
 ghost use Rattle.tx_core.specs.Engine.{Adds, MayEnd, IsOfWrites, LeadsTo};
 ghost use Rattle.machine.specs.declared.running.Stage.TheVariants as stage;
 ghost use Rattle.machine.specs.Machine.{bounds_of, unplaced, MayRun, MayStart, AddsRun, AddsNone, Begins, TriesRun};
+ghost use Rattle.objects.specs.declared.event.Event.TheVariants as event;
+ghost use Rattle.objects.specs.rewriting.Events.{Grows};
+ghost use Rattle.machine.specs.Telling.{TellsRun};
 ghost use Rattle.machine.specs.Sound.{IsTypedCall, IsOverStates};
 ghost use Rattle.machine.specs.Running.{at, Saw, Leaves, IsEnd};
 
 use crate::failure::Failure;
+use crate::gate::Gate;
 use crate::room::Room;
 use crate::running::{Running, Stage, Todo};
 use hierarchy::program::Program;
 use jmodel::value::{Answer, Stamp, Value};
+use objects::event::Event;
 use std::alloc::Global;
 use std::snapshot::Snapshot;
 use tx_core::Engine;
@@ -42,6 +47,13 @@ pub struct Stuck;
 
 /// The machine that runs calls.
 pub struct Machine;
+
+/// What is called: a method of this number, with these arguments.
+#[derive(Clone, Copy)]
+struct Called<'a> {
+    method: usize,
+    args: &'a [Value],
+}
 
 /// The stamp of a call that added no entry.
 const UNPLACED: Stamp = Stamp {
@@ -75,10 +87,11 @@ impl Limits {
 impl Machine {
     /// Calls a method of a program with these arguments, as a transaction, which is tried again where it meets a conflict.
     /// Answers how it ended. `Spent` and `NoMemory` have no place in the history, and leave the region as it was.
-    pub fn call<E: Engine>(
+    pub fn call<E: Engine, G: Gate>(
         alloc: Global,
         program: &Program,
         tx: &mut E,
+        gate: &mut G,
         limits: Limits,
         method: usize,
         args: &[Value],
@@ -91,6 +104,11 @@ impl Machine {
         ensures run { (h : List Entry) (n : ℕ) (c : Call) → E.stands tx.old h n [] [] → E.awaits tx.old c limits.room.used → c.method ≡ method → c.args ≡ args.now
             → MayRun E.allows program.now (bounds_of limits) c
             → AddsRun program.now (bounds_of limits) c (E.stands tx.new) h n result }
+        // Where the gate tells its events, they are those before, and then the events of the run by which the call came to its entry, of which the last is
+        // `Ended`; a call that adds no entry tells none.
+        ensures told { (h : List Entry) (n : ℕ) (c : Call) → E.stands tx.old h n [] [] → E.awaits tx.old c limits.room.used → c.method ≡ method → c.args ≡ args.now
+            → MayRun E.allows program.now (bounds_of limits) c
+            → TellsRun program.now (bounds_of limits) c (E.stands tx.new) h n (Grows (G.told gate.old) (G.told gate.new)) result }
         // No attempt is begun that isn't one of the run: each met a conflict, but for the one that ended as an entry.
         ensures attempts { (h : List Entry) (n k : ℕ) (c : Call) → E.stands tx.old h n [] [] → E.awaits tx.old c limits.room.used → c.method ≡ method → c.args ≡ args.now
             → MayRun E.allows program.now (bounds_of limits) c
@@ -103,7 +121,7 @@ impl Machine {
             → IsOverStates P limits E.begins E.allows → IsOk result }
         ensures ticks { E.clock tx.new ≤ E.clock tx.old + limits.attempts }
     {
-        match attempts(alloc, program, tx, limits, method, args) {
+        match attempts(alloc, program, tx, gate, limits, Called { method, args }) {
             Ok(end) => Ok(end),
             Err(Failure::NoMemory) => Ok(limits.unplaced(Answer::NoMemory)),
             Err(Failure::Wrong) => Err(Stuck),
@@ -112,23 +130,23 @@ impl Machine {
 }
 
 /// Makes attempts until one ends, and leaves none open.
-fn attempts<E: Engine>(
+fn attempts<'a, E: Engine, G: Gate>(
     alloc: Global,
     program: &Program,
     tx: &mut E,
+    gate: &mut G,
     limits: Limits,
-    method: usize,
-    args: &[Value],
+    called: Called<'a>,
 ) -> Result<End, Failure>
     requires clock { E.clock tx.old + limits.attempts ≤ 2 ^ 40 }
     requires fits { limits.room.region * limits.room.size + limits.room.size < 2 ^ 64 }
-    requires ready { E.is_shared → MayStart program.now (bounds_of limits) (run_start program.now (bounds_of limits) method args.now) E.allows (E.stands tx.old) (E.awaits tx.old) }
+    requires ready { E.is_shared → MayStart program.now (bounds_of limits) (run_start program.now (bounds_of limits) called.method called.args.now) E.allows (E.stands tx.old) (E.awaits tx.old) }
     ensures run { (h : List Entry) (n : ℕ) (k : Call) → E.stands tx.old h n [] [] → E.awaits tx.old k limits.room.used
-        → IsEnd program.now (bounds_of limits) (run_start program.now (bounds_of limits) method args.now) (E.awaits tx.old) E.allows (Begins (E.attempts tx.old) (E.attempts tx.new)) (E.stands tx.new) h n (AddsNone (E.stands tx.new h) n) (Saw E.is_shared E.begins E.allows h k limits.room.used) result }
+        → IsEnd program.now (bounds_of limits) (run_start program.now (bounds_of limits) called.entry.method called.entry.args.now) (E.awaits tx.old) E.allows (Begins (E.attempts tx.old) (E.attempts tx.new)) (Grows (G.told gate.old) (G.told gate.new)) (E.stands tx.new) h n (AddsNone (E.stands tx.new h) n) (Saw E.is_shared E.begins E.allows h k limits.room.used) result }
     ensures ticks { E.clock tx.new ≤ E.clock tx.old + limits.attempts }
 {
-    let mut running = Running::start(alloc, program, limits, method, args)?;
-    match running.run(alloc, program, limits, tx) {
+    let mut running = Running::start(alloc, program, limits, called.method, called.args)?;
+    match running.run(alloc, program, limits, tx, gate) {
         Ok(end) => Ok(end),
         Err(failure) => {
             running.leave(tx);
@@ -138,17 +156,19 @@ fn attempts<E: Engine>(
 }
 
 /// Ends an attempt as a refusal, which leaves the region as it was before the call.
-fn refuse<E: Engine>(tx: &mut E, limits: Limits, answer: Answer) -> End
+fn refuse<E: Engine, G: Gate>(tx: &mut E, gate: &mut G, limits: Limits, answer: Answer) -> End
     requires open { E.is_open tx.old }
     requires allowed { E.is_shared → MayEnd (E.stands tx.old) (E.awaits tx.old) E.allows (λ _. []) answer (λ used. used) }
     ensures answer { result.answer ≡ answer }
     ensures used { result.used ≡ limits.room.used }
     ensures run { (h : List Entry) (n : ℕ) (r w : Log) → E.stands tx.old h n r w
         → IsOfWrites result.stamp [] × Adds (E.awaits tx.old) E.allows (E.stands tx.new) h n answer (λ used. used) result.stamp r [] }
+    ensures told { Grows (G.told gate.old) (G.told gate.new) (event.Ended ∷ []) }
     ensures attempts { (k : ℕ) → E.attempts tx.old k → E.attempts tx.new k }
     ensures ticks { E.clock tx.new ≡ E.clock tx.old }
 {
     let stamp = tx.finish_refused(Snapshot::of(&answer));
+    gate.at(Event::Ended);
     End {
         answer,
         stamp,
@@ -158,12 +178,13 @@ fn refuse<E: Engine>(tx: &mut E, limits: Limits, answer: Answer) -> End
 
 impl Running {
     /// Runs a call to its end. After an error an attempt may be open.
-    fn run<E: Engine>(
+    fn run<E: Engine, G: Gate>(
         &mut self,
         alloc: Global,
         program: &Program,
         limits: Limits,
         tx: &mut E,
+        gate: &mut G,
     ) -> Result<End, Failure>
         requires stage { self.old.stage ≡ stage.Ready }
         requires tried { self.old.tried ≡ 0 }
@@ -171,26 +192,26 @@ impl Running {
         requires fits { limits.room.region * limits.room.size + limits.room.size < 2 ^ 64 }
         requires ready { E.is_shared → MayStart program.now (bounds_of limits) (at self.old [] []) E.allows (E.stands tx.old) (E.awaits tx.old) }
         ensures run { (h : List Entry) (n : ℕ) (k : Call) → E.stands tx.old h n [] [] → E.awaits tx.old k limits.room.used
-            → IsEnd program.now (bounds_of limits) (at self.old [] []) (E.awaits tx.old) E.allows (Begins (E.attempts tx.old) (E.attempts tx.new)) (E.stands tx.new) h n (Leaves (E.stands tx.new h) n self.new.stage) (Saw E.is_shared E.begins E.allows h k limits.room.used) result }
+            → IsEnd program.now (bounds_of limits) (at self.old [] []) (E.awaits tx.old) E.allows (Begins (E.attempts tx.old) (E.attempts tx.new)) (Grows (G.told gate.old) (G.told gate.new)) (E.stands tx.new) h n (Leaves (E.stands tx.new h) n self.new.stage) (Saw E.is_shared E.begins E.allows h k limits.room.used) result }
         ensures ticks { E.clock tx.new ≤ E.clock tx.old + limits.attempts }
     {
         for _ in 0..u64::MAX {
-            match self.turn(alloc, program, limits, tx)? {
+            match self.turn(alloc, program, limits, tx, gate)? {
                 Todo::Go => {}
                 Todo::Commit => {
-                    if let Some(end) = self.commit(alloc, program, limits, tx)? {
+                    if let Some(end) = self.commit(alloc, program, limits, tx, gate)? {
                         return Ok(end);
                     }
                 }
-                Todo::Budget => return Ok(refuse(tx, limits, Answer::Budget)),
-                Todo::Depth => return Ok(refuse(tx, limits, Answer::Depth)),
+                Todo::Budget => return Ok(refuse(tx, gate, limits, Answer::Budget)),
+                Todo::Depth => return Ok(refuse(tx, gate, limits, Answer::Depth)),
                 Todo::Heap(wanted) => {
                     let full = Answer::Heap {
                         used: self.used,
                         wanted,
                         size: limits.room.size,
                     };
-                    return Ok(refuse(tx, limits, full));
+                    return Ok(refuse(tx, gate, limits, full));
                 }
                 Todo::Spent => return Ok(limits.unplaced(Answer::Spent)),
             }

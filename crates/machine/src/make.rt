@@ -1,26 +1,31 @@
 //! Objects that a call makes, and headers that it reads, by which it throws, casts, selects and bounds.
-ghost use Rattle.std.specs.Prelude.{◌≡◌, ◌≢◌, ◌<◌, ◌≤◌, ◌+◌, ◌*◌, ◌^◌, ℕ, List, IfOk, Some, None, MatchResult};
-ghost use Rattle.objects.specs.rewriting.Attempt.{Log, Bounds, answered, recorded, written, making, on_raise, raises, throws, heading, heads, followed, unwound};
+ghost use Rattle.std.specs.Prelude.{◌≡◌, ◌≢◌, ◌<◌, ◌≤◌, ◌+◌, ◌*◌, ◌^◌, ℕ, List, [], ◌∷◌, IfOk, Some, None, MatchResult};
+ghost use Rattle.objects.specs.rewriting.Attempt.{Log, Bounds, Refuses, answered, recorded, written, making as makes_of, on_raise, raises, throws, heading, heads, followed, unwound};
 ghost use Rattle.objects.specs.semantics.Program.{row_at};
 ghost use Rattle.objects.specs.semantics.State.{type_in, length_in};
 ghost use Rattle.objects.specs.semantics.Step.{told as told_of, unwinds};
 ghost use Rattle.objects.specs.declared.op.Asking.{Asking as Wanted};
+ghost use Rattle.objects.specs.declared.op.Asking.TheVariants as asking;
+ghost use Rattle.objects.specs.declared.event.Event.TheVariants.{Looked, Loaded, Checked};
+ghost use Rattle.objects.specs.rewriting.Events.{AreOfAsking, AreOfHead, AreOfHeader, Grows};
 ghost use Rattle.jmodel.specs.history.History.{Call, Entry};
 ghost use Rattle.objects.specs.declared.op.Phase.TheVariants as phase;
 ghost use Rattle.machine.specs.declared.running.Stage.TheVariants as stage;
 ghost use Rattle.machine.specs.declared.failure.Failure.TheVariants as failure;
 ghost use Rattle.machine.specs.Machine.{bounds_of};
 ghost use Rattle.machine.specs.Meets.{HasPlace, CanAsk};
-ghost use Rattle.machine.specs.Running.{frames, meter, phase_of, Saw, Holds, IsWithin, IsTurn, IsHeaded, IsFresh, IsFollowed, Lands, settled};
+ghost use Rattle.machine.specs.Running.{frames, meter, phase_of, Saw, Holds, IsWithin, Told, IsTurn, IsHeaded, IsFresh, IsFollowed, Lands, settled};
 ghost use Rattle.tx_core.specs.Engine.{raised};
 
 use crate::failure::Failure;
+use crate::gate::Gate;
 use crate::machine::Limits;
 use crate::room::Thrown;
 use crate::running::{CONFLICT, Running, Stage, Todo};
 use crate::told::{Headed, loads_plain, told, type_of};
 use hierarchy::program::Program;
 use hierarchy::row::Holds as RowHolds;
+use objects::event::Event;
 use objects::op::{Asking, Made, Slot, Use};
 use std::alloc::Global;
 use tx_core::{Engine, TxEnd};
@@ -30,6 +35,14 @@ use tx_core::{Engine, TxEnd};
 pub struct Fresh {
     pub words: u64,
     pub header: u64,
+}
+
+/// What an instruction makes: an object of the type with this number, of this length where it is an array, which is pushed or thrown.
+#[derive(Clone, Copy, Debug)]
+pub struct Making {
+    pub of: usize,
+    pub length: u64,
+    pub made: Made,
 }
 
 /// What is made for an object of a type, of a length where it is an array. `Wrong` where there is no such type. A type whose number, or a length,
@@ -57,11 +70,13 @@ fn fresh_of(program: &Program, of: usize, length: u64) -> Result<Fresh, Failure>
 }
 
 /// Reads the header of an object as any word is read.
-fn read_header<E: Engine>(engine: &mut E, object: u64) -> Result<u64, TxEnd>
+fn read_header<E: Engine, G: Gate>(engine: &mut E, gate: &mut G, object: u64) -> Result<u64, TxEnd>
     requires { E.is_open engine.old }
     ensures run { (h : List Entry) (n : ℕ) (r w : Log) → E.stands engine.old h n r w
         → MatchResult result (λ word. (word ≡ answered w object word) × E.stands engine.new h n (recorded (written w object) object word r) w)
         (λ end. E.stands engine.new h (raised end n) r w) }
+    ensures told { MatchResult result (λ word. Grows (G.told gate.old) (G.told gate.new) (Looked object ∷ Loaded object ∷ Checked object ∷ []))
+        (λ end. Told (AreOfHeader Refuses object) (Grows (G.told gate.old) (G.told gate.new))) }
     ensures open { IfOk result (λ _. E.is_open engine.new) }
     ensures awaits { (c : Call) (used : ℕ) → E.awaits engine.old c used → E.awaits engine.new c used }
     ensures attempts { (k : ℕ) → E.attempts engine.old k → E.attempts engine.new k }
@@ -70,28 +85,32 @@ fn read_header<E: Engine>(engine: &mut E, object: u64) -> Result<u64, TxEnd>
     if let Err(conflict) = engine.before_read(object) {
         return Err(TxEnd::Conflict(conflict));
     }
+    gate.at(Event::Looked(object));
     let raw = engine.raw(object);
-    engine.on_read(object, raw)
+    gate.at(Event::Loaded(object));
+    let word = engine.on_read(object, raw)?;
+    gate.at(Event::Checked(object));
+    Ok(word)
 }
 
 impl Running {
     /// Makes an object of a type in an attempt, where the region has room for it, and pushes or throws it. Its header is written as any word is;
     /// the words behind it are 0.
-    pub(crate) fn make<E: Engine>(
+    pub(crate) fn make<E: Engine, G: Gate>(
         &mut self,
         program: &Program,
         limits: Limits,
         engine: &mut E,
-        of: usize,
-        length: u64,
-        made: Made,
+        gate: &mut G,
+        making: Making,
     ) -> Result<Todo, Failure>
         requires fits { limits.room.region * limits.room.size + limits.room.size < 2 ^ 64 }
         requires next { self.old.frame.pc + 1 < 2 ^ 64 }
         requires stage { self.old.stage ≡ stage.Open }
         requires begun { E.is_open engine.old }
         ensures run { (h : List Entry) (n : ℕ) (r w : Log) (k : Call) (used : ℕ) → E.awaits engine.old k used → Holds (E.stands engine.old h) (Saw E.is_shared E.begins E.allows h k used) n stage.Open self.old.tried r w
-            → IsTurn (bounds_of limits) (λ v. making phase.Open of length made v program.now (bounds_of limits) (frames self.old) (meter self.old) w r)
+            → IsTurn (bounds_of limits) (λ v. makes_of phase.Open making.of making.length making.made v program.now (bounds_of limits) (frames self.old) (meter self.old) w r)
+            (λ v. AreOfAsking program.now (bounds_of limits) (asking.Make making.of making.length making.made) phase.Open v (meter self.old)) (Grows (G.told gate.old) (G.told gate.new))
             (Holds (E.stands engine.new h) (Saw E.is_shared E.begins E.allows h k used) n self.new.stage self.new.tried) self.new result }
         ensures no_commit { result ≢ Ok Todo.Commit }
         ensures not_spent { result ≢ Ok Todo.Spent }
@@ -104,12 +123,16 @@ impl Running {
         ensures depth { result ≡ Ok Todo.Depth → self.new.stage ≡ stage.Open }
         ensures heap { (wanted : ℕ) → result ≡ Ok (Todo.Heap wanted) → self.new.stage ≡ stage.Open }
     {
+        let Making { of, length, made } = making;
         let object = fresh_of(program, of, length)?;
         let Some(reference) = limits.room.place(self.used, object.words) else {
             return Ok(Todo::Heap(object.words));
         };
         match engine.on_write(reference, object.header) {
-            Ok(()) => self.settle_made(program, reference, of, object.words, made),
+            Ok(()) => {
+                gate.at(Event::Wrote(reference));
+                self.settle_made(program, reference, of, object.words, made)
+            }
             Err(TxEnd::Conflict(_)) => self.doom(program, CONFLICT),
             Err(TxEnd::NoMemory) => Err(Failure::NoMemory),
         }
@@ -141,15 +164,17 @@ impl Running {
     }
 
     /// Throws an exception by its type, which its header tells. A conflict that an attempt met is thrown on. `Wrong` outside an attempt.
-    pub(crate) fn raise<E: Engine>(
+    pub(crate) fn raise<E: Engine, G: Gate>(
         &mut self,
         program: &Program,
         engine: &mut E,
+        gate: &mut G,
         exception: u64,
     ) -> Result<Todo, Failure>
         requires begun { self.old.stage ≡ stage.Open → E.is_open engine.old }
         ensures run { (h : List Entry) (n : ℕ) (r w : Log) (k : Call) (used : ℕ) → E.awaits engine.old k used → Holds (E.stands engine.old h) (Saw E.is_shared E.begins E.allows h k used) n self.old.stage self.old.tried r w
             → (B : Bounds) → IsTurn B (λ v. raises (phase_of self.old.stage) v program.now B exception (frames self.old) (meter self.old) w r)
+            (λ v. AreOfAsking program.now B (asking.Raise exception) (phase_of self.old.stage) v (meter self.old)) (Grows (G.told gate.old) (G.told gate.new))
             (Holds (E.stands engine.new h) (Saw E.is_shared E.begins E.allows h k used) n self.new.stage self.new.tried) self.new result }
         ensures no_commit { result ≢ Ok Todo.Commit }
         ensures not_spent { result ≢ Ok Todo.Spent }
@@ -163,23 +188,25 @@ impl Running {
         ensures heap { (wanted : ℕ) → result ≡ Ok (Todo.Heap wanted) → self.new.stage ≡ stage.Open }
     {
         match self.stage {
-            Stage::Open => self.raise_by_type(program, engine, exception),
+            Stage::Open => self.raise_by_type(program, engine, gate, exception),
             Stage::Doomed => self.doom(program, exception),
             Stage::Ready => Err(Failure::Wrong),
         }
     }
 
     /// Throws an exception in an attempt, by the type that its header has.
-    fn raise_by_type<E: Engine>(
+    fn raise_by_type<E: Engine, G: Gate>(
         &mut self,
         program: &Program,
         engine: &mut E,
+        gate: &mut G,
         exception: u64,
     ) -> Result<Todo, Failure>
         requires stage { self.old.stage ≡ stage.Open }
         requires begun { E.is_open engine.old }
         ensures run { (h : List Entry) (n : ℕ) (r w : Log) (k : Call) (used : ℕ) → E.awaits engine.old k used → Holds (E.stands engine.old h) (Saw E.is_shared E.begins E.allows h k used) n stage.Open self.old.tried r w
             → (B : Bounds) → IsTurn B (λ v. on_raise v program.now B exception (frames self.old) (meter self.old) w r)
+            (λ v. AreOfAsking program.now B (asking.Raise exception) phase.Open v (meter self.old)) (Grows (G.told gate.old) (G.told gate.new))
             (Holds (E.stands engine.new h) (Saw E.is_shared E.begins E.allows h k used) n self.new.stage self.new.tried) self.new result }
         ensures no_commit { result ≢ Ok Todo.Commit }
         ensures not_spent { result ≢ Ok Todo.Spent }
@@ -192,7 +219,7 @@ impl Running {
         ensures depth { result ≡ Ok Todo.Depth → self.new.stage ≡ stage.Open }
         ensures heap { (wanted : ℕ) → result ≡ Ok (Todo.Heap wanted) → self.new.stage ≡ stage.Open }
     {
-        match read_header(engine, exception) {
+        match read_header(engine, gate, exception) {
             Ok(header) => self.throw_known(program, exception, type_of(header)),
             Err(TxEnd::Conflict(_)) => self.doom(program, CONFLICT),
             Err(TxEnd::NoMemory) => Err(Failure::NoMemory),
@@ -216,11 +243,12 @@ impl Running {
 
     /// Reads the header of an object, and lets the instruction go on by it. Answers what it asks for then, or none where it went on or met a conflict. A
     /// plain load of an element reads no header. `Wrong` outside an attempt.
-    pub(crate) fn head<E: Engine>(
+    pub(crate) fn head<E: Engine, G: Gate>(
         &mut self,
         alloc: Global,
         program: &Program,
         engine: &mut E,
+        gate: &mut G,
         object: u64,
         how: Use,
     ) -> Result<Option<Asking>, Failure>
@@ -228,7 +256,8 @@ impl Running {
         requires next { self.old.frame.pc + 1 < 2 ^ 64 }
         requires begun { self.old.stage ≡ stage.Open → E.is_open engine.old }
         ensures run { (h : List Entry) (n : ℕ) (r w : Log) (k : Call) (used : ℕ) → E.awaits engine.old k used → Holds (E.stands engine.old h) (Saw E.is_shared E.begins E.allows h k used) n self.old.stage self.old.tried r w
-            → IsHeaded (λ v. heading (phase_of self.old.stage) v program.now how object (frames self.old) (meter self.old) w r)
+            → (B : Bounds) → IsHeaded (λ v. heading (phase_of self.old.stage) v program.now how object (frames self.old) (meter self.old) w r)
+            (λ v. AreOfAsking program.now B (asking.Head object how) (phase_of self.old.stage) v (meter self.old)) (Grows (G.told gate.old) (G.told gate.new))
             (Holds (E.stands engine.new h) (Saw E.is_shared E.begins E.allows h k used) n self.new.stage self.new.tried) self.new result }
         ensures open { (a : Wanted) → result ≡ Ok (Some a) → self.new.stage ≡ stage.Open }
         ensures can { (a : Wanted) → result ≡ Ok (Some a) → CanAsk a self.new.frame }
@@ -239,17 +268,18 @@ impl Running {
         ensures awaits { (c : Call) (used : ℕ) → E.awaits engine.old c used → E.awaits engine.new c used }
     {
         match self.stage {
-            Stage::Open => self.head_open(alloc, program, engine, object, how),
+            Stage::Open => self.head_open(alloc, program, engine, gate, object, how),
             Stage::Ready | Stage::Doomed => Err(Failure::Wrong),
         }
     }
 
     /// The same in an attempt.
-    fn head_open<E: Engine>(
+    fn head_open<E: Engine, G: Gate>(
         &mut self,
         alloc: Global,
         program: &Program,
         engine: &mut E,
+        gate: &mut G,
         object: u64,
         how: Use,
     ) -> Result<Option<Asking>, Failure>
@@ -259,6 +289,7 @@ impl Running {
         requires begun { E.is_open engine.old }
         ensures run { (h : List Entry) (n : ℕ) (r w : Log) (k : Call) (used : ℕ) → E.awaits engine.old k used → Holds (E.stands engine.old h) (Saw E.is_shared E.begins E.allows h k used) n stage.Open self.old.tried r w
             → IsHeaded (λ v. heads v program.now how object (frames self.old) (meter self.old) w r)
+            (λ v. AreOfHead how v object) (Grows (G.told gate.old) (G.told gate.new))
             (Holds (E.stands engine.new h) (Saw E.is_shared E.begins E.allows h k used) n self.new.stage self.new.tried) self.new result }
         ensures open { (a : Wanted) → result ≡ Ok (Some a) → self.new.stage ≡ stage.Open }
         ensures can { (a : Wanted) → result ≡ Ok (Some a) → CanAsk a self.new.frame }
@@ -272,7 +303,7 @@ impl Running {
             self.frame.resume(Slot::Loaded)?;
             return Ok(None);
         }
-        match read_header(engine, object) {
+        match read_header(engine, gate, object) {
             Ok(header) => self.go_by(alloc, program, how, Headed { object, header }),
             Err(TxEnd::Conflict(_)) => self.refuse_head(program),
             Err(TxEnd::NoMemory) => Err(Failure::NoMemory),

@@ -3,6 +3,8 @@ ghost use Rattle.std.specs.Prelude.{◌≡◌, ◌+◌, ◌*◌, ◌<◌, ◌^�
 ghost use Rattle.objects.specs.semantics.Region.{has_words, next_reference};
 ghost use Rattle.machine.specs.Machine.{region_of};
 
+use region::Region;
+
 /// The region that a call takes words from.
 #[derive(Clone, Copy, Debug)]
 pub struct Room {
@@ -22,16 +24,20 @@ pub struct Thrown {
 }
 
 impl Room {
-    /// Where an object of so many words lies behind the used ones, if the region has room for it.
+    /// Where an object of so many words lies behind the used ones, if the region has room for it. No object lies at address 0, which is null, or at
+    /// address 1, the conflict's.
     pub fn place(self, used: u64, words: u64) -> Option<u64>
         requires { self.region * self.size + self.size < 2 ^ 64 }
         ensures there { IfSome result (λ reference. (has_words (region_of self) used words ≡ true) × (reference ≡ next_reference (region_of self) used)) }
         ensures full { IsNone result → has_words (region_of self) used words ≡ false }
     {
-        if words > self.size || used > self.size - words {
+        if used > self.size {
             return None;
         }
-        let reference = self.region * self.size + used;
-        if reference > 1 { Some(reference) } else { None }
+        let mut region = Region::new(self.region * self.size, self.size, used);
+        match region.take(words) {
+            Ok(reference) if reference > 1 => Some(reference),
+            _ => None,
+        }
     }
 }

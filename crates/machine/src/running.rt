@@ -1,9 +1,12 @@
 //! A call on its way: what it asks of the engine, step by step.
-ghost use Rattle.std.specs.Prelude.{◌≡◌, ◌≢◌, ◌<◌, ◌+◌, ◌*◌, ◌^◌, ℕ, List, [], ◌∷◌, IfOk};
+ghost use Rattle.std.specs.Prelude.{◌≡◌, ◌≢◌, ◌<◌, ◌+◌, ◌*◌, ◌^◌, ℕ, List, [], ◌∷◌, Option, IfOk};
 ghost use Rattle.objects.specs.rewriting.Attempt.{Log, Bounds, Run, On, address, on_request, on_asking, entered, unwound, on_thrown, meter_thrown, raises, heading};
 ghost use Rattle.objects.specs.semantics.Program.{Program as JProgram};
 ghost use Rattle.jmodel.specs.history.History.{Call, Entry};
+ghost use Rattle.objects.specs.declared.event.Event.{Event as JEvent};
+ghost use Rattle.objects.specs.declared.op.Asking.TheVariants as asking;
 ghost use Rattle.objects.specs.declared.op.Request.TheVariants as request;
+ghost use Rattle.objects.specs.rewriting.Events.{AreOfAsking, Grows};
 ghost use Rattle.objects.specs.semantics.Step.{unwinds};
 ghost use Rattle.machine.specs.declared.running.Stage.TheVariants as stage;
 ghost use Rattle.objects.specs.declared.op.Phase.TheVariants as phase;
@@ -15,6 +18,7 @@ use crate::callers::Callers;
 use crate::calls::method_of;
 use crate::failure::Failure;
 use crate::frame::Frame;
+use crate::gate::Gate;
 use crate::machine::Limits;
 use crate::room::Thrown;
 use crate::stack::Locals;
@@ -22,6 +26,7 @@ use crate::step::{settle, unwind};
 use crate::value::value_of;
 use hierarchy::program::Program;
 use jmodel::value::Value;
+use objects::event::Event;
 use objects::op::{Asking, Place, Request, Slot, WordType};
 use std::alloc::Global;
 use tx_core::{Engine, TxEnd};
@@ -215,16 +220,18 @@ fn address(place: Place) -> u64
 
 impl Running {
     /// Begins an attempt, if there may be one more.
-    fn begin<E: Engine>(
+    fn begin<E: Engine, G: Gate>(
         &mut self,
         limits: Limits,
         engine: &mut E,
+        gate: &mut G,
         retries: i32,
     ) -> Result<Todo, Failure>
         requires stage { self.old.stage ≡ stage.Ready }
         requires next { self.old.frame.pc + 1 < 2 ^ 64 }
         ensures run { (h : List Entry) (n : ℕ) (r w : Log) (k : Call) (used : ℕ) → E.awaits engine.old k used → Holds (E.stands engine.old h) (Saw E.is_shared E.begins E.allows h k used) n stage.Ready self.old.tried r w
             → (P : JProgram) → IsTurn (bounds_of limits) (λ v. on_request P (bounds_of limits) (request.Begin retries) phase.Ready v (frames self.old) (meter self.old) w r)
+            (λ v. AreOfAsking P (bounds_of limits) (asking.Ask (request.Begin retries)) phase.Ready v (meter self.old)) (Grows (G.told gate.old) (G.told gate.new))
             (Holds (E.stands engine.new h) (Saw E.is_shared E.begins E.allows h k used) n self.new.stage self.new.tried) self.new result }
         ensures no_commit { result ≢ Ok Todo.Commit }
         ensures spent { result ≡ Ok Todo.Spent → self.new.stage ≡ stage.Ready }
@@ -242,6 +249,7 @@ impl Running {
             return Ok(Todo::Spent);
         }
         engine.begin();
+        gate.at(Event::Began);
         self.stage = Stage::Open;
         self.turns = limits.budget;
         self.tried += 1;
@@ -250,10 +258,11 @@ impl Running {
     }
 
     /// Before a read.
-    fn look<E: Engine>(
+    fn look<E: Engine, G: Gate>(
         &mut self,
         program: &Program,
         engine: &mut E,
+        gate: &mut G,
         place: Place,
     ) -> Result<Todo, Failure>
         requires stage { self.old.stage ≡ stage.Open }
@@ -262,6 +271,7 @@ impl Running {
         requires begun { E.is_open engine.old }
         ensures run { (h : List Entry) (n : ℕ) (r w : Log) (k : Call) (used : ℕ) → E.awaits engine.old k used → Holds (E.stands engine.old h) (Saw E.is_shared E.begins E.allows h k used) n stage.Open self.old.tried r w
             → (B : Bounds) → IsTurn B (λ v. on_request program.now B (request.Look place) phase.Open v (frames self.old) (meter self.old) w r)
+            (λ v. AreOfAsking program.now B (asking.Ask (request.Look place)) phase.Open v (meter self.old)) (Grows (G.told gate.old) (G.told gate.new))
             (Holds (E.stands engine.new h) (Saw E.is_shared E.begins E.allows h k used) n self.new.stage self.new.tried) self.new result }
         ensures go { IfOk result (λ todo. todo ≡ Todo.Go) }
         ensures attempts { (k : ℕ) → E.attempts engine.old (k + self.old.tried) → E.attempts engine.new (k + self.new.tried) }
@@ -270,8 +280,10 @@ impl Running {
         ensures open { IfOk result (λ _. self.new.stage ≡ stage.Open → E.is_open engine.new) }
         ensures awaits { (c : Call) (used : ℕ) → E.awaits engine.old c used → E.awaits engine.new c used }
     {
-        match engine.before_read(address(place)) {
+        let address = address(place);
+        match engine.before_read(address) {
             Ok(()) => {
+                gate.at(Event::Looked(address));
                 self.frame.advance();
                 Ok(Todo::Go)
             }
@@ -280,10 +292,11 @@ impl Running {
     }
 
     /// A read: what the engine vouches for goes onto the stack.
-    fn read<E: Engine>(
+    fn read<E: Engine, G: Gate>(
         &mut self,
         program: &Program,
         engine: &mut E,
+        gate: &mut G,
         place: Place,
         word_type: WordType,
     ) -> Result<Todo, Failure>
@@ -293,6 +306,7 @@ impl Running {
         requires begun { E.is_open engine.old }
         ensures run { (h : List Entry) (n : ℕ) (r w : Log) (k : Call) (used : ℕ) → E.awaits engine.old k used → Holds (E.stands engine.old h) (Saw E.is_shared E.begins E.allows h k used) n stage.Open self.old.tried r w
             → (B : Bounds) → IsTurn B (λ v. on_request program.now B (request.Read place word_type) phase.Open v (frames self.old) (meter self.old) w r)
+            (λ v. AreOfAsking program.now B (asking.Ask (request.Read place word_type)) phase.Open v (meter self.old)) (Grows (G.told gate.old) (G.told gate.new))
             (Holds (E.stands engine.new h) (Saw E.is_shared E.begins E.allows h k used) n self.new.stage self.new.tried) self.new result }
         ensures go { IfOk result (λ todo. todo ≡ Todo.Go) }
         ensures attempts { (k : ℕ) → E.attempts engine.old (k + self.old.tried) → E.attempts engine.new (k + self.new.tried) }
@@ -303,18 +317,23 @@ impl Running {
     {
         let address = address(place);
         let raw = engine.raw(address);
+        gate.at(Event::Loaded(address));
         match engine.on_read(address, raw) {
-            Ok(word) => self.resume_with(value_of(word_type, word)),
+            Ok(word) => {
+                gate.at(Event::Checked(address));
+                self.resume_with(value_of(word_type, word))
+            }
             Err(TxEnd::Conflict(_)) => self.doom(program, CONFLICT),
             Err(TxEnd::NoMemory) => Err(Failure::NoMemory),
         }
     }
 
     /// A write.
-    fn write<E: Engine>(
+    fn write<E: Engine, G: Gate>(
         &mut self,
         program: &Program,
         engine: &mut E,
+        gate: &mut G,
         place: Place,
         word: u64,
     ) -> Result<Todo, Failure>
@@ -324,6 +343,7 @@ impl Running {
         requires begun { E.is_open engine.old }
         ensures run { (h : List Entry) (n : ℕ) (r w : Log) (k : Call) (used : ℕ) → E.awaits engine.old k used → Holds (E.stands engine.old h) (Saw E.is_shared E.begins E.allows h k used) n stage.Open self.old.tried r w
             → (B : Bounds) → IsTurn B (λ v. on_request program.now B (request.Write place word) phase.Open v (frames self.old) (meter self.old) w r)
+            (λ v. AreOfAsking program.now B (asking.Ask (request.Write place word)) phase.Open v (meter self.old)) (Grows (G.told gate.old) (G.told gate.new))
             (Holds (E.stands engine.new h) (Saw E.is_shared E.begins E.allows h k used) n self.new.stage self.new.tried) self.new result }
         ensures go { IfOk result (λ todo. todo ≡ Todo.Go) }
         ensures attempts { (k : ℕ) → E.attempts engine.old (k + self.old.tried) → E.attempts engine.new (k + self.new.tried) }
@@ -332,8 +352,10 @@ impl Running {
         ensures open { IfOk result (λ _. self.new.stage ≡ stage.Open → E.is_open engine.new) }
         ensures awaits { (c : Call) (used : ℕ) → E.awaits engine.old c used → E.awaits engine.new c used }
     {
-        match engine.on_write(address(place), word) {
+        let address = address(place);
+        match engine.on_write(address, word) {
             Ok(()) => {
+                gate.at(Event::Wrote(address));
                 self.frame.advance();
                 Ok(Todo::Go)
             }
@@ -347,7 +369,8 @@ impl Running {
         requires stage { self.old.stage ≡ stage.Doomed }
         requires next { self.old.frame.pc + 1 < 2 ^ 64 }
         ensures run { (h : List Entry) (n : ℕ) (r w : Log) (k : Call) (used : ℕ) → E.awaits engine.old k used → Holds (E.stands engine.old h) (Saw E.is_shared E.begins E.allows h k used) n stage.Doomed self.old.tried r w
-            → (P : JProgram) → IsTurn (bounds_of limits) (λ v. on_request P (bounds_of limits) request.Rollback phase.Doomed v (frames self.old) (meter self.old) w r)
+            → (P : JProgram) (told : Option (List JEvent)) → IsTurn (bounds_of limits) (λ v. on_request P (bounds_of limits) request.Rollback phase.Doomed v (frames self.old) (meter self.old) w r)
+            (λ v. AreOfAsking P (bounds_of limits) (asking.Ask request.Rollback) phase.Doomed v (meter self.old)) (Grows told told)
             (Holds (E.stands engine.new h) (Saw E.is_shared E.begins E.allows h k used) n self.new.stage self.new.tried) self.new result }
         ensures go { IfOk result (λ todo. todo ≡ Todo.Go) }
         ensures attempts { (k : ℕ) → E.attempts engine.old (k + self.old.tried) → E.attempts engine.new (k + self.new.tried) }
@@ -364,17 +387,19 @@ impl Running {
     }
 
     /// Serves what an instruction asks of memory or of the transaction.
-    pub(crate) fn serve<E: Engine>(
+    pub(crate) fn serve<E: Engine, G: Gate>(
         &mut self,
         program: &Program,
         limits: Limits,
         engine: &mut E,
+        gate: &mut G,
         request: Request,
     ) -> Result<Todo, Failure>
         requires can { HasAddress request × (self.old.frame.pc + 1 < 2 ^ 64) }
         requires begun { self.old.stage ≡ stage.Open → E.is_open engine.old }
         ensures run { (h : List Entry) (n : ℕ) (r w : Log) (k : Call) (used : ℕ) → E.awaits engine.old k used → Holds (E.stands engine.old h) (Saw E.is_shared E.begins E.allows h k used) n self.old.stage self.old.tried r w
             → IsTurn (bounds_of limits) (λ v. on_request program.now (bounds_of limits) request (phase_of self.old.stage) v (frames self.old) (meter self.old) w r)
+            (λ v. AreOfAsking program.now (bounds_of limits) (asking.Ask request) (phase_of self.old.stage) v (meter self.old)) (Grows (G.told gate.old) (G.told gate.new))
             (Holds (E.stands engine.new h) (Saw E.is_shared E.begins E.allows h k used) n self.new.stage self.new.tried) self.new result }
         ensures attempts { (k : ℕ) → E.attempts engine.old (k + self.old.tried) → E.attempts engine.new (k + self.new.tried) }
         ensures ticks { (t : ℕ) → IsWithin t limits.attempts (E.clock engine.old) self.old.stage self.old.tried
@@ -389,13 +414,15 @@ impl Running {
         ensures heap { (wanted : ℕ) → result ≡ Ok (Todo.Heap wanted) → self.new.stage ≡ stage.Open }
     {
         match (request, self.stage) {
-            (Request::Begin(retries), Stage::Ready) => self.begin(limits, engine, retries),
+            (Request::Begin(retries), Stage::Ready) => self.begin(limits, engine, gate, retries),
             (Request::Get(_), Stage::Open) => self.resume(Slot::Loaded),
-            (Request::Look(place), Stage::Open) => self.look(program, engine, place),
+            (Request::Look(place), Stage::Open) => self.look(program, engine, gate, place),
             (Request::Read(place, word_type), Stage::Open) => {
-                self.read(program, engine, place, word_type)
+                self.read(program, engine, gate, place, word_type)
             }
-            (Request::Write(place, word), Stage::Open) => self.write(program, engine, place, word),
+            (Request::Write(place, word), Stage::Open) => self.write(
+                program, engine, gate, place, word,
+            ),
             (Request::Commit, Stage::Open) => Ok(Todo::Commit),
             (Request::Rollback, Stage::Doomed) => self.rollback(limits, engine),
             _ => Err(Failure::Wrong),

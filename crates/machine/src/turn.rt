@@ -1,6 +1,8 @@
 //! A turn of a call: instructions up to one that asks for something, and the serving of that.
 ghost use Rattle.std.specs.Prelude.{◌≡◌, ◌≢◌, ◌<◌, ◌+◌, ◌*◌, ◌^◌, ℕ, List, IfOk};
-ghost use Rattle.objects.specs.rewriting.Attempt.{Log, Run, on_asking, making};
+ghost use Rattle.objects.specs.rewriting.Attempt.{Log, Run, on_asking, making as makes_of};
+ghost use Rattle.objects.specs.declared.op.Asking.TheVariants as asking_of;
+ghost use Rattle.objects.specs.rewriting.Events.{AreOfAsking, Grows};
 ghost use Rattle.jmodel.specs.history.History.{Call, Entry};
 ghost use Rattle.machine.specs.declared.running.Stage.TheVariants as stage;
 ghost use Rattle.machine.specs.Machine.{bounds_of};
@@ -8,30 +10,32 @@ ghost use Rattle.machine.specs.Meets.{CanAsk};
 ghost use Rattle.machine.specs.Running.{at, frames, meter, phase_of, Saw, Holds, IsWithin, IsTurn, HasTurned, Waits, IsNotHead};
 
 use crate::failure::Failure;
+use crate::gate::Gate;
 use crate::machine::Limits;
+use crate::make::Making;
 use crate::running::{Running, Stage, Todo};
 use crate::step::settle;
 use hierarchy::program::Program;
-use objects::op::{Asking, Made};
+use objects::op::Asking;
 use std::alloc::Global;
 use tx_core::Engine;
 
 impl Running {
     /// Makes an object, as `make` does. `Wrong` outside an attempt.
-    fn take<E: Engine>(
+    fn take<E: Engine, G: Gate>(
         &mut self,
         program: &Program,
         limits: Limits,
         engine: &mut E,
-        of: usize,
-        length: u64,
-        made: Made,
+        gate: &mut G,
+        making: Making,
     ) -> Result<Todo, Failure>
         requires fits { limits.room.region * limits.room.size + limits.room.size < 2 ^ 64 }
         requires next { self.old.frame.pc + 1 < 2 ^ 64 }
         requires begun { self.old.stage ≡ stage.Open → E.is_open engine.old }
         ensures run { (h : List Entry) (n : ℕ) (r w : Log) (k : Call) (used : ℕ) → E.awaits engine.old k used → Holds (E.stands engine.old h) (Saw E.is_shared E.begins E.allows h k used) n self.old.stage self.old.tried r w
-            → IsTurn (bounds_of limits) (λ v. making (phase_of self.old.stage) of length made v program.now (bounds_of limits) (frames self.old) (meter self.old) w r)
+            → IsTurn (bounds_of limits) (λ v. makes_of (phase_of self.old.stage) making.of making.length making.made v program.now (bounds_of limits) (frames self.old) (meter self.old) w r)
+            (λ v. AreOfAsking program.now (bounds_of limits) (asking_of.Make making.of making.length making.made) (phase_of self.old.stage) v (meter self.old)) (Grows (G.told gate.old) (G.told gate.new))
             (Holds (E.stands engine.new h) (Saw E.is_shared E.begins E.allows h k used) n self.new.stage self.new.tried) self.new result }
         ensures no_commit { result ≢ Ok Todo.Commit }
         ensures not_spent { result ≢ Ok Todo.Spent }
@@ -45,17 +49,18 @@ impl Running {
         ensures heap { (wanted : ℕ) → result ≡ Ok (Todo.Heap wanted) → self.new.stage ≡ stage.Open }
     {
         match self.stage {
-            Stage::Open => self.make(program, limits, engine, of, length, made),
+            Stage::Open => self.make(program, limits, engine, gate, making),
             Stage::Ready | Stage::Doomed => Err(Failure::Wrong),
         }
     }
 
     /// Serves what an instruction asks for, but for a header.
-    fn answer<E: Engine>(
+    fn answer<E: Engine, G: Gate>(
         &mut self,
         program: &Program,
         limits: Limits,
         engine: &mut E,
+        gate: &mut G,
         asking: Asking,
     ) -> Result<Todo, Failure>
         requires fits { limits.room.region * limits.room.size + limits.room.size < 2 ^ 64 }
@@ -64,6 +69,7 @@ impl Running {
         requires begun { self.old.stage ≡ stage.Open → E.is_open engine.old }
         ensures run { (h : List Entry) (n : ℕ) (r w : Log) (k : Call) (used : ℕ) → E.awaits engine.old k used → Holds (E.stands engine.old h) (Saw E.is_shared E.begins E.allows h k used) n self.old.stage self.old.tried r w
             → IsTurn (bounds_of limits) (λ v. on_asking program.now (bounds_of limits) asking (phase_of self.old.stage) v (frames self.old) (meter self.old) w r)
+            (λ v. AreOfAsking program.now (bounds_of limits) asking (phase_of self.old.stage) v (meter self.old)) (Grows (G.told gate.old) (G.told gate.new))
             (Holds (E.stands engine.new h) (Saw E.is_shared E.begins E.allows h k used) n self.new.stage self.new.tried) self.new result }
         ensures attempts { (k : ℕ) → E.attempts engine.old (k + self.old.tried) → E.attempts engine.new (k + self.new.tried) }
         ensures ticks { (t : ℕ) → IsWithin t limits.attempts (E.clock engine.old) self.old.stage self.old.tried
@@ -81,11 +87,12 @@ impl Running {
             Asking::Go => return Ok(Todo::Go),
             Asking::Turn => return self.count(false),
             Asking::Enter(deep) => return self.count(deep),
-            Asking::Raise(exception) => return self.raise(program, engine, exception),
+            Asking::Raise(exception) => return self.raise(program, engine, gate, exception),
             Asking::Make { of, length, made } => {
-                return self.take(program, limits, engine, of, length, made);
+                let making = Making { of, length, made };
+                return self.take(program, limits, engine, gate, making);
             }
-            Asking::Ask(request) => return self.serve(program, limits, engine, request),
+            Asking::Ask(request) => return self.serve(program, limits, engine, gate, request),
             Asking::Return(_) | Asking::Throw(_) | Asking::Head(..) => {
                 return Err(Failure::Wrong);
             }
@@ -93,12 +100,13 @@ impl Running {
     }
 
     /// Serves what an instruction asks for, and what it asks for by each header that it reads.
-    fn follow<E: Engine>(
+    fn follow<E: Engine, G: Gate>(
         &mut self,
         alloc: Global,
         program: &Program,
         limits: Limits,
         engine: &mut E,
+        gate: &mut G,
         asking: Asking,
     ) -> Result<Todo, Failure>
         requires fits { limits.room.region * limits.room.size + limits.room.size < 2 ^ 64 }
@@ -106,7 +114,7 @@ impl Running {
         requires begun { self.old.stage ≡ stage.Open → E.is_open engine.old }
         ensures run { (h : List Entry) (n : ℕ) (r w : Log) (k : Call) (used : ℕ) → E.awaits engine.old k used → Holds (E.stands engine.old h) (Saw E.is_shared E.begins E.allows h k used) n self.old.stage self.old.tried r w
             → (c : Run) → Waits program.now (bounds_of limits) asking self.old w r c
-            → HasTurned program.now (bounds_of limits) c (Holds (E.stands engine.new h) (Saw E.is_shared E.begins E.allows h k used) n self.new.stage self.new.tried) self.new result }
+            → HasTurned program.now (bounds_of limits) c (Grows (G.told gate.old) (G.told gate.new)) (Holds (E.stands engine.new h) (Saw E.is_shared E.begins E.allows h k used) n self.new.stage self.new.tried) self.new result }
         ensures attempts { (k : ℕ) → E.attempts engine.old (k + self.old.tried) → E.attempts engine.new (k + self.new.tried) }
         ensures ticks { (t : ℕ) → IsWithin t limits.attempts (E.clock engine.old) self.old.stage self.old.tried
             → IsWithin t limits.attempts (E.clock engine.new) self.new.stage self.new.tried }
@@ -123,29 +131,30 @@ impl Running {
         for _ in 0..u64::MAX {
             match asking {
                 Asking::Head(object, how) => {
-                    match self.head(alloc, program, engine, object, how)? {
+                    match self.head(alloc, program, engine, gate, object, how)? {
                         Some(next) => asking = next,
                         None => return Ok(Todo::Go),
                     }
                 }
-                other => return self.answer(program, limits, engine, other),
+                other => return self.answer(program, limits, engine, gate, other),
             }
         }
         Err(Failure::NoMemory)
     }
 
     /// Steps up to one that does more than go on in its method, and what is to be done then.
-    pub fn turn<E: Engine>(
+    pub fn turn<E: Engine, G: Gate>(
         &mut self,
         alloc: Global,
         program: &Program,
         limits: Limits,
         engine: &mut E,
+        gate: &mut G,
     ) -> Result<Todo, Failure>
         requires fits { limits.room.region * limits.room.size + limits.room.size < 2 ^ 64 }
         requires begun { self.old.stage ≡ stage.Open → E.is_open engine.old }
         ensures run { (h : List Entry) (n : ℕ) (r w : Log) (k : Call) (used : ℕ) → E.awaits engine.old k used → Holds (E.stands engine.old h) (Saw E.is_shared E.begins E.allows h k used) n self.old.stage self.old.tried r w
-            → HasTurned program.now (bounds_of limits) (at self.old w r) (Holds (E.stands engine.new h) (Saw E.is_shared E.begins E.allows h k used) n self.new.stage self.new.tried) self.new result }
+            → HasTurned program.now (bounds_of limits) (at self.old w r) (Grows (G.told gate.old) (G.told gate.new)) (Holds (E.stands engine.new h) (Saw E.is_shared E.begins E.allows h k used) n self.new.stage self.new.tried) self.new result }
         ensures attempts { (k : ℕ) → E.attempts engine.old (k + self.old.tried) → E.attempts engine.new (k + self.new.tried) }
         ensures ticks { (t : ℕ) → IsWithin t limits.attempts (E.clock engine.old) self.old.stage self.old.tried
             → IsWithin t limits.attempts (E.clock engine.new) self.new.stage self.new.tried }
@@ -160,6 +169,6 @@ impl Running {
     {
         let doing = self.go(alloc, program)?;
         let asking = settle(alloc, program, doing, &mut self.frame, &mut self.callers)?;
-        self.follow(alloc, program, limits, engine, asking)
+        self.follow(alloc, program, limits, engine, gate, asking)
     }
 }

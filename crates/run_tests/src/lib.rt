@@ -1,5 +1,5 @@
 //! Tests of the top call that no row of `rows` can say: faults of folders and sinks in memory, files over their limits, class files with each fault,
-//! and lanes whose order is up to the threads. They stand apart, so that `deuce` is proved once and not a second time with its tests.
+//! and lanes whose order is up to the threads; and of the gate that keeps events. They stand apart, so that `deuce` is proved once and not a second time with its tests.
 #![tactic(auto)]
 
 #[cfg(test)]
@@ -10,6 +10,8 @@ mod fixture;
 mod folders;
 #[cfg(test)]
 mod lanes;
+#[cfg(test)]
+mod log_gate;
 #[cfg(test)]
 mod machine_files;
 #[cfg(test)]

@@ -11,7 +11,7 @@ ghost use Rattle.session.specs.Passes.{limits_with, bounds_with};
 
 use crate::record::{Lane, Place, Record};
 use hierarchy::Program;
-use machine::{End, Limits, Machine};
+use machine::{End, Limits, Machine, Open};
 use script::Known;
 use std::alloc::{AllocError, Global};
 use tx_core::Engine;
@@ -46,6 +46,7 @@ pub fn make_next<E: Engine>(
         alloc,
         rewritten,
         engine,
+        &mut Open,
         limits,
         call.method,
         call.args.as_slice(),

@@ -3,7 +3,7 @@ use Rattle.std.proofs.lemmas.Result.{err_from_is_err_and}
 use Rattle.objects.specs.rewriting.Attempt.{on_commit}
 use Rattle.machine.specs.Machine.{bounds_of}
 use Rattle.machine.specs.Running.{frames, meter, Saw}
-use Rattle.machine.proofs.Comes.{commit_fails}
+use Rattle.machine.proofs.Finishing.{commit_fails}
 use Rattle.machine.proofs.Knowing.{knew_open, saw_none}
 use Rattle.machine.proofs.running.Running.commit.Goals as goal
 
@@ -28,7 +28,7 @@ commit-requires-clause-allowed g c = λ shared.
       used = B.used;
       stands = m.stands;
       awaits = m.awaits;
-      allowed = m.allowed c.in_ok-answer.answer f.1 f.0;
+      allowed = m.allowed c.in_ok-answer.answer f.1 (f.0.0, f.0.1);
     })
 
 pub returns-in-Ok-clause-run : goal.returns-in-Ok-clause-run

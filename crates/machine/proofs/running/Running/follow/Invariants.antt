@@ -1,6 +1,7 @@
 use Rattle.std.proofs.Common.{◌≡◌, ℕ, ◌+◌, List}
 use Rattle.jmodel.specs.history.History.{Call, Entry}
 use Rattle.objects.specs.rewriting.Attempt.{Log, Run}
+use Rattle.objects.specs.rewriting.Events.{Grows}
 use Rattle.machine.specs.declared.running.Stage.TheVariants.{Open}
 use Rattle.machine.specs.Machine.{bounds_of}
 use Rattle.machine.specs.Meets.{CanAsk}
@@ -17,5 +18,5 @@ invariant-loop g l = record {
   run : (h : List Entry) (n : ℕ) (r w : Log) (k : Call) (used : ℕ) → g.E.Engine.awaits l.initial.engine k used
       → Holds (g.E.Engine.stands l.initial.engine h) (Saw g.E.Engine.is_shared g.E.Engine.begins g.E.Engine.allows h k used) n l.initial.self.stage l.initial.self.tried r w
       → (c : Run) → Waits l.program (bounds_of l.limits) l.initial.asking l.initial.self w r c
-      → Following l.program (bounds_of l.limits) (Holds (g.E.Engine.stands l.engine h) (Saw g.E.Engine.is_shared g.E.Engine.begins g.E.Engine.allows h k used) n l.self.stage l.self.tried) c l.asking l.self;
+      → Following l.program (bounds_of l.limits) (Grows (g.G.Gate.told l.initial.gate) (g.G.Gate.told l.gate)) (Holds (g.E.Engine.stands l.engine h) (Saw g.E.Engine.is_shared g.E.Engine.begins g.E.Engine.allows h k used) n l.self.stage l.self.tried) c l.asking l.self;
 }

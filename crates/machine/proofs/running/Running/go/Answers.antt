@@ -2,7 +2,7 @@ use Rattle.std.proofs.Common.{◌≡◌, Some, None, refl, sym, ◌∙◌}
 use Rattle.std.proofs.lemmas.Result.{err_from_is_err_and}
 use Rattle.objects.specs.semantics.Program.{method_at, is_counted}
 use Rattle.machine.specs.Running.{at}
-use Rattle.machine.proofs.Comes.{comes_here}
+use Rattle.machine.proofs.Ways.{way_here}
 use Rattle.machine.proofs.Going.{method_missing, counted_of, done_none, goes_next, goes_jump}
 use Rattle.machine.proofs.running.Running.go.Goals as goal
 use Rattle.machine.proofs.running.Running.go.Goals.{in-Next, in-Jump+else-not-jump}
@@ -13,7 +13,7 @@ returns-in_err-method-clause-run c =
     let missing : method_at c.args.program.now c.args.self.now.frame.method ≡ None = rw (← c.self.view_is) c.in_err-method.ensures.1 in
     rw (p.1, p.2) (record {
       frame = c.args.self.now.frame;
-      comes = λ B w r. comes_here c.args.program.now B (at c.args.self.now w r);
+      comes = λ B w r. way_here c.args.program.now B (at c.args.self.now w r);
       does = λ fs. done_none c.args.program.now c.args.self.now.frame fs c.in_err-method.field-0.0 c.in_err-method.ensures.0
           (method_missing c.args.program.now c.args.self.now.frame.method c.args.self.now.frame.pc missing);
     })

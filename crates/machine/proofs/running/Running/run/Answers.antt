@@ -1,12 +1,16 @@
-use Rattle.std.proofs.Common.{[], ◌≡◌, ◌+◌, refl, sym, ◌∙◌, arith}
+use Rattle.std.proofs.Common.{List, [], ◌++◌, subst, ◌≡◌, ◌+◌, refl, sym, ◌∙◌, arith}
+use Rattle.std.proofs.lemmas.List.{append-nil}
 use Rattle.std.proofs.lemmas.Result.{err_from_is_err_and}
 use Rattle.jmodel.specs.declared.value.Answer.TheVariants as answer
 use Rattle.machine.specs.declared.running.Stage.TheVariants.{Ready, Open}
 use Rattle.objects.specs.rewriting.Attempt.{Gives, Refuses, on_commit}
 use Rattle.machine.specs.Machine.{bounds_of, Begins}
 use Rattle.machine.specs.Running.{at, frames, meter, Saw}
+use Rattle.objects.specs.declared.event.Event.{Event}
+use Rattle.objects.specs.rewriting.Events.{Grows}
 use Rattle.machine.proofs.Comes.{comes_trans}
-use Rattle.machine.proofs.Ends.{within_open, within_end, way_on, turn_fails, comes_turned, commit_ends, ends_by, end_by, last_made, leaves_of, added_as, may_refuse, refuses}
+use Rattle.machine.proofs.Ways.{grows_same, grows_trans, open_append, none_told, nothing_told, way_trans}
+use Rattle.machine.proofs.Ends.{within_open, within_end, way_on, told_turn, turn_fails, comes_turned, way_turned, commit_ends, ends_by, end_by, last_made, leaves_of, added_as, may_refuse, refuses}
 use Rattle.machine.proofs.running.Running.run.Goals as goal
 use Rattle.machine.proofs.running.Running.run.Goals.{in-Go, in-Commit+in_ok-end-in-Commit+in_default}
 
@@ -14,7 +18,7 @@ pub returns-in_err-turn-clause-run : goal.returns-in_err-turn-clause-run
 returns-in_err-turn-clause-run g c = λ h n kc s aw.
     let p = err_from_is_err_and c.from_residual.result c.from_residual.ensures.1 in
     let o = c.loop.invariant.3 h n kc s aw in
-    rw (p.1, p.2) (turn_fails c.args.program.now (bounds_of c.args.limits) (at c.args.self.now [] []) (at c.loop.self o.writes o.reads) (g.E.Engine.awaits c.args.tx.now) g.E.Engine.allows (Begins (g.E.Engine.attempts c.args.tx.now) (g.E.Engine.attempts c.turn.new.engine)) (g.E.Engine.stands c.turn.new.engine) h n (Saw g.E.Engine.is_shared g.E.Engine.begins g.E.Engine.allows h kc c.args.limits.room.used) c.turn.new.self c.in_err-turn.field-0.0 o.comes (c.in_err-turn.ensures.run h n o.reads o.writes kc c.args.limits.room.used (c.loop.invariant.2 kc c.args.limits.room.used aw) o.holds))
+    rw (p.1, p.2) (turn_fails c.args.program.now (bounds_of c.args.limits) (at c.args.self.now [] []) (at c.loop.self o.writes o.reads) o.events (Grows (g.G.Gate.told c.loop.gate) (g.G.Gate.told c.turn.new.gate)) (Grows (g.G.Gate.told c.args.gate.now) (g.G.Gate.told c.turn.new.gate)) (g.E.Engine.awaits c.args.tx.now) g.E.Engine.allows (Begins (g.E.Engine.attempts c.args.tx.now) (g.E.Engine.attempts c.turn.new.engine)) (g.E.Engine.stands c.turn.new.engine) h n (Saw g.E.Engine.is_shared g.E.Engine.begins g.E.Engine.allows h kc c.args.limits.room.used) c.turn.new.self c.in_err-turn.field-0.0 o.comes o.no_entry (λ es t. grows_trans _ _ _ o.events es o.told t) (c.in_err-turn.ensures.run h n o.reads o.writes kc c.args.limits.room.used (c.loop.invariant.2 kc c.args.limits.room.used aw) o.holds))
 
 pub returns-in_err-turn-clause-ticks : goal.returns-in_err-turn-clause-ticks
 returns-in_err-turn-clause-ticks g c = within_end _ _ _ _ _ (c.in_err-turn.ensures.ticks _ c.loop.invariant.0)
@@ -34,7 +38,9 @@ returns-in_err-end-in-Commit-clause-run g c = λ h n kc s aw.
     let e = (rw c.in-Commit.is at c.in_ok-turn.ensures.open) refl in
     let B = bounds_of c.args.limits in
     rw (p.1, p.2) (commit_ends c.args.program.now B (at c.args.self.now [] []) (λ v. on_commit B v (frames c.turn.new.self) (meter c.turn.new.self) t.1 t.0)
-    (g.E.Engine.awaits c.args.tx.now) (g.E.Engine.awaits c.turn.new.engine) g.E.Engine.allows (Begins (g.E.Engine.attempts c.args.tx.now) (g.E.Engine.attempts c.commit.new.engine)) (g.E.Engine.stands c.commit.new.engine) h n (Saw g.E.Engine.is_shared g.E.Engine.begins g.E.Engine.allows h kc c.args.limits.room.used) c.commit.new.self (meter c.turn.new.self) t.0 t.1 c.in_err-end-in-Commit.field-0.0 (comes_turned c.args.program.now B (at c.args.self.now [] []) (at c.loop.self o.writes o.reads) _ _ _ _ (Gives 0) o.comes u (t.3 (Gives 0)))
+    (g.E.Engine.awaits c.args.tx.now) (g.E.Engine.awaits c.turn.new.engine) g.E.Engine.allows (Begins (g.E.Engine.attempts c.args.tx.now) (g.E.Engine.attempts c.commit.new.engine)) (Grows (g.G.Gate.told c.args.gate.now) (g.G.Gate.told c.commit.new.gate)) (g.E.Engine.stands c.commit.new.engine) h n (Saw g.E.Engine.is_shared g.E.Engine.begins g.E.Engine.allows h kc c.args.limits.room.used) c.commit.new.self (meter c.turn.new.self) t.0 t.1 c.in_err-end-in-Commit.field-0.0
+    (told_turn (Grows (g.G.Gate.told c.loop.gate) (g.G.Gate.told c.commit.new.gate)) _ o.events u.events o.no_entry u.no_entry (λ es t. grows_trans _ _ _ o.events es o.told t)
+    (nothing_told _ (subst (λ (l : List Event). Grows (g.G.Gate.told c.loop.gate) (g.G.Gate.told c.commit.new.gate) l) (append-nil (u.events ++ [])) (grows_trans _ _ _ (u.events ++ []) [] t.4.1 c.in_err-end-in-Commit.ensures.told)))) (comes_turned c.args.program.now B (at c.args.self.now [] []) (at c.loop.self o.writes o.reads) o.events _ _ _ _ _ (Gives 0) o.comes u (t.3 (Gives 0)))
     (c.in_err-end-in-Commit.ensures.run h n t.0 t.1 kc c.args.limits.room.used (rw e at t.2)))
 
 pub returns-in_err-end-in-Commit-clause-ticks : goal.returns-in_err-end-in-Commit-clause-ticks
@@ -50,11 +56,13 @@ returns-in-Some-clause-run g c = λ h n kc s aw.
     let e = (rw c.in-Commit.is at c.in_ok-turn.ensures.open) refl in
     let k = (rw c.in-Some.is at c.in_ok-end-in-Commit.ensures.run) h n t.0 t.1 kc c.args.limits.room.used (rw e at t.2) in
     let B = bounds_of c.args.limits in
-    ends_by c.args.program.now B (at c.args.self.now [] []) (g.E.Engine.awaits c.args.tx.now) g.E.Engine.allows (Begins (g.E.Engine.attempts c.args.tx.now) (g.E.Engine.attempts c.commit.new.engine)) (g.E.Engine.stands c.commit.new.engine) h n c.in-Some.end c.in-Some.end.answer k.0.1 (record {
+    ends_by c.args.program.now B (at c.args.self.now [] []) (g.E.Engine.awaits c.args.tx.now) g.E.Engine.allows (Begins (g.E.Engine.attempts c.args.tx.now) (g.E.Engine.attempts c.commit.new.engine)) (Grows (g.G.Gate.told c.args.gate.now) (g.G.Gate.told c.commit.new.gate)) (g.E.Engine.stands c.commit.new.engine) h n c.in-Some.end c.in-Some.end.answer k.0.1 (record {
       reads = t.0;
       writes = t.1;
       meter_then = meter c.turn.new.self;
-      comes = comes_trans c.args.program.now B (at c.args.self.now [] []) _ _ (comes_turned c.args.program.now B (at c.args.self.now [] []) (at c.loop.self o.writes o.reads) _ _ _ _ (Gives 0) o.comes u (t.3 (Gives 0))) k.0.0;
+      steps = (o.events ++ (u.events ++ [])) ++ [];
+      comes = way_trans c.args.program.now B (at c.args.self.now [] []) _ _ (o.events ++ (u.events ++ [])) [] (way_turned c.args.program.now B (at c.args.self.now [] []) (at c.loop.self o.writes o.reads) o.events [] _ _ _ _ _ (Gives 0) o.comes u (t.3 (Gives 0)) (t.4.0 (Gives 0))) k.0.0;
+      told = rw (append-nil (o.events ++ (u.events ++ []))) (grows_trans _ _ _ (o.events ++ (u.events ++ [])) _ (grows_trans _ _ _ o.events (u.events ++ []) o.told t.4.1) (rw c.in-Some.is at c.in_ok-end-in-Commit.ensures.told));
       leaves = sym k.0.2;
       begun = λ j a. c.in_ok-end-in-Commit.ensures.attempts _ (c.in_ok-turn.ensures.attempts j (c.loop.invariant.4 j a));
       added = added_as (g.E.Engine.awaits c.args.tx.now) (g.E.Engine.awaits c.turn.new.engine) g.E.Engine.allows (g.E.Engine.stands c.commit.new.engine) h n c.args.limits.room.used c.turn.new.self.tried c.in-Some.end t.0 t.1
@@ -78,7 +86,7 @@ refuse-requires-clause-allowed g c = λ shared.
     may_refuse c.args.program.now (bounds_of c.args.limits) (at c.args.self.now [] []) g.E.Engine.allows (g.E.Engine.stands c.args.tx.now) (g.E.Engine.stands c.turn.new.engine)
     (g.E.Engine.awaits c.args.tx.now) (g.E.Engine.awaits c.turn.new.engine) m answer.Budget (meter c.turn.new.self) t.0 t.1 t.2.conflicts
     (λ k used a. c.in_ok-turn.ensures.awaits k used (c.loop.invariant.2 k used a)) t.2.stands (λ q. cc)
-    (comes_turned c.args.program.now (bounds_of c.args.limits) (at c.args.self.now [] []) (at c.loop.self o.writes o.reads) _ _ _ _ t.3.0 o.comes u t.3.1)
+    (comes_turned c.args.program.now (bounds_of c.args.limits) (at c.args.self.now [] []) (at c.loop.self o.writes o.reads) o.events _ _ _ _ _ t.3.0 o.comes u t.3.1)
 
 pub refuse-requires-in-Depth-clause-open : goal.refuse-requires-in-Depth-clause-open
 refuse-requires-in-Depth-clause-open g c = c.in_ok-turn.ensures.begun ((rw c.in-Depth.is at c.in_ok-turn.ensures.depth) refl)
@@ -92,7 +100,7 @@ refuse-requires-in-Depth-clause-allowed g c = λ shared.
     may_refuse c.args.program.now (bounds_of c.args.limits) (at c.args.self.now [] []) g.E.Engine.allows (g.E.Engine.stands c.args.tx.now) (g.E.Engine.stands c.turn.new.engine)
     (g.E.Engine.awaits c.args.tx.now) (g.E.Engine.awaits c.turn.new.engine) m answer.Depth (meter c.turn.new.self) t.0 t.1 t.2.conflicts
     (λ k used a. c.in_ok-turn.ensures.awaits k used (c.loop.invariant.2 k used a)) t.2.stands (λ q. cc)
-    (comes_turned c.args.program.now (bounds_of c.args.limits) (at c.args.self.now [] []) (at c.loop.self o.writes o.reads) _ _ _ _ t.3.0 o.comes u t.3.1)
+    (comes_turned c.args.program.now (bounds_of c.args.limits) (at c.args.self.now [] []) (at c.loop.self o.writes o.reads) o.events _ _ _ _ _ t.3.0 o.comes u t.3.1)
 
 pub refuse-requires-in-Heap-clause-open : goal.refuse-requires-in-Heap-clause-open
 refuse-requires-in-Heap-clause-open g c = c.in_ok-turn.ensures.begun ((rw c.in-Heap.is at c.in_ok-turn.ensures.heap) c.in-Heap.wanted refl)
@@ -106,7 +114,7 @@ refuse-requires-in-Heap-clause-allowed g c = λ shared.
     may_refuse c.args.program.now (bounds_of c.args.limits) (at c.args.self.now [] []) g.E.Engine.allows (g.E.Engine.stands c.args.tx.now) (g.E.Engine.stands c.turn.new.engine)
     (g.E.Engine.awaits c.args.tx.now) (g.E.Engine.awaits c.turn.new.engine) m (answer.Heap c.turn.new.self.used c.in-Heap.wanted c.args.limits.room.size) (meter c.turn.new.self) t.0 t.1 t.2.conflicts
     (λ k used a. c.in_ok-turn.ensures.awaits k used (c.loop.invariant.2 k used a)) t.2.stands (λ q. cc)
-    (comes_turned c.args.program.now (bounds_of c.args.limits) (at c.args.self.now [] []) (at c.loop.self o.writes o.reads) _ _ _ _ t.3.0 o.comes u t.3.1)
+    (comes_turned c.args.program.now (bounds_of c.args.limits) (at c.args.self.now [] []) (at c.loop.self o.writes o.reads) o.events _ _ _ _ _ t.3.0 o.comes u t.3.1)
 
 pub commit-requires-clause-allowed : goal.commit-requires-clause-allowed
 commit-requires-clause-allowed g c = λ shared.
@@ -124,7 +132,7 @@ commit-requires-clause-allowed g c = λ shared.
       stands = t.2.stands;
       awaits = c.in_ok-turn.ensures.awaits m.call B.used (c.loop.invariant.2 m.call B.used m.awaits);
       allowed = λ x last comes. m.allowed x (meter c.turn.new.self) t.0 t.1 (last_made x last)
-          (comes_trans c.args.program.now B (at c.args.self.now [] []) _ _ (comes_turned c.args.program.now B (at c.args.self.now [] []) (at c.loop.self o.writes o.reads) _ _ _ _ (Gives 0) o.comes u (t.3 (Gives 0))) comes);
+          (comes_trans c.args.program.now B (at c.args.self.now [] []) _ _ (comes_turned c.args.program.now B (at c.args.self.now [] []) (at c.loop.self o.writes o.reads) o.events _ _ _ _ _ (Gives 0) o.comes u (t.3 (Gives 0))) comes);
     }
 
 pub returns-in-Budget-clause-run : goal.returns-in-Budget-clause-run
@@ -134,11 +142,12 @@ returns-in-Budget-clause-run g c = λ h n kc s aw.
     let t = u.turn in
     let e = (rw c.in-Budget.is at c.in_ok-turn.ensures.budget) refl in
     let k = c.refuse in
-    end_by c.args.program.now (bounds_of c.args.limits) (at c.args.self.now [] []) (g.E.Engine.awaits c.args.tx.now) g.E.Engine.allows (Begins (g.E.Engine.attempts c.args.tx.now) (g.E.Engine.attempts k.new.tx)) (g.E.Engine.stands k.new.tx) h n k.result answer.Budget k.ensures.answer (refuses c.args.program.now (bounds_of c.args.limits) (at c.args.self.now [] []) g.E.Engine.allows (Begins (g.E.Engine.attempts c.args.tx.now) (g.E.Engine.attempts k.new.tx)) (g.E.Engine.stands c.args.tx.now) (g.E.Engine.stands k.new.tx)
-    (g.E.Engine.awaits c.args.tx.now) (g.E.Engine.awaits c.turn.new.engine) h n t.2.conflicts k.result (meter c.turn.new.self) t.0
+    end_by c.args.program.now (bounds_of c.args.limits) (at c.args.self.now [] []) (g.E.Engine.awaits c.args.tx.now) g.E.Engine.allows (Begins (g.E.Engine.attempts c.args.tx.now) (g.E.Engine.attempts k.new.tx)) (Grows (g.G.Gate.told c.args.gate.now) (g.G.Gate.told k.new.gate)) (g.E.Engine.stands k.new.tx) h n k.result answer.Budget k.ensures.answer (refuses c.args.program.now (bounds_of c.args.limits) (at c.args.self.now [] []) g.E.Engine.allows (Begins (g.E.Engine.attempts c.args.tx.now) (g.E.Engine.attempts k.new.tx)) (Grows (g.G.Gate.told c.args.gate.now) (g.G.Gate.told k.new.gate)) (g.E.Engine.stands c.args.tx.now) (g.E.Engine.stands k.new.tx)
+    (g.E.Engine.awaits c.args.tx.now) (g.E.Engine.awaits c.turn.new.engine) h n t.2.conflicts k.result (meter c.turn.new.self) t.0 (o.events ++ (u.events ++ t.3.2.0))
     (λ k used a. c.in_ok-turn.ensures.awaits k used (c.loop.invariant.2 k used a)) t.2.later (rw e at t.2.tries)
-    (λ j a. k.ensures.attempts _ (c.in_ok-turn.ensures.attempts j (c.loop.invariant.4 j a))) k.ensures.used
-    (rw k.ensures.answer (comes_turned c.args.program.now (bounds_of c.args.limits) (at c.args.self.now [] []) (at c.loop.self o.writes o.reads) _ _ _ _ t.3.0 o.comes u t.3.1))
+    (λ j a. k.ensures.attempts _ (c.in_ok-turn.ensures.attempts j (c.loop.invariant.4 j a)))
+    (grows_trans _ _ _ (o.events ++ (u.events ++ t.3.2.0)) _ (grows_trans _ _ _ o.events (u.events ++ t.3.2.0) o.told t.3.2.3) k.ensures.told) k.ensures.used
+    (rw k.ensures.answer (way_turned c.args.program.now (bounds_of c.args.limits) (at c.args.self.now [] []) (at c.loop.self o.writes o.reads) o.events t.3.2.0 _ _ _ _ _ t.3.0 o.comes u t.3.1 t.3.2.1))
     (rw k.ensures.answer (k.ensures.run h t.2.conflicts t.0 t.1 t.2.stands)))
 
 pub returns-in-Budget-clause-ticks : goal.returns-in-Budget-clause-ticks
@@ -151,11 +160,12 @@ returns-in-Depth-clause-run g c = λ h n kc s aw.
     let t = u.turn in
     let e = (rw c.in-Depth.is at c.in_ok-turn.ensures.depth) refl in
     let k = c.refuse-in-Depth in
-    end_by c.args.program.now (bounds_of c.args.limits) (at c.args.self.now [] []) (g.E.Engine.awaits c.args.tx.now) g.E.Engine.allows (Begins (g.E.Engine.attempts c.args.tx.now) (g.E.Engine.attempts k.new.tx)) (g.E.Engine.stands k.new.tx) h n k.result answer.Depth k.ensures.answer (refuses c.args.program.now (bounds_of c.args.limits) (at c.args.self.now [] []) g.E.Engine.allows (Begins (g.E.Engine.attempts c.args.tx.now) (g.E.Engine.attempts k.new.tx)) (g.E.Engine.stands c.args.tx.now) (g.E.Engine.stands k.new.tx)
-    (g.E.Engine.awaits c.args.tx.now) (g.E.Engine.awaits c.turn.new.engine) h n t.2.conflicts k.result (meter c.turn.new.self) t.0
+    end_by c.args.program.now (bounds_of c.args.limits) (at c.args.self.now [] []) (g.E.Engine.awaits c.args.tx.now) g.E.Engine.allows (Begins (g.E.Engine.attempts c.args.tx.now) (g.E.Engine.attempts k.new.tx)) (Grows (g.G.Gate.told c.args.gate.now) (g.G.Gate.told k.new.gate)) (g.E.Engine.stands k.new.tx) h n k.result answer.Depth k.ensures.answer (refuses c.args.program.now (bounds_of c.args.limits) (at c.args.self.now [] []) g.E.Engine.allows (Begins (g.E.Engine.attempts c.args.tx.now) (g.E.Engine.attempts k.new.tx)) (Grows (g.G.Gate.told c.args.gate.now) (g.G.Gate.told k.new.gate)) (g.E.Engine.stands c.args.tx.now) (g.E.Engine.stands k.new.tx)
+    (g.E.Engine.awaits c.args.tx.now) (g.E.Engine.awaits c.turn.new.engine) h n t.2.conflicts k.result (meter c.turn.new.self) t.0 (o.events ++ (u.events ++ t.3.2.0))
     (λ k used a. c.in_ok-turn.ensures.awaits k used (c.loop.invariant.2 k used a)) t.2.later (rw e at t.2.tries)
-    (λ j a. k.ensures.attempts _ (c.in_ok-turn.ensures.attempts j (c.loop.invariant.4 j a))) k.ensures.used
-    (rw k.ensures.answer (comes_turned c.args.program.now (bounds_of c.args.limits) (at c.args.self.now [] []) (at c.loop.self o.writes o.reads) _ _ _ _ t.3.0 o.comes u t.3.1))
+    (λ j a. k.ensures.attempts _ (c.in_ok-turn.ensures.attempts j (c.loop.invariant.4 j a)))
+    (grows_trans _ _ _ (o.events ++ (u.events ++ t.3.2.0)) _ (grows_trans _ _ _ o.events (u.events ++ t.3.2.0) o.told t.3.2.3) k.ensures.told) k.ensures.used
+    (rw k.ensures.answer (way_turned c.args.program.now (bounds_of c.args.limits) (at c.args.self.now [] []) (at c.loop.self o.writes o.reads) o.events t.3.2.0 _ _ _ _ _ t.3.0 o.comes u t.3.1 t.3.2.1))
     (rw k.ensures.answer (k.ensures.run h t.2.conflicts t.0 t.1 t.2.stands)))
 
 pub returns-in-Depth-clause-ticks : goal.returns-in-Depth-clause-ticks
@@ -168,11 +178,12 @@ returns-in-Heap-clause-run g c = λ h n kc s aw.
     let t = u.turn in
     let e = (rw c.in-Heap.is at c.in_ok-turn.ensures.heap) c.in-Heap.wanted refl in
     let k = c.refuse-in-Heap in
-    end_by c.args.program.now (bounds_of c.args.limits) (at c.args.self.now [] []) (g.E.Engine.awaits c.args.tx.now) g.E.Engine.allows (Begins (g.E.Engine.attempts c.args.tx.now) (g.E.Engine.attempts k.new.tx)) (g.E.Engine.stands k.new.tx) h n k.result (answer.Heap c.turn.new.self.used c.in-Heap.wanted c.args.limits.room.size) k.ensures.answer (refuses c.args.program.now (bounds_of c.args.limits) (at c.args.self.now [] []) g.E.Engine.allows (Begins (g.E.Engine.attempts c.args.tx.now) (g.E.Engine.attempts k.new.tx)) (g.E.Engine.stands c.args.tx.now) (g.E.Engine.stands k.new.tx)
-    (g.E.Engine.awaits c.args.tx.now) (g.E.Engine.awaits c.turn.new.engine) h n t.2.conflicts k.result (meter c.turn.new.self) t.0
+    end_by c.args.program.now (bounds_of c.args.limits) (at c.args.self.now [] []) (g.E.Engine.awaits c.args.tx.now) g.E.Engine.allows (Begins (g.E.Engine.attempts c.args.tx.now) (g.E.Engine.attempts k.new.tx)) (Grows (g.G.Gate.told c.args.gate.now) (g.G.Gate.told k.new.gate)) (g.E.Engine.stands k.new.tx) h n k.result (answer.Heap c.turn.new.self.used c.in-Heap.wanted c.args.limits.room.size) k.ensures.answer (refuses c.args.program.now (bounds_of c.args.limits) (at c.args.self.now [] []) g.E.Engine.allows (Begins (g.E.Engine.attempts c.args.tx.now) (g.E.Engine.attempts k.new.tx)) (Grows (g.G.Gate.told c.args.gate.now) (g.G.Gate.told k.new.gate)) (g.E.Engine.stands c.args.tx.now) (g.E.Engine.stands k.new.tx)
+    (g.E.Engine.awaits c.args.tx.now) (g.E.Engine.awaits c.turn.new.engine) h n t.2.conflicts k.result (meter c.turn.new.self) t.0 (o.events ++ (u.events ++ t.3.2.0))
     (λ k used a. c.in_ok-turn.ensures.awaits k used (c.loop.invariant.2 k used a)) t.2.later (rw e at t.2.tries)
-    (λ j a. k.ensures.attempts _ (c.in_ok-turn.ensures.attempts j (c.loop.invariant.4 j a))) k.ensures.used
-    (rw k.ensures.answer (comes_turned c.args.program.now (bounds_of c.args.limits) (at c.args.self.now [] []) (at c.loop.self o.writes o.reads) _ _ _ _ t.3.0 o.comes u t.3.1))
+    (λ j a. k.ensures.attempts _ (c.in_ok-turn.ensures.attempts j (c.loop.invariant.4 j a)))
+    (grows_trans _ _ _ (o.events ++ (u.events ++ t.3.2.0)) _ (grows_trans _ _ _ o.events (u.events ++ t.3.2.0) o.told t.3.2.3) k.ensures.told) k.ensures.used
+    (rw k.ensures.answer (way_turned c.args.program.now (bounds_of c.args.limits) (at c.args.self.now [] []) (at c.loop.self o.writes o.reads) o.events t.3.2.0 _ _ _ _ _ t.3.0 o.comes u t.3.1 t.3.2.1))
     (rw k.ensures.answer (k.ensures.run h t.2.conflicts t.0 t.1 t.2.stands)))
 
 pub returns-in-Heap-clause-ticks : goal.returns-in-Heap-clause-ticks
@@ -189,10 +200,11 @@ returns-in-Spent-clause-run g c = λ h n kc s aw.
     let q : t.2.conflicts ≡ n + c.turn.new.self.tried = omega arith in
     rw c.unplaced.ensures (record {
       meter_then = meter c.turn.new.self;
-      comes = comes_turned c.args.program.now (bounds_of c.args.limits) (at c.args.self.now [] []) (at c.loop.self o.writes o.reads) _ _ _ _ t.3.0 o.comes u t.3.1;
+      comes = comes_turned c.args.program.now (bounds_of c.args.limits) (at c.args.self.now [] []) (at c.loop.self o.writes o.reads) o.events _ _ _ _ _ t.3.0 o.comes u t.3.1;
       begun = λ j a. c.in_ok-turn.ensures.attempts j (c.loop.invariant.4 j a);
       stands = rw (i.0, i.1, q) at t.2.stands;
       unplaced = record { unstamped = refl; unused = refl };
+      tells = told_turn (Grows (g.G.Gate.told c.loop.gate) (g.G.Gate.told c.turn.new.gate)) _ o.events u.events o.no_entry u.no_entry (λ es t. grows_trans _ _ _ o.events es o.told t) (none_told _ _ t.3.2);
     })
 
 pub returns-in-Spent-clause-ticks : goal.returns-in-Spent-clause-ticks
@@ -201,18 +213,18 @@ returns-in-Spent-clause-ticks g c = within_end _ _ _ _ _ (c.in_ok-turn.ensures.t
 pub loop-preserved : goal.loop-preserved
 loop-preserved g c =
     elim c.match-branch-2.branch [
-      | in-Go w ↦ rw (w.self-is, w.tx-is) (
+      | in-Go w ↦ rw (w.self-is, w.tx-is, w.gate-is) (
         c.in_ok-turn.ensures.ticks _ c.loop.invariant.0,
         c.in_ok-turn.ensures.begun,
         λ k used a. c.in_ok-turn.ensures.awaits k used (c.loop.invariant.2 k used a),
         λ h n kc s aw.
             let o = c.loop.invariant.3 h n kc s aw in
-            way_on _ _ _ (g.E.Engine.stands c.loop.tx h) _ (Saw g.E.Engine.is_shared g.E.Engine.begins g.E.Engine.allows h kc c.args.limits.room.used) n c.loop.self _ o ((rw w.in-Go.is at c.in_ok-turn.ensures.run) h n o.reads o.writes kc c.args.limits.room.used (c.loop.invariant.2 kc c.args.limits.room.used aw) o.holds),
+            way_on _ _ _ _ (Grows (g.G.Gate.told c.loop.gate) (g.G.Gate.told c.turn.new.gate)) _ (g.E.Engine.stands c.loop.tx h) _ (Saw g.E.Engine.is_shared g.E.Engine.begins g.E.Engine.allows h kc c.args.limits.room.used) n c.loop.self _ o (λ es t. grows_trans _ _ _ o.events es o.told t) ((rw w.in-Go.is at c.in_ok-turn.ensures.run) h n o.reads o.writes kc c.args.limits.room.used (c.loop.invariant.2 kc c.args.limits.room.used aw) o.holds),
         λ j a. c.in_ok-turn.ensures.attempts j (c.loop.invariant.4 j a),
       )
       | in-Commit+in_ok-end-in-Commit+in_default w ↦
           let e = (rw w.in-Commit.is at c.in_ok-turn.ensures.open) refl in
-          rw (w.self-is, w.tx-is) (
+          rw (w.self-is, w.tx-is, w.gate-is) (
             w.in_ok-end-in-Commit.ensures.ticks _ _ (rw e at (c.in_ok-turn.ensures.ticks _ c.loop.invariant.0)),
             λ q. let no : Ready ≡ Open = sym w.in_ok-end-in-Commit.ensures.closed ∙ q in let bad : ⊥ = cc in absurd bad,
             λ k used a. w.in_ok-end-in-Commit.ensures.awaits k used (c.in_ok-turn.ensures.awaits k used (c.loop.invariant.2 k used a)) w.in_default.is,
@@ -221,10 +233,18 @@ loop-preserved g c =
                 let u = (rw w.in-Commit.is at c.in_ok-turn.ensures.run) h n o.reads o.writes kc c.args.limits.room.used (c.loop.invariant.2 kc c.args.limits.room.used aw) o.holds in
                 let t = u.turn in
                 let k = (rw w.in_default.is at w.in_ok-end-in-Commit.ensures.run) h n t.0 t.1 kc c.args.limits.room.used (rw e at t.2) in
-                record { reads = []; writes = []; holds = k.1; comes = comes_turned c.args.program.now (bounds_of c.args.limits) (at c.args.self.now [] []) (at c.loop.self o.writes o.reads) _ _ _ _ Refuses o.comes u (t.3 Refuses ∙ k.0) },
+                record {
+                  reads = [];
+                  writes = [];
+                  holds = k.1;
+                  events = o.events ++ (u.events ++ []);
+                  no_entry = open_append o.events (u.events ++ []) o.no_entry (open_append u.events [] u.no_entry tt);
+                  comes = way_turned c.args.program.now (bounds_of c.args.limits) (at c.args.self.now [] []) (at c.loop.self o.writes o.reads) o.events [] _ _ _ _ _ Refuses o.comes u (t.3 Refuses ∙ k.0) (t.4.0 Refuses);
+                  told = rw (← append-nil (o.events ++ (u.events ++ []))) (grows_trans _ _ _ (o.events ++ (u.events ++ [])) [] (grows_trans _ _ _ o.events (u.events ++ []) o.told t.4.1) (rw w.in_default.is at w.in_ok-end-in-Commit.ensures.told));
+                },
             λ j a. rw w.in_ok-end-in-Commit.ensures.tried (w.in_ok-end-in-Commit.ensures.attempts _ (c.in_ok-turn.ensures.attempts j (c.loop.invariant.4 j a))),
           )
     ]
 
 pub returns-clause-run : goal.returns-clause-run
-returns-clause-run g c = λ h n kc s aw. let o = c.loop.invariant.3 h n kc s aw in leaves_of _ _ _ _ _ _ _ o.holds
+returns-clause-run g c = λ h n kc s aw. let o = c.loop.invariant.3 h n kc s aw in (leaves_of _ _ _ _ _ _ _ o.holds, record { events = o.events; no_entry = o.no_entry; told = o.told })
