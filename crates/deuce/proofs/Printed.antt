@@ -9,7 +9,7 @@ use Rattle.deuce.specs.Command.{seen_words, run_words, rewrite_words, AsksBank}
 use Rattle.deuce.specs.Rewritten.{counts_text}
 use Rattle.deuce.specs.declared.outcome.Outcome.{Outcome}
 use Rattle.deuce.specs.declared.outcome.Outcome.TheVariants.{Journal, Summary, Rewritten, Usage, BadClass, BadProgram, Untyped, BadScript, Unopened, Outside, NotPut}
-use Rattle.bankgen.specs.declared.figures.Figures.{Figures}
+use Rattle.deuce.specs.declared.words.BankWords.{BankWords}
 use Rattle.deuce.specs.Bank.{IsSummaryOf}
 use Rattle.deuce.specs.Ending.{IsJournalOf, IsRewritingOf}
 use Rattle.deuce_io.specs.Seen.{Seen}
@@ -36,9 +36,9 @@ module _ (words : List (String Global)) (old new : Seen) (printed : List ℕ) (b
 
   -- a bank's summary, where a bank was asked for
   pub summary_printed : (o : Outcome) → Says words old new o → status ≡ status_of o → IsTextOf o printed → Appends before now printed → status ≡ 0
-      → (f : Figures) → AsksBank words f → (text : List ℕ) × IsSummaryOf f text × Appends before now text
+      → (f : BankWords) → AsksBank words f → (text : List ℕ) × IsSummaryOf f text × Appends before now text
   summary_printed (Journal text) h s is all z = λ f a. absurd (no_bank words h.0 (h.1, inl h.2) f a)
-  summary_printed (Summary text) h s is all z = λ f a. (text, subst (λ (g : Figures). IsSummaryOf g text) (one_bank words h.0 f h.1 a) h.2, rw is at all)
+  summary_printed (Summary text) h s is all z = λ f a. (text, subst (λ (g : BankWords). IsSummaryOf g text) (one_bank words h.0 f h.1 a) h.2, rw is at all)
   summary_printed (Rewritten n t m) h s is all z = λ f a. absurd (no_bank words h.0 (h.1, inr h.2) f a)
   summary_printed Usage h s is all z = absurd (omega (arith, s, z))
   summary_printed (BadClass path r) h s is all z = absurd (omega (arith, s, z))

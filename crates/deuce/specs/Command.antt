@@ -1,8 +1,11 @@
 -- The forms of the words of the command line.
-use Rattle.std.specs.Prelude.{◌≡◌, ◌⊎◌, ℕ, ◌<◌, ◌^◌, List, [], ◌∷◌, codes, map, string_bytes, String}
+use Rattle.std.specs.Prelude.{◌≡◌, ◌⊎◌, ℕ, ◌<◌, ◌^◌, List, [], ◌∷◌, Option, Some, None, codes, map, string_bytes, String}
 use Rattle.std.specs.declared.alloc.Global.{Global}
 use Rattle.std.specs.Fmt.{decimal}
 use Rattle.bankgen.specs.declared.figures.Figures.{Figures}
+use Rattle.script.specs.declared.head.EngineKind.{EngineKind}
+use Rattle.script.specs.declared.head.EngineKind.TheVariants.{Tl2, Lsa}
+use Rattle.deuce.specs.declared.words.BankWords.{BankWords}
 use Rattle.deuce.specs.declared.words.Command.{Command}
 use Rattle.deuce.specs.declared.words.Command.TheVariants.{Run, Rewrite}
 
@@ -18,9 +21,19 @@ run_words dir script = codes "run" ∷ dir ∷ script ∷ []
 abbrev pub rewrite_words : List ℕ → List ℕ → List (List ℕ)
 rewrite_words dir out = codes "rewrite" ∷ dir ∷ out ∷ []
 
--- the words of the form `bank SEED ACCOUNTS CALLS LANES`
-abbrev pub bank_words : Figures → List (List ℕ)
-bank_words f = codes "bank" ∷ decimal f.seed ∷ decimal f.accounts ∷ decimal f.calls ∷ decimal f.lanes ∷ []
+-- the word that names an engine
+abbrev pub engine_word : EngineKind → List ℕ
+engine_word Tl2 = codes "tl2"
+engine_word Lsa = codes "lsa"
+
+-- the word behind the numbers of a bank, where there is one
+abbrev pub engine_words : Option EngineKind → List (List ℕ)
+engine_words None = []
+engine_words (Some e) = engine_word e ∷ []
+
+-- the words of the form `bank SEED ACCOUNTS CALLS LANES`, behind which an engine may stand
+abbrev pub bank_words : BankWords → List (List ℕ)
+bank_words b = codes "bank" ∷ decimal b.figures.seed ∷ decimal b.figures.accounts ∷ decimal b.figures.calls ∷ decimal b.figures.lanes ∷ engine_words b.engine
 
 -- numbers of words: a seed of 32 bits, and others of at most ten digits
 pub record AreFigures (f : Figures) : Type 0 where
@@ -29,9 +42,9 @@ pub record AreFigures (f : Figures) : Type 0 where
   pub calls : f.calls < 10 ^ 10
   pub lanes : f.lanes < 10 ^ 10
 
--- the words ask for a bank of these numbers
-abbrev pub AsksBank : List (String Global) → Figures → Type 0
-AsksBank words f = AreFigures f × (seen_words words ≡ bank_words f)
+-- the words ask for this bank
+abbrev pub AsksBank : List (String Global) → BankWords → Type 0
+AsksBank words b = AreFigures b.figures × (seen_words words ≡ bank_words b)
 
 -- the words ask for this
 abbrev pub AreWords : List (String Global) → Command → Type 0
@@ -55,6 +68,14 @@ AreFiguresOf seed accounts calls lanes f =
 abbrev pub AreNoFigures : (seed accounts calls lanes : List ℕ) → Type 0
 AreNoFigures seed accounts calls lanes = (f : Figures) → AreFiguresOf seed accounts calls lanes f → ⊥
 
+-- they are the numbers of a bank, for which this engine is named, if any
+abbrev pub AreOfBank : (seed accounts calls lanes : List ℕ) → Option EngineKind → BankWords → Type 0
+AreOfBank seed accounts calls lanes engine b = AreFiguresOf seed accounts calls lanes b.figures × (b.engine ≡ engine)
+
+-- a word names no engine
+abbrev pub IsNoEngine : List ℕ → Type 0
+IsNoEngine word = (e : EngineKind) → word ≡ engine_word e → ⊥
+
 -- a word is this seed
 abbrev pub IsSeed : List ℕ → ℕ → Type 0
 IsSeed word n = (n < 2 ^ 32) × (word ≡ decimal n)
@@ -64,7 +85,7 @@ IsNoSeed word = (n : ℕ) → IsSeed word n → ⊥
 
 -- the words don't ask for a bank
 abbrev pub IsNoBank : List (String Global) → Type 0
-IsNoBank words = (f : Figures) → AsksBank words f → ⊥
+IsNoBank words = (b : BankWords) → AsksBank words b → ⊥
 
 -- the words ask for nothing over a folder
 abbrev pub AsksNoFolder : List (String Global) → Type 0

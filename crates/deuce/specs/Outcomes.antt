@@ -10,6 +10,7 @@ use Rattle.jmodel.specs.history.Output.{◌and◌, answer_text, refusal_text, er
 use Rattle.deuce.specs.Command.{seen_words, run_words, rewrite_words, AsksBank, IsNoCommand, NamesFolder}
 use Rattle.deuce.specs.Bank.{IsSummaryOf, IsOutside, IsBadBank, IsUntypableBank, IsBadBankScript, IsUnopenedBank, CanRunBank}
 use Rattle.bankgen.specs.declared.figures.Figures.{Figures}
+use Rattle.deuce.specs.declared.words.BankWords.{BankWords}
 use Rattle.deuce.specs.Rewritten.{counts_text}
 use Rattle.deuce.specs.Folder.{IsBadClass, helper_path}
 use Rattle.deuce.specs.Ending.{IsCallOfFolder, IsCallOfRun, Failed, FailedPut, IsJournalOf, IsRewritingOf, StopsAt, HasBadProgram, HasUntypable, HasBadScript, HasUnopened, CanRunIn, CanRewriteIn}
@@ -76,7 +77,7 @@ IsBadClassOfWords words files path r = (dir : List ℕ) × NamesFolder words dir
 
 -- The words ask for a bank, of whose numbers this holds.
 abbrev pub OfBankOfWords : List (String Global) → (Figures → Type 0) → Type 0
-OfBankOfWords words Holding = (f : Figures) × AsksBank words f × Holding f
+OfBankOfWords words Holding = (b : BankWords) × AsksBank words b × Holding b.figures
 
 -- The folder that the words name is refused: it passes a limit of folders, or its class files are good, and they are refused so. Or a bank is.
 abbrev pub IsBadProgramOfWords : List (String Global) → Option Files → Refusal → Type 0
@@ -102,7 +103,7 @@ IsJournalOfWords words files text = (dir : List ℕ) × (script : List ℕ) × (
 
 -- The text is the summary of the bank that the words ask for.
 abbrev pub IsSummaryOfWords : List (String Global) → List ℕ → Type 0
-IsSummaryOfWords words text = OfBankOfWords words (λ f. IsSummaryOf f text)
+IsSummaryOfWords words text = (b : BankWords) × AsksBank words b × IsSummaryOf b text
 
 -- The rewriting that the words ask for was put, and these are its counts.
 abbrev pub IsRewritingOfWords : List (String Global) → Option Files → Option Files → ℕ → ℕ → ℕ → Type 0

@@ -2,47 +2,57 @@
 ghost use Rattle.std.specs.Prelude.{◌≡◌, List, String, IfOk};
 ghost use Rattle.std.specs.declared.alloc.Global.{Global};
 ghost use Rattle.deuce_io.specs.Seen.{Seen};
-ghost use Rattle.deuce.specs.Command.{AsksBank};
+ghost use Rattle.deuce.specs.Command.{AsksBank, engine_word};
+ghost use Rattle.deuce.specs.Bank.{engine_of};
 ghost use Rattle.deuce.specs.Outcomes.{IsOutcome};
 
 use crate::commands::refused;
 use crate::outcome::Outcome;
+use crate::words::BankWords;
 use bankgen::{Figures, bank, summary};
 use jmodel::{Halt, NoMemory};
 use runner::count_calls;
+use script::EngineKind;
 use std::alloc::Global;
 use std::thread::Threads;
 
 /// The phase of a bank's total, the only call that it has.
 const LAST_PHASE: u32 = 1;
 
-/// Runs the script of a bank of these numbers on its classes.
+/// Runs the script of a bank on its classes.
 pub fn bank_command<R: Threads + Sync>(
     rt: &R,
     alloc: Global,
-    figures: Figures,
+    asked: BankWords,
 ) -> Result<Outcome, NoMemory>
-    ensures { IfOk result (λ o. (words : List (String Global)) (old new : Seen) → new.files ≡ old.files → AsksBank words figures → IsOutcome words old new o) }
+    ensures { IfOk result (λ o. (words : List (String Global)) (old new : Seen) → new.files ≡ old.files → AsksBank words asked → IsOutcome words old new o) }
 {
     let Figures {
         seed,
         accounts,
         calls,
         lanes,
-    } = figures;
+    } = asked.figures;
     let workload = match bank(alloc, seed, accounts, calls, lanes) {
         Ok(workload) => workload,
         Err(Halt::Refused(refusal)) => return Ok(Outcome::BadProgram(refusal)),
         Err(Halt::NoMemory) => return Err(NoMemory),
     };
     let classes = workload.classes.as_slice();
-    match count_calls(rt, alloc, classes, workload.script.as_slice(), LAST_PHASE) {
+    match count_calls(
+        rt,
+        alloc,
+        classes,
+        workload.script.as_slice(),
+        asked.engine,
+        LAST_PHASE,
+    ) {
         Ok(counts) => {
             let answer = counts.answer.as_slice();
             let text = summary(
                 alloc,
-                figures,
-                "tl2",
+                asked.figures,
+                engine_name(asked.engine),
                 counts.placed,
                 counts.unplaced,
                 answer,
@@ -50,5 +60,15 @@ pub fn bank_command<R: Threads + Sync>(
             Ok(Outcome::Summary(text))
         }
         Err(end) => refused(end),
+    }
+}
+
+/// The name of the engine of a bank's run: the one that is named, or else that of its script.
+fn engine_name(engine: Option<EngineKind>) -> &'static str
+    ensures { result.now ≡ engine_word (engine_of engine) }
+{
+    match engine {
+        Some(EngineKind::Lsa) => "lsa",
+        Some(EngineKind::Tl2) | None => "tl2",
     }
 }

@@ -5,7 +5,7 @@ ghost use Rattle.jmodel.specs.declared.refusal.Refusal.{Refusal};
 ghost use Rattle.jmodel.specs.declared.value.Answer.{Answer};
 ghost use Rattle.jmodel.specs.history.Output.{◌and◌, answer_text, refusal_text, error_text};
 ghost use Rattle.deuce.specs.Command.{seen_words, run_words, rewrite_words, AsksBank, AsksNoFolder, IsNoRewriting, IsNoCommand};
-ghost use Rattle.bankgen.specs.declared.figures.Figures.{Figures};
+ghost use Rattle.deuce.specs.declared.words.BankWords.{BankWords};
 ghost use Rattle.deuce_io.specs.Seen.{Seen};
 ghost use Rattle.deuce.specs.Bank.{IsSummaryOf};
 ghost use Rattle.deuce.specs.Ending.{IsJournalOf, IsRewritingOf};
@@ -16,7 +16,7 @@ use crate::bank::bank_command;
 use crate::commands::{rewrite_command, run_command};
 use crate::outcome::{Outcome, text_of};
 use crate::print::print;
-use crate::words::{Command, command_of, figures_of};
+use crate::words::{Command, bank_of, command_of};
 use deuce_io::{Folder, IoEnd, Sink};
 use jmodel::NoMemory;
 use std::alloc::Global;
@@ -56,9 +56,10 @@ pub fn deuce<R: Threads + Sync, F: Folder, O: Sink>(
         → (text : List ℕ) × IsJournalOf (F.seen folder.old).files dir script text
         × Appends (O.written out.old) (O.written out.new) text }
 
-    // `bank SEED ACCOUNTS CALLS LANES`: what was written, by the numbers alone.
-    ensures summary { result ≡ 0 → (f : Figures) → AsksBank words.now f
-        → (text : List ℕ) × IsSummaryOf f text × Appends (O.written out.old) (O.written out.new) text }
+    // `bank SEED ACCOUNTS CALLS LANES`, behind which `tl2` or `lsa` may stand: what was written, by
+    // the numbers and the engine alone.
+    ensures summary { result ≡ 0 → (b : BankWords) → AsksBank words.now b
+        → (text : List ℕ) × IsSummaryOf b text × Appends (O.written out.old) (O.written out.new) text }
 
     // `rewrite DIR OUT`: what was put, where the folder tells its files, and the counts that were
     // written.
@@ -189,8 +190,8 @@ fn bank_or_usage<R: Threads + Sync>(
     requires { AsksNoFolder words.now }
     ensures { IfOk result (λ o. (old new : Seen) → new.files ≡ old.files → IsOutcome words.now old new o) }
 {
-    match figures_of(alloc, words)? {
-        Some(figures) => bank_command(rt, alloc, figures),
+    match bank_of(alloc, words)? {
+        Some(asked) => bank_command(rt, alloc, asked),
         None => Ok(Outcome::Usage),
     }
 }

@@ -1,8 +1,10 @@
 //! The words of the command line.
-ghost use Rattle.std.specs.Prelude.{◌≡◌, ◌≤◌, ◌<◌, ◌^◌, MatchOption, IfOk};
-ghost use Rattle.deuce.specs.Command.{AreWords, AsksNoFolder, AsksBank, IsNoBank, AreFiguresOf, AreNoFigures, IsSeed, IsNoSeed};
+ghost use Rattle.std.specs.Prelude.{◌≡◌, ◌⊎◌, ◌≤◌, ◌<◌, ◌^◌, Some, MatchOption, IfOk};
+ghost use Rattle.script.specs.declared.head.EngineKind.{EngineKind as Kind};
+ghost use Rattle.deuce.specs.Command.{AreWords, AsksNoFolder, AsksBank, IsNoBank, AreFiguresOf, AreNoFigures, AreOfBank, IsNoEngine, IsSeed, IsNoSeed, engine_word};
 
 use bankgen::{Figures, number_in};
+use script::EngineKind;
 use std::alloc::{AllocError, Global};
 
 /// How many seeds there are.
@@ -34,19 +36,80 @@ pub fn command_of(words: &[String]) -> Option<Command<'_>>
     }
 }
 
-/// The numbers of the bank that the words ask for: `bank SEED ACCOUNTS CALLS LANES`, and nothing else.
-pub fn figures_of(alloc: Global, words: &[String]) -> Result<Option<Figures>, AllocError>
+/// A bank: its numbers, and the engine that takes the place of its script's, if one is named.
+#[derive(Clone, Copy, Debug)]
+pub struct BankWords {
+    pub figures: Figures,
+    pub engine: Option<EngineKind>,
+}
+
+/// The bank that the words ask for: `bank SEED ACCOUNTS CALLS LANES`, behind which `tl2` or `lsa` may stand, and nothing else.
+pub fn bank_of(alloc: Global, words: &[String]) -> Result<Option<BankWords>, AllocError>
     ensures { IfOk result (λ o. MatchOption o (IsNoBank words.now) (AsksBank words.now)) }
 {
     match words {
-        [name, seed, accounts, calls, lanes] if name.as_str() == "bank" => figures_in(
+        [name, seed, accounts, calls, lanes] if name.as_str() == "bank" => bank_in(
             alloc,
             seed.as_str(),
             accounts.as_str(),
             calls.as_str(),
             lanes.as_str(),
+            None,
+        ),
+        [name, seed, accounts, calls, lanes, engine] if name.as_str() == "bank" => bank_over(
+            alloc,
+            seed.as_str(),
+            accounts.as_str(),
+            calls.as_str(),
+            lanes.as_str(),
+            engine.as_str(),
         ),
         _ => Ok(None),
+    }
+}
+
+/// The bank of four words that are its numbers, and of a word that names an engine.
+fn bank_over(
+    alloc: Global,
+    seed: &str,
+    accounts: &str,
+    calls: &str,
+    lanes: &str,
+    engine: &str,
+) -> Result<Option<BankWords>, AllocError>
+    ensures { IfOk result (λ o. MatchOption o (AreNoFigures seed.now accounts.now calls.now lanes.now ⊎ IsNoEngine engine.now) (λ b. (e : Kind) × (engine.now ≡ engine_word e) × AreOfBank seed.now accounts.now calls.now lanes.now (Some e) b)) }
+{
+    match engine_in(engine) {
+        Some(kind) => bank_in(alloc, seed, accounts, calls, lanes, Some(kind)),
+        None => Ok(None),
+    }
+}
+
+/// The engine that a word names.
+fn engine_in(word: &str) -> Option<EngineKind>
+    ensures { MatchOption result (IsNoEngine word.now) (λ e. word.now ≡ engine_word e) }
+{
+    match word {
+        "tl2" => Some(EngineKind::Tl2),
+        "lsa" => Some(EngineKind::Lsa),
+        _ => None,
+    }
+}
+
+/// The bank of four words that are its numbers, for which this engine is named, if any.
+fn bank_in(
+    alloc: Global,
+    seed: &str,
+    accounts: &str,
+    calls: &str,
+    lanes: &str,
+    engine: Option<EngineKind>,
+) -> Result<Option<BankWords>, AllocError>
+    ensures { IfOk result (λ o. MatchOption o (AreNoFigures seed.now accounts.now calls.now lanes.now) (AreOfBank seed.now accounts.now calls.now lanes.now engine)) }
+{
+    match figures_in(alloc, seed, accounts, calls, lanes)? {
+        Some(figures) => Ok(Some(BankWords { figures, engine })),
+        None => Ok(None),
     }
 }
 

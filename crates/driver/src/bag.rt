@@ -8,54 +8,50 @@ ghost use Rattle.session.specs.Rule.{IsRuled, IsReady, IsCallOf};
 ghost use Rattle.driver.specs.Bags.{lists, as_lanes, AreTaken};
 ghost use Rattle.driver.specs.Passing.{AreUsed, IsWhole, HasRoom, IsMidway};
 
-use crate::memory::{LANES, Limits};
+use crate::memory::LANES;
+use crate::run::Runner;
 use crate::side::{Side, keep_used};
 use crate::table::{Keeping, Opening, start_lanes};
 use crate::threads::gather;
-use crate::workers::run_workers;
-use hierarchy::Program;
 use script::Known;
-use std::alloc::{AllocError, Global};
+use std::alloc::AllocError;
 use std::thread::Threads;
 use tx_table::{Pass, Shared};
 
-/// Makes the calls of a bag by so many workers, each on a thread of its own, as transactions over a table of shared words. A worker ends before its
-/// first call whose attempts are used up. Gives what is kept of the calls, numbered in each worker's lane from 0 on, and for each worker the indexes
-/// in the bag of the calls that are its own.
-pub(crate) fn bag_side<R: Threads + Sync, K: Keeping + Sync>(
-    rt: &R,
-    alloc: Global,
-    original: &Program,
-    rewritten: &Program,
-    shared: &Shared<Opening<K>>,
-    pass: &mut Pass,
-    limits: Limits,
-    phase: u32,
-    workers: u8,
-    calls: &[Known],
-    used: &mut [u64; LANES],
-) -> Result<(Side, Vec<Vec<u32>>), AllocError>
-    requires ready { IsReady original.now rewritten.now }
-    requires calls { AllByRecursion (IsCallOf original.now) calls.now }
-    requires few { length calls.now ≤ 100000 }
-    requires workers { (1 ≤ workers) × (workers ≤ 16) }
-    requires attempts { (1 ≤ limits.attempts) × (limits.attempts ≤ 1000000) }
-    requires room_size { limits.size ≤ 1048576 }
-    requires rule { (e : Entry) → IsRuled original.now rewritten.now limits.size limits.budget limits.attempts e → K.rule e }
-    requires states { AreOfStates original.now limits.size limits.budget K.words K.used K.rule }
-    requires pass { IsWhole shared.now.table.shared.table_id phase pass.old }
-    requires room { HasRoom (length calls.now) (book pass.old) }
-    requires used { AreUsed used.old (book pass.old) }
-    ensures len { IfOk result (λ r. length r.1.items ≡ workers) }
-    ensures taken { IfOk result (λ r. AreTaken (length calls.now) (lists r.1.items)) }
-    ensures midway { IfOk result (λ r. IsMidway shared.now.table.shared.table_id (book pass.old) phase (as_lanes calls.now (lists r.1.items)) r.0 pass.new) }
-    ensures used { OnOk result (AreUsed used.new (book pass.new)) }
-{
-    let starts = start_lanes(alloc, shared, pass, workers, used)?;
-    let (ends, taken) = run_workers(
-        rt, alloc, original, rewritten, shared, limits, phase, calls, starts,
-    )?;
-    let side = gather(alloc, shared, pass, ends)?;
-    keep_used(used, side.parts.as_slice());
-    Ok((side, taken))
+impl<'a> Runner<'a> {
+    /// Makes the calls of a bag by so many workers, each on a thread of its own, as transactions over a table of shared words. A worker ends before its
+    /// first call whose attempts are used up. Gives what is kept of the calls, numbered in each worker's lane from 0 on, and for each worker the indexes
+    /// in the bag of the calls that are its own.
+    pub(crate) fn bag_side<R: Threads + Sync, K: Keeping + Sync>(
+        &self,
+        rt: &R,
+        shared: &Shared<Opening<K>>,
+        pass: &mut Pass,
+        phase: u32,
+        workers: u8,
+        calls: &[Known],
+        used: &mut [u64; LANES],
+    ) -> Result<(Side, Vec<Vec<u32>>), AllocError>
+        requires ready { IsReady self.now.original.now self.now.rewritten.now }
+        requires calls { AllByRecursion (IsCallOf self.now.original.now) calls.now }
+        requires few { length calls.now ≤ 100000 }
+        requires workers { (1 ≤ workers) × (workers ≤ 16) }
+        requires attempts { (1 ≤ self.now.limits.attempts) × (self.now.limits.attempts ≤ 1000000) }
+        requires room_size { self.now.limits.size ≤ 1048576 }
+        requires rule { (e : Entry) → IsRuled self.now.original.now self.now.rewritten.now self.now.limits.size self.now.limits.budget self.now.limits.attempts e → K.rule e }
+        requires states { AreOfStates self.now.original.now self.now.limits.size self.now.limits.budget K.words K.used K.rule }
+        requires pass { IsWhole shared.now.table.shared.table_id phase pass.old }
+        requires room { HasRoom (length calls.now) (book pass.old) }
+        requires used { AreUsed used.old (book pass.old) }
+        ensures len { IfOk result (λ r. length r.1.items ≡ workers) }
+        ensures taken { IfOk result (λ r. AreTaken (length calls.now) (lists r.1.items)) }
+        ensures midway { IfOk result (λ r. IsMidway shared.now.table.shared.table_id (book pass.old) phase (as_lanes calls.now (lists r.1.items)) r.0 pass.new) }
+        ensures used { OnOk result (AreUsed used.new (book pass.new)) }
+    {
+        let starts = start_lanes(self.alloc, shared, pass, workers, used)?;
+        let (ends, taken) = self.run_workers(rt, shared, phase, calls, starts)?;
+        let side = gather(self.alloc, shared, pass, ends)?;
+        keep_used(used, side.parts.as_slice());
+        Ok((side, taken))
+    }
 }

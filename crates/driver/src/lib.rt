@@ -18,5 +18,5 @@ mod workers;
 
 pub use journal::Journal;
 pub use memory::{Limits, Memory};
-pub use run::run_phases;
+pub use run::Runner;
 pub use setting_up::{SetUpEnd, set_up};

@@ -14,285 +14,234 @@ ghost use Rattle.driver.specs.Runs.{HasLanes};
 ghost use Rattle.driver.specs.Over.{AddsPhase};
 ghost use Rattle.driver.specs.Passing.{AreUsed, call_count, IsWhole, HasRoom, IsMidway};
 
-use crate::bag::bag_side;
 use crate::journal::Records;
-use crate::memory::{LANES, Limits};
+use crate::memory::LANES;
 use crate::order::sort_placed;
-use crate::rest::one_after_another;
+use crate::run::Runner;
 use crate::side::{Part, Side};
-use crate::side_by_side::side_by_side;
 use crate::table::{Keeping, Opening};
 use crate::taken::{by_lane, number};
-use hierarchy::Program;
 use script::{Calls, Known, LaneCalls, PhaseCalls};
 use std::alloc::{AllocError, Global};
 use std::slice::from_ref;
 use std::thread::Threads;
 use tx_table::{Pass, Shared};
 
-/// Makes the calls of a phase over the pass that holds every number, and adds them to the journal. Gives the pass back.
-pub(crate) fn run_phase<R: Threads + Sync, K: Keeping + Sync>(
-    rt: &R,
-    alloc: Global,
-    original: &Program,
-    rewritten: &Program,
-    shared: &Shared<Opening<K>>,
-    pass: Pass,
-    limits: Limits,
-    number: u32,
-    phase: &PhaseCalls,
-    used: &mut [u64; LANES],
-    journal: &mut Records,
-) -> Result<Pass, AllocError>
-    requires ready { IsReady original.now rewritten.now }
-    requires calls { AllByRecursion (AllByRecursion (IsCallOf original.now)) (lists_in phase.now) }
-    requires few { AllByRecursion (λ (cs : List Form). length cs ≤ 100000) (lists_in phase.now) }
-    requires lanes { HasLanes phase.now }
-    requires attempts { (1 ≤ limits.attempts) × (limits.attempts ≤ 1000000) }
-    requires room_size { limits.size ≤ 1048576 }
-    requires rule { (e : Entry) → IsRuled original.now rewritten.now limits.size limits.budget limits.attempts e → K.rule e }
-    requires states { AreOfStates original.now limits.size limits.budget K.words K.used K.rule }
-    requires pass { IsWhole shared.now.table.shared.table_id number pass }
-    requires room { HasRoom (call_count (lists_in phase.now)) (book pass) }
-    requires used { AreUsed used.old (book pass) }
-    ensures whole { IfOk result (IsWhole shared.now.table.shared.table_id (suc number)) }
-    ensures used { IfOk result (λ left. AreUsed used.new (book left)) }
-    ensures adds { IfOk result (λ left. AddsPhase number (call_count (lists_in phase.now)) phase.now (book pass) (book left) journal.old journal.new) }
-{
-    match &phase.calls {
-        Calls::Lanes(lanes) => run_lanes(
-            rt,
-            alloc,
-            original,
-            rewritten,
-            shared,
-            pass,
-            limits,
-            number,
-            lanes.as_slice(),
-            used,
-            journal,
-        ),
-        Calls::Bag { lanes, calls } => run_bag(
-            rt, alloc, original, rewritten, shared, pass, limits, number, *lanes, calls, used,
-            journal,
-        ),
+impl<'a> Runner<'a> {
+    /// Makes the calls of a phase over the pass that holds every number, and adds them to the journal. Gives the pass back.
+    pub(crate) fn run_phase<R: Threads + Sync, K: Keeping + Sync>(
+        &self,
+        rt: &R,
+        shared: &Shared<Opening<K>>,
+        pass: Pass,
+        number: u32,
+        phase: &PhaseCalls,
+        used: &mut [u64; LANES],
+        journal: &mut Records,
+    ) -> Result<Pass, AllocError>
+        requires ready { IsReady self.now.original.now self.now.rewritten.now }
+        requires calls { AllByRecursion (AllByRecursion (IsCallOf self.now.original.now)) (lists_in phase.now) }
+        requires few { AllByRecursion (λ (cs : List Form). length cs ≤ 100000) (lists_in phase.now) }
+        requires lanes { HasLanes phase.now }
+        requires attempts { (1 ≤ self.now.limits.attempts) × (self.now.limits.attempts ≤ 1000000) }
+        requires room_size { self.now.limits.size ≤ 1048576 }
+        requires rule { (e : Entry) → IsRuled self.now.original.now self.now.rewritten.now self.now.limits.size self.now.limits.budget self.now.limits.attempts e → K.rule e }
+        requires states { AreOfStates self.now.original.now self.now.limits.size self.now.limits.budget K.words K.used K.rule }
+        requires pass { IsWhole shared.now.table.shared.table_id number pass }
+        requires room { HasRoom (call_count (lists_in phase.now)) (book pass) }
+        requires used { AreUsed used.old (book pass) }
+        ensures whole { IfOk result (IsWhole shared.now.table.shared.table_id (suc number)) }
+        ensures used { IfOk result (λ left. AreUsed used.new (book left)) }
+        ensures adds { IfOk result (λ left. AddsPhase number (call_count (lists_in phase.now)) phase.now (book pass) (book left) journal.old journal.new) }
+    {
+        match &phase.calls {
+            Calls::Lanes(lanes) => self.run_lanes(
+                rt,
+                shared,
+                pass,
+                number,
+                lanes.as_slice(),
+                used,
+                journal,
+            ),
+            Calls::Bag { lanes, calls } => self.run_bag(
+                rt, shared, pass, number, *lanes, calls, used, journal,
+            ),
+        }
+    }
+
+    /// Makes the calls of a bag and adds them to the journal. Workers, as many as the lesser of the lanes and the calls, each take the next call that is
+    /// left; one alone makes them as those of lane 0.
+    fn run_bag<R: Threads + Sync, K: Keeping + Sync>(
+        &self,
+        rt: &R,
+        shared: &Shared<Opening<K>>,
+        pass: Pass,
+        phase: u32,
+        lanes: u64,
+        calls: &LaneCalls,
+        used: &mut [u64; LANES],
+        journal: &mut Records,
+    ) -> Result<Pass, AllocError>
+        requires ready { IsReady self.now.original.now self.now.rewritten.now }
+        requires calls { AllByRecursion (IsCallOf self.now.original.now) calls.now }
+        requires few { length calls.now ≤ 100000 }
+        requires lanes { (1 ≤ lanes) × (lanes ≤ 16) }
+        requires attempts { (1 ≤ self.now.limits.attempts) × (self.now.limits.attempts ≤ 1000000) }
+        requires room_size { self.now.limits.size ≤ 1048576 }
+        requires rule { (e : Entry) → IsRuled self.now.original.now self.now.rewritten.now self.now.limits.size self.now.limits.budget self.now.limits.attempts e → K.rule e }
+        requires states { AreOfStates self.now.original.now self.now.limits.size self.now.limits.budget K.words K.used K.rule }
+        requires pass { IsWhole shared.now.table.shared.table_id phase pass }
+        requires room { HasRoom (call_count (calls.now ∷ [])) (book pass) }
+        requires used { AreUsed used.old (book pass) }
+        ensures whole { IfOk result (IsWhole shared.now.table.shared.table_id (suc phase)) }
+        ensures used { IfOk result (λ left. AreUsed used.new (book left)) }
+        ensures adds { IfOk result (λ left. AddsPhase phase (call_count (calls.now ∷ [])) (ABag lanes calls.now) (book pass) (book left) journal.old journal.new) }
+    {
+        let bag = calls.calls.as_slice();
+        let workers = lanes.min(bag.len() as u64) as u8;
+        if workers < 2 {
+            return self.run_lanes(rt, shared, pass, phase, from_ref(calls), used, journal);
+        }
+        self.work_bag(rt, shared, pass, phase, workers, bag, used, journal)
+    }
+
+    /// Makes the calls of a bag by so many workers and adds them to the journal.
+    fn work_bag<R: Threads + Sync, K: Keeping + Sync>(
+        &self,
+        rt: &R,
+        shared: &Shared<Opening<K>>,
+        pass: Pass,
+        phase: u32,
+        workers: u8,
+        bag: &[Known],
+        used: &mut [u64; LANES],
+        journal: &mut Records,
+    ) -> Result<Pass, AllocError>
+        requires ready { IsReady self.now.original.now self.now.rewritten.now }
+        requires calls { AllByRecursion (IsCallOf self.now.original.now) bag.now }
+        requires few { length bag.now ≤ 100000 }
+        requires workers { (1 ≤ workers) × (workers ≤ 16) × (workers ≤ length bag.now) }
+        requires attempts { (1 ≤ self.now.limits.attempts) × (self.now.limits.attempts ≤ 1000000) }
+        requires room_size { self.now.limits.size ≤ 1048576 }
+        requires rule { (e : Entry) → IsRuled self.now.original.now self.now.rewritten.now self.now.limits.size self.now.limits.budget self.now.limits.attempts e → K.rule e }
+        requires states { AreOfStates self.now.original.now self.now.limits.size self.now.limits.budget K.words K.used K.rule }
+        requires pass { IsWhole shared.now.table.shared.table_id phase pass }
+        requires room { HasRoom (length bag.now) (book pass) }
+        requires used { AreUsed used.old (book pass) }
+        ensures whole { IfOk result (IsWhole shared.now.table.shared.table_id (suc phase)) }
+        ensures used { IfOk result (λ left. AreUsed used.new (book left)) }
+        ensures adds { (lanes : ℕ) → workers ≤ lanes
+            → IfOk result (λ left. AddsPhase phase (length bag.now) (ABag lanes bag.now) (book pass) (book left) journal.old journal.new) }
+    {
+        let mut pass = pass;
+        let (first, taken) = self.bag_side(rt, shared, &mut pass, phase, workers, bag, used)?;
+        let by_worker = by_lane(self.alloc, bag, &taken)?;
+        let mut made = Records::new(self.alloc);
+        let left = self.add_rest(shared, pass, first, phase, &by_worker, used, &mut made)?;
+        number(&mut made.placed, &taken);
+        number(&mut made.unplaced, &taken);
+        journal.append(made)?;
+        Ok(left)
+    }
+
+    /// Makes the calls of the lanes of a phase and adds them to the journal.
+    fn run_lanes<R: Threads + Sync, K: Keeping + Sync>(
+        &self,
+        rt: &R,
+        shared: &Shared<Opening<K>>,
+        pass: Pass,
+        phase: u32,
+        lanes: &[LaneCalls],
+        used: &mut [u64; LANES],
+        journal: &mut Records,
+    ) -> Result<Pass, AllocError>
+        requires ready { IsReady self.now.original.now self.now.rewritten.now }
+        requires calls { AllByRecursion (AllByRecursion (IsCallOf self.now.original.now)) lanes.now }
+        requires few { AllByRecursion (λ (cs : List Form). length cs ≤ 100000) lanes.now }
+        requires lanes { length lanes.now ≤ 16 }
+        requires attempts { (1 ≤ self.now.limits.attempts) × (self.now.limits.attempts ≤ 1000000) }
+        requires room_size { self.now.limits.size ≤ 1048576 }
+        requires rule { (e : Entry) → IsRuled self.now.original.now self.now.rewritten.now self.now.limits.size self.now.limits.budget self.now.limits.attempts e → K.rule e }
+        requires states { AreOfStates self.now.original.now self.now.limits.size self.now.limits.budget K.words K.used K.rule }
+        requires pass { IsWhole shared.now.table.shared.table_id phase pass }
+        requires room { HasRoom (call_count lanes.now) (book pass) }
+        requires used { AreUsed used.old (book pass) }
+        ensures whole { IfOk result (IsWhole shared.now.table.shared.table_id (suc phase)) }
+        ensures used { IfOk result (λ left. AreUsed used.new (book left)) }
+        ensures adds { IfOk result (λ left. AddsPhase phase (call_count lanes.now) (ALanes lanes.now) (book pass) (book left) journal.old journal.new) }
+    {
+        let mut pass = pass;
+        let first = self.first_side(rt, shared, &mut pass, phase, lanes, used)?;
+        self.add_rest(shared, pass, first, phase, lanes, used, journal)
+    }
+
+    /// Makes what is left of a phase, one lane after another, and adds all of its calls to the journal.
+    fn add_rest<K: Keeping>(
+        &self,
+        shared: &Shared<Opening<K>>,
+        pass: Pass,
+        first: Side,
+        phase: u32,
+        lanes: &[LaneCalls],
+        used: &mut [u64; LANES],
+        journal: &mut Records,
+    ) -> Result<Pass, AllocError>
+        requires ready { IsReady self.now.original.now self.now.rewritten.now }
+        requires calls { AllByRecursion (AllByRecursion (IsCallOf self.now.original.now)) lanes.now }
+        requires few { AllByRecursion (λ (cs : List Form). length cs ≤ 100000) lanes.now }
+        requires lanes { length lanes.now ≤ 16 }
+        requires attempts { (1 ≤ self.now.limits.attempts) × (self.now.limits.attempts ≤ 1000000) }
+        requires room_size { self.now.limits.size ≤ 1048576 }
+        requires rule { (e : Entry) → IsRuled self.now.original.now self.now.rewritten.now self.now.limits.size self.now.limits.budget self.now.limits.attempts e → K.rule e }
+        requires states { AreOfStates self.now.original.now self.now.limits.size self.now.limits.budget K.words K.used K.rule }
+        requires side { (b : Book) × IsMidway shared.now.table.shared.table_id b phase lanes.now first pass }
+        requires used { AreUsed used.old (book pass) }
+        ensures whole { IfOk result (IsWhole shared.now.table.shared.table_id (suc phase)) }
+        ensures used { IfOk result (λ left. AreUsed used.new (book left)) }
+        ensures adds { (b : Book) → IsMidway shared.now.table.shared.table_id b phase lanes.now first pass
+            → IfOk result (λ left. AddsPhase phase (call_count lanes.now) (ALanes lanes.now) b (book left) journal.old journal.new) }
+    {
+        let firsts = made_counts(self.alloc, &first.parts)?;
+        let (mut rest, left) = self.one_after_another(shared, pass, phase, lanes, &firsts, used)?;
+        let mut placed = first.placed;
+        placed.append(&mut rest.placed)?;
+        sort_placed(&mut placed)?;
+        journal.add_phase(placed, first.parts, rest.parts)?;
+        Ok(left)
+    }
+
+    /// Makes the calls of a phase side by side, where more than one lane has calls, and otherwise none of them.
+    fn first_side<R: Threads + Sync, K: Keeping + Sync>(
+        &self,
+        rt: &R,
+        shared: &Shared<Opening<K>>,
+        pass: &mut Pass,
+        phase: u32,
+        lanes: &[LaneCalls],
+        used: &mut [u64; LANES],
+    ) -> Result<Side, AllocError>
+        requires ready { IsReady self.now.original.now self.now.rewritten.now }
+        requires calls { AllByRecursion (AllByRecursion (IsCallOf self.now.original.now)) lanes.now }
+        requires few { AllByRecursion (λ (cs : List Form). length cs ≤ 100000) lanes.now }
+        requires lanes { length lanes.now ≤ 16 }
+        requires attempts { (1 ≤ self.now.limits.attempts) × (self.now.limits.attempts ≤ 1000000) }
+        requires room_size { self.now.limits.size ≤ 1048576 }
+        requires rule { (e : Entry) → IsRuled self.now.original.now self.now.rewritten.now self.now.limits.size self.now.limits.budget self.now.limits.attempts e → K.rule e }
+        requires states { AreOfStates self.now.original.now self.now.limits.size self.now.limits.budget K.words K.used K.rule }
+        requires pass { IsWhole shared.now.table.shared.table_id phase pass.old }
+        requires room { HasRoom (call_count lanes.now) (book pass.old) }
+        requires used { AreUsed used.old (book pass.old) }
+        ensures midway { IfOk result (λ side. IsMidway shared.now.table.shared.table_id (book pass.old) phase lanes.now side pass.new) }
+        ensures used { OnOk result (AreUsed used.new (book pass.new)) }
+    {
+        if has_several(lanes) {
+            self.side_by_side(rt, shared, pass, phase, lanes, used)
+        } else {
+            untouched(self.alloc, lanes, used)
+        }
     }
 }
-
-/// Makes the calls of a bag and adds them to the journal. Workers, as many as the lesser of the lanes and the calls, each take the next call that is
-/// left; one alone makes them as those of lane 0.
-fn run_bag<R: Threads + Sync, K: Keeping + Sync>(
-    rt: &R,
-    alloc: Global,
-    original: &Program,
-    rewritten: &Program,
-    shared: &Shared<Opening<K>>,
-    pass: Pass,
-    limits: Limits,
-    phase: u32,
-    lanes: u64,
-    calls: &LaneCalls,
-    used: &mut [u64; LANES],
-    journal: &mut Records,
-) -> Result<Pass, AllocError>
-    requires ready { IsReady original.now rewritten.now }
-    requires calls { AllByRecursion (IsCallOf original.now) calls.now }
-    requires few { length calls.now ≤ 100000 }
-    requires lanes { (1 ≤ lanes) × (lanes ≤ 16) }
-    requires attempts { (1 ≤ limits.attempts) × (limits.attempts ≤ 1000000) }
-    requires room_size { limits.size ≤ 1048576 }
-    requires rule { (e : Entry) → IsRuled original.now rewritten.now limits.size limits.budget limits.attempts e → K.rule e }
-    requires states { AreOfStates original.now limits.size limits.budget K.words K.used K.rule }
-    requires pass { IsWhole shared.now.table.shared.table_id phase pass }
-    requires room { HasRoom (call_count (calls.now ∷ [])) (book pass) }
-    requires used { AreUsed used.old (book pass) }
-    ensures whole { IfOk result (IsWhole shared.now.table.shared.table_id (suc phase)) }
-    ensures used { IfOk result (λ left. AreUsed used.new (book left)) }
-    ensures adds { IfOk result (λ left. AddsPhase phase (call_count (calls.now ∷ [])) (ABag lanes calls.now) (book pass) (book left) journal.old journal.new) }
-{
-    let bag = calls.calls.as_slice();
-    let workers = lanes.min(bag.len() as u64) as u8;
-    if workers < 2 {
-        return run_lanes(
-            rt,
-            alloc,
-            original,
-            rewritten,
-            shared,
-            pass,
-            limits,
-            phase,
-            from_ref(calls),
-            used,
-            journal,
-        );
-    }
-    work_bag(
-        rt, alloc, original, rewritten, shared, pass, limits, phase, workers, bag, used, journal,
-    )
-}
-
-/// Makes the calls of a bag by so many workers and adds them to the journal.
-fn work_bag<R: Threads + Sync, K: Keeping + Sync>(
-    rt: &R,
-    alloc: Global,
-    original: &Program,
-    rewritten: &Program,
-    shared: &Shared<Opening<K>>,
-    pass: Pass,
-    limits: Limits,
-    phase: u32,
-    workers: u8,
-    bag: &[Known],
-    used: &mut [u64; LANES],
-    journal: &mut Records,
-) -> Result<Pass, AllocError>
-    requires ready { IsReady original.now rewritten.now }
-    requires calls { AllByRecursion (IsCallOf original.now) bag.now }
-    requires few { length bag.now ≤ 100000 }
-    requires workers { (1 ≤ workers) × (workers ≤ 16) × (workers ≤ length bag.now) }
-    requires attempts { (1 ≤ limits.attempts) × (limits.attempts ≤ 1000000) }
-    requires room_size { limits.size ≤ 1048576 }
-    requires rule { (e : Entry) → IsRuled original.now rewritten.now limits.size limits.budget limits.attempts e → K.rule e }
-    requires states { AreOfStates original.now limits.size limits.budget K.words K.used K.rule }
-    requires pass { IsWhole shared.now.table.shared.table_id phase pass }
-    requires room { HasRoom (length bag.now) (book pass) }
-    requires used { AreUsed used.old (book pass) }
-    ensures whole { IfOk result (IsWhole shared.now.table.shared.table_id (suc phase)) }
-    ensures used { IfOk result (λ left. AreUsed used.new (book left)) }
-    ensures adds { (lanes : ℕ) → workers ≤ lanes
-        → IfOk result (λ left. AddsPhase phase (length bag.now) (ABag lanes bag.now) (book pass) (book left) journal.old journal.new) }
-{
-    let mut pass = pass;
-    let (first, taken) = bag_side(
-        rt, alloc, original, rewritten, shared, &mut pass, limits, phase, workers, bag, used,
-    )?;
-    let by_worker = by_lane(alloc, bag, &taken)?;
-    let mut made = Records::new(alloc);
-    let left = add_rest(
-        alloc, original, rewritten, shared, pass, first, limits, phase, &by_worker, used, &mut made,
-    )?;
-    number(&mut made.placed, &taken);
-    number(&mut made.unplaced, &taken);
-    journal.append(made)?;
-    Ok(left)
-}
-
-/// Makes the calls of the lanes of a phase and adds them to the journal.
-fn run_lanes<R: Threads + Sync, K: Keeping + Sync>(
-    rt: &R,
-    alloc: Global,
-    original: &Program,
-    rewritten: &Program,
-    shared: &Shared<Opening<K>>,
-    pass: Pass,
-    limits: Limits,
-    phase: u32,
-    lanes: &[LaneCalls],
-    used: &mut [u64; LANES],
-    journal: &mut Records,
-) -> Result<Pass, AllocError>
-    requires ready { IsReady original.now rewritten.now }
-    requires calls { AllByRecursion (AllByRecursion (IsCallOf original.now)) lanes.now }
-    requires few { AllByRecursion (λ (cs : List Form). length cs ≤ 100000) lanes.now }
-    requires lanes { length lanes.now ≤ 16 }
-    requires attempts { (1 ≤ limits.attempts) × (limits.attempts ≤ 1000000) }
-    requires room_size { limits.size ≤ 1048576 }
-    requires rule { (e : Entry) → IsRuled original.now rewritten.now limits.size limits.budget limits.attempts e → K.rule e }
-    requires states { AreOfStates original.now limits.size limits.budget K.words K.used K.rule }
-    requires pass { IsWhole shared.now.table.shared.table_id phase pass }
-    requires room { HasRoom (call_count lanes.now) (book pass) }
-    requires used { AreUsed used.old (book pass) }
-    ensures whole { IfOk result (IsWhole shared.now.table.shared.table_id (suc phase)) }
-    ensures used { IfOk result (λ left. AreUsed used.new (book left)) }
-    ensures adds { IfOk result (λ left. AddsPhase phase (call_count lanes.now) (ALanes lanes.now) (book pass) (book left) journal.old journal.new) }
-{
-    let mut pass = pass;
-    let first = first_side(
-        rt, alloc, original, rewritten, shared, &mut pass, limits, phase, lanes, used,
-    )?;
-    add_rest(
-        alloc, original, rewritten, shared, pass, first, limits, phase, lanes, used, journal,
-    )
-}
-
-/// Makes what is left of a phase, one lane after another, and adds all of its calls to the journal.
-fn add_rest<K: Keeping>(
-    alloc: Global,
-    original: &Program,
-    rewritten: &Program,
-    shared: &Shared<Opening<K>>,
-    pass: Pass,
-    first: Side,
-    limits: Limits,
-    phase: u32,
-    lanes: &[LaneCalls],
-    used: &mut [u64; LANES],
-    journal: &mut Records,
-) -> Result<Pass, AllocError>
-    requires ready { IsReady original.now rewritten.now }
-    requires calls { AllByRecursion (AllByRecursion (IsCallOf original.now)) lanes.now }
-    requires few { AllByRecursion (λ (cs : List Form). length cs ≤ 100000) lanes.now }
-    requires lanes { length lanes.now ≤ 16 }
-    requires attempts { (1 ≤ limits.attempts) × (limits.attempts ≤ 1000000) }
-    requires room_size { limits.size ≤ 1048576 }
-    requires rule { (e : Entry) → IsRuled original.now rewritten.now limits.size limits.budget limits.attempts e → K.rule e }
-    requires states { AreOfStates original.now limits.size limits.budget K.words K.used K.rule }
-    requires side { (b : Book) × IsMidway shared.now.table.shared.table_id b phase lanes.now first pass }
-    requires used { AreUsed used.old (book pass) }
-    ensures whole { IfOk result (IsWhole shared.now.table.shared.table_id (suc phase)) }
-    ensures used { IfOk result (λ left. AreUsed used.new (book left)) }
-    ensures adds { (b : Book) → IsMidway shared.now.table.shared.table_id b phase lanes.now first pass
-        → IfOk result (λ left. AddsPhase phase (call_count lanes.now) (ALanes lanes.now) b (book left) journal.old journal.new) }
-{
-    let firsts = made_counts(alloc, &first.parts)?;
-    let (mut rest, left) = one_after_another(
-        alloc, original, rewritten, shared, pass, limits, phase, lanes, &firsts, used,
-    )?;
-    let mut placed = first.placed;
-    placed.append(&mut rest.placed)?;
-    sort_placed(&mut placed)?;
-    journal.add_phase(placed, first.parts, rest.parts)?;
-    Ok(left)
-}
-
-/// Makes the calls of a phase side by side, where more than one lane has calls, and otherwise none of them.
-fn first_side<R: Threads + Sync, K: Keeping + Sync>(
-    rt: &R,
-    alloc: Global,
-    original: &Program,
-    rewritten: &Program,
-    shared: &Shared<Opening<K>>,
-    pass: &mut Pass,
-    limits: Limits,
-    phase: u32,
-    lanes: &[LaneCalls],
-    used: &mut [u64; LANES],
-) -> Result<Side, AllocError>
-    requires ready { IsReady original.now rewritten.now }
-    requires calls { AllByRecursion (AllByRecursion (IsCallOf original.now)) lanes.now }
-    requires few { AllByRecursion (λ (cs : List Form). length cs ≤ 100000) lanes.now }
-    requires lanes { length lanes.now ≤ 16 }
-    requires attempts { (1 ≤ limits.attempts) × (limits.attempts ≤ 1000000) }
-    requires room_size { limits.size ≤ 1048576 }
-    requires rule { (e : Entry) → IsRuled original.now rewritten.now limits.size limits.budget limits.attempts e → K.rule e }
-    requires states { AreOfStates original.now limits.size limits.budget K.words K.used K.rule }
-    requires pass { IsWhole shared.now.table.shared.table_id phase pass.old }
-    requires room { HasRoom (call_count lanes.now) (book pass.old) }
-    requires used { AreUsed used.old (book pass.old) }
-    ensures midway { IfOk result (λ side. IsMidway shared.now.table.shared.table_id (book pass.old) phase lanes.now side pass.new) }
-    ensures used { OnOk result (AreUsed used.new (book pass.new)) }
-{
-    if has_several(lanes) {
-        side_by_side(
-            rt, alloc, original, rewritten, shared, pass, limits, phase, lanes, used,
-        )
-    } else {
-        untouched(alloc, lanes, used)
-    }
-}
-
 /// Whether more than one lane has calls.
 fn has_several(lanes: &[LaneCalls]) -> bool
     ensures { result ≡ nat_lt 1 (count_by (λ (cs : List Form). nat_lt 0 (length cs)) lanes.now) }

@@ -11,111 +11,113 @@ ghost use Rattle.session.specs.Passes.{IsStarting, IsEnding, behind};
 ghost use Rattle.driver.specs.Sides.{AreWhole};
 ghost use Rattle.driver.specs.Passing.{MayGoOn, AreUsed, first_of, call_count, IsResting};
 
-use crate::memory::{LANES, Limits};
+use crate::memory::LANES;
+use crate::run::Runner;
 use crate::side::{Part, Side};
 use crate::table::{Keeping, Opening};
-use hierarchy::Program;
 use script::{Known, LaneCalls};
-use session::{Lane, Limits as CallLimits, Place, make_shared};
-use std::alloc::{AllocError, Global};
+use session::{Lane, Limits as CallLimits, Making, Place};
+use std::alloc::AllocError;
 use tx_table::{Pass, Shared};
 
-/// Makes the calls of a phase that are left, one lane after another. `firsts` has for each lane how many of its calls were made before. The pass
-/// holds every number, so that no call meets a conflict, and each of them is made. Gives what is kept of them, and the pass.
-pub(crate) fn one_after_another<K: Keeping>(
-    alloc: Global,
-    original: &Program,
-    rewritten: &Program,
-    shared: &Shared<Opening<K>>,
-    pass: Pass,
-    limits: Limits,
-    phase: u32,
-    lanes: &[LaneCalls],
-    firsts: &[usize],
-    used: &mut [u64; LANES],
-) -> Result<(Side, Pass), AllocError>
-    requires ready { IsReady original.now rewritten.now }
-    requires calls { AllByRecursion (AllByRecursion (IsCallOf original.now)) lanes.now }
-    requires few { AllByRecursion (λ (cs : List Form). length cs ≤ 100000) lanes.now }
-    requires lanes { length lanes.now ≤ 16 }
-    requires attempts { (1 ≤ limits.attempts) × (limits.attempts ≤ 1000000) }
-    requires room_size { limits.size ≤ 1048576 }
-    requires rule { (e : Entry) → IsRuled original.now rewritten.now limits.size limits.budget limits.attempts e → K.rule e }
-    requires states { AreOfStates original.now limits.size limits.budget K.words K.used K.rule }
-    requires firsts { length firsts.now ≡ length lanes.now }
-    requires within { AllZip (λ (cs : List Form) (first : ℕ). first ≤ length cs) lanes.now firsts.now }
-    requires numbers { (book pass).numbers ≡ 2 ^ 20 }
-    requires ticks { (book pass).ticks + call_count lanes.now * 1000000 ≤ 2 ^ 40 }
-    requires begins { (lane : ℕ) → lane < length lanes.now → MayGoOn (behind (first_of phase lane) (slice_index_or firsts.now lane 0)) (book pass) }
-    requires resting { IsResting shared.now.table.shared.table_id (book pass) phase 0 [] [] [] [] pass }
-    requires used { AreUsed used.old (book pass) }
-    ensures made { IfOk result (λ r. IsResting shared.now.table.shared.table_id (book pass) phase (call_count lanes.now) lanes.now firsts.now r.0.placed.items r.0.parts.items r.1) }
-    ensures whole { IfOk result (λ r. AreWhole lanes.now firsts.now r.0.parts.items) }
-    ensures used { IfOk result (λ r. AreUsed used.new (book r.1)) }
-{
-    let mut placed = Vec::new(alloc);
-    let mut parts = Vec::new(alloc);
-    let mut pass = pass;
-    for (number, lane) in lanes.iter().enumerate() {
-        let first = firsts[number];
-        let at = Place {
-            phase,
-            lane: number as u8,
-            first: first as u32,
-        };
-        let (made, left) = make_rest(
-            alloc,
-            original,
-            rewritten,
-            shared,
-            pass,
-            limits.in_region(number as u64 + 1, used[number]),
-            at,
-            &lane.calls,
-        )?;
-        let Lane {
-            placed: mut more,
-            unplaced,
-            made,
-            used: taken,
-        } = made;
-        placed.append(&mut more)?;
-        parts.push(Part {
-            made,
-            used: taken,
-            unplaced,
-        })?;
-        used[number] = taken;
-        pass = left;
+impl<'a> Runner<'a> {
+    /// Makes the calls of a phase that are left, one lane after another. `firsts` has for each lane how many of its calls were made before. The pass
+    /// holds every number, so that no call meets a conflict, and each of them is made. Gives what is kept of them, and the pass.
+    pub(crate) fn one_after_another<K: Keeping>(
+        &self,
+        shared: &Shared<Opening<K>>,
+        pass: Pass,
+        phase: u32,
+        lanes: &[LaneCalls],
+        firsts: &[usize],
+        used: &mut [u64; LANES],
+    ) -> Result<(Side, Pass), AllocError>
+        requires ready { IsReady self.now.original.now self.now.rewritten.now }
+        requires calls { AllByRecursion (AllByRecursion (IsCallOf self.now.original.now)) lanes.now }
+        requires few { AllByRecursion (λ (cs : List Form). length cs ≤ 100000) lanes.now }
+        requires lanes { length lanes.now ≤ 16 }
+        requires attempts { (1 ≤ self.now.limits.attempts) × (self.now.limits.attempts ≤ 1000000) }
+        requires room_size { self.now.limits.size ≤ 1048576 }
+        requires rule { (e : Entry) → IsRuled self.now.original.now self.now.rewritten.now self.now.limits.size self.now.limits.budget self.now.limits.attempts e → K.rule e }
+        requires states { AreOfStates self.now.original.now self.now.limits.size self.now.limits.budget K.words K.used K.rule }
+        requires firsts { length firsts.now ≡ length lanes.now }
+        requires within { AllZip (λ (cs : List Form) (first : ℕ). first ≤ length cs) lanes.now firsts.now }
+        requires numbers { (book pass).numbers ≡ 2 ^ 20 }
+        requires ticks { (book pass).ticks + call_count lanes.now * 1000000 ≤ 2 ^ 40 }
+        requires begins { (lane : ℕ) → lane < length lanes.now → MayGoOn (behind (first_of phase lane) (slice_index_or firsts.now lane 0)) (book pass) }
+        requires resting { IsResting shared.now.table.shared.table_id (book pass) phase 0 [] [] [] [] pass }
+        requires used { AreUsed used.old (book pass) }
+        ensures made { IfOk result (λ r. IsResting shared.now.table.shared.table_id (book pass) phase (call_count lanes.now) lanes.now firsts.now r.0.placed.items r.0.parts.items r.1) }
+        ensures whole { IfOk result (λ r. AreWhole lanes.now firsts.now r.0.parts.items) }
+        ensures used { IfOk result (λ r. AreUsed used.new (book r.1)) }
+    {
+        let mut placed = Vec::new(self.alloc);
+        let mut parts = Vec::new(self.alloc);
+        let mut pass = pass;
+        for (number, lane) in lanes.iter().enumerate() {
+            let first = firsts[number];
+            let at = Place {
+                phase,
+                lane: number as u8,
+                first: first as u32,
+            };
+            let (made, left) = self.make_rest(
+                shared,
+                pass,
+                self.limits.in_region(number as u64 + 1, used[number]),
+                at,
+                &lane.calls,
+            )?;
+            let Lane {
+                placed: mut more,
+                unplaced,
+                made,
+                used: taken,
+            } = made;
+            placed.append(&mut more)?;
+            parts.push(Part {
+                made,
+                used: taken,
+                unplaced,
+            })?;
+            used[number] = taken;
+            pass = left;
+        }
+        Ok((Side { placed, parts }, pass))
     }
-    Ok((Side { placed, parts }, pass))
 }
 
-/// Makes the calls of a lane from a place on. Gives what is kept of them, and the pass.
-fn make_rest<K: Keeping>(
-    alloc: Global,
-    original: &Program,
-    rewritten: &Program,
-    shared: &Shared<Opening<K>>,
-    pass: Pass,
-    limits: CallLimits,
-    at: Place,
-    calls: &[Known],
-) -> Result<(Lane, Pass), AllocError>
-    requires ready { IsReady original.now rewritten.now }
-    requires calls { AllByRecursion (IsCallOf original.now) calls.now }
-    requires few { length calls.now ≤ 100000 }
-    requires attempts { (1 ≤ limits.attempts) × (limits.attempts ≤ 1000000) }
-    requires region { limits.room.region ≡ suc at.lane }
-    requires room_size { limits.room.size ≤ 1048576 }
-    requires rule { (e : Entry) → IsRuled original.now rewritten.now limits.room.size limits.budget limits.attempts e → K.rule e }
-    requires states { AreOfStates original.now limits.room.size limits.budget K.words K.used K.rule }
-    requires within { at.first ≤ length calls.now }
-    requires pass { IsStarting shared.now.table.shared.table_id at limits.room.used (length (drop at.first calls.now)) pass }
-    ensures made { IfOk result (λ r. let rest = drop at.first calls.now in
-        (h : List Entry) × IsEnding shared.now.table.shared.table_id (book pass) at (length rest) r.0.made r.0.used h r.1 × HasMade at limits.room.used rest h r.0) }
-    ensures all { (book pass).numbers ≡ 2 ^ 20 → IfOk result (λ r. r.0.made ≡ length (drop at.first calls.now)) }
-{
-    let rest = &calls[at.first as usize..];
-    make_shared(alloc, original, rewritten, shared, pass, limits, at, rest)
+impl<'a> Runner<'a> {
+    /// Makes the calls of a lane from a place on. Gives what is kept of them, and the pass.
+    fn make_rest<K: Keeping>(
+        &self,
+        shared: &Shared<Opening<K>>,
+        pass: Pass,
+        limits: CallLimits,
+        at: Place,
+        calls: &[Known],
+    ) -> Result<(Lane, Pass), AllocError>
+        requires ready { IsReady self.now.original.now self.now.rewritten.now }
+        requires calls { AllByRecursion (IsCallOf self.now.original.now) calls.now }
+        requires few { length calls.now ≤ 100000 }
+        requires attempts { (1 ≤ limits.attempts) × (limits.attempts ≤ 1000000) }
+        requires region { limits.room.region ≡ suc at.lane }
+        requires room_size { limits.room.size ≤ 1048576 }
+        requires rule { (e : Entry) → IsRuled self.now.original.now self.now.rewritten.now limits.room.size limits.budget limits.attempts e → K.rule e }
+        requires states { AreOfStates self.now.original.now limits.room.size limits.budget K.words K.used K.rule }
+        requires within { at.first ≤ length calls.now }
+        requires pass { IsStarting shared.now.table.shared.table_id at limits.room.used (length (drop at.first calls.now)) pass }
+        ensures made { IfOk result (λ r. let rest = drop at.first calls.now in
+            (h : List Entry) × IsEnding shared.now.table.shared.table_id (book pass) at (length rest) r.0.made r.0.used h r.1 × HasMade at limits.room.used rest h r.0) }
+        ensures all { (book pass).numbers ≡ 2 ^ 20 → IfOk result (λ r. r.0.made ≡ length (drop at.first calls.now)) }
+    {
+        let rest = &calls[at.first as usize..];
+        let making = Making {
+            alloc: self.alloc,
+            original: self.original,
+            rewritten: self.rewritten,
+            limits,
+        };
+        making.make_shared(self.engine, shared, pass, at, rest)
+    }
 }

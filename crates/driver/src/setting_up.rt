@@ -12,7 +12,7 @@ use crate::memory::{Limits, Memory};
 use hierarchy::Program;
 use jmodel::Answer;
 use script::Known;
-use session::{Place, make_next};
+use session::{Making, Place};
 use std::alloc::{AllocError, Global};
 use std::marker::Brand;
 use tx_core::{Origin, Solo};
@@ -125,8 +125,13 @@ fn call_over<K: Origin>(
         first: 0,
     };
     let mut engine = Solo::<K>::new(alloc, words);
-    let limits = limits.in_region(0, used);
-    let (record, used) = make_next(alloc, original, rewritten, &mut engine, limits, at, &call);
+    let making = Making {
+        alloc,
+        original,
+        rewritten,
+        limits: limits.in_region(0, used),
+    };
+    let (record, used) = making.make_next(&mut engine, at, &call);
     let words = engine.into_words();
     match record.answer {
         Answer::NoMemory => Err(AllocError),

@@ -8,50 +8,47 @@ ghost use Rattle.driver.specs.Memory.{AreOfStates};
 ghost use Rattle.session.specs.Rule.{IsRuled, IsReady, IsCallOf};
 ghost use Rattle.driver.specs.Passing.{AreUsed, call_count, IsWhole, HasRoom, IsMidway};
 
-use crate::memory::{LANES, Limits};
+use crate::memory::LANES;
+use crate::run::Runner;
 use crate::side::{Side, keep_used};
 use crate::table::{Keeping, Opening, start_lanes};
-use crate::threads::{gather, run_all};
-use hierarchy::Program;
+use crate::threads::gather;
 use script::LaneCalls;
-use std::alloc::{AllocError, Global};
+use std::alloc::AllocError;
 use std::thread::Threads;
 use tx_table::{Pass, Shared};
 
-/// Makes the calls of a phase: each lane's one after another on a thread of its own, and those of different lanes at the same time, as
-/// transactions over a table of shared words. Each lane has a pass of its own, which is split off and joined again. A lane ends before its first call
-/// whose attempts are used up.
-pub(crate) fn side_by_side<R: Threads + Sync, K: Keeping + Sync>(
-    rt: &R,
-    alloc: Global,
-    original: &Program,
-    rewritten: &Program,
-    shared: &Shared<Opening<K>>,
-    pass: &mut Pass,
-    limits: Limits,
-    phase: u32,
-    lanes: &[LaneCalls],
-    used: &mut [u64; LANES],
-) -> Result<Side, AllocError>
-    requires ready { IsReady original.now rewritten.now }
-    requires calls { AllByRecursion (AllByRecursion (IsCallOf original.now)) lanes.now }
-    requires few { AllByRecursion (λ (cs : List Form). length cs ≤ 100000) lanes.now }
-    requires lanes { length lanes.now ≤ 16 }
-    requires attempts { (1 ≤ limits.attempts) × (limits.attempts ≤ 1000000) }
-    requires room_size { limits.size ≤ 1048576 }
-    requires rule { (e : Entry) → IsRuled original.now rewritten.now limits.size limits.budget limits.attempts e → K.rule e }
-    requires states { AreOfStates original.now limits.size limits.budget K.words K.used K.rule }
-    requires pass { IsWhole shared.now.table.shared.table_id phase pass.old }
-    requires room { HasRoom (call_count lanes.now) (book pass.old) }
-    requires used { AreUsed used.old (book pass.old) }
-    ensures midway { IfOk result (λ side. IsMidway shared.now.table.shared.table_id (book pass.old) phase lanes.now side pass.new) }
-    ensures used { OnOk result (AreUsed used.new (book pass.new)) }
-{
-    let starts = start_lanes(alloc, shared, pass, lanes.len() as u8, used)?;
-    let ends = run_all(
-        rt, alloc, original, rewritten, shared, limits, phase, lanes, starts,
-    )?;
-    let side = gather(alloc, shared, pass, ends)?;
-    keep_used(used, side.parts.as_slice());
-    Ok(side)
+impl<'a> Runner<'a> {
+    /// Makes the calls of a phase: each lane's one after another on a thread of its own, and those of different lanes at the same time, as
+    /// transactions over a table of shared words. Each lane has a pass of its own, which is split off and joined again. A lane ends before its first call
+    /// whose attempts are used up.
+    pub(crate) fn side_by_side<R: Threads + Sync, K: Keeping + Sync>(
+        &self,
+        rt: &R,
+        shared: &Shared<Opening<K>>,
+        pass: &mut Pass,
+        phase: u32,
+        lanes: &[LaneCalls],
+        used: &mut [u64; LANES],
+    ) -> Result<Side, AllocError>
+        requires ready { IsReady self.now.original.now self.now.rewritten.now }
+        requires calls { AllByRecursion (AllByRecursion (IsCallOf self.now.original.now)) lanes.now }
+        requires few { AllByRecursion (λ (cs : List Form). length cs ≤ 100000) lanes.now }
+        requires lanes { length lanes.now ≤ 16 }
+        requires attempts { (1 ≤ self.now.limits.attempts) × (self.now.limits.attempts ≤ 1000000) }
+        requires room_size { self.now.limits.size ≤ 1048576 }
+        requires rule { (e : Entry) → IsRuled self.now.original.now self.now.rewritten.now self.now.limits.size self.now.limits.budget self.now.limits.attempts e → K.rule e }
+        requires states { AreOfStates self.now.original.now self.now.limits.size self.now.limits.budget K.words K.used K.rule }
+        requires pass { IsWhole shared.now.table.shared.table_id phase pass.old }
+        requires room { HasRoom (call_count lanes.now) (book pass.old) }
+        requires used { AreUsed used.old (book pass.old) }
+        ensures midway { IfOk result (λ side. IsMidway shared.now.table.shared.table_id (book pass.old) phase lanes.now side pass.new) }
+        ensures used { OnOk result (AreUsed used.new (book pass.new)) }
+    {
+        let starts = start_lanes(self.alloc, shared, pass, lanes.len() as u8, used)?;
+        let ends = self.run_all(rt, shared, phase, lanes, starts)?;
+        let side = gather(self.alloc, shared, pass, ends)?;
+        keep_used(used, side.parts.as_slice());
+        Ok(side)
+    }
 }

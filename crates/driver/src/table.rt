@@ -8,8 +8,7 @@ use crate::memory::{LANES, Memory};
 use std::alloc::{AllocError, Global};
 use std::marker::{Brand, PhantomData};
 use std::snapshot::Snapshot;
-use tl2::Ruled;
-use tx_table::{Pass, Shared, Story};
+use tx_table::{Pass, Ruled, Shared, Story};
 
 /// What a table is opened with, and what its entries keep to. A caller picks all of it for its proof.
 pub(crate) trait Keeping {

@@ -13,13 +13,12 @@ ghost use Rattle.driver.specs.Passing.{used_of, first_of, IsOfOne, AreStarting, 
 ghost use Rattle.driver.specs.Bags.{lists, as_lanes, AreTaken, IsRest};
 ghost use Rattle.driver.specs.Workers.{MayClaim, AreWorkers, HasWorked, HaveWorked, AreCollected};
 
-use crate::memory::Limits;
+use crate::run::Runner;
 use crate::table::{Keeping, Opening, Start};
 use crate::threads::End;
 use claims::{Bag, BagPass};
-use hierarchy::Program;
 use script::Known;
-use session::{Place, Taken, make_claimed};
+use session::{Making, Place, Taken};
 use std::alloc::{AllocError, Global};
 use std::thread::{Threads, map_vec};
 use tx_table::Shared;
@@ -55,87 +54,76 @@ fn give_claims(
     Ok(workers)
 }
 
-/// What a worker's thread does: it claims calls of the bag, and makes them over its pass.
-fn work<K: Keeping>(
-    alloc: Global,
-    original: &Program,
-    rewritten: &Program,
-    shared: &Shared<Opening<K>>,
-    limits: Limits,
-    phase: u32,
-    bag: &Bag,
-    calls: &[Known],
-    worker: Worker,
-) -> WorkerEnd
-    requires ready { IsReady original.now rewritten.now }
-    requires calls { AllByRecursion (IsCallOf original.now) calls.now }
-    requires few { length calls.now ≤ 100000 }
-    requires attempts { (1 ≤ limits.attempts) × (limits.attempts ≤ 1000000) }
-    requires room_size { limits.size ≤ 1048576 }
-    requires rule { (e : Entry) → IsRuled original.now rewritten.now limits.size limits.budget limits.attempts e → K.rule e }
-    requires states { AreOfStates original.now limits.size limits.budget K.words K.used K.rule }
-    requires bag { bag.now.length ≡ length calls.now }
-    requires used { worker.start.used ≡ used_of (book worker.start.pass) worker.start.lane }
-    requires pass { IsOfOne shared.now.table.shared.table_id (book worker.start.pass).seen (first_of phase worker.start.lane) worker.start.pass }
-    requires claims { MayClaim bag.now (length calls.now) worker.claims }
-    ensures { IfOk result (HasWorked shared.now.table.shared.table_id (book worker.start.pass).seen bag.now phase worker.start.lane calls.now) }
-{
-    let Worker { start, mut claims } = worker;
-    let Start { lane, used, pass } = start;
-    let at = Place {
-        phase,
-        lane,
-        first: 0,
-    };
-    let taken = make_claimed(
-        alloc,
-        original,
-        rewritten,
-        shared,
-        pass,
-        limits.in_region(u64::from(lane) + 1, used),
-        at,
-        bag,
-        &mut claims,
-        calls,
-    )?;
-    Ok((taken, claims))
+impl<'a> Runner<'a> {
+    /// What a worker's thread does: it claims calls of the bag, and makes them over its pass.
+    fn work<K: Keeping>(
+        &self,
+        shared: &Shared<Opening<K>>,
+        phase: u32,
+        bag: &Bag,
+        calls: &[Known],
+        worker: Worker,
+    ) -> WorkerEnd
+        requires ready { IsReady self.now.original.now self.now.rewritten.now }
+        requires calls { AllByRecursion (IsCallOf self.now.original.now) calls.now }
+        requires few { length calls.now ≤ 100000 }
+        requires attempts { (1 ≤ self.now.limits.attempts) × (self.now.limits.attempts ≤ 1000000) }
+        requires room_size { self.now.limits.size ≤ 1048576 }
+        requires rule { (e : Entry) → IsRuled self.now.original.now self.now.rewritten.now self.now.limits.size self.now.limits.budget self.now.limits.attempts e → K.rule e }
+        requires states { AreOfStates self.now.original.now self.now.limits.size self.now.limits.budget K.words K.used K.rule }
+        requires bag { bag.now.length ≡ length calls.now }
+        requires used { worker.start.used ≡ used_of (book worker.start.pass) worker.start.lane }
+        requires pass { IsOfOne shared.now.table.shared.table_id (book worker.start.pass).seen (first_of phase worker.start.lane) worker.start.pass }
+        requires claims { MayClaim bag.now (length calls.now) worker.claims }
+        ensures { IfOk result (HasWorked shared.now.table.shared.table_id (book worker.start.pass).seen bag.now phase worker.start.lane calls.now) }
+    {
+        let Worker { start, mut claims } = worker;
+        let Start { lane, used, pass } = start;
+        let at = Place {
+            phase,
+            lane,
+            first: 0,
+        };
+        let making = Making {
+            alloc: self.alloc,
+            original: self.original,
+            rewritten: self.rewritten,
+            limits: self.limits.in_region(u64::from(lane) + 1, used),
+        };
+        let taken = making.make_claimed(self.engine, shared, pass, at, bag, &mut claims, calls)?;
+        Ok((taken, claims))
+    }
 }
 
-/// Runs each worker on a thread of its own.
-fn work_all<R: Threads + Sync, K: Keeping + Sync>(
-    rt: &R,
-    alloc: Global,
-    original: &Program,
-    rewritten: &Program,
-    shared: &Shared<Opening<K>>,
-    limits: Limits,
-    phase: u32,
-    bag: &Bag,
-    calls: &[Known],
-    workers: Vec<Worker>,
-) -> Result<Vec<WorkerEnd>, AllocError>
-    requires ready { IsReady original.now rewritten.now }
-    requires calls { AllByRecursion (IsCallOf original.now) calls.now }
-    requires few { length calls.now ≤ 100000 }
-    requires attempts { (1 ≤ limits.attempts) × (limits.attempts ≤ 1000000) }
-    requires room_size { limits.size ≤ 1048576 }
-    requires rule { (e : Entry) → IsRuled original.now rewritten.now limits.size limits.budget limits.attempts e → K.rule e }
-    requires states { AreOfStates original.now limits.size limits.budget K.words K.used K.rule }
-    requires bag { bag.now.length ≡ length calls.now }
-    requires workers { (seen : ℕ) × AreWorkers shared.now.table.shared.table_id seen phase bag.now (length calls.now) workers.items }
-    ensures { (seen : ℕ) → AreWorkers shared.now.table.shared.table_id seen phase bag.now (length calls.now) workers.items
-        → IfOk result (λ ends. HaveWorked shared.now.table.shared.table_id seen bag.now phase calls.now (length workers.items) ends.items) }
-{
-    map_vec(
-        rt,
-        workers,
-        &|worker| {
-            work(
-                alloc, original, rewritten, shared, limits, phase, bag, calls, worker,
-            )
-        },
-    )
+impl<'a> Runner<'a> {
+    /// Runs each worker on a thread of its own.
+    fn work_all<R: Threads + Sync, K: Keeping + Sync>(
+        &self,
+        rt: &R,
+        shared: &Shared<Opening<K>>,
+        phase: u32,
+        bag: &Bag,
+        calls: &[Known],
+        workers: Vec<Worker>,
+    ) -> Result<Vec<WorkerEnd>, AllocError>
+        requires ready { IsReady self.now.original.now self.now.rewritten.now }
+        requires calls { AllByRecursion (IsCallOf self.now.original.now) calls.now }
+        requires few { length calls.now ≤ 100000 }
+        requires attempts { (1 ≤ self.now.limits.attempts) × (self.now.limits.attempts ≤ 1000000) }
+        requires room_size { self.now.limits.size ≤ 1048576 }
+        requires rule { (e : Entry) → IsRuled self.now.original.now self.now.rewritten.now self.now.limits.size self.now.limits.budget self.now.limits.attempts e → K.rule e }
+        requires states { AreOfStates self.now.original.now self.now.limits.size self.now.limits.budget K.words K.used K.rule }
+        requires bag { bag.now.length ≡ length calls.now }
+        requires workers { (seen : ℕ) × AreWorkers shared.now.table.shared.table_id seen phase bag.now (length calls.now) workers.items }
+        ensures { (seen : ℕ) → AreWorkers shared.now.table.shared.table_id seen phase bag.now (length calls.now) workers.items
+            → IfOk result (λ ends. HaveWorked shared.now.table.shared.table_id seen bag.now phase calls.now (length workers.items) ends.items) }
+    {
+        map_vec(
+            rt,
+            workers,
+            &|worker| self.work(shared, phase, bag, calls, worker),
+        )
+    }
 }
 
 /// Joins the claims of workers that have ended, and sorts out what each gives: how its lane ended, and which calls it took.
@@ -176,43 +164,40 @@ fn claim_rest(alloc: Global, bag: &Bag, claims: &mut BagPass) -> Result<Vec<u32>
     Ok(rest)
 }
 
-/// Makes the calls of a bag by workers, each on a thread of its own. Each claims a call and makes it, one after another, and ends at its first call
-/// whose attempts are used up, or where all are claimed. Gives how the lane of each worker ended, and which calls it took. What no worker claimed is
-/// the first one's.
-pub(crate) fn run_workers<R: Threads + Sync, K: Keeping + Sync>(
-    rt: &R,
-    alloc: Global,
-    original: &Program,
-    rewritten: &Program,
-    shared: &Shared<Opening<K>>,
-    limits: Limits,
-    phase: u32,
-    calls: &[Known],
-    starts: Vec<Start>,
-) -> Result<(Vec<End>, Vec<Vec<u32>>), AllocError>
-    requires ready { IsReady original.now rewritten.now }
-    requires calls { AllByRecursion (IsCallOf original.now) calls.now }
-    requires few { length calls.now ≤ 100000 }
-    requires attempts { (1 ≤ limits.attempts) × (limits.attempts ≤ 1000000) }
-    requires room_size { limits.size ≤ 1048576 }
-    requires rule { (e : Entry) → IsRuled original.now rewritten.now limits.size limits.budget limits.attempts e → K.rule e }
-    requires states { AreOfStates original.now limits.size limits.budget K.words K.used K.rule }
-    requires starts { (seen : ℕ) × AreStarting shared.now.table.shared.table_id seen phase starts.items }
-    requires some { (1 ≤ length starts.items) × (length starts.items ≤ 16) }
-    ensures len { IfOk result (λ r. length r.1.items ≡ length starts.items) }
-    ensures taken { IfOk result (λ r. AreTaken (length calls.now) (lists r.1.items)) }
-    ensures ended { (seen : ℕ) → AreStarting shared.now.table.shared.table_id seen phase starts.items
-        → IfOk result (λ r. HaveEnded shared.now.table.shared.table_id seen phase (as_lanes calls.now (lists r.1.items)) r.0.items) }
-{
-    let Ok((bag, mut claims)) = Bag::open(alloc, calls.len() as u32) else {
-        return Err(AllocError);
-    };
-    let workers = give_claims(alloc, &bag, &mut claims, starts)?;
-    let ends = work_all(
-        rt, alloc, original, rewritten, shared, limits, phase, &bag, calls, workers,
-    )?;
-    let (ends, mut taken) = collect(alloc, &bag, &mut claims, ends)?;
-    let mut rest = claim_rest(alloc, &bag, &mut claims)?;
-    taken[0].append(&mut rest)?;
-    Ok((ends, taken))
+impl<'a> Runner<'a> {
+    /// Makes the calls of a bag by workers, each on a thread of its own. Each claims a call and makes it, one after another, and ends at its first call
+    /// whose attempts are used up, or where all are claimed. Gives how the lane of each worker ended, and which calls it took. What no worker claimed is
+    /// the first one's.
+    pub(crate) fn run_workers<R: Threads + Sync, K: Keeping + Sync>(
+        &self,
+        rt: &R,
+        shared: &Shared<Opening<K>>,
+        phase: u32,
+        calls: &[Known],
+        starts: Vec<Start>,
+    ) -> Result<(Vec<End>, Vec<Vec<u32>>), AllocError>
+        requires ready { IsReady self.now.original.now self.now.rewritten.now }
+        requires calls { AllByRecursion (IsCallOf self.now.original.now) calls.now }
+        requires few { length calls.now ≤ 100000 }
+        requires attempts { (1 ≤ self.now.limits.attempts) × (self.now.limits.attempts ≤ 1000000) }
+        requires room_size { self.now.limits.size ≤ 1048576 }
+        requires rule { (e : Entry) → IsRuled self.now.original.now self.now.rewritten.now self.now.limits.size self.now.limits.budget self.now.limits.attempts e → K.rule e }
+        requires states { AreOfStates self.now.original.now self.now.limits.size self.now.limits.budget K.words K.used K.rule }
+        requires starts { (seen : ℕ) × AreStarting shared.now.table.shared.table_id seen phase starts.items }
+        requires some { (1 ≤ length starts.items) × (length starts.items ≤ 16) }
+        ensures len { IfOk result (λ r. length r.1.items ≡ length starts.items) }
+        ensures taken { IfOk result (λ r. AreTaken (length calls.now) (lists r.1.items)) }
+        ensures ended { (seen : ℕ) → AreStarting shared.now.table.shared.table_id seen phase starts.items
+            → IfOk result (λ r. HaveEnded shared.now.table.shared.table_id seen phase (as_lanes calls.now (lists r.1.items)) r.0.items) }
+    {
+        let Ok((bag, mut claims)) = Bag::open(self.alloc, calls.len() as u32) else {
+            return Err(AllocError);
+        };
+        let workers = give_claims(self.alloc, &bag, &mut claims, starts)?;
+        let ends = self.work_all(rt, shared, phase, &bag, calls, workers)?;
+        let (ends, mut taken) = collect(self.alloc, &bag, &mut claims, ends)?;
+        let mut rest = claim_rest(self.alloc, &bag, &mut claims)?;
+        taken[0].append(&mut rest)?;
+        Ok((ends, taken))
+    }
 }

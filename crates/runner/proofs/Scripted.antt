@@ -396,8 +396,8 @@ module _ (cs : List ClassFile) (P : Program) (s : Script) where
       let same_head : b.0 ≡ head = let x = attempts.1 in cc in
       let kept : head ≡ a.0 = let x = attempts.1 in let y = many.1 in cc in
       let c = bound (each_from (phase_of cs P (unsigned_abs head.lanes)) 0 lists) (script_with a.0) s a.2 in
-      let e = passed (nat_le (sum_by calls_of c.0) 100000) (OverLimit (codes "calls") (pos (sum_by calls_of c.0))) (Ok (record { budget = unsigned_abs a.0.budget; attempts = unsigned_abs a.0.attempts; lanes = unsigned_abs a.0.lanes; region = unsigned_abs a.0.region; phases = c.0 })) s c.2 in
-      let is : s ≡ record { budget = unsigned_abs a.0.budget; attempts = unsigned_abs a.0.attempts; lanes = unsigned_abs a.0.lanes; region = unsigned_abs a.0.region; phases = c.0 } = let x = e.1 in cc in
+      let e = passed (nat_le (sum_by calls_of c.0) 100000) (OverLimit (codes "calls") (pos (sum_by calls_of c.0))) (Ok (record { engine = a.0.engine; budget = unsigned_abs a.0.budget; attempts = unsigned_abs a.0.attempts; lanes = unsigned_abs a.0.lanes; region = unsigned_abs a.0.region; phases = c.0 })) s c.2 in
+      let is : s ≡ record { engine = a.0.engine; budget = unsigned_abs a.0.budget; attempts = unsigned_abs a.0.attempts; lanes = unsigned_abs a.0.lanes; region = unsigned_abs a.0.region; phases = c.0 } = let x = e.1 in cc in
       let phases : s.phases ≡ c.0 = ap (λ (t : Script). t.phases) is in
       record {
         head = head;

@@ -18,11 +18,11 @@ use crate::outcome::RunEnd;
 use crate::preparing::prepare;
 use crate::text::{answer_in, journal};
 use const_pool::ClassFile;
-use driver::{Journal, Limits, run_phases};
+use driver::{Journal, Limits, Runner};
 use heap_layout::texts::fixed_words;
 use hierarchy::Program;
 use jmodel::{Bytes, Halt};
-use script::{Script, read_script};
+use script::{EngineKind, Script, read_script};
 use std::alloc::Global;
 use std::thread::Threads;
 
@@ -54,7 +54,7 @@ pub fn run_files<R: Threads + Sync>(
     ensures run { IfOk result (λ text. IsRunOf files.now script.now text) }
     ensures cause { IfErr result (EndsRun files.now script.now) }
 {
-    let ran = run_on(rt, alloc, files, script)?;
+    let ran = run_on(rt, alloc, files, script, None)?;
     Ok(journal(
         alloc,
         &ran.program,
@@ -63,12 +63,13 @@ pub fn run_files<R: Threads + Sync>(
     )?)
 }
 
-/// Runs a script on class files, and counts its calls. The answer is that of the first placed call of a phase, or `nomemory` where none is placed.
+/// Runs a script on class files, by an engine that takes the place of the script's if there is one, and counts its calls. The answer is that of the first placed call of a phase, or `nomemory` where none is placed.
 pub fn count_calls<R: Threads + Sync>(
     rt: &R,
     alloc: Global,
     files: &[ClassFile],
     script: &[u8],
+    engine: Option<EngineKind>,
     phase: u32,
 ) -> Result<Counts, RunEnd>
     requires few { length files.now ≤ 256 }
@@ -77,7 +78,7 @@ pub fn count_calls<R: Threads + Sync>(
     ensures run { IfOk result (λ c. AreCountsOf files.now script.now phase c.placed c.unplaced c.answer) }
     ensures cause { IfErr result (EndsRun files.now script.now) }
 {
-    let ran = run_on(rt, alloc, files, script)?;
+    let ran = run_on(rt, alloc, files, script, engine)?;
     let answer = answer_in(alloc, ran.calls.placed.as_slice(), phase)?;
     Ok(Counts {
         placed: ran.calls.placed.len(),
@@ -86,12 +87,13 @@ pub fn count_calls<R: Threads + Sync>(
     })
 }
 
-/// Runs a script on class files.
+/// Runs a script on class files, by an engine that takes the place of the script's if there is one.
 fn run_on<R: Threads + Sync>(
     rt: &R,
     alloc: Global,
     files: &[ClassFile],
     script: &[u8],
+    engine: Option<EngineKind>,
 ) -> Result<Ran, RunEnd>
     requires few { length files.now ≤ 256 }
     requires form { AllByRecursion IsClassFile files.now }
@@ -107,6 +109,7 @@ fn run_on<R: Threads + Sync>(
         &prepared.original,
         &prepared.rewritten,
         script,
+        engine,
     )?;
     Ok(Ran {
         program: prepared.original,
@@ -132,7 +135,7 @@ fn script_of(
     }
 }
 
-/// Runs a script on the program of classes by its rewriting.
+/// Runs a script on the program of classes by its rewriting, over an engine that takes the place of the script's if there is one.
 fn run_script<R: Threads + Sync>(
     rt: &R,
     alloc: Global,
@@ -140,6 +143,7 @@ fn run_script<R: Threads + Sync>(
     original: &Program,
     rewritten: &Program,
     script: &[u8],
+    engine: Option<EngineKind>,
 ) -> Result<Journal, RunEnd>
     requires read { AreRead (map (λ c. c.now) classes.now) }
     requires links { linking (map (λ c. c.now) classes.now) ≡ Ok (Some original.now) }
@@ -154,13 +158,12 @@ fn run_script<R: Threads + Sync>(
         size: wanted.region,
     };
     let memory = opened(alloc, classes, original, rewritten, wanted.lanes, limits)?;
-    Ok(run_phases(
-        rt,
+    let runner = Runner {
         alloc,
         original,
         rewritten,
-        memory,
+        engine: engine.unwrap_or(wanted.engine),
         limits,
-        wanted.phases.as_slice(),
-    )?)
+    };
+    Ok(runner.run_phases(rt, memory, wanted.phases.as_slice())?)
 }

@@ -28,7 +28,7 @@ use Rattle.objects.specs.linking.Layout.{fixed_words}
 use Rattle.jmodel.specs.format.Reading.{◌>>=◌}
 use Rattle.script.specs.declared.head.Head.{Head}
 use Rattle.script.specs.declared.head.EngineKind.{EngineKind}
-use Rattle.script.specs.declared.head.EngineKind.TheVariants.{Tl2}
+use Rattle.script.specs.declared.head.EngineKind.TheVariants.{Tl2, Lsa}
 use Rattle.script.specs.Json.{under, at, bad_shape, must, or_refused, each_from, as_list, as_whole, is_object_of, is_object_with, wanted, may_be}
 
 -- ---- the shape of a script
@@ -41,8 +41,11 @@ abbrev pub as_form : Data → Option ℤ
 as_form d = option_and_then (λ n. if int_le n (pos 1) && int_le (pos 1) n then Some n else None) (as_whole d)
 
 -- and may name its engine
+abbrev pub engine_named : List ℕ → Option EngineKind
+engine_named name = if bytes_eq name (codes "tl2") then Some Tl2 else (if bytes_eq name (codes "lsa") then Some Lsa else None)
+
 abbrev pub as_engine : Data → Option EngineKind
-as_engine d = option_and_then (λ name. if bytes_eq name (codes "tl2") then Some Tl2 else None) (as_str d)
+as_engine d = option_and_then engine_named (as_str d)
 
 -- a number within its limits
 abbrev pub within : {A : Type 0} → List ℕ → ℤ → ℤ → ℤ → Result A Refusal → Result A Refusal
@@ -221,8 +224,9 @@ phase_of cs P lanes p (InBag calls) = bag_of cs P p calls >>= λ known. Ok (Bag 
 
 -- ---- scripts
 
--- the turns and the attempts that each call may take, how many lanes there are, how many words each region has, and what each phase calls
+-- the engine, the turns and the attempts that each call may take, how many lanes there are, how many words each region has, and what each phase calls
 pub record Script : Type 0 where
+  pub engine : EngineKind
   pub budget : ℕ
   pub attempts : ℕ
   pub lanes : ℕ
@@ -237,7 +241,7 @@ calls_of phase = sum_by length (lists_in phase)
 abbrev pub script_with : Head → List ScriptPhase → Result Script Refusal
 script_with h phases =
     must (nat_le (sum_by calls_of phases) 100000) (OverLimit (codes "calls") (pos (sum_by calls_of phases)))
-    (Ok (record { budget = unsigned_abs h.budget; attempts = unsigned_abs h.attempts; lanes = unsigned_abs h.lanes; region = unsigned_abs h.region; phases = phases }))
+    (Ok (record { engine = h.engine; budget = unsigned_abs h.budget; attempts = unsigned_abs h.attempts; lanes = unsigned_abs h.lanes; region = unsigned_abs h.region; phases = phases }))
 
 -- the script of a head and of the lists of its calls
 abbrev pub script_of : List ClassFile → Program → Head → List Listed → Result Script Refusal

@@ -21,6 +21,8 @@ const MOST_WORDS: i64 = 1_048_576;
 pub enum EngineKind {
     /// Transactional Locking II.
     Tl2,
+    /// The Lazy Snapshot Algorithm with eager validation.
+    Lsa,
 }
 
 /// What a script says beside its phases: its engine, how many lanes it has, the turns and the attempts that each call may take, and the
@@ -53,6 +55,7 @@ fn engine_of(alloc: Global, script: &Value) -> Result<EngineKind, Halt>
     };
     match engine.as_str() {
         Some("tl2") => Ok(EngineKind::Tl2),
+        Some("lsa") => Ok(EngineKind::Lsa),
         _ => Err(bad_member(alloc, b"", "engine")),
     }
 }

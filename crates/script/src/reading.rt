@@ -9,7 +9,7 @@ ghost use Rattle.script.specs.Script.{Script as Form, calls_of as calls_in, scri
 ghost use Rattle.script.specs.Seen.{lists as seen_lists};
 
 use crate::calls::{LaneCalls, Methods};
-use crate::head::{Head, head_of, limits_of};
+use crate::head::{EngineKind, Head, head_of, limits_of};
 use crate::json::object_at;
 use crate::lists::{PhaseLists, lists_of};
 use crate::phases::{Calls, PhaseCalls};
@@ -32,9 +32,10 @@ const KEYS: [&str; 7] = [
     "form", "engine", "lanes", "budget", "attempts", "region", "phases",
 ];
 
-/// A script: the turns and the attempts that each call may take, how many lanes there are, how many words each region has, and what each phase calls.
+/// A script: the engine of its calls, the turns and the attempts that each call may take, how many lanes there are, how many words each region has, and what each phase calls.
 #[derive(Debug, Drop)]
 pub struct Script {
+    pub engine: EngineKind,
     pub budget: u64,
     pub attempts: u64,
     pub lanes: u64,
@@ -47,7 +48,7 @@ impl Model for Script {
 
     ghost Value = { Form };
 
-    ghost view = { λ s. record { budget = s.budget; attempts = s.attempts; lanes = s.lanes; region = s.region; phases = s.phases.items } };
+    ghost view = { λ s. record { engine = s.engine; budget = s.budget; attempts = s.attempts; lanes = s.lanes; region = s.region; phases = s.phases.items } };
 }
 
 /// How many calls lanes have, or None where a number doesn't hold as many.
@@ -94,6 +95,7 @@ fn script_with(alloc: Global, head: Head, phases: Vec<PhaseCalls>) -> Result<Scr
         return Err(over_limit(alloc, "calls", count));
     }
     Ok(Script {
+        engine: head.engine,
         budget: head.budget.unsigned_abs(),
         attempts: head.attempts.unsigned_abs(),
         lanes: head.lanes.unsigned_abs(),

@@ -176,43 +176,7 @@ module _ (P Q : Program) (B : Bounds) (S : List Entry → ℕ → Log → Log �
       by true is a = record { tried = a.tried; used_up = a.used_up; stands = a.stands; unused = sym same }
       by false is a = cc
 
--- over an engine that meets no conflict each call is made
-pub one_made : (P Q : Program) (B : Bounds) (c : Call) (S : List Entry → ℕ → Log → Log → Type 0) → ((h : List Entry) (n : ℕ) (r w : Log) → S h n r w → n ≡ 0)
-    → (made : Bool) (h : List Entry) (n : ℕ) (old new : Lane) → AddsOne made P Q B c S h n old new → AddsMade c S h n old new
-one_made P Q B c S alone true h n old new adds = adds
-one_made P Q B c S alone false h n old new adds =
-    let spent = adds.1 in
-    let none = alone h (n + spent.tried) [] [] spent.stands in
-    let some = spent.used_up.some in
-    absurd (omega (arith, none, some))
-
--- entries that follow one another in a region keep a history leading on
-pub leads_on : (opened : ℕ → ℕ) (before h : List Entry) (region used after : ℕ) → AreUsed opened before → used_after before region (opened region) ≡ used → Takes region used h after
-    → AreUsed opened (before ++ h)
-leads_on opened [] [] region used after along left takes = tt
-leads_on opened [] (e ∷ h) region used after along left takes =
-    let own : e.used_before ≡ opened e.call.region = takes.1 ∙ sym left ∙ ap opened (sym takes.0) in
-    let next : used_with opened e region ≡ e.used_after = (let here : nat_eq e.call.region region ≡ true = (let same = takes.0 in grind (arith, nat_tests)) in rw here refl) in
-    (own, leads_on (used_with opened e) [] h region e.used_after after tt next takes.2)
-leads_on opened (b ∷ before) h region used after along left takes = (along.0, leads_on (used_with opened b) before h region used after along.1 left takes)
-
-after_both : (before h : List Entry) (region used : ℕ) → used_after (before ++ h) region used ≡ used_after h region (used_after before region used)
-after_both [] h region used = refl
-after_both (b ∷ before) h region used = after_both before h region (if nat_eq b.call.region region then b.used_after else used)
-
--- what is known of a history holds behind the calls of a lane
-pub leads_more : (shared : Type 0) (begins : Words → (ℕ → ℕ) → Type 0) (before h : List Entry) (c d : Call) (used after : ℕ) → d.region ≡ c.region → Leads shared begins before c used
-    → Takes c.region used h after → Leads shared begins (before ++ h) d after
-leads_more shared begins before h c d used after same (inl x) takes = inl x
-leads_more shared begins before h c d used after same (inr leads) takes = inr (λ first opened begun.
-    let to = leads first opened begun in record {
-      along = leads_on opened before h c.region used after to.along to.after takes;
-      after =
-          ap (λ (r : ℕ). used_after (before ++ h) r (opened r)) same ∙ after_both before h c.region (opened c.region) ∙ ap (used_after h c.region) to.after
-          ∙ takes_after c.region used after h takes;
-    })
-
--- and so does what is known of words: no call gives one back
+-- what is known of words holds behind the calls of a lane: no call gives one back
 pub over_more : (P : Program) (limits : Limits) (begins : Words → (ℕ → ℕ) → Type 0) (allows : Entry → Type 0) (used : ℕ) → limits.room.used ≤ used → IsOverStates P limits begins allows
     → IsOverStates P (limits_with limits used) begins allows
 over_more P limits begins allows used grows over = record {
@@ -220,10 +184,6 @@ over_more P limits begins allows used grows over = record {
   reached = let r = over.reached in record { words = r.words; opened = r.opened; stand = r.stand; below = let low = r.below in omega (arith, low, grows) };
   explained = over.explained;
 }
-
--- what the calls of a lane have made so far, behind entries and after conflicts
-abbrev pub Stand : (List Entry → ℕ → Log → Log → Type 0) → Place → ℕ → List Known → List Entry → ℕ → Lane → Type 0
-Stand S at used calls before n lane = (h : List Entry) × S (before ++ h) n [] [] × HasMade at used calls h lane
 
 -- One turn of the loop over the calls.
 module _ (S : List Entry → ℕ → Log → Log → Type 0) (room : Room) (at here : Place) (used : ℕ) (calls : List Known) (i : ℕ) (old new : Lane) (c : Known)
@@ -240,14 +200,3 @@ module _ (S : List Entry → ℕ → Log → Log → Type 0) (room : Room) (at h
       let parts = subst At (sym count) there in
       lane_more at used calls h adds.added old new c adds.told_of new.used made parts.0 parts.1 parts.2 adds.record_is adds.are
       (subst (λ (m : ℕ). Takes m old.used adds.added new.used) region adds.takes) adds.grows
-
-  pub stands_alone : (P Q : Program) (B : Bounds) (made : Bool) → ((h : List Entry) (n : ℕ) (r w : Log) → S h n r w → n ≡ 0) → (before h : List Entry)
-      → HasMade at used calls h old → AddsOne made P Q B (call_of room here c) S (before ++ h) 0 old new → Stand S at used calls before 0 new
-  stands_alone P Q B made alone before h has adds =
-      let one = one_made P Q B (call_of room here c) S alone made (before ++ h) 0 old new adds in
-      let none : one.conflicts ≡ 0 = alone _ _ _ _ one.stands in
-      let At : List Entry → ℕ → Type 0 = λ l n. S l n [] [] in (
-        h ++ one.added,
-        subst (λ (l : List Entry). At l 0) (append_assoc before h one.added) (subst (At ((before ++ h) ++ one.added)) none one.stands),
-        made_more (before ++ h) h 0 has one,
-      )

@@ -8,3 +8,4 @@ pub mod Lanes
 pub mod Stood
 pub mod Claiming
 pub mod Longer
+pub mod Either

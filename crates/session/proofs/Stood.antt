@@ -14,20 +14,21 @@ use Rattle.jmodel.specs.history.History.{Call, Entry, round, used_after}
 use Rattle.jmodel.specs.history.Schedule.{Known, call_at}
 use Rattle.tx_table.specs.Book.{Book, Lost, Region, Unticked, In, lookup, rises}
 use Rattle.tx_table.specs.Rule.{Succeeds, last_of}
-use Rattle.jmodel.specs.declared.access.Access.{Access}
 use Rattle.machine.specs.declared.room.Room.{Room}
 use Rattle.machine.specs.declared.machine.Limits.{Limits}
 use Rattle.tx_table.specs.declared.shared.Pass.{Pass}
 use Rattle.tx_table.specs.Passes.{book}
-use Rattle.tl2.specs.declared.attempt.At.{At}
+use Rattle.tl2.specs.declared.attempt.At.TheVariants.{Outside}
+use Rattle.engines.specs.Chosen.{Rests}
 use Rattle.tx_table.proofs.MapLaws.{eq_cond, ne_cond}
+use Rattle.tl2.specs.Commits.{IsRest}
 use Rattle.tl2.specs.Standing.{Awaits, IsEarlier, IsSince, Keeps, Stands, region_since}
 use Rattle.tl2.proofs.Updating.{all_in, all_reversed}
 use Rattle.tl2.proofs.Waiting.{used_since, after_last, awaits_later, earlier_still, rises_in_lane, made_are, since_here}
 use Rattle.session.specs.declared.record.Lane.{Lane}
 use Rattle.session.specs.declared.record.Place.{Place}
 use Rattle.session.specs.Lane.{Takes, HasMade}
-use Rattle.session.specs.Adds.{call_of, AddsSpent, AddsMade, AddsOne, IsEmpty}
+use Rattle.session.specs.Adds.{call_of, AddsSpent, AddsMade, AddsOne, IsEmpty, IsUsedUp}
 use Rattle.session.specs.Passes.{IsSeated, MayFollow, MayBegin, IsStarting, behind, IsEnding, bounds_with, HasSpent}
 use Rattle.session.proofs.Lanes.{takes_after, lane_empty, call_there, made_more}
 
@@ -125,10 +126,10 @@ rises_later a b lane here there l =
     grind (arith, nat_tests)
 
 -- the calls of a lane may go on behind the entries of those before
-next_of : (began : TableId → Book → Type 0) (t : TableId) (b : Book) (place : Place) (used made after words : ℕ) (at : At) (kept : List Access) (p : Pass) (h : List Entry) (n : ℕ)
-    → began t b → Stands began words at kept p (reverse b.entries ++ h) n [] [] → MayBegin place used b → Takes (suc place.lane) used h after
+next_of : (began : TableId → Book → Type 0) (t : TableId) (b : Book) (place : Place) (used made after : ℕ) (p : Pass) (h : List Entry) (n : ℕ)
+    → began t b → Rests began p (reverse b.entries ++ h) n → MayBegin place used b → Takes (suc place.lane) used h after
     → ((c : Known) → All (IsEarlier (call_at place.phase place.lane (place.first + made) c)) h) → MayBegin (behind place made) after (book p)
-next_of began t b place used made after words at kept p h n of stands begins takes earlier =
+next_of began t b place used made after p h n of stands begins takes earlier =
     let since = made_are b (book p) (reverse b.entries) h (stands.keeps t b of).1 (sym (reverse-reverse b.entries)) stands.entries in
     let es = since.0.made in
     let Q : Region → Type 0 = λ k. MayFollow (behind place made) k.last in
@@ -161,26 +162,34 @@ next_of began t b place used made after words at kept p h n of stands begins tak
     let so : last.0 ≡ record { used = after; last = last.0.last } = λ i. record { used = left i; last = last.0.last } in
     record { last = last.0.last; region = is ∙ ap (λ (k : Region). some k) so; follows = last.3 }
 
+-- an engine that ends leaves its pass with what it kept between calls
+pub rests_after : (began : TableId → Book → Type 0) (p q : Pass) (h : List Entry) (n : ℕ) → IsRest [] 0 (book p) (book q) → (Keeps began p → Keeps began q) → Rests began p h n
+    → Rests began q h n
+rests_after began p q h n rest keeps rests = record {
+  entries = rest.entries ∙ rests.entries;
+  lost = ap (λ (l : List Lost). length l) rest.lost ∙ rests.lost;
+  keeps = keeps rests.keeps;
+}
+
+-- and with as many moves of the clock
+pub ticks_after : (p q : Pass) (n : ℕ) → IsRest [] 0 (book p) (book q) → (book p).ticks ≤ n → (book q).ticks ≤ n
+ticks_after p q n rest few = let same = rest.ticks in omega arith
+
 -- the pass that is given back
-pub ending : (began : TableId → Book → Type 0) (t : TableId) (b : Book) (place : Place) (used count made after words : ℕ) (at : At) (kept : List Access) (p q : Pass)
-    (h : List Entry) (n : ℕ)
-    → began t b → q ≡ p → Stands began words at kept p (reverse b.entries ++ h) n [] [] → ((book q).face.held ≡ []) × ((book q).face.stage ≡ Unticked)
+pub ending : (began : TableId → Book → Type 0) (t : TableId) (b : Book) (place : Place) (used count made after : ℕ) (q : Pass) (h : List Entry) (n : ℕ)
+    → began t b → Rests began q (reverse b.entries ++ h) n → ((book q).face.held ≡ []) × ((book q).face.stage ≡ Unticked)
     → MayBegin place used b → Takes (suc place.lane) used h after → ((c : Known) → All (IsEarlier (call_at place.phase place.lane (place.first + made) c)) h)
-    → (book p).ticks ≤ b.ticks + count * 1000000 → IsEnding t b place count made after h q
-ending began t b place used count made after words at kept p q h n of same stands free begins takes earlier ticks =
-    let k = stands.keeps t b of in
-    let since = made_are b (book p) (reverse b.entries) h k.1 (sym (reverse-reverse b.entries)) stands.entries in
-    subst (IsEnding t b place count made after h) (sym same) (record {
-      seated = record {
-        table = k.0;
-        held = ap (λ (x : Pass). (book x).face.held) (sym same) ∙ free.0;
-        stage = ap (λ (x : Pass). (book x).face.stage) (sym same) ∙ free.1;
-      };
+    → (book q).ticks ≤ b.ticks + count * 1000000 → IsEnding t b place count made after h q
+ending began t b place used count made after q h n of rests free begins takes earlier ticks =
+    let k = rests.keeps t b of in
+    let since = made_are b (book q) (reverse b.entries) h k.1 (sym (reverse-reverse b.entries)) rests.entries in
+    record {
+      seated = record { table = k.0; held = free.0; stage = free.1 };
       since = since.0;
       entries = since.1;
-      next = next_of began t b place used made after words at kept p h n of stands begins takes earlier;
+      next = next_of began t b place used made after q h n of rests begins takes earlier;
       ticks = ticks;
-    })
+    }
 
 -- a pass of a lane of whose calls none was made
 pub untouched : (t : TableId) (place : Place) (used count any made after : ℕ) (p : Pass) → made ≡ 0 → after ≡ used → IsStarting t place used count p → IsEnding t (book p) place any made after [] p
@@ -215,33 +224,45 @@ was_left true P Q B c S h n old new is adds = cc
 was_left false P Q B c S h n old new is adds = adds
 
 -- a lane stops at a call that was left out
-pub has_spent : (P Q : Program) (limits : Limits) (calls : List Known) (made used : ℕ) (c : Known) (room : Room) (here : Place) (began : TableId → Book → Type 0) (words : ℕ) (at : At) (kept : List Access)
-    (b : Book) (p q : Pass) (h : List Entry) (n after : ℕ) → made < length calls → c ≡ get_or calls made c → length b.lost ≤ n → q ≡ p
-    → AddsSpent P Q (bounds_with limits used) (call_of room here c) (Stands began words at kept p h) n after → HasSpent P Q limits calls made used b q
-has_spent P Q limits calls made used c room here began words at kept b p q h n after left next above same spent =
-    let count : length (book q).lost ≡ n + spent.tried = ap (λ (x : Pass). length (book x).lost) same ∙ spent.stands.lost in
-    record { call = c; left = left; next = next; tried = spent.tried; used_up = spent.used_up; lost = omega (arith, above, count) }
+pub has_spent : (P Q : Program) (limits : Limits) (calls : List Known) (made used : ℕ) (c : Known) (began : TableId → Book → Type 0)
+    (b : Book) (q : Pass) (h : List Entry) (n tried : ℕ) → made < length calls → c ≡ get_or calls made c → length b.lost ≤ n
+    → IsUsedUp P Q (bounds_with limits used) c.method c.args tried → Rests began q h (n + tried) → HasSpent P Q limits calls made used b q
+has_spent P Q limits calls made used c began b q h n tried left next above used_up rests =
+    let count = rests.lost in
+    record { call = c; left = left; next = next; tried = tried; used_up = used_up; lost = omega (arith, above, count) }
 
 -- a pass that holds every number met no conflict
-pub meets_none : (began : TableId → Book → Type 0) (t : TableId) (words : ℕ) (at : At) (kept : List Access) (b : Book) (p : Pass) (h : List Entry) (n : ℕ)
-    → began t b → b.numbers ≡ 1048576 → Stands began words at kept p h n [] [] → n ≡ length b.lost
-meets_none began t words at kept b p h n of whole stands = sym stands.lost ∙ ap (λ (l : List Lost). length l) ((stands.keeps t b of).1.lost whole)
+pub meets_none : (began : TableId → Book → Type 0) (t : TableId) (b : Book) (p : Pass) (h : List Entry) (n : ℕ)
+    → began t b → b.numbers ≡ 1048576 → Rests began p h n → n ≡ length b.lost
+meets_none began t b p h n of whole rests = sym rests.lost ∙ ap (λ (l : List Lost). length l) ((rests.keeps t b of).1.lost whole)
+
+-- what any engine keeps between calls is what one keeps that has read and written nothing
+stands_outside : (began : TableId → Book → Type 0) (p : Pass) (h : List Entry) (n : ℕ) → Rests began p h n → Stands began 0 Outside [] p h n [] []
+stands_outside began p h n rests = record {
+  entries = rests.entries;
+  lost = rests.lost;
+  reads = λ inside. absurd (inside refl);
+  writes = refl;
+  within = All-from_recursion _ [] tt;
+  bound = λ inside. absurd (inside refl);
+  keeps = rests.keeps;
+}
 
 -- behind the entries of its lane's calls an engine awaits the next one
-pub awaits_next : (began : TableId → Book → Type 0) (t : TableId) (b : Book) (room : Room) (place here : Place) (used made i after words : ℕ) (at : At) (kept : List Access) (p : Pass)
+pub awaits_next : (began : TableId → Book → Type 0) (t : TableId) (b : Book) (room : Room) (place here : Place) (used made i after : ℕ) (p : Pass)
     (h : List Entry) (n : ℕ) (c : Known) (named : Call)
-    → began t b → Stands began words at kept p (reverse b.entries ++ h) n [] [] → MayBegin place used b → Takes (suc place.lane) used h after → room.region ≡ suc place.lane
+    → began t b → Rests began p (reverse b.entries ++ h) n → MayBegin place used b → Takes (suc place.lane) used h after → room.region ≡ suc place.lane
     → here ≡ record place { first = place.first + i } → made ≡ i
     → call_of room here c ≡ named → ((d : Known) → All (IsEarlier (call_at place.phase place.lane (place.first + made) d)) h)
     → Awaits named (book p) (call_of room here c) after
-awaits_next began t b room place here used made i after words at kept p h n c named of stands start takes region is count told earlier =
+awaits_next began t b room place here used made i after p h n c named of rests start takes region is count told earlier =
     let there : call_at place.phase place.lane (place.first + made) c ≡ call_of room here c =
     ap (λ (j : ℕ). call_at place.phase place.lane (place.first + j) c) count ∙ sym (λ j. record { phase = (is j).phase; lane = (is j).lane; index = (is j).first; method = c.method; args = c.args; region = region j }) in
     let own : lookup b.regions room.region ≡ some (record { used = used; last = start.last }) = ap (lookup b.regions) region ∙ start.region in
     let lane : suc place.lane ≡ suc here.lane = ap (λ (q : Place). suc q.lane) (sym is) in
     let next : Succeeds (call_of room here c) start.last =
     subst (λ (k : Call). Succeeds k start.last) there (start.follows place.phase (place.first + made) c (inr (refl, omega arith))) in
-    let later = awaits_later {words = words} {at = at} {kept = kept} {p = p} (reverse b.entries) h named (call_of room here c) t b (record { used = used; last = start.last })
-    stands told (inr (region ∙ lane)) of (sym (reverse-reverse b.entries)) own next (subst (λ (k : Call). All (IsEarlier k) h) there (earlier c)) in
+    let later = awaits_later {words = 0} {at = Outside} {kept = []} {p = p} (reverse b.entries) h named (call_of room here c) t b (record { used = used; last = start.last })
+    (stands_outside began p (reverse b.entries ++ h) n rests) told (inr (region ∙ lane)) of (sym (reverse-reverse b.entries)) own next (subst (λ (k : Call). All (IsEarlier k) h) there (earlier c)) in
     let left : used_after h room.region used ≡ after = ap (λ (r : ℕ). used_after h r used) region ∙ takes_after (suc place.lane) used after h takes in
     subst (Awaits named (book p) (call_of room here c)) left later

@@ -3,3 +3,4 @@ pub mod Lane
 pub mod Adds
 pub mod Passes
 pub mod Claimed
+pub mod Engines

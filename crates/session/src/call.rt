@@ -16,65 +16,10 @@ use script::Known;
 use std::alloc::{AllocError, Global};
 use tx_core::Engine;
 
-/// Makes the call at a place, which the engine awaits, and tells how it ended, and how many words of its region are used then. It may take the turns,
-/// the attempts and the words of `limits`. The rewriting of the original, which is what runs, is never stuck. An answer `Spent` says that the
-/// attempts were used up, each by a conflict, and `NoMemory` that memory was: such a call adds nothing to the history.
-pub fn make_next<E: Engine>(
-    alloc: Global,
-    original: &Program,
-    rewritten: &Program,
-    engine: &mut E,
-    limits: Limits,
-    at: Place,
-    call: &Known,
-) -> (Record, u64)
-    requires ready { IsReady original.now rewritten.now }
-    requires call { IsCallOf original.now call.now }
-    requires region { IsOfLane (call_of limits.room at call.now) }
-    requires fits { limits.room.region * limits.room.size + limits.room.size < 2 ^ 64 }
-    requires rule { (e : Entry) → IsRuled original.now rewritten.now limits.room.size limits.budget limits.attempts e → E.allows e }
-    requires attempts { (1 ≤ limits.attempts) × (limits.attempts ≤ 1000000) }
-    requires clock { E.clock engine.old + 1000000 ≤ 2 ^ 40 }
-    requires stands { (h : List Entry) × (n : ℕ) × E.stands engine.old h n [] [] × Leads E.is_shared E.begins h (call_of limits.room at call.now) limits.room.used }
-    requires states { IsOverStates original.now limits E.begins E.allows }
-    requires awaits { E.awaits engine.old (call_of limits.room at call.now) limits.room.used }
-    ensures tells { result.0 ≡ record_of (told_by limits.room at call.now result.0) }
-    ensures adds { (h : List Entry) (n : ℕ) → E.stands engine.old h n [] [] → AddsCall original.now rewritten.now (bounds_of limits) (E.stands engine.new) h n (told_by limits.room at call.now result.0) result.1 }
-    ensures clock { E.clock engine.new ≤ E.clock engine.old + limits.attempts }
-{
-    match Machine::call(
-        alloc,
-        rewritten,
-        engine,
-        &mut Open,
-        limits,
-        call.method,
-        call.args.as_slice(),
-    ) {
-        Ok(
-            End {
-                answer,
-                stamp,
-                used,
-            },
-        ) => {
-            let record = Record {
-                phase: at.phase,
-                lane: at.lane,
-                index: at.first,
-                method: call.method,
-                stamp,
-                answer,
-            };
-            (record, used)
-        }
-        Err(_) => unreachable!(),
-    }
-}
-
-/// What the calls of a lane are made with: a program, its rewriting, which is what runs, and what each call may use.
-#[derive(Drop)]
-pub(crate) struct Making<'a> {
+/// What the calls of a lane are made with: a program, its rewriting, which is what runs, and what each call may use: turns in each attempt,
+/// attempts, and the words of the lane's region.
+#[derive(Clone, Copy)]
+pub struct Making<'a> {
     pub alloc: Global,
     pub original: &'a Program,
     pub rewritten: &'a Program,
@@ -82,6 +27,66 @@ pub(crate) struct Making<'a> {
 }
 
 impl<'a> Making<'a> {
+    /// The same, where so many words of the region are used.
+    fn with_used(&self, used: u64) -> Making<'a>
+        ensures { result ≡ record self.now { limits = limits_with self.now.limits used } }
+    {
+        Making {
+            alloc: self.alloc,
+            original: self.original,
+            rewritten: self.rewritten,
+            limits: self.limits.with_used(used),
+        }
+    }
+
+    /// Makes the call at a place, which the engine awaits, and tells how it ended, and how many words of its region are used then. The rewriting of
+    /// the original, which is what runs, is never stuck. An answer `Spent` says that the attempts were used up, each by a conflict, and `NoMemory`
+    /// that memory was: such a call adds nothing to the history.
+    pub fn make_next<E: Engine>(&self, engine: &mut E, at: Place, call: &Known) -> (Record, u64)
+        requires ready { IsReady self.now.original.now self.now.rewritten.now }
+        requires call { IsCallOf self.now.original.now call.now }
+        requires region { IsOfLane (call_of self.now.limits.room at call.now) }
+        requires fits { self.now.limits.room.region * self.now.limits.room.size + self.now.limits.room.size < 2 ^ 64 }
+        requires rule { (e : Entry) → IsRuled self.now.original.now self.now.rewritten.now self.now.limits.room.size self.now.limits.budget self.now.limits.attempts e → E.allows e }
+        requires attempts { (1 ≤ self.now.limits.attempts) × (self.now.limits.attempts ≤ 1000000) }
+        requires clock { E.clock engine.old + 1000000 ≤ 2 ^ 40 }
+        requires stands { (h : List Entry) × (n : ℕ) × E.stands engine.old h n [] [] × Leads E.is_shared E.begins h (call_of self.now.limits.room at call.now) self.now.limits.room.used }
+        requires states { IsOverStates self.now.original.now self.now.limits E.begins E.allows }
+        requires awaits { E.awaits engine.old (call_of self.now.limits.room at call.now) self.now.limits.room.used }
+        ensures tells { result.0 ≡ record_of (told_by self.now.limits.room at call.now result.0) }
+        ensures adds { (h : List Entry) (n : ℕ) → E.stands engine.old h n [] [] → AddsCall self.now.original.now self.now.rewritten.now (bounds_of self.now.limits) (E.stands engine.new) h n (told_by self.now.limits.room at call.now result.0) result.1 }
+        ensures clock { E.clock engine.new ≤ E.clock engine.old + self.now.limits.attempts }
+    {
+        match Machine::call(
+            self.alloc,
+            self.rewritten,
+            engine,
+            &mut Open,
+            self.limits,
+            call.method,
+            call.args.as_slice(),
+        ) {
+            Ok(
+                End {
+                    answer,
+                    stamp,
+                    used,
+                },
+            ) => {
+                let record = Record {
+                    phase: at.phase,
+                    lane: at.lane,
+                    index: at.first,
+                    method: call.method,
+                    stamp,
+                    answer,
+                };
+                (record, used)
+            }
+            Err(_) => unreachable!(),
+        }
+    }
+
     /// Makes the next call of a lane, at a place, and keeps its record. Gives whether it was made: a call whose attempts are used up is not, and
     /// leaves the lane as it was.
     pub(crate) fn make_one<E: Engine>(
@@ -106,15 +111,7 @@ impl<'a> Making<'a> {
             → IfOk result (λ made. AddsOne made self.now.original.now self.now.rewritten.now (bounds_with self.now.limits lane.old.used) (call_of self.now.limits.room at call.now) (E.stands engine.new) h n lane.old lane.new) }
         ensures clock { E.clock engine.new ≤ E.clock engine.old + self.now.limits.attempts }
     {
-        let (one, used) = make_next(
-            self.alloc,
-            self.original,
-            self.rewritten,
-            engine,
-            self.limits.with_used(lane.used),
-            at,
-            call,
-        );
+        let (one, used) = self.with_used(lane.used).make_next(engine, at, call);
         if one.is_spent() {
             return Ok(false);
         }

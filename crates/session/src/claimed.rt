@@ -1,4 +1,4 @@
-//! Calls that are claimed of a bag, over a table of shared words, by TL2.
+//! Calls that are claimed of a bag, over a table of shared words, by one of its engines.
 ghost use Rattle.std.specs.Prelude.{◌≡◌, ◌≢◌, ◌≤◌, ◌<◌, ◌+◌, ◌*◌, ◌^◌, ℕ, suc, List, [], length, IfOk};
 ghost use Rattle.std.specs.List.{AllByRecursion};
 ghost use Rattle.atomic_table.specs.Seated.{TableId};
@@ -15,15 +15,12 @@ ghost use Rattle.session.specs.Claimed.{calls_at, HasTaken, HasEmptied};
 
 use crate::call::Making;
 use crate::record::{Lane, Place};
-use crate::shared::{Beginning, Named};
+use crate::shared::{Beginning, Named, engine_of};
 use claims::{Bag, BagPass};
-use hierarchy::Program;
-use machine::Limits;
-use script::Known;
-use std::alloc::{AllocError, Global};
+use script::{EngineKind, Known};
+use std::alloc::AllocError;
 use std::marker::Brand;
-use tl2::{Ruled, Tl2};
-use tx_table::{Pass, Shared};
+use tx_table::{Pass, Ruled, Shared};
 
 /// What a worker took of a bag.
 #[derive(Drop)]
@@ -36,108 +33,104 @@ pub struct Taken {
     pub pass: Pass,
 }
 
-/// Claims the calls of a bag, one after another, and makes each over a pass of a table that others share. It ends once all are claimed, or at the first
-/// whose attempts are used up by conflicts. Each call may take the turns and the attempts of `limits`, and the calls together the words of its room,
-/// which is that of the lane. The rewritten program is what runs, and what the table's history may begin with is of states. The calls are numbered from
-/// the place on. Gives the pass back; the entries that it got stand behind all that it knew.
-pub fn make_claimed<T: Ruled>(
-    alloc: Global,
-    original: &Program,
-    rewritten: &Program,
-    shared: &Shared<T>,
-    pass: Pass,
-    limits: Limits,
-    at: Place,
-    bag: &Bag,
-    claims: &mut BagPass,
-    calls: &[Known],
-) -> Result<Taken, AllocError>
-    requires ready { IsReady original.now rewritten.now }
-    requires calls { AllByRecursion (IsCallOf original.now) calls.now }
-    requires few { at.first + length calls.now ≤ 100000 }
-    requires attempts { (1 ≤ limits.attempts) × (limits.attempts ≤ 1000000) }
-    requires region { limits.room.region ≡ suc at.lane }
-    requires fits { limits.room.region * limits.room.size + limits.room.size < 2 ^ 64 }
-    requires rule { (e : Entry) → IsRuled original.now rewritten.now limits.room.size limits.budget limits.attempts e → T.rule e }
-    requires states { IsOverStates original.now limits (Begun T T.story) T.rule }
-    requires pass { IsStarting shared.now.table.shared.table_id at limits.room.used (length calls.now) pass }
-    requires bag { IsOf bag.now claims.old × (bag.now.length ≡ length calls.now) }
-    requires claims { claims_of claims.old ≡ goes (length calls.now + 1) }
-    ensures made { IfOk result (λ r. (h : List Entry) × IsEnding shared.now.table.shared.table_id (book pass) at (length r.indexes.items) r.lane.made r.lane.used h r.pass × HasMade at limits.room.used (calls_at calls.now r.indexes.items) h r.lane) }
-    ensures stopped { IfOk result (λ r. r.lane.made ≢ length r.indexes.items → HasSpent original.now rewritten.now limits (calls_at calls.now r.indexes.items) r.lane.made r.lane.used (book pass) r.pass) }
-    ensures emptied { IfOk result (λ r. r.lane.made ≡ length r.indexes.items → HasEmptied (length calls.now) (claims_of claims.new) r.indexes.items) }
-    ensures bag { IsOf bag.now claims.new }
-    ensures claims { IfOk result (λ r. HasTaken (length calls.now) (claims_of claims.new) r.indexes.items) }
-{
-    claim_over::<Brand, T>(
-        alloc, original, rewritten, shared, pass, limits, at, bag, claims, calls,
-    )
-}
+impl<'a> Making<'a> {
+    /// Claims the calls of a bag, one after another, and makes each over a pass of a table that others share. It ends once all are claimed, or at the first
+    /// whose attempts are used up by conflicts. Each call may take the turns and the attempts of `limits`, and the calls together the words of its room,
+    /// which is that of the lane. The rewritten program is what runs, and what the table's history may begin with is of states. The calls are numbered from
+    /// the place on. Gives the pass back; the entries that it got stand behind all that it knew.
+    pub fn make_claimed<T: Ruled>(
+        &self,
+        kind: EngineKind,
+        shared: &Shared<T>,
+        pass: Pass,
+        at: Place,
+        bag: &Bag,
+        claims: &mut BagPass,
+        calls: &[Known],
+    ) -> Result<Taken, AllocError>
+        requires ready { IsReady self.now.original.now self.now.rewritten.now }
+        requires calls { AllByRecursion (IsCallOf self.now.original.now) calls.now }
+        requires few { at.first + length calls.now ≤ 100000 }
+        requires attempts { (1 ≤ self.now.limits.attempts) × (self.now.limits.attempts ≤ 1000000) }
+        requires region { self.now.limits.room.region ≡ suc at.lane }
+        requires fits { self.now.limits.room.region * self.now.limits.room.size + self.now.limits.room.size < 2 ^ 64 }
+        requires rule { (e : Entry) → IsRuled self.now.original.now self.now.rewritten.now self.now.limits.room.size self.now.limits.budget self.now.limits.attempts e → T.rule e }
+        requires states { IsOverStates self.now.original.now self.now.limits (Begun T T.story) T.rule }
+        requires pass { IsStarting shared.now.table.shared.table_id at self.now.limits.room.used (length calls.now) pass }
+        requires bag { IsOf bag.now claims.old × (bag.now.length ≡ length calls.now) }
+        requires claims { claims_of claims.old ≡ goes (length calls.now + 1) }
+        ensures made { IfOk result (λ r. (h : List Entry) × IsEnding shared.now.table.shared.table_id (book pass) at (length r.indexes.items) r.lane.made r.lane.used h r.pass × HasMade at self.now.limits.room.used (calls_at calls.now r.indexes.items) h r.lane) }
+        ensures stopped { IfOk result (λ r. r.lane.made ≢ length r.indexes.items → HasSpent self.now.original.now self.now.rewritten.now self.now.limits (calls_at calls.now r.indexes.items) r.lane.made r.lane.used (book pass) r.pass) }
+        ensures emptied { IfOk result (λ r. r.lane.made ≡ length r.indexes.items → HasEmptied (length calls.now) (claims_of claims.new) r.indexes.items) }
+        ensures bag { IsOf bag.now claims.new }
+        ensures claims { IfOk result (λ r. HasTaken (length calls.now) (claims_of claims.new) r.indexes.items) }
+    {
+        self.claim_over::<Brand, T>(kind, shared, pass, at, bag, claims, calls)
+    }
 
-fn claim_over<K: Beginning, T: Ruled>(
-    alloc: Global,
-    original: &Program,
-    rewritten: &Program,
-    shared: &Shared<T>,
-    pass: Pass,
-    limits: Limits,
-    at: Place,
-    bag: &Bag,
-    claims: &mut BagPass,
-    calls: &[Known],
-) -> Result<Taken, AllocError>
-    requires ready { IsReady original.now rewritten.now }
-    requires calls { AllByRecursion (IsCallOf original.now) calls.now }
-    requires few { at.first + length calls.now ≤ 100000 }
-    requires attempts { (1 ≤ limits.attempts) × (limits.attempts ≤ 1000000) }
-    requires region { limits.room.region ≡ suc at.lane }
-    requires fits { limits.room.region * limits.room.size + limits.room.size < 2 ^ 64 }
-    requires rule { (e : Entry) → IsRuled original.now rewritten.now limits.room.size limits.budget limits.attempts e → T.rule e }
-    requires states { IsOverStates original.now limits (Begun T T.story) T.rule }
-    requires pass { IsStarting shared.now.table.shared.table_id at limits.room.used (length calls.now) pass }
-    requires began { K.began shared.now.table.shared.table_id (book pass) }
-    requires only { (t : TableId) (b : Book) → K.began t b → (t ≡ shared.now.table.shared.table_id) × (b ≡ book pass) }
-    requires bag { IsOf bag.now claims.old × (bag.now.length ≡ length calls.now) }
-    requires claims { claims_of claims.old ≡ goes (length calls.now + 1) }
-    ensures made { IfOk result (λ r. (h : List Entry) × IsEnding shared.now.table.shared.table_id (book pass) at (length r.indexes.items) r.lane.made r.lane.used h r.pass × HasMade at limits.room.used (calls_at calls.now r.indexes.items) h r.lane) }
-    ensures stopped { IfOk result (λ r. r.lane.made ≢ length r.indexes.items → HasSpent original.now rewritten.now limits (calls_at calls.now r.indexes.items) r.lane.made r.lane.used (book pass) r.pass) }
-    ensures emptied { IfOk result (λ r. r.lane.made ≡ length r.indexes.items → HasEmptied (length calls.now) (claims_of claims.new) r.indexes.items) }
-    ensures bag { IsOf bag.now claims.new }
-    ensures claims { IfOk result (λ r. HasTaken (length calls.now) (claims_of claims.new) r.indexes.items) }
-{
-    let mut lane = Lane::new(alloc, limits.room.used);
-    let mut indexes = Vec::new(alloc);
-    let Some(first) = calls.first() else {
-        return Ok(Taken {
+    fn claim_over<K: Beginning, T: Ruled>(
+        &self,
+        kind: EngineKind,
+        shared: &Shared<T>,
+        pass: Pass,
+        at: Place,
+        bag: &Bag,
+        claims: &mut BagPass,
+        calls: &[Known],
+    ) -> Result<Taken, AllocError>
+        requires ready { IsReady self.now.original.now self.now.rewritten.now }
+        requires calls { AllByRecursion (IsCallOf self.now.original.now) calls.now }
+        requires few { at.first + length calls.now ≤ 100000 }
+        requires attempts { (1 ≤ self.now.limits.attempts) × (self.now.limits.attempts ≤ 1000000) }
+        requires region { self.now.limits.room.region ≡ suc at.lane }
+        requires fits { self.now.limits.room.region * self.now.limits.room.size + self.now.limits.room.size < 2 ^ 64 }
+        requires rule { (e : Entry) → IsRuled self.now.original.now self.now.rewritten.now self.now.limits.room.size self.now.limits.budget self.now.limits.attempts e → T.rule e }
+        requires states { IsOverStates self.now.original.now self.now.limits (Begun T T.story) T.rule }
+        requires pass { IsStarting shared.now.table.shared.table_id at self.now.limits.room.used (length calls.now) pass }
+        requires began { K.began shared.now.table.shared.table_id (book pass) }
+        requires only { (t : TableId) (b : Book) → K.began t b → (t ≡ shared.now.table.shared.table_id) × (b ≡ book pass) }
+        requires bag { IsOf bag.now claims.old × (bag.now.length ≡ length calls.now) }
+        requires claims { claims_of claims.old ≡ goes (length calls.now + 1) }
+        ensures made { IfOk result (λ r. (h : List Entry) × IsEnding shared.now.table.shared.table_id (book pass) at (length r.indexes.items) r.lane.made r.lane.used h r.pass × HasMade at self.now.limits.room.used (calls_at calls.now r.indexes.items) h r.lane) }
+        ensures stopped { IfOk result (λ r. r.lane.made ≢ length r.indexes.items → HasSpent self.now.original.now self.now.rewritten.now self.now.limits (calls_at calls.now r.indexes.items) r.lane.made r.lane.used (book pass) r.pass) }
+        ensures emptied { IfOk result (λ r. r.lane.made ≡ length r.indexes.items → HasEmptied (length calls.now) (claims_of claims.new) r.indexes.items) }
+        ensures bag { IsOf bag.now claims.new }
+        ensures claims { IfOk result (λ r. HasTaken (length calls.now) (claims_of claims.new) r.indexes.items) }
+    {
+        let mut lane = Lane::new(self.alloc, self.limits.room.used);
+        let mut indexes = Vec::new(self.alloc);
+        let Some(first) = calls.first() else {
+            return Ok(Taken {
+                lane,
+                indexes,
+                pass,
+            });
+        };
+        let mut engine = engine_of(
+            kind,
+            self.alloc,
+            shared,
+            pass,
+            Named::<K>::of(self.limits.room, at, first),
+        );
+        for count in 0..calls.len() {
+            let Some(index) = claims.claim(bag) else {
+                break;
+            };
+            indexes.push(index)?;
+            let call = &calls[index as usize];
+            let here = at.onward(count);
+            engine.set_call(Named::of(self.limits.room, here, call));
+            let is_made = self.make_one(&mut engine, here, &mut lane, call)?;
+            if !is_made {
+                break;
+            }
+        }
+        let pass = engine.into_pass();
+        Ok(Taken {
             lane,
             indexes,
             pass,
-        });
-    };
-    let making = Making {
-        alloc,
-        original,
-        rewritten,
-        limits,
-    };
-    let mut engine = Tl2::new(alloc, shared, pass, Named::<K>::of(limits.room, at, first));
-    for count in 0..calls.len() {
-        let Some(index) = claims.claim(bag) else {
-            break;
-        };
-        indexes.push(index)?;
-        let call = &calls[index as usize];
-        let here = at.onward(count);
-        engine.set_call(Named::of(limits.room, here, call));
-        let is_made = making.make_one(&mut engine, here, &mut lane, call)?;
-        if !is_made {
-            break;
-        }
+        })
     }
-    let pass = engine.into_pass();
-    Ok(Taken {
-        lane,
-        indexes,
-        pass,
-    })
 }

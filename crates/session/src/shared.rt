@@ -1,54 +1,120 @@
-//! Calls over a table of shared words, by TL2.
-ghost use Rattle.std.specs.Prelude.{◌≡◌, ◌≢◌, ◌≤◌, ◌<◌, ◌+◌, ◌*◌, ◌^◌, ℕ, suc, List, [], length, IfOk};
+//! Calls over a table of shared words, by one of its engines.
+ghost use Rattle.std.specs.Prelude.{◌≡◌, ◌≢◌, ◌≤◌, ◌<◌, ◌+◌, ◌*◌, ◌^◌, ℕ, suc, List, [], length, reverse, IfOk};
 ghost use Rattle.std.specs.List.{AllByRecursion};
 ghost use Rattle.atomic_table.specs.Seated.{TableId};
 ghost use Rattle.jmodel.specs.history.History.{Entry};
 ghost use Rattle.machine.specs.Sound.{IsOverStates};
-ghost use Rattle.tx_table.specs.Book.{Book};
-ghost use Rattle.tx_table.specs.Passes.{book};
+ghost use Rattle.tx_table.specs.Book.{Book, Unticked};
+ghost use Rattle.tx_table.specs.Passes.{book, IsOf};
+ghost use Rattle.tl2.specs.Standing.{Keeps};
+ghost use Rattle.session.specs.Engines.{pass_of, named_by, StandsIn};
 ghost use Rattle.session.specs.Rule.{IsRuled, IsReady, IsCallOf, Begun};
 ghost use Rattle.session.specs.Lane.{HasMade};
 ghost use Rattle.session.specs.Passes.{IsStarting, IsEnding, HasSpent};
 
 use crate::call::Making;
 use crate::record::{Lane, Place};
-use hierarchy::Program;
-use machine::{Limits, Room};
-use script::Known;
+use engines::TableEngine;
+use machine::Room;
+use script::{EngineKind, Known};
 use std::alloc::{AllocError, Global};
 use std::marker::{Brand, PhantomData};
 use std::snapshot::Snapshot;
-use tl2::{Calling, Ruled, Tl2};
-use tx_table::{Pass, Shared};
+use tx_table::{Calling, Pass, Ruled, Shared};
 
-/// Makes the calls of a lane from a place on, one after another, over a pass of a table that others share. It ends before the first call whose attempts
-/// are used up by conflicts. A pass that holds every number meets none, so that all are made. Each call may take the turns and the attempts of
-/// `limits`, and the calls together the words of its room, which is that of the lane. The rewritten program is what runs, and what the table's history
-/// may begin with is of states. Gives the pass back; the entries that it got stand behind all that it knew.
-pub fn make_shared<T: Ruled>(
+/// The engine of a kind, over a pass that holds no stripe. No memory.
+pub(crate) fn engine_of<'a, T: Ruled, C: Calling>(
+    kind: EngineKind,
     alloc: Global,
-    original: &Program,
-    rewritten: &Program,
-    shared: &Shared<T>,
+    shared: &'a Shared<T>,
     pass: Pass,
-    limits: Limits,
-    at: Place,
-    calls: &[Known],
-) -> Result<(Lane, Pass), AllocError>
-    requires ready { IsReady original.now rewritten.now }
-    requires calls { AllByRecursion (IsCallOf original.now) calls.now }
-    requires few { at.first + length calls.now ≤ 100000 }
-    requires attempts { (1 ≤ limits.attempts) × (limits.attempts ≤ 1000000) }
-    requires region { limits.room.region ≡ suc at.lane }
-    requires fits { limits.room.region * limits.room.size + limits.room.size < 2 ^ 64 }
-    requires rule { (e : Entry) → IsRuled original.now rewritten.now limits.room.size limits.budget limits.attempts e → T.rule e }
-    requires states { IsOverStates original.now limits (Begun T T.story) T.rule }
-    requires pass { IsStarting shared.now.table.shared.table_id at limits.room.used (length calls.now) pass }
-    ensures made { IfOk result (λ r. (h : List Entry) × IsEnding shared.now.table.shared.table_id (book pass) at (length calls.now) r.0.made r.0.used h r.1 × HasMade at limits.room.used calls.now h r.0) }
-    ensures stopped { IfOk result (λ r. r.0.made ≢ length calls.now → HasSpent original.now rewritten.now limits calls.now r.0.made r.0.used (book pass) r.1) }
-    ensures all { (book pass).numbers ≡ 2 ^ 20 → IfOk result (λ r. r.0.made ≡ length calls.now) }
+    call: Snapshot<C>,
+) -> TableEngine<'a, T, C>
+    requires table { IsOf shared.now.table.shared.table_id pass }
+    requires free { ((book pass).face.held ≡ []) × ((book pass).face.stage ≡ Unticked) }
+    ensures pass { pass_of result ≡ pass }
+    ensures call { named_by result ≡ call.value }
+    ensures stands { (h : List Entry) → (book pass).entries ≡ reverse h → Keeps C.began pass → StandsIn C.began result h (length (book pass).lost) [] [] }
 {
-    make_over::<Brand, T>(alloc, original, rewritten, shared, pass, limits, at, calls)
+    match kind {
+        EngineKind::Tl2 => TableEngine::tl2(alloc, shared, pass, call),
+        EngineKind::Lsa => TableEngine::lsa(alloc, shared, pass, call),
+    }
+}
+
+impl<'a> Making<'a> {
+    /// Makes the calls of a lane from a place on, one after another, over a pass of a table that others share. It ends before the first call whose attempts
+    /// are used up by conflicts. A pass that holds every number meets none, so that all are made. Each call may take the turns and the attempts of
+    /// `limits`, and the calls together the words of its room, which is that of the lane. The rewritten program is what runs, and what the table's history
+    /// may begin with is of states. Gives the pass back; the entries that it got stand behind all that it knew.
+    pub fn make_shared<T: Ruled>(
+        &self,
+        kind: EngineKind,
+        shared: &Shared<T>,
+        pass: Pass,
+        at: Place,
+        calls: &[Known],
+    ) -> Result<(Lane, Pass), AllocError>
+        requires ready { IsReady self.now.original.now self.now.rewritten.now }
+        requires calls { AllByRecursion (IsCallOf self.now.original.now) calls.now }
+        requires few { at.first + length calls.now ≤ 100000 }
+        requires attempts { (1 ≤ self.now.limits.attempts) × (self.now.limits.attempts ≤ 1000000) }
+        requires region { self.now.limits.room.region ≡ suc at.lane }
+        requires fits { self.now.limits.room.region * self.now.limits.room.size + self.now.limits.room.size < 2 ^ 64 }
+        requires rule { (e : Entry) → IsRuled self.now.original.now self.now.rewritten.now self.now.limits.room.size self.now.limits.budget self.now.limits.attempts e → T.rule e }
+        requires states { IsOverStates self.now.original.now self.now.limits (Begun T T.story) T.rule }
+        requires pass { IsStarting shared.now.table.shared.table_id at self.now.limits.room.used (length calls.now) pass }
+        ensures made { IfOk result (λ r. (h : List Entry) × IsEnding shared.now.table.shared.table_id (book pass) at (length calls.now) r.0.made r.0.used h r.1 × HasMade at self.now.limits.room.used calls.now h r.0) }
+        ensures stopped { IfOk result (λ r. r.0.made ≢ length calls.now → HasSpent self.now.original.now self.now.rewritten.now self.now.limits calls.now r.0.made r.0.used (book pass) r.1) }
+        ensures all { (book pass).numbers ≡ 2 ^ 20 → IfOk result (λ r. r.0.made ≡ length calls.now) }
+    {
+        self.make_over::<Brand, T>(kind, shared, pass, at, calls)
+    }
+
+    fn make_over<K: Beginning, T: Ruled>(
+        &self,
+        kind: EngineKind,
+        shared: &Shared<T>,
+        pass: Pass,
+        at: Place,
+        calls: &[Known],
+    ) -> Result<(Lane, Pass), AllocError>
+        requires ready { IsReady self.now.original.now self.now.rewritten.now }
+        requires calls { AllByRecursion (IsCallOf self.now.original.now) calls.now }
+        requires few { at.first + length calls.now ≤ 100000 }
+        requires attempts { (1 ≤ self.now.limits.attempts) × (self.now.limits.attempts ≤ 1000000) }
+        requires region { self.now.limits.room.region ≡ suc at.lane }
+        requires fits { self.now.limits.room.region * self.now.limits.room.size + self.now.limits.room.size < 2 ^ 64 }
+        requires rule { (e : Entry) → IsRuled self.now.original.now self.now.rewritten.now self.now.limits.room.size self.now.limits.budget self.now.limits.attempts e → T.rule e }
+        requires states { IsOverStates self.now.original.now self.now.limits (Begun T T.story) T.rule }
+        requires pass { IsStarting shared.now.table.shared.table_id at self.now.limits.room.used (length calls.now) pass }
+        requires began { K.began shared.now.table.shared.table_id (book pass) }
+        requires only { (t : TableId) (b : Book) → K.began t b → (t ≡ shared.now.table.shared.table_id) × (b ≡ book pass) }
+        ensures made { IfOk result (λ r. (h : List Entry) × IsEnding shared.now.table.shared.table_id (book pass) at (length calls.now) r.0.made r.0.used h r.1 × HasMade at self.now.limits.room.used calls.now h r.0) }
+        ensures stopped { IfOk result (λ r. r.0.made ≢ length calls.now → HasSpent self.now.original.now self.now.rewritten.now self.now.limits calls.now r.0.made r.0.used (book pass) r.1) }
+        ensures all { (book pass).numbers ≡ 2 ^ 20 → IfOk result (λ r. r.0.made ≡ length calls.now) }
+    {
+        let mut lane = Lane::new(self.alloc, self.limits.room.used);
+        let Some(first) = calls.first() else {
+            return Ok((lane, pass));
+        };
+        let mut engine = engine_of(
+            kind,
+            self.alloc,
+            shared,
+            pass,
+            Named::<K>::of(self.limits.room, at, first),
+        );
+        for (index, call) in calls.iter().enumerate() {
+            let here = at.onward(index);
+            engine.set_call(Named::of(self.limits.room, here, call));
+            let is_made = self.make_one(&mut engine, here, &mut lane, call)?;
+            if !is_made {
+                break;
+            }
+        }
+        Ok((lane, engine.into_pass()))
+    }
 }
 
 /// Which table a pass is of, and its book as its calls began. A caller picks them for its proof.
@@ -95,51 +161,4 @@ impl<'a, K> Named<'a, K> {
             of: PhantomData,
         })
     }
-}
-
-fn make_over<K: Beginning, T: Ruled>(
-    alloc: Global,
-    original: &Program,
-    rewritten: &Program,
-    shared: &Shared<T>,
-    pass: Pass,
-    limits: Limits,
-    at: Place,
-    calls: &[Known],
-) -> Result<(Lane, Pass), AllocError>
-    requires ready { IsReady original.now rewritten.now }
-    requires calls { AllByRecursion (IsCallOf original.now) calls.now }
-    requires few { at.first + length calls.now ≤ 100000 }
-    requires attempts { (1 ≤ limits.attempts) × (limits.attempts ≤ 1000000) }
-    requires region { limits.room.region ≡ suc at.lane }
-    requires fits { limits.room.region * limits.room.size + limits.room.size < 2 ^ 64 }
-    requires rule { (e : Entry) → IsRuled original.now rewritten.now limits.room.size limits.budget limits.attempts e → T.rule e }
-    requires states { IsOverStates original.now limits (Begun T T.story) T.rule }
-    requires pass { IsStarting shared.now.table.shared.table_id at limits.room.used (length calls.now) pass }
-    requires began { K.began shared.now.table.shared.table_id (book pass) }
-    requires only { (t : TableId) (b : Book) → K.began t b → (t ≡ shared.now.table.shared.table_id) × (b ≡ book pass) }
-    ensures made { IfOk result (λ r. (h : List Entry) × IsEnding shared.now.table.shared.table_id (book pass) at (length calls.now) r.0.made r.0.used h r.1 × HasMade at limits.room.used calls.now h r.0) }
-    ensures stopped { IfOk result (λ r. r.0.made ≢ length calls.now → HasSpent original.now rewritten.now limits calls.now r.0.made r.0.used (book pass) r.1) }
-    ensures all { (book pass).numbers ≡ 2 ^ 20 → IfOk result (λ r. r.0.made ≡ length calls.now) }
-{
-    let mut lane = Lane::new(alloc, limits.room.used);
-    let Some(first) = calls.first() else {
-        return Ok((lane, pass));
-    };
-    let making = Making {
-        alloc,
-        original,
-        rewritten,
-        limits,
-    };
-    let mut engine = Tl2::new(alloc, shared, pass, Named::<K>::of(limits.room, at, first));
-    for (index, call) in calls.iter().enumerate() {
-        let here = at.onward(index);
-        engine.set_call(Named::of(limits.room, here, call));
-        let is_made = making.make_one(&mut engine, here, &mut lane, call)?;
-        if !is_made {
-            break;
-        }
-    }
-    Ok((lane, engine.into_pass()))
 }

@@ -20,9 +20,9 @@ use Rattle.driver.proofs.setting_up.call_over.Goals as goal
 
 pub make_next-record-requires-clause-stands : goal.make_next-record-requires-clause-stands
 make_next-record-requires-clause-stands g c =
-    let limits = c.in_region-limits.result in
-    let used = ap (λ (l : CallLimits). l.room.used) c.in_region-limits.ensures in
-    let region = ap (λ (l : CallLimits). l.room.region) c.in_region-limits.ensures in
+    let limits = c.in_region.result in
+    let used = ap (λ (l : CallLimits). l.room.used) c.in_region.ensures in
+    let region = ap (λ (l : CallLimits). l.room.region) c.in_region.ensures in
     let call : Known = record { method = c.args.method; args = c.new.result.items } in
     let at : Place = record { phase = 0; lane = 0; first = 0 } in (
       [],
@@ -34,7 +34,7 @@ make_next-record-requires-clause-stands g c =
 
 pub make_next-record-requires-clause-states : goal.make_next-record-requires-clause-states
 make_next-record-requires-clause-states g c =
-    let limits = c.in_region-limits.result in
+    let limits = c.in_region.result in
     let P = c.args.original.now in
     let size = c.args.limits.size in
     let σ = c.requires.stands.0 in
@@ -43,8 +43,8 @@ make_next-record-requires-clause-states g c =
     let Opened : (ℕ → ℕ) → Type 0 = λ opened. IsOverStates P limits (λ f u. (f ≡ word_in g.K.Origin.first) × (u ≡ opened)) g.K.Origin.rule in
     subst Opened (sym c.requires.opened)
     (over_alone P c.args.rewritten.now size c.args.limits.budget c.args.limits.attempts g.K.Origin.first memory.used g.K.Origin.rule limits σ (subst Words c.requires.first c.requires.stands.1) c.requires.ruled
-    (ap (λ (l : CallLimits). l.room.size) c.in_region-limits.ensures) (ap (λ (l : CallLimits). l.budget) c.in_region-limits.ensures)
-    (ap (λ (l : CallLimits). l.room.region) c.in_region-limits.ensures) (ap (λ (l : CallLimits). l.room.used) c.in_region-limits.ensures))
+    (ap (λ (l : CallLimits). l.room.size) c.in_region.ensures) (ap (λ (l : CallLimits). l.budget) c.in_region.ensures)
+    (ap (λ (l : CallLimits). l.room.region) c.in_region.ensures) (ap (λ (l : CallLimits). l.room.used) c.in_region.ensures))
 
 pub returns : goal.returns
 returns g c =
@@ -58,16 +58,16 @@ returns g c =
     let engine = c.make_next-record.new.engine in
     let made = c.make_next-record.result.0 in
     let used = c.make_next-record.result.1 in
-    let room = c.in_region-limits.result.room in
+    let room = c.in_region.result.room in
     let at : Place = record { phase = 0; lane = 0; first = 0 } in
     let call : Known = record { method = c.args.method; args = c.new.result.items } in
     let left : Memory = record { words = c.into_words-words.result; used = used } in
     let Stands : List Entry → ℕ → Log → Log → Type 0 = λ h n r w. StandsFor rule first engine.words.items engine.clock engine.writes.items h n r w in
-    let bounds = bounds_of c.in_region-limits.result in
+    let bounds = bounds_of c.in_region.result in
     let adds : AddsCall P Q bounds Stands [] 0 (told_by room at call made) used = c.make_next-record.ensures.adds [] 0 c.new-engine.ensures.stands in
     let entry : AddsEntry Stands [] 0 room.used (told_by room at call made) used =
     answered P Q bounds Stands used (told_by room at call made) (λ h n stands. stands.no_conflict) c.in_default.not-NoMemory adds in
-    let room_is = c.in_region-limits.ensures in
+    let room_is = c.in_region.ensures in
     let region : room.region ≡ 0 = ap (λ (l : CallLimits). l.room.region) room_is in
     let before : room.used ≡ memory.used = ap (λ (l : CallLimits). l.room.used) room_is in
     let called : call ≡ record { method = c.args.method; args = [] } = ap (λ (values : List Value). record { method = c.args.method; args = values }) c.new.ensures.items in

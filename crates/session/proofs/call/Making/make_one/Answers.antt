@@ -1,9 +1,9 @@
 use Rattle.std.proofs.Common.{◌≡◌, refl, sym, ◌∙◌, subst}
-use Rattle.machine.specs.declared.machine.Limits.{Limits}
 use Rattle.machine.specs.Machine.{bounds_of}
+use Rattle.session.specs.declared.call.Making.{Making}
 use Rattle.session.specs.Lane.{record_of}
 use Rattle.session.specs.Adds.{told_by, AddsCall}
-use Rattle.session.specs.Passes.{bounds_with}
+use Rattle.session.specs.Passes.{limits_with, bounds_with}
 use Rattle.session.proofs.Lanes.{made_one}
 use Rattle.session.proofs.call.Making.make_one.Goals as goal
 
@@ -24,9 +24,9 @@ returns-clause-adds g c = λ h n stands.
     let used = c.make_next-one.result.1 in
     let k = c.args.call.now in
     let S = g.E.Engine.stands c.make_next-one.new.engine in
-    let Adds : Limits → Type 0 = λ l. AddsCall self.original.now self.rewritten.now (bounds_of l) S h n (told_by l.room c.args.at k one) used in
-    let Tells : Limits → Type 0 = λ l. one ≡ record_of (told_by l.room c.args.at k one) in
-    let adds : Adds (record self.limits { room = record self.limits.room { used = old.used } }) = subst Adds c.with_used.ensures (c.make_next-one.ensures.adds h n stands) in
+    let Adds : Making → Type 0 = λ m. AddsCall m.original.now m.rewritten.now (bounds_of m.limits) S h n (told_by m.limits.room c.args.at k one) used in
+    let Tells : Making → Type 0 = λ m. one ≡ record_of (told_by m.limits.room c.args.at k one) in
+    let adds : Adds (record self { limits = limits_with self.limits old.used }) = subst Adds c.with_used.ensures (c.make_next-one.ensures.adds h n stands) in
     let tells = subst Tells c.with_used.ensures c.make_next-one.ensures.tells in
     made_one self.original.now self.rewritten.now (bounds_with self.limits old.used) S h n self.limits.room c.args.at k one used old c.add.new.self refl adds
     (sym c.is_spent.ensures ∙ c.if-is_spent.false) tells c.in_ok-add.ensures

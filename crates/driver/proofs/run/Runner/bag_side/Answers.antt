@@ -1,0 +1,84 @@
+use Rattle.std.proofs.Common.{ℕ, ◌≡◌, length, sym, subst, arith}
+use Rattle.tx_table.specs.Passes.{book}
+use Rattle.driver.specs.Bags.{lists, as_lanes}
+use Rattle.driver.specs.Passing.{call_count, HasRoom}
+use Rattle.driver.proofs.Bags.{count_in_bag}
+use Rattle.driver.proofs.Midway.{room_within, ending_of, midway_of, joined_long}
+use Rattle.driver.proofs.Passing.{used_back}
+use Rattle.driver.proofs.Working.{lanes_long}
+use Rattle.driver.proofs.run.Runner.bag_side.Goals as goal
+
+pub start_lanes-requires-clause-pass : goal.start_lanes-requires-clause-pass
+start_lanes-requires-clause-pass g c = (c.args.phase, c.requires.pass)
+
+pub start_lanes-requires-clause-room : goal.start_lanes-requires-clause-room
+start_lanes-requires-clause-room g c = room_within 0 (length c.args.calls.now) (book c.args.pass.now) (omega arith) c.requires.room
+
+pub run_workers-requires-clause-starts : goal.run_workers-requires-clause-starts
+run_workers-requires-clause-starts g c = λ κs lives. ((book c.args.pass.now).seen, c.in_ok-starts.ensures.starts c.args.phase c.requires.pass)
+
+pub gather-requires : goal.gather-requires
+gather-requires g c =
+    let t = c.args.shared.now.table.shared.table_id in
+    let b = book c.args.pass.now in
+    let taken = lists c.in_ok-ends.taken.items in
+    let lanes = as_lanes c.args.calls.now taken in
+    let ended = c.in_ok-ends.ensures.ended b.seen (c.in_ok-starts.ensures.starts c.args.phase c.requires.pass) in
+    let room = subst (λ (n : ℕ). HasRoom n b) (sym (count_in_bag c.args.calls.now taken c.in_ok-ends.ensures.taken)) c.requires.room in
+    let long = lanes_long c.args.calls.now c.in_ok-ends.taken.items in
+    let whole : c.args.workers ≡ length lanes = omega (arith, long, c.in_ok-ends.ensures.len, c.in_ok-starts.ensures.len) in (
+      b,
+      c.args.phase,
+      lanes,
+      ending_of t b c.args.phase c.args.workers lanes c.in_ok-ends.ends.items c.start_lanes.new.pass room whole c.in_ok-starts.ensures.pass ended,
+    )
+
+pub returns-clause-midway : goal.returns-clause-midway
+returns-clause-midway g c =
+    let t = c.args.shared.now.table.shared.table_id in
+    let p = c.args.pass.now in
+    let b = book p in
+    let taken = lists c.in_ok-ends.taken.items in
+    let lanes = as_lanes c.args.calls.now taken in
+    let ended = c.in_ok-ends.ensures.ended b.seen (c.in_ok-starts.ensures.starts c.args.phase c.requires.pass) in
+    let room = subst (λ (n : ℕ). HasRoom n b) (sym (count_in_bag c.args.calls.now taken c.in_ok-ends.ensures.taken)) c.requires.room in
+    let long = lanes_long c.args.calls.now c.in_ok-ends.taken.items in
+    let whole : c.args.workers ≡ length lanes = omega (arith, long, c.in_ok-ends.ensures.len, c.in_ok-starts.ensures.len) in
+    let ending =
+    ending_of t b c.args.phase c.args.workers lanes c.in_ok-ends.ends.items c.start_lanes.new.pass room whole c.in_ok-starts.ensures.pass ended in
+    midway_of t c.args.phase lanes c.in_ok-side.side p c.gather.new.pass c.requires.pass room (c.in_ok-side.ensures b c.args.phase lanes ending)
+
+pub keep_used-requires : goal.keep_used-requires
+keep_used-requires g c =
+    let t = c.args.shared.now.table.shared.table_id in
+    let b = book c.args.pass.now in
+    let taken = lists c.in_ok-ends.taken.items in
+    let lanes = as_lanes c.args.calls.now taken in
+    let ended = c.in_ok-ends.ensures.ended b.seen (c.in_ok-starts.ensures.starts c.args.phase c.requires.pass) in
+    let room = subst (λ (n : ℕ). HasRoom n b) (sym (count_in_bag c.args.calls.now taken c.in_ok-ends.ensures.taken)) c.requires.room in
+    let long = lanes_long c.args.calls.now c.in_ok-ends.taken.items in
+    let whole : c.args.workers ≡ length lanes = omega (arith, long, c.in_ok-ends.ensures.len, c.in_ok-starts.ensures.len) in
+    let ending =
+    ending_of t b c.args.phase c.args.workers lanes c.in_ok-ends.ends.items c.start_lanes.new.pass room whole c.in_ok-starts.ensures.pass ended in
+    let j = c.in_ok-side.ensures b c.args.phase lanes ending in
+    let as_many = joined_long t b c.args.phase lanes c.in_ok-side.side c.gather.new.pass j in
+    rw c.as_slice.ensures.value (omega (arith, as_many, whole, c.requires.workers.1))
+
+pub returns-clause-used : goal.returns-clause-used
+returns-clause-used g c =
+    let t = c.args.shared.now.table.shared.table_id in
+    let b = book c.args.pass.now in
+    let taken = lists c.in_ok-ends.taken.items in
+    let lanes = as_lanes c.args.calls.now taken in
+    let ended = c.in_ok-ends.ensures.ended b.seen (c.in_ok-starts.ensures.starts c.args.phase c.requires.pass) in
+    let room = subst (λ (n : ℕ). HasRoom n b) (sym (count_in_bag c.args.calls.now taken c.in_ok-ends.ensures.taken)) c.requires.room in
+    let long = lanes_long c.args.calls.now c.in_ok-ends.taken.items in
+    let whole : c.args.workers ≡ length lanes = omega (arith, long, c.in_ok-ends.ensures.len, c.in_ok-starts.ensures.len) in
+    let ending =
+    ending_of t b c.args.phase c.args.workers lanes c.in_ok-ends.ends.items c.start_lanes.new.pass room whole c.in_ok-starts.ensures.pass ended in
+    let j = c.in_ok-side.ensures b c.args.phase lanes ending in
+    let as_many = joined_long t b c.args.phase lanes c.in_ok-side.side c.gather.new.pass j in
+    let kept = rw c.as_slice.ensures.value at c.keep_used.ensures.lanes in
+    let others = rw c.as_slice.ensures.value at c.keep_used.ensures.others in
+    used_back t b c.args.phase (call_count lanes) lanes c.in_ok-side.side.placed.items c.in_ok-side.side.parts.items c.gather.new.pass c.args.used.now
+    c.keep_used.new.used j c.requires.used as_many kept others

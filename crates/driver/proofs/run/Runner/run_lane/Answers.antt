@@ -1,0 +1,67 @@
+use Rattle.std.proofs.Common.{◌≡◌, ◌≤◌, ◌<◌, ℕ, List, [], length, get_or, arith, ◌+◌, sym, ap, ◌∙◌, subst}
+use Rattle.std.proofs.lemmas.List.{get_or_default}
+use Rattle.jmodel.specs.history.Schedule.{Known}
+use Rattle.std.specs.Prelude.{IfOk}
+use Rattle.tx_table.specs.Passes.{book}
+use Rattle.machine.specs.declared.machine.Limits.{Limits as CallLimits}
+use Rattle.session.specs.Passes.{IsStarting}
+use Rattle.driver.specs.Passing.{first_of, HasEnded}
+use Rattle.driver.proofs.Lists.{on_ok, all_here}
+use Rattle.driver.proofs.Places.{IsFew}
+use Rattle.driver.proofs.Passing.{may_start, is_done}
+use Rattle.driver.proofs.States.{over_lane}
+use Rattle.driver.proofs.Rooms.{room_fits}
+use Rattle.driver.proofs.run.Runner.run_lane.Goals as goal
+
+pub make_shared-requires-clause-region : goal.make_shared-requires-clause-region
+make_shared-requires-clause-region g c =
+    let region = ap (λ (l : CallLimits). l.room.region) c.in_region.ensures in
+    omega (arith, region, c.from-2.ensures)
+
+pub make_shared-requires-clause-fits : goal.make_shared-requires-clause-fits
+make_shared-requires-clause-fits g c =
+    let region = ap (λ (l : CallLimits). l.room.region) c.in_region.ensures in
+    let size = ap (λ (l : CallLimits). l.room.size) c.in_region.ensures in
+    room_fits c.in_region.result.room (c.from-2.result + 1) c.args.self.now.limits.size region size
+    (omega (arith, c.from-2.ensures, c.requires.lane, c.requires.few_lanes)) c.requires.room_size
+
+pub make_shared-requires-clause-states : goal.make_shared-requires-clause-states
+make_shared-requires-clause-states g c =
+    let region = ap (λ (l : CallLimits). l.room.region) c.in_region.ensures in
+    over_lane c.args.self.now.original.now c.args.self.now.limits.size c.args.self.now.limits.budget g.K.Keeping.words g.K.Keeping.used g.K.Keeping.rule _ c.in_region.result c.from-2.result c.requires.states
+    (ap (λ (l : CallLimits). l.room.size) c.in_region.ensures) (ap (λ (l : CallLimits). l.budget) c.in_region.ensures) (omega (arith, region))
+
+pub make_shared-requires-clause-pass : goal.make_shared-requires-clause-pass
+make_shared-requires-clause-pass g c =
+    let start = c.args.start in
+    let inside = subst (λ (n : ℕ). n < length c.args.lanes.now) (sym c.from.ensures) c.requires.lane in
+    let few = all_here IsFew c.args.lanes.now c.from.result c.index-lanes-from.result c.requires.few inside c.index-lanes-from.is in
+    let short : length c.as_slice.result.now ≤ 100000 = rw (c.as_slice.ensures.value ∙ c.calls.view_is) few in
+    let t = c.args.shared.now.table.shared.table_id in
+    let at = first_of c.args.phase start.lane in
+    let count = length c.as_slice.result.now in
+    let used = ap (λ (l : CallLimits). l.room.used) c.in_region.ensures ∙ c.requires.used in
+    subst (λ (n : ℕ). IsStarting t at n count start.pass) (sym used) (may_start t (book start.pass).seen at count start.pass short c.requires.pass)
+
+pub returns : goal.returns
+returns g c =
+    let t = c.args.shared.now.table.shared.table_id in
+    let start = c.args.start in
+    let seen = (book start.pass).seen in
+    let calls = c.as_slice.result.now in
+    let at = first_of c.args.phase start.lane in
+    let inside = subst (λ (n : ℕ). n < length c.args.lanes.now) (sym c.from.ensures) c.requires.lane in
+    let same : calls ≡ get_or c.args.lanes.now start.lane [] =
+    (c.as_slice.ensures.value ∙ c.calls.view_is) ∙ c.index-lanes-from.is
+    ∙ get_or_default c.args.lanes.now c.from.result c.index-lanes-from.result [] inside
+    ∙ ap (λ (n : ℕ). get_or c.args.lanes.now n []) c.from.ensures in
+    subst (λ (cs : List Known). IfOk c.make_shared.result (HasEnded t seen c.args.phase start.lane cs)) same
+    (on_ok c.make_shared.result _ (HasEnded t seen c.args.phase start.lane calls)
+    (λ r made. let before = c.in_region.result.room.used in
+    let done = is_done t seen at before (length calls) r.0.made r.0.used calls r.0 made.0 start.pass r.1 c.requires.pass made.1 made.2 in record {
+      history = made.0;
+      before = before;
+      pass = done.0;
+      made = made.2;
+      used = done.1;
+    }) c.make_shared.ensures.made)

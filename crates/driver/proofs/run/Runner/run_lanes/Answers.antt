@@ -1,0 +1,8 @@
+use Rattle.tx_table.specs.Passes.{book}
+use Rattle.driver.proofs.run.Runner.run_lanes.Goals as goal
+
+pub add_rest-requires-clause-side : goal.add_rest-requires-clause-side
+add_rest-requires-clause-side g c = (book c.args.pass, c.in_ok-first.ensures.midway)
+
+pub returns-clause-adds : goal.returns-clause-adds
+returns-clause-adds g c = c.add_rest.ensures.adds (book c.args.pass) c.in_ok-first.ensures.midway

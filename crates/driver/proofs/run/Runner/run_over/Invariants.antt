@@ -1,0 +1,16 @@
+use Rattle.std.proofs.Common.{◌≤◌, ◌+◌, ◌*◌, take}
+use Rattle.tx_table.specs.Passes.{book}
+use Rattle.driver.specs.Passing.{AreUsed, IsWhole}
+use Rattle.driver.proofs.Over.{HasRunOver}
+use Rattle.driver.proofs.Spending.{script_count}
+use Rattle.driver.proofs.run.Runner.run_over.Given as goal
+
+abbrev pub invariant-loop-number : goal.invariant-loop-number
+invariant-loop-number g l = record {
+  whole : IsWhole l.shared.table.shared.table_id l.number l.pass;
+  fresh : 1048575 ≤ (book l.pass).fresh + 16 * l.number;
+  few : (book l.pass).fresh ≤ 1048575;
+  ticks : (book l.pass).ticks ≤ script_count (take l.number l.phases) * 2000000;
+  used : AreUsed l.used (book l.pass);
+  over : HasRunOver (take l.number l.phases) (book l.pass) l.records;
+}

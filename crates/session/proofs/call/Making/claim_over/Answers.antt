@@ -1,0 +1,311 @@
+use Rattle.std.proofs.Common.{suc, inl, inr, ◌≡◌, ◌≤◌, ◌<◌, ◌+◌, ◌*◌, ◌++◌, ℕ, List, [], Some, None, length, reverse, get_or, sym, ◌∙◌, ap, subst, arith}
+use Rattle.std.proofs.lemmas.List.{get_or_default, length_push, reverse-reverse}
+use Rattle.claims.specs.Claims.{HasClaimed}
+use Rattle.claims.specs.Passes.{claims_of}
+use Rattle.jmodel.specs.history.Schedule.{Known}
+use Rattle.tx_table.specs.declared.shared.Pass.{Pass}
+use Rattle.tx_table.specs.Passes.{book}
+use Rattle.tl2.specs.Commits.{IsRest}
+use Rattle.tl2.specs.Standing.{Keeps}
+use Rattle.session.specs.Engines.{pass_of, named_by, StandsIn}
+use Rattle.session.proofs.Either.{rests}
+use Rattle.session.specs.declared.record.Lane.{Lane}
+use Rattle.session.specs.declared.record.Place.{Place}
+use Rattle.session.specs.Adds.{call_of}
+use Rattle.session.specs.Rule.{IsCallOf}
+use Rattle.session.specs.Lane.{HasMade}
+use Rattle.session.specs.Passes.{IsEnding, bounds_with, HasSpent}
+use Rattle.session.specs.Claimed.{calls_at}
+use Rattle.session.proofs.Elements.{all_here}
+use Rattle.session.proofs.Lanes.{lane_empty, over_more}
+use Rattle.session.proofs.Stood.{awaits_next, keeps_first, rests_after, ticks_after, stood_first, stood_more, was_made, was_left, has_spent, ending, untouched}
+use Rattle.session.proofs.Claiming.{claiming_first, claiming_more, index_under, has_taken, has_ended, taken_at, emptied_whole, emptied_behind}
+use Rattle.session.proofs.Longer.{made_next, call_last, length_calls}
+use Rattle.session.proofs.call.Making.claim_over.Goals as goal
+use Rattle.session.proofs.call.Making.claim_over.Goals.{else-loop-count-test, then-loop-count-test+in_default-claim, then-loop-count-test+in-Some-claim+in_ok-push+in_ok-is_made+then-not-is_made}
+
+pub returns-in_default-clause-made : goal.returns-in_default-clause-made
+returns-in_default-clause-made g c = (
+  [],
+  untouched c.args.shared.now.table.shared.table_id c.args.at c.args.self.now.limits.room.used (length c.args.calls.now) (length c.new-indexes.result.items) c.new-lane.result.made c.new-lane.result.used c.args.pass c.new-lane.ensures.made
+      c.new-lane.ensures.used_are c.requires.pass,
+  lane_empty c.args.at c.args.self.now.limits.room.used (calls_at c.args.calls.now c.new-indexes.result.items) c.new-lane.result c.new-lane.ensures,
+)
+
+pub loop-count-init : goal.loop-count-init
+loop-count-init g c =
+    let e = c.engine_of-engine.result in
+    let p = c.args.pass in
+    let first = reverse (book p).entries in
+    let keeps = keeps_first g.K.Beginning.began c.args.shared.now.table.shared.table_id p c.requires.only c.requires.pass.seated in
+    record {
+      stood = stood_first (StandsIn g.K.Beginning.began e) first c.args.at c.args.self.now.limits.room.used
+          (calls_at c.args.calls.now c.new-indexes.result.items) c.new-lane.result (length (book p).lost) c.new-lane.ensures
+          (c.engine_of-engine.ensures.stands first (sym (reverse-reverse (book p).entries)) keeps);
+      count = c.new-lane.ensures.made;
+      ticks = let same = ap (λ (x : Pass). (book x).ticks) c.engine_of-engine.ensures.pass in omega (arith, same);
+      bag = c.requires.bag.0;
+      claiming = claiming_first (length c.args.calls.now) (claims_of c.args.claims.now) c.new-indexes.result.items c.requires.claims c.new-indexes.ensures.items;
+    }
+
+pub make_one-requires-clause-call : goal.make_one-requires-clause-call
+make_one-requires-clause-call g c =
+    let calls = c.args.calls.now in
+    let i = c.in-Some-claim.index in
+    let call = c.index-calls-index.result in
+    let claim = subst (λ (n : ℕ). HasClaimed n (claims_of c.loop-count.claims) (claims_of c.claim.new.self) (Some i)) c.requires.bag.1 c.in-Some-claim.ensures.claims in
+    let within : i < length calls = index_under (length calls) i (claims_of c.loop-count.claims) (claims_of c.claim.new.self) claim in
+    all_here (IsCallOf c.args.self.now.original.now) calls i call c.requires.calls within c.index-calls-index.is
+
+pub make_one-requires-clause-stands : goal.make_one-requires-clause-stands
+make_one-requires-clause-stands g c =
+    let so = c.loop-count.invariant.stood in
+    let first = reverse (book c.args.pass).entries in
+    (first ++ so.history, so.conflicts, c.set_call.ensures.stands (first ++ so.history) so.conflicts [] [] so.stands, inl tt)
+
+pub make_one-requires-clause-states : goal.make_one-requires-clause-states
+make_one-requires-clause-states g c =
+    over_more c.args.self.now.original.now c.args.self.now.limits _ _ c.loop-count.lane.used c.loop-count.invariant.stood.made.grows c.requires.states
+
+pub make_one-requires-clause-awaits : goal.make_one-requires-clause-awaits
+make_one-requires-clause-awaits g c =
+    let so = c.loop-count.invariant.stood in
+    let here = c.onward-here.result in
+    let call = c.index-calls-index.result in
+    let e = c.set_call.new.self in
+    let named = named_by e in
+    let room = c.args.self.now.limits.room in
+    let b = book c.args.pass in
+    let told : call_of room here call ≡ call_of named.room named.at named.call.now =
+    cc (c.set_call.ensures.call, c.of-in-loop-count.ensures.room, c.of-in-loop-count.ensures.at, c.of-in-loop-count.ensures.call) in
+    awaits_next g.K.Beginning.began c.args.shared.now.table.shared.table_id b room c.args.at here room.used c.loop-count.lane.made c.loop-count.count c.loop-count.lane.used (pass_of e) so.history so.conflicts call (call_of named.room named.at named.call.now) c.requires.began
+    (rests g.K.Beginning.began e (reverse b.entries ++ so.history) so.conflicts [] []
+    (c.set_call.ensures.stands (reverse b.entries ++ so.history) so.conflicts [] [] so.stands)) c.requires.pass.begins so.made.takes c.requires.region c.onward-here.ensures
+    c.loop-count.invariant.count told so.earlier
+
+pub loop-count-preserved : goal.loop-count-preserved
+loop-count-preserved g c =
+    let so = c.loop-count.invariant.stood in
+    let e = c.make_one.new.engine in
+    let first = reverse (book c.args.pass).entries in
+    let calls = c.args.calls.now in
+    let i = c.in-Some-claim.index in
+    let old = c.loop-count.indexes.items in
+    let new = c.push.new.self.items in
+    let pushed = c.in_ok-push.ensures.items in
+    let call = c.index-calls-index.result in
+    let claim = subst (λ (n : ℕ). HasClaimed n (claims_of c.loop-count.claims) (claims_of c.claim.new.self) (Some i)) c.requires.bag.1 c.in-Some-claim.ensures.claims in
+    let claiming = claiming_more (length calls) c.loop-count.count i (claims_of c.loop-count.claims) (claims_of c.claim.new.self) old new c.loop-count-test.true
+    claim pushed c.loop-count.invariant.claiming in
+    let nothing : Known = record { method = 0; args = [] } in
+    let within : i < length calls = index_under (length calls) i (claims_of c.loop-count.claims) (claims_of c.claim.new.self) claim in
+    let there = c.index-calls-index.is ∙ get_or_default calls i call nothing within in
+    let last = call_last calls old new i call pushed there
+    ∙ ap (λ (k : ℕ). get_or (calls_at calls new) k call) c.loop-count.invariant.claiming.long in
+    let room : c.loop-count.count < length (calls_at calls new) = omega (arith, length_calls calls new, claiming.long) in
+    let S = StandsIn g.K.Beginning.began e in
+    let adds = was_made c.in_ok-is_made.is_made c.args.self.now.original.now c.args.self.now.rewritten.now (bounds_with c.args.self.now.limits c.loop-count.lane.used) (call_of c.args.self.now.limits.room c.onward-here.result call) S
+    (first ++ so.history) so.conflicts c.loop-count.lane c.make_one.new.lane c.if-not-is_made.false
+    (c.in_ok-is_made.ensures.adds (first ++ so.history) so.conflicts (c.set_call.ensures.stands (first ++ so.history) so.conflicts [] [] so.stands)) in
+    record {
+      stood = stood_more S c.args.self.now.limits.room c.args.at c.onward-here.result c.args.self.now.limits.room.used (calls_at calls new) c.loop-count.count c.loop-count.lane c.make_one.new.lane call
+          c.requires.region c.onward-here.ensures c.loop-count.invariant.count room last
+          first so.history (length (book c.args.pass).lost) so.conflicts so.later (made_next c.args.at c.args.self.now.limits.room.used calls old new i so.history c.loop-count.lane pushed so.made)
+          so.earlier adds;
+      count = omega (arith, adds.record_is.made, c.loop-count.invariant.count);
+      ticks = let same = ap (λ (p : Pass). (book p).ticks) c.set_call.ensures.pass in omega (arith, same, c.make_one.ensures.clock, c.requires.attempts.1, c.loop-count.invariant.ticks);
+      bag = c.claim.ensures.bag;
+      claiming = claiming;
+    }
+
+pub returns-clause-made : goal.returns-clause-made
+returns-clause-made g c =
+    let so = c.loop-count.invariant.stood in
+    let t = c.args.shared.now.table.shared.table_id in
+    let b = book c.args.pass in
+    let first = reverse b.entries in
+    let calls = c.args.calls.now in
+    let long = c.loop-count.invariant.claiming.long in
+    let Made : List ℕ → Type 0 = λ l. HasMade c.args.at c.args.self.now.limits.room.used (calls_at calls l) so.history c.loop-count.lane in
+    let Left : Lane → Type 0 = λ l. IsEnding t b c.args.at (length c.loop-count-test.indexes.items) l.made l.used so.history c.into_pass-pass.result
+    × HasMade c.args.at c.args.self.now.limits.room.used (calls_at calls c.loop-count-test.indexes.items) so.history l in
+    elim c.loop-count-test.branch [
+      | else-loop-count-test w ↦
+          let e = c.loop-count.engine in
+          let engine : c.loop-count-test.engine ≡ e = cc in
+          let rest = subst (λ x. IsRest [] 0 (book (pass_of x)) (book c.into_pass-pass.result)) engine c.into_pass-pass.ensures.rest in
+          let keeps = subst (λ x. Keeps g.K.Beginning.began (pass_of x) → Keeps g.K.Beginning.began c.into_pass-pass.result) engine c.into_pass-pass.ensures.keeps in
+          let indexes : c.loop-count.indexes.items ≡ c.loop-count-test.indexes.items = cc in
+          let same_long = ap length indexes in
+          let n = length c.loop-count-test.indexes.items in
+          let within : (book (pass_of e)).ticks ≤ b.ticks + n * 1000000 = omega (arith, same_long, long, c.loop-count.invariant.ticks) in
+          let lane : c.loop-count.lane ≡ c.loop-count-test.lane = cc in
+          let left = subst Left lane (
+            ending g.K.Beginning.began t b c.args.at c.args.self.now.limits.room.used n c.loop-count.lane.made c.loop-count.lane.used c.into_pass-pass.result so.history so.conflicts
+                c.requires.began (rests_after g.K.Beginning.began (pass_of e) c.into_pass-pass.result (first ++ so.history) so.conflicts rest keeps (rests g.K.Beginning.began e (first ++ so.history) so.conflicts [] [] so.stands))
+                c.into_pass-pass.ensures.free c.requires.pass.begins so.made.takes so.earlier (ticks_after (pass_of e) c.into_pass-pass.result _ rest within),
+            subst Made indexes so.made,
+          ) in
+          (so.history, left.0, left.1)
+      | then-loop-count-test+in_default-claim w ↦
+          let e = c.loop-count.engine in
+          let engine : c.loop-count-test.engine ≡ e = cc in
+          let rest = subst (λ x. IsRest [] 0 (book (pass_of x)) (book c.into_pass-pass.result)) engine c.into_pass-pass.ensures.rest in
+          let keeps = subst (λ x. Keeps g.K.Beginning.began (pass_of x) → Keeps g.K.Beginning.began c.into_pass-pass.result) engine c.into_pass-pass.ensures.keeps in
+          let indexes : c.loop-count.indexes.items ≡ c.loop-count-test.indexes.items = cc in
+          let same_long = ap length indexes in
+          let n = length c.loop-count-test.indexes.items in
+          let within : (book (pass_of e)).ticks ≤ b.ticks + n * 1000000 = omega (arith, same_long, long, c.loop-count.invariant.ticks) in
+          let lane : c.loop-count.lane ≡ c.loop-count-test.lane = cc in
+          let left = subst Left lane (
+            ending g.K.Beginning.began t b c.args.at c.args.self.now.limits.room.used n c.loop-count.lane.made c.loop-count.lane.used c.into_pass-pass.result so.history so.conflicts
+                c.requires.began (rests_after g.K.Beginning.began (pass_of e) c.into_pass-pass.result (first ++ so.history) so.conflicts rest keeps (rests g.K.Beginning.began e (first ++ so.history) so.conflicts [] [] so.stands))
+                c.into_pass-pass.ensures.free c.requires.pass.begins so.made.takes so.earlier (ticks_after (pass_of e) c.into_pass-pass.result _ rest within),
+            subst Made indexes so.made,
+          ) in
+          (so.history, left.0, left.1)
+      | then-loop-count-test+in-Some-claim+in_ok-push+in_ok-is_made+then-not-is_made w ↦
+          let e = w.make_one.new.engine in
+          let engine : c.loop-count-test.engine ≡ e = cc in
+          let rest = subst (λ x. IsRest [] 0 (book (pass_of x)) (book c.into_pass-pass.result)) engine c.into_pass-pass.ensures.rest in
+          let keeps = subst (λ x. Keeps g.K.Beginning.began (pass_of x) → Keeps g.K.Beginning.began c.into_pass-pass.result) engine c.into_pass-pass.ensures.keeps in
+          let indexes : w.push.new.self.items ≡ c.loop-count-test.indexes.items = cc in
+          let before = ap (λ (p : Pass). (book p).ticks) w.set_call.ensures.pass in
+          let same_long = ap length indexes in
+          let pushed = ap length w.in_ok-push.ensures.items ∙ length_push c.loop-count.indexes.items w.in-Some-claim.index in
+          let n = length c.loop-count-test.indexes.items in
+          let within : (book (pass_of e)).ticks ≤ b.ticks + n * 1000000 =
+          omega (arith, same_long, pushed, long, before, w.make_one.ensures.clock, c.requires.attempts.1, c.loop-count.invariant.ticks) in
+          let S = StandsIn g.K.Beginning.began e in
+          let still = was_left w.in_ok-is_made.is_made c.args.self.now.original.now c.args.self.now.rewritten.now (bounds_with c.args.self.now.limits c.loop-count.lane.used) (call_of c.args.self.now.limits.room w.onward-here.result w.index-calls-index.result) S
+          (first ++ so.history) so.conflicts c.loop-count.lane w.make_one.new.lane w.if-not-is_made.true
+          (w.in_ok-is_made.ensures.adds (first ++ so.history) so.conflicts (w.set_call.ensures.stands (first ++ so.history) so.conflicts [] [] so.stands)) in
+          let made = made_next c.args.at c.args.self.now.limits.room.used calls c.loop-count.indexes.items w.push.new.self.items w.in-Some-claim.index so.history c.loop-count.lane
+          w.in_ok-push.ensures.items so.made in
+          let last : w.make_one.new.lane ≡ c.loop-count-test.lane = cc in
+          let left = subst Left (sym still.0 ∙ last) (
+            ending g.K.Beginning.began t b c.args.at c.args.self.now.limits.room.used n c.loop-count.lane.made c.loop-count.lane.used c.into_pass-pass.result so.history (so.conflicts + still.1.tried)
+                c.requires.began (rests_after g.K.Beginning.began (pass_of e) c.into_pass-pass.result (first ++ so.history) (so.conflicts + still.1.tried) rest keeps
+                (rests g.K.Beginning.began e (first ++ so.history) (so.conflicts + still.1.tried) [] [] still.1.stands))
+                c.into_pass-pass.ensures.free c.requires.pass.begins so.made.takes so.earlier (ticks_after (pass_of e) c.into_pass-pass.result _ rest within),
+            subst Made indexes made,
+          ) in
+          (so.history, left.0, left.1)
+    ]
+
+pub returns-clause-stopped : goal.returns-clause-stopped
+returns-clause-stopped g c = λ some_left.
+    let so = c.loop-count.invariant.stood in
+    let first = reverse (book c.args.pass).entries in
+    let made : c.loop-count.lane.made ≡ length c.loop-count.indexes.items = c.loop-count.invariant.count ∙ sym c.loop-count.invariant.claiming.long in
+    elim c.loop-count-test.branch [
+      | else-loop-count-test w ↦
+          let indexes : c.loop-count.indexes.items ≡ c.loop-count-test.indexes.items = cc in
+          let lane : c.loop-count.lane ≡ c.loop-count-test.lane = cc in
+          absurd (some_left (ap (λ (l : Lane). l.made) (sym lane) ∙ made ∙ ap length indexes))
+      | then-loop-count-test+in_default-claim w ↦
+          let indexes : c.loop-count.indexes.items ≡ c.loop-count-test.indexes.items = cc in
+          let lane : c.loop-count.lane ≡ c.loop-count-test.lane = cc in
+          absurd (some_left (ap (λ (l : Lane). l.made) (sym lane) ∙ made ∙ ap length indexes))
+      | then-loop-count-test+in-Some-claim+in_ok-push+in_ok-is_made+then-not-is_made w ↦
+          let e = w.make_one.new.engine in
+          let engine : c.loop-count-test.engine ≡ e = cc in
+          let rest = subst (λ x. IsRest [] 0 (book (pass_of x)) (book c.into_pass-pass.result)) engine c.into_pass-pass.ensures.rest in
+          let keeps = subst (λ x. Keeps g.K.Beginning.began (pass_of x) → Keeps g.K.Beginning.began c.into_pass-pass.result) engine c.into_pass-pass.ensures.keeps in
+          let calls = c.args.calls.now in
+          let i = w.in-Some-claim.index in
+          let old = c.loop-count.indexes.items in
+          let new = w.push.new.self.items in
+          let indexes : new ≡ c.loop-count-test.indexes.items = cc in
+          let pushed = w.in_ok-push.ensures.items in
+          let call = w.index-calls-index.result in
+          let S = StandsIn g.K.Beginning.began e in
+          let still = was_left w.in_ok-is_made.is_made c.args.self.now.original.now c.args.self.now.rewritten.now (bounds_with c.args.self.now.limits c.loop-count.lane.used) (call_of c.args.self.now.limits.room w.onward-here.result call) S
+          (first ++ so.history) so.conflicts c.loop-count.lane w.make_one.new.lane w.if-not-is_made.true
+          (w.in_ok-is_made.ensures.adds (first ++ so.history) so.conflicts (w.set_call.ensures.stands (first ++ so.history) so.conflicts [] [] so.stands)) in
+          let claim = subst (λ (n : ℕ). HasClaimed n (claims_of c.loop-count.claims) (claims_of w.claim.new.self) (Some i)) c.requires.bag.1 w.in-Some-claim.ensures.claims in
+          let within : i < length calls = index_under (length calls) i (claims_of c.loop-count.claims) (claims_of w.claim.new.self) claim in
+          let nothing : Known = record { method = 0; args = [] } in
+          let next : call ≡ get_or (calls_at calls new) c.loop-count.lane.made call =
+          call_last calls old new i call pushed (w.index-calls-index.is ∙ get_or_default calls i call nothing within) ∙ ap (λ (n : ℕ). get_or (calls_at calls new) n call) (sym made) in
+          let longer = ap length pushed ∙ length_push old i in
+          let left : c.loop-count.lane.made < length (calls_at calls new) = omega (arith, length_calls calls new, longer, made) in
+          let Spent : List ℕ → Lane → Type 0 =
+          λ l n. HasSpent c.args.self.now.original.now c.args.self.now.rewritten.now c.args.self.now.limits (calls_at calls l) n.made n.used (book c.args.pass) c.into_pass-pass.result in
+          let last : w.make_one.new.lane ≡ c.loop-count-test.lane = cc in
+          subst (Spent c.loop-count-test.indexes.items) (sym still.0 ∙ last) (subst (λ (l : List ℕ). Spent l c.loop-count.lane) indexes
+          (has_spent c.args.self.now.original.now c.args.self.now.rewritten.now c.args.self.now.limits (calls_at calls new) c.loop-count.lane.made c.loop-count.lane.used call
+          g.K.Beginning.began (book c.args.pass) c.into_pass-pass.result (first ++ so.history) so.conflicts still.1.tried left next so.later still.1.used_up
+          (rests_after g.K.Beginning.began (pass_of e) c.into_pass-pass.result (first ++ so.history) (so.conflicts + still.1.tried) rest keeps
+          (rests g.K.Beginning.began e (first ++ so.history) (so.conflicts + still.1.tried) [] [] still.1.stands))))
+    ]
+
+pub returns-clause-emptied : goal.returns-clause-emptied
+returns-clause-emptied g c = λ all.
+    let calls = c.args.calls.now in
+    let n = length calls in
+    let v = claims_of c.loop-count.claims in
+    let old = c.loop-count.indexes.items in
+    let count = c.loop-count.count in
+    let claiming = c.loop-count.invariant.claiming in
+    elim c.loop-count-test.branch [
+      | else-loop-count-test w ↦
+          let indexes : old ≡ c.loop-count-test.indexes.items = cc in
+          let whole : count ≡ n = omega (arith, w.loop-count-test.false) in
+          emptied_whole n count v (claims_of c.loop-count-test.claims) old c.loop-count-test.indexes.items whole indexes claiming
+      | then-loop-count-test+in_default-claim w ↦
+          let indexes : old ≡ c.loop-count-test.indexes.items = cc in
+          let claims : claims_of w.claim.new.self ≡ claims_of c.loop-count-test.claims = cc in
+          let claim = subst (λ (k : ℕ). HasClaimed k v (claims_of w.claim.new.self) None) c.requires.bag.1 w.in_default-claim.ensures.claims in
+          emptied_behind n count v (claims_of w.claim.new.self) (claims_of c.loop-count-test.claims) old c.loop-count-test.indexes.items claims indexes claim claiming
+      | then-loop-count-test+in-Some-claim+in_ok-push+in_ok-is_made+then-not-is_made w ↦
+          let i = w.in-Some-claim.index in
+          let new = w.push.new.self.items in
+          let indexes : new ≡ c.loop-count-test.indexes.items = cc in
+          let claim = subst (λ (k : ℕ). HasClaimed k v (claims_of w.claim.new.self) (Some i)) c.requires.bag.1 w.in-Some-claim.ensures.claims in
+          let more = claiming_more n count i v (claims_of w.claim.new.self) old new w.loop-count-test.true claim w.in_ok-push.ensures.items claiming in
+          let long : length c.loop-count-test.indexes.items ≡ count + 1 = ap length (sym indexes) ∙ more.long in
+          let so = c.loop-count.invariant.stood in
+          let e = w.make_one.new.engine in
+          let first = reverse (book c.args.pass).entries in
+          let still = was_left w.in_ok-is_made.is_made c.args.self.now.original.now c.args.self.now.rewritten.now (bounds_with c.args.self.now.limits c.loop-count.lane.used) (call_of c.args.self.now.limits.room w.onward-here.result w.index-calls-index.result)
+          (StandsIn g.K.Beginning.began e) (first ++ so.history) so.conflicts c.loop-count.lane w.make_one.new.lane w.if-not-is_made.true
+          (w.in_ok-is_made.ensures.adds (first ++ so.history) so.conflicts (w.set_call.ensures.stands (first ++ so.history) so.conflicts [] [] so.stands)) in
+          let last : w.make_one.new.lane ≡ c.loop-count-test.lane = cc in
+          let kept = ap (λ (l : Lane). l.made) (sym last ∙ still.0) in
+          absurd (omega (arith, all, long, kept, c.loop-count.invariant.count))
+    ]
+
+pub returns-clause-claims : goal.returns-clause-claims
+returns-clause-claims g c =
+    let calls = c.args.calls.now in
+    let n = length calls in
+    let v = claims_of c.loop-count.claims in
+    let old = c.loop-count.indexes.items in
+    let count = c.loop-count.count in
+    let claiming = c.loop-count.invariant.claiming in
+    elim c.loop-count-test.branch [
+      | else-loop-count-test w ↦
+          let indexes : old ≡ c.loop-count-test.indexes.items = cc in
+          let claims : v ≡ claims_of c.loop-count-test.claims = cc in
+          taken_at n v (claims_of c.loop-count-test.claims) old c.loop-count-test.indexes.items claims indexes (has_taken n count v old claiming)
+      | then-loop-count-test+in_default-claim w ↦
+          let indexes : old ≡ c.loop-count-test.indexes.items = cc in
+          let claims : claims_of w.claim.new.self ≡ claims_of c.loop-count-test.claims = cc in
+          let claim = subst (λ (k : ℕ). HasClaimed k v (claims_of w.claim.new.self) None) c.requires.bag.1 w.in_default-claim.ensures.claims in
+          let room : count ≤ n = omega (arith, w.loop-count-test.true) in
+          taken_at n (claims_of w.claim.new.self) (claims_of c.loop-count-test.claims) old c.loop-count-test.indexes.items claims indexes
+          (has_ended n count v (claims_of w.claim.new.self) old room claim claiming)
+      | then-loop-count-test+in-Some-claim+in_ok-push+in_ok-is_made+then-not-is_made w ↦
+          let i = w.in-Some-claim.index in
+          let new = w.push.new.self.items in
+          let indexes : new ≡ c.loop-count-test.indexes.items = cc in
+          let claims : claims_of w.claim.new.self ≡ claims_of c.loop-count-test.claims = cc in
+          let claim = subst (λ (k : ℕ). HasClaimed k v (claims_of w.claim.new.self) (Some i)) c.requires.bag.1 w.in-Some-claim.ensures.claims in
+          taken_at n (claims_of w.claim.new.self) (claims_of c.loop-count-test.claims) new c.loop-count-test.indexes.items claims indexes
+          (has_taken n (count + 1) (claims_of w.claim.new.self) new
+          (claiming_more n count i v (claims_of w.claim.new.self) old new w.loop-count-test.true claim w.in_ok-push.ensures.items claiming))
+    ]
+
+pub make_one-requires-clause-region : goal.make_one-requires-clause-region
+make_one-requires-clause-region g c = inr (c.requires.region ∙ ap (λ (p : Place). suc p.lane) (sym c.onward-here.ensures))

@@ -1,0 +1,18 @@
+use Rattle.std.proofs.Common.{◌≡◌, ◌≤◌, ◌+◌, ◌*◌, length, reverse}
+use Rattle.claims.specs.Passes.{claims_of, IsOf}
+use Rattle.session.specs.Engines.{pass_of, StandsIn}
+use Rattle.tx_table.specs.Passes.{book}
+use Rattle.session.specs.Claimed.{calls_at}
+use Rattle.session.proofs.Stood.{Stood}
+use Rattle.session.proofs.Claiming.{Claiming}
+use Rattle.session.proofs.call.Making.claim_over.Given as goal
+
+abbrev pub invariant-loop-count : goal.invariant-loop-count
+invariant-loop-count g l = record {
+  stood : Stood (StandsIn g.K.Beginning.began l.engine) (reverse (book l.fn.pass).entries)
+      (length (book l.fn.pass).lost) l.at l.self.limits.room.used (calls_at l.calls l.indexes.items) l.lane;
+  count : l.lane.made ≡ l.count;
+  ticks : (book (pass_of l.engine)).ticks ≤ (book l.fn.pass).ticks + l.count * 1000000;
+  bag : IsOf l.bag l.claims;
+  claiming : Claiming (length l.calls) l.count (claims_of l.claims) l.indexes.items;
+}

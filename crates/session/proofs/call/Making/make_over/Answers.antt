@@ -1,0 +1,186 @@
+use Rattle.std.proofs.Common.{suc, inl, inr, ◌≡◌, ◌≤◌, ◌<◌, ◌+◌, ◌*◌, ◌++◌, ℕ, [], length, get_or, reverse, sym, ◌∙◌, ap, subst, arith}
+use Rattle.std.proofs.lemmas.List.{reverse-reverse}
+use Rattle.tx_table.specs.declared.shared.Pass.{Pass}
+use Rattle.tx_table.specs.Passes.{book}
+use Rattle.tl2.specs.Commits.{IsRest}
+use Rattle.tl2.specs.Standing.{Keeps}
+use Rattle.session.specs.Engines.{pass_of, named_by, StandsIn}
+use Rattle.session.proofs.Either.{rests}
+use Rattle.session.specs.declared.record.Lane.{Lane}
+use Rattle.session.specs.declared.record.Place.{Place}
+use Rattle.session.specs.Adds.{call_of}
+use Rattle.session.specs.Lane.{HasMade}
+use Rattle.session.specs.Passes.{IsEnding, bounds_with, HasSpent}
+use Rattle.session.proofs.Lanes.{lane_empty, over_more}
+use Rattle.session.proofs.Stood.{awaits_next, keeps_first, rests_after, ticks_after, stood_first, stood_more, was_made, was_left, has_spent, meets_none, ending, untouched}
+use Rattle.session.proofs.call.Making.make_over.Goals as goal
+use Rattle.session.proofs.call.Making.make_over.Goals.{else-loop-index-test, then-loop-index-test+in_ok-is_made+then-not-is_made}
+
+pub returns-in_default-clause-made : goal.returns-in_default-clause-made
+returns-in_default-clause-made g c = (
+  [],
+  untouched c.args.shared.now.table.shared.table_id c.args.at c.args.self.now.limits.room.used (length c.args.calls.now) (length c.args.calls.now) c.new-lane.result.made c.new-lane.result.used c.args.pass c.new-lane.ensures.made
+      c.new-lane.ensures.used_are c.requires.pass,
+  lane_empty c.args.at c.args.self.now.limits.room.used c.args.calls.now c.new-lane.result c.new-lane.ensures,
+)
+
+pub loop-index-init : goal.loop-index-init
+loop-index-init g c =
+    let e = c.engine_of-engine.result in
+    let p = c.args.pass in
+    let first = reverse (book p).entries in
+    let keeps = keeps_first g.K.Beginning.began c.args.shared.now.table.shared.table_id p c.requires.only c.requires.pass.seated in
+    record {
+      stood = stood_first (StandsIn g.K.Beginning.began e) first c.args.at c.args.self.now.limits.room.used c.args.calls.now c.new-lane.result
+          (length (book p).lost) c.new-lane.ensures (c.engine_of-engine.ensures.stands first (sym (reverse-reverse (book p).entries)) keeps);
+      count = c.new-lane.ensures.made;
+      ticks = let same = ap (λ (x : Pass). (book x).ticks) c.engine_of-engine.ensures.pass in omega (arith, same);
+    }
+
+pub make_one-requires-clause-stands : goal.make_one-requires-clause-stands
+make_one-requires-clause-stands g c =
+    let so = c.loop-index.invariant.stood in
+    let first = reverse (book c.args.pass).entries in
+    (first ++ so.history, so.conflicts, c.set_call.ensures.stands (first ++ so.history) so.conflicts [] [] so.stands, inl tt)
+
+pub make_one-requires-clause-states : goal.make_one-requires-clause-states
+make_one-requires-clause-states g c =
+    over_more c.args.self.now.original.now c.args.self.now.limits _ _ c.loop-index.lane.used c.loop-index.invariant.stood.made.grows c.requires.states
+
+pub make_one-requires-clause-awaits : goal.make_one-requires-clause-awaits
+make_one-requires-clause-awaits g c =
+    let so = c.loop-index.invariant.stood in
+    let here = c.onward-here.result in
+    let call = c.index-calls-index.result in
+    let e = c.set_call.new.self in
+    let named = named_by e in
+    let room = c.args.self.now.limits.room in
+    let b = book c.args.pass in
+    let told : call_of room here call ≡ call_of named.room named.at named.call.now =
+    cc (c.set_call.ensures.call, c.of-in-loop-index.ensures.room, c.of-in-loop-index.ensures.at, c.of-in-loop-index.ensures.call) in
+    awaits_next g.K.Beginning.began c.args.shared.now.table.shared.table_id b room c.args.at here room.used c.loop-index.lane.made c.loop-index.index c.loop-index.lane.used (pass_of e) so.history so.conflicts call (call_of named.room named.at named.call.now) c.requires.began
+    (rests g.K.Beginning.began e (reverse b.entries ++ so.history) so.conflicts [] []
+    (c.set_call.ensures.stands (reverse b.entries ++ so.history) so.conflicts [] [] so.stands)) c.requires.pass.begins so.made.takes c.requires.region c.onward-here.ensures
+    c.loop-index.invariant.count told so.earlier
+
+pub loop-index-preserved : goal.loop-index-preserved
+loop-index-preserved g c =
+    let so = c.loop-index.invariant.stood in
+    let e = c.make_one.new.engine in
+    let first = reverse (book c.args.pass).entries in
+    let S = StandsIn g.K.Beginning.began e in
+    let room = c.args.self.now.limits.room in
+    let call = c.index-calls-index.result in
+    let adds = was_made c.in_ok-is_made.is_made c.args.self.now.original.now c.args.self.now.rewritten.now (bounds_with c.args.self.now.limits c.loop-index.lane.used) (call_of room c.onward-here.result call) S
+    (first ++ so.history) so.conflicts c.loop-index.lane c.make_one.new.lane c.if-not-is_made.false
+    (c.in_ok-is_made.ensures.adds (first ++ so.history) so.conflicts (c.set_call.ensures.stands (first ++ so.history) so.conflicts [] [] so.stands)) in
+    record {
+      stood = stood_more S room c.args.at c.onward-here.result room.used c.args.calls.now c.loop-index.index c.loop-index.lane c.make_one.new.lane call
+          c.requires.region c.onward-here.ensures c.loop-index.invariant.count c.loop-index-test.true c.index-calls-index.is
+          first so.history (length (book c.args.pass).lost) so.conflicts so.later so.made so.earlier adds;
+      count = omega (arith, adds.record_is.made, c.loop-index.invariant.count);
+      ticks = let same = ap (λ (p : Pass). (book p).ticks) c.set_call.ensures.pass in omega (arith, same, c.make_one.ensures.clock, c.requires.attempts.1, c.loop-index.invariant.ticks);
+    }
+
+pub returns-clause-made : goal.returns-clause-made
+returns-clause-made g c =
+    let so = c.loop-index.invariant.stood in
+    let t = c.args.shared.now.table.shared.table_id in
+    let b = book c.args.pass in
+    let first = reverse b.entries in
+    let count = length c.args.calls.now in
+    let Left : Lane → Type 0 = λ l. IsEnding t b c.args.at count l.made l.used so.history c.into_pass.result × HasMade c.args.at c.args.self.now.limits.room.used c.args.calls.now so.history l in
+    elim c.loop-index-test.branch [
+      | else-loop-index-test w ↦
+          let e = c.loop-index.engine in
+          let engine : c.loop-index-test.engine ≡ e = cc in
+          let rest = subst (λ x. IsRest [] 0 (book (pass_of x)) (book c.into_pass.result)) engine c.into_pass.ensures.rest in
+          let keeps = subst (λ x. Keeps g.K.Beginning.began (pass_of x) → Keeps g.K.Beginning.began c.into_pass.result) engine c.into_pass.ensures.keeps in
+          let lane : c.loop-index.lane ≡ c.loop-index-test.lane = cc in
+          let within : (book (pass_of e)).ticks ≤ b.ticks + count * 1000000 = omega (arith, c.loop-index.invariant.ticks) in
+          let left = subst Left lane (
+            ending g.K.Beginning.began t b c.args.at c.args.self.now.limits.room.used count c.loop-index.lane.made c.loop-index.lane.used c.into_pass.result so.history so.conflicts
+                c.requires.began (rests_after g.K.Beginning.began (pass_of e) c.into_pass.result (first ++ so.history) so.conflicts rest keeps (rests g.K.Beginning.began e (first ++ so.history) so.conflicts [] [] so.stands))
+                c.into_pass.ensures.free c.requires.pass.begins so.made.takes so.earlier (ticks_after (pass_of e) c.into_pass.result _ rest within),
+            so.made,
+          ) in
+          (so.history, left.0, left.1)
+      | then-loop-index-test+in_ok-is_made+then-not-is_made w ↦
+          let e = w.make_one.new.engine in
+          let engine : c.loop-index-test.engine ≡ e = cc in
+          let rest = subst (λ x. IsRest [] 0 (book (pass_of x)) (book c.into_pass.result)) engine c.into_pass.ensures.rest in
+          let keeps = subst (λ x. Keeps g.K.Beginning.began (pass_of x) → Keeps g.K.Beginning.began c.into_pass.result) engine c.into_pass.ensures.keeps in
+          let before = ap (λ (p : Pass). (book p).ticks) w.set_call.ensures.pass in
+          let within : (book (pass_of e)).ticks ≤ b.ticks + count * 1000000 =
+          omega (arith, before, w.make_one.ensures.clock, c.requires.attempts.1, c.loop-index.invariant.ticks) in
+          let S = StandsIn g.K.Beginning.began e in
+          let still = was_left w.in_ok-is_made.is_made c.args.self.now.original.now c.args.self.now.rewritten.now (bounds_with c.args.self.now.limits c.loop-index.lane.used) (call_of c.args.self.now.limits.room w.onward-here.result w.index-calls-index.result) S
+          (first ++ so.history) so.conflicts c.loop-index.lane w.make_one.new.lane w.if-not-is_made.true
+          (w.in_ok-is_made.ensures.adds (first ++ so.history) so.conflicts (w.set_call.ensures.stands (first ++ so.history) so.conflicts [] [] so.stands)) in
+          let last : w.make_one.new.lane ≡ c.loop-index-test.lane = cc in
+          let lane : c.loop-index.lane ≡ c.loop-index-test.lane = sym still.0 ∙ last in
+          let left = subst Left lane (
+            ending g.K.Beginning.began t b c.args.at c.args.self.now.limits.room.used count c.loop-index.lane.made c.loop-index.lane.used c.into_pass.result so.history (so.conflicts + still.1.tried)
+                c.requires.began (rests_after g.K.Beginning.began (pass_of e) c.into_pass.result (first ++ so.history) (so.conflicts + still.1.tried) rest keeps
+                (rests g.K.Beginning.began e (first ++ so.history) (so.conflicts + still.1.tried) [] [] still.1.stands))
+                c.into_pass.ensures.free c.requires.pass.begins so.made.takes so.earlier (ticks_after (pass_of e) c.into_pass.result _ rest within),
+            so.made,
+          ) in
+          (so.history, left.0, left.1)
+    ]
+
+pub returns-clause-stopped : goal.returns-clause-stopped
+returns-clause-stopped g c = λ some_left.
+    let so = c.loop-index.invariant.stood in
+    let first = reverse (book c.args.pass).entries in
+    elim c.loop-index-test.branch [
+      | else-loop-index-test w ↦
+          let lane : c.loop-index.lane ≡ c.loop-index-test.lane = cc in
+          let made = ap (λ (l : Lane). l.made) lane in
+          absurd (some_left (omega (arith, w.loop-index-test.false, made, c.loop-index.invariant.count)))
+      | then-loop-index-test+in_ok-is_made+then-not-is_made w ↦
+          let e = w.make_one.new.engine in
+          let engine : c.loop-index-test.engine ≡ e = cc in
+          let rest = subst (λ x. IsRest [] 0 (book (pass_of x)) (book c.into_pass.result)) engine c.into_pass.ensures.rest in
+          let keeps = subst (λ x. Keeps g.K.Beginning.began (pass_of x) → Keeps g.K.Beginning.began c.into_pass.result) engine c.into_pass.ensures.keeps in
+          let call = w.index-calls-index.result in
+          let S = StandsIn g.K.Beginning.began e in
+          let still = was_left w.in_ok-is_made.is_made c.args.self.now.original.now c.args.self.now.rewritten.now (bounds_with c.args.self.now.limits c.loop-index.lane.used) (call_of c.args.self.now.limits.room w.onward-here.result call) S
+          (first ++ so.history) so.conflicts c.loop-index.lane w.make_one.new.lane w.if-not-is_made.true
+          (w.in_ok-is_made.ensures.adds (first ++ so.history) so.conflicts (w.set_call.ensures.stands (first ++ so.history) so.conflicts [] [] so.stands)) in
+          let count = c.loop-index.invariant.count in
+          let left : c.loop-index.lane.made < length c.args.calls.now = omega (arith, w.loop-index-test.true, count) in
+          let next : call ≡ get_or c.args.calls.now c.loop-index.lane.made call = w.index-calls-index.is ∙ ap (λ (n : ℕ). get_or c.args.calls.now n call) (sym count) in
+          let Spent : Lane → Type 0 = λ l. HasSpent c.args.self.now.original.now c.args.self.now.rewritten.now c.args.self.now.limits c.args.calls.now l.made l.used (book c.args.pass) c.into_pass.result in
+          let last : w.make_one.new.lane ≡ c.loop-index-test.lane = cc in
+          subst Spent (sym still.0 ∙ last)
+          (has_spent c.args.self.now.original.now c.args.self.now.rewritten.now c.args.self.now.limits c.args.calls.now c.loop-index.lane.made c.loop-index.lane.used call
+          g.K.Beginning.began (book c.args.pass) c.into_pass.result (first ++ so.history) so.conflicts still.1.tried left next so.later still.1.used_up
+          (rests_after g.K.Beginning.began (pass_of e) c.into_pass.result (first ++ so.history) (so.conflicts + still.1.tried) rest keeps
+          (rests g.K.Beginning.began e (first ++ so.history) (so.conflicts + still.1.tried) [] [] still.1.stands)))
+    ]
+
+pub returns-clause-all : goal.returns-clause-all
+returns-clause-all g c = λ whole.
+    let so = c.loop-index.invariant.stood in
+    let first = reverse (book c.args.pass).entries in
+    elim c.loop-index-test.branch [
+      | else-loop-index-test w ↦
+          let lane : c.loop-index.lane ≡ c.loop-index-test.lane = cc in
+          let made = ap (λ (l : Lane). l.made) lane in
+          omega (arith, w.loop-index-test.false, made, c.loop-index.invariant.count)
+      | then-loop-index-test+in_ok-is_made+then-not-is_made w ↦
+          let e = w.make_one.new.engine in
+          let S = StandsIn g.K.Beginning.began e in
+          let still = was_left w.in_ok-is_made.is_made c.args.self.now.original.now c.args.self.now.rewritten.now (bounds_with c.args.self.now.limits c.loop-index.lane.used) (call_of c.args.self.now.limits.room w.onward-here.result w.index-calls-index.result) S
+          (first ++ so.history) so.conflicts c.loop-index.lane w.make_one.new.lane w.if-not-is_made.true
+          (w.in_ok-is_made.ensures.adds (first ++ so.history) so.conflicts (w.set_call.ensures.stands (first ++ so.history) so.conflicts [] [] so.stands)) in
+          let none = meets_none g.K.Beginning.began c.args.shared.now.table.shared.table_id (book c.args.pass) (pass_of e) (first ++ so.history) (so.conflicts + still.1.tried) c.requires.began whole
+          (rests g.K.Beginning.began e (first ++ so.history) (so.conflicts + still.1.tried) [] [] still.1.stands) in
+          let more = still.1.used_up.some in
+          let least = so.later in
+          absurd (omega arith)
+    ]
+
+pub make_one-requires-clause-region : goal.make_one-requires-clause-region
+make_one-requires-clause-region g c = inr (c.requires.region ∙ ap (λ (p : Place). suc p.lane) (sym c.onward-here.ensures))

@@ -1,0 +1,13 @@
+use Rattle.std.proofs.Common.{◌≡◌, ◌≤◌, ◌+◌, ◌*◌, length, reverse}
+use Rattle.session.specs.Engines.{pass_of, StandsIn}
+use Rattle.tx_table.specs.Passes.{book}
+use Rattle.session.proofs.Stood.{Stood}
+use Rattle.session.proofs.call.Making.make_over.Given as goal
+
+abbrev pub invariant-loop-index : goal.invariant-loop-index
+invariant-loop-index g l = record {
+  stood : Stood (StandsIn g.K.Beginning.began l.engine) (reverse (book l.fn.pass).entries)
+      (length (book l.fn.pass).lost) l.at l.self.limits.room.used l.calls l.lane;
+  count : l.lane.made ≡ l.index;
+  ticks : (book (pass_of l.engine)).ticks ≤ (book l.fn.pass).ticks + l.index * 1000000;
+}
