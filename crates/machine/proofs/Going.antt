@@ -2,7 +2,7 @@
 use Rattle.std.proofs.Common.{◌≡◌, ℕ, suc, Bool, true, false, ◌&&◌, nat_le, [], ◌∷◌, Result, Ok, Err, Option, Some, None, option_and_then, slice_get, refl, ap, ◌∙◌}
 use Rattle.objects.specs.declared.op.Op.{Op}
 use Rattle.objects.specs.declared.op.Doing.{Doing}
-use Rattle.objects.specs.declared.op.Doing.TheVariants.{Next, Jump}
+use Rattle.objects.specs.declared.op.Doing.TheVariants.{Next, Jump, Trap}
 use Rattle.objects.specs.declared.op.Phase.{Phase}
 use Rattle.objects.specs.declared.op.Phase.TheVariants.{Open}
 use Rattle.objects.specs.semantics.Program.{Program, Method, method_at, op_at, is_counted, is_counted_in}
@@ -11,9 +11,11 @@ use Rattle.objects.specs.rewriting.Attempt.{Log, Bounds, Meter, Run, On, Gives, 
 use Rattle.machine.specs.declared.failure.Failure.{Failure}
 use Rattle.machine.specs.declared.failure.Failure.TheVariants as failure
 use Rattle.machine.specs.declared.running.Running.{Running}
-use Rattle.machine.specs.Meets.{Meets, IsDone}
-use Rattle.machine.specs.Running.{at, meter, phase_of, Way}
-use Rattle.machine.proofs.Ways.{way_quiet, step_tells, jump_quiet}
+use Rattle.machine.specs.declared.plain.Flow.{Flow}
+use Rattle.machine.specs.declared.plain.Flow.TheVariants as flow
+use Rattle.machine.specs.Meets.{Meets, IsDone, Flows, IsFlow}
+use Rattle.machine.specs.Running.{at, meter, phase_of, Way, Reaches, HasDone, IsStraight, IsGone, IsPlain}
+use Rattle.machine.proofs.Ways.{way_here, way_trans, way_quiet, step_tells, jump_quiet}
 
 -- the instruction that a frame stands at
 pub step_at : (P : Program) (f : Frame) (fs : Frames) (o : Op) → op_at P f.method f.pc ≡ Some o → step P (f ∷ fs) ≡ on_did P (does P o f) fs
@@ -72,18 +74,68 @@ jumps_turn P B counts to k f fs m w r e h t =
     ∙ ap (λ (x : Bool). on_asked P B (goes x (at_place to f ∷ fs)) Open (Gives 0) m w r) h
     ∙ ap (λ (n : ℕ). with_turns B n (at_place to f ∷ fs) m w r) t
 
-module _ (P : Program) (B : Bounds) (c : Run) (a b : Running) (w r : Log) where
-  -- one more instruction that goes on behind it
-  pub goes_next : (g : Frame) → Way P B c [] (at a w r) → step P (a.frame ∷ a.callers) ≡ on_doing P Next g a.callers
-      → b.frame ≡ next g → b.callers ≡ a.callers → b.stage ≡ a.stage → meter b ≡ meter a → Way P B c [] (at b w r)
-  goes_next g k e f cs s m =
-      way_quiet P B c (at a w r) (at b w r) (Gives 0) k (runs_step P B (a.frame ∷ a.callers) _ (phase_of a.stage) (meter a) w r e ∙ rw (f, cs, s, m) refl)
-      (step_tells P B (Gives 0) (phase_of a.stage) (a.frame ∷ a.callers) (meter a) w r (on_doing P Next g a.callers) [] e refl)
+-- what an instruction that may not be done leads to, seen from the step
+pub flow_of : (P : Program) (f g : Frame) (fs : Frames) (o : Op) (x : Result Flow Failure) → op_at P f.method f.pc ≡ Some o → Flows x g f (does P o f) → IsFlow P x g f fs (step P (f ∷ fs))
+flow_of P f g fs o (Ok flow.Next) e h = step_does P f g fs o Next e h
+flow_of P f g fs o (Ok (flow.Jump to)) e h = step_does P f g fs o (Jump to) e h
+flow_of P f g fs o (Ok (flow.Trap t)) e h = step_does P f g fs o (Trap t) e h
+flow_of P f g fs o (Ok flow.Other) e h = h
+flow_of P f g fs o (Err x) e h = done_of P f g fs o (Err x) e h
 
-  -- or one that jumps
-  pub goes_jump : (g : Frame) (to : ℕ) → Way P B c [] (at a w r) → step P (a.frame ∷ a.callers) ≡ on_doing P (Jump to) g a.callers
-      → on_asked P B (jumps P to g a.callers) (phase_of a.stage) (Gives 0) (meter a) w r ≡ at b w r → Way P B c [] (at b w r)
-  goes_jump g to k e j =
-      way_quiet P B c (at a w r) (at b w r) (Gives 0) k (runs_step P B (a.frame ∷ a.callers) _ (phase_of a.stage) (meter a) w r e ∙ j)
-      (step_tells P B (Gives 0) (phase_of a.stage) (a.frame ∷ a.callers) (meter a) w r (jumps P to g a.callers) [] e
-      (jump_quiet P B (is_counted P g.method && nat_le to g.pc) (at_place to g ∷ a.callers) (phase_of a.stage) (Gives 0) (meter a)))
+module _ (P : Program) (f g f' : Frame) where
+  -- one more instruction of a frame that goes on to the next
+  pub reaches_next : (h : Frame) → Reaches P f g → ((fs : Frames) → step P (g ∷ fs) ≡ on_doing P Next f' fs) → h ≡ next f' → Reaches P f h
+  reaches_next h k e q = λ B p fs m w r.
+      way_quiet P B (On p (f ∷ fs) m w r) (On p (g ∷ fs) m w r) (On p (h ∷ fs) m w r) (Gives 0) (k B p fs m w r)
+      (runs_step P B (g ∷ fs) _ p m w r (e fs) ∙ rw q refl)
+      (step_tells P B (Gives 0) p (g ∷ fs) m w r (on_doing P Next f' fs) [] (e fs) refl)
+
+  -- or one that doesn't
+  pub straight_ends : (x : Result Flow Failure) → Reaches P f g → ((fs : Frames) → IsFlow P x f' g fs (step P (g ∷ fs))) → IsStraight P f f' x
+  straight_ends (Ok flow.Next) k h = record { frame = g; reaches = k; does = h }
+  straight_ends (Ok (flow.Jump to)) k h = record { frame = g; reaches = k; does = h }
+  straight_ends (Ok (flow.Trap t)) k h = record { frame = g; reaches = k; does = h }
+  straight_ends (Ok flow.Other) k h = rw (h []) k
+  straight_ends (Err e) k h = record { frame = g; reaches = k; does = h }
+
+pub reaches_here : (P : Program) (f : Frame) → Reaches P f f
+reaches_here P f = λ B p fs m w r. way_here P B (On p (f ∷ fs) m w r)
+
+module _ (P : Program) (a b : Running) (k : (B : Bounds) (w r : Log) → Way P B (at a w r) [] (at b w r)) where
+  -- what comes behind others
+  pub way_behind : (B : Bounds) (w r : Log) (d : Run) → Way P B (at b w r) [] d → Way P B (at a w r) [] d
+  way_behind B w r d h = way_trans P B (at a w r) (at b w r) d [] [] (k B w r) h
+
+  -- instructions of the current frame
+  pub goes_on : (g : Frame) → Reaches P b.frame g → (B : Bounds) (w r : Log) → Way P B (at a w r) [] (at (record b { frame = g }) w r)
+  goes_on g h = λ B w r. way_behind B w r (at (record b { frame = g }) w r) (h B (phase_of b.stage) b.callers (meter b) w r)
+
+  pub gone_ends : (f : Frame) (x : Result Flow Failure) → IsStraight P b.frame f x → IsGone P a (record b { frame = f }) x
+  gone_ends f (Ok flow.Next) h = record { frame = h.frame; comes = goes_on h.frame h.reaches; does = h.does }
+  gone_ends f (Ok (flow.Jump to)) h = record { frame = h.frame; comes = goes_on h.frame h.reaches; does = h.does }
+  gone_ends f (Ok (flow.Trap t)) h = record { frame = h.frame; comes = goes_on h.frame h.reaches; does = h.does }
+  gone_ends f (Ok flow.Other) h = goes_on f h
+  gone_ends f (Err e) h = record { frame = h.frame; comes = goes_on h.frame h.reaches; does = h.does }
+
+  -- and a jump
+  pub goes_jump : (f : Frame) (to : ℕ) (c : Running) → HasDone P b.frame f (Ok (Jump to))
+      → ((B : Bounds) (w r : Log) → on_asked P B (jumps P to f b.callers) (phase_of b.stage) (Gives 0) (meter b) w r ≡ at c w r)
+      → (B : Bounds) (w r : Log) → Way P B (at a w r) [] (at c w r)
+  goes_jump f to c h j = λ B w r.
+      way_quiet P B (at a w r) (On (phase_of b.stage) (h.frame ∷ b.callers) (meter b) w r) (at c w r) (Gives 0) (goes_on h.frame h.reaches B w r)
+      (runs_step P B (h.frame ∷ b.callers) _ (phase_of b.stage) (meter b) w r (h.does b.callers) ∙ j B w r)
+      (step_tells P B (Gives 0) (phase_of b.stage) (h.frame ∷ b.callers) (meter b) w r (jumps P to f b.callers) [] (h.does b.callers)
+      (jump_quiet P B (is_counted P f.method && nat_le to f.pc) (at_place to f ∷ b.callers) (phase_of b.stage) (Gives 0) (meter b)))
+
+  -- a stretch of instructions
+  pub plain_behind : (c : Running) (x : Result Doing Failure) → IsPlain P b c x → IsPlain P a c x
+  plain_behind c x h = record {
+    frame = h.frame;
+    comes = λ B w r. way_behind B w r (On (phase_of c.stage) (h.frame ∷ c.callers) (meter c) w r) (h.comes B w r);
+    does = h.does;
+  }
+
+  -- an instruction of another kind
+  pub goes_next : (g f : Frame) → ((fs : Frames) → step P (b.frame ∷ fs) ≡ on_doing P Next g fs) → f ≡ next g
+      → (B : Bounds) (w r : Log) → Way P B (at a w r) [] (at (record b { frame = f }) w r)
+  goes_next g f e q = goes_on f (reaches_next P b.frame b.frame g f (reaches_here P b.frame) e q)

@@ -17,12 +17,22 @@ use Rattle.objects.specs.semantics.Program.{Program}
 use Rattle.objects.specs.semantics.Step.{Did, Does, Wrong, Frame, Frames, Asked, Asks, Fails, Took, TooFew, take_args, on_doing}
 use Rattle.machine.specs.declared.failure.Failure.{Failure}
 use Rattle.machine.specs.declared.failure.Failure.TheVariants as failure
+use Rattle.machine.specs.declared.plain.Flow.{Flow}
+use Rattle.machine.specs.declared.plain.Flow.TheVariants as flow
 
 -- memory may be short at any instruction
 abbrev pub Meets : Result Doing Failure → Frame → Did → Type 0
 Meets (Ok d) f x = x ≡ Does d f
 Meets (Err failure.Wrong) f x = x ≡ Wrong
 Meets (Err failure.NoMemory) f x = Unit {0}
+
+-- the same of an instruction in which nothing may have been done; f is the frame after it and g before it
+abbrev pub Flows : Result Flow Failure → Frame → Frame → Did → Type 0
+Flows (Ok flow.Next) f g x = x ≡ Does doing.Next f
+Flows (Ok (flow.Jump to)) f g x = x ≡ Does (doing.Jump to) f
+Flows (Ok (flow.Trap t)) f g x = x ≡ Does (doing.Trap t) f
+Flows (Ok flow.Other) f g x = f ≡ g
+Flows (Err e) f g x = Meets (Err e) f x
 
 -- what is looked for isn't there, whatever would be done with it
 abbrev pub Lacks : {K : Type 0} → Failure → (K → Did) → Type 0
@@ -80,6 +90,14 @@ abbrev pub IsDone : Program → Result Doing Failure → Frame → Frames → As
 IsDone P (Ok d) f fs x = x ≡ on_doing P d f fs
 IsDone P (Err failure.Wrong) f fs x = x ≡ Fails
 IsDone P (Err failure.NoMemory) f fs x = Unit {0}
+
+-- the same of an instruction in which nothing may have been done
+abbrev pub IsFlow : Program → Result Flow Failure → Frame → Frame → Frames → Asked → Type 0
+IsFlow P (Ok flow.Next) f g fs x = x ≡ on_doing P doing.Next f fs
+IsFlow P (Ok (flow.Jump to)) f g fs x = x ≡ on_doing P (doing.Jump to) f fs
+IsFlow P (Ok (flow.Trap t)) f g fs x = x ≡ on_doing P (doing.Trap t) f fs
+IsFlow P (Ok flow.Other) f g fs x = f ≡ g
+IsFlow P (Err e) f g fs x = IsDone P (Err e) f fs x
 
 -- a frame at the start of a method, whose arguments were taken from the slots s and left s'
 abbrev pub IsEntered : ℕ → ℕ → ℕ → List Slot → List Slot → Frame → Result (Unit {0}) Failure → Type 0

@@ -8,6 +8,7 @@ use Rattle.objects.specs.declared.op.Phase.TheVariants as phase
 use Rattle.objects.specs.declared.event.Event.{Event}
 use Rattle.objects.specs.declared.event.Event.TheVariants as event
 use Rattle.objects.specs.declared.op.Doing.{Doing}
+use Rattle.objects.specs.declared.op.Doing.TheVariants as doing
 use Rattle.objects.specs.semantics.Program.{Row, Program, is_counted, row_at}
 use Rattle.objects.specs.semantics.Step.{Frame, Frames, step, jumps, unwinds, resumed, at as at_place}
 use Rattle.objects.specs.semantics.State.{words_of, header, object_of}
@@ -21,6 +22,8 @@ use Rattle.objects.specs.rewriting.Events.{AreOfAsking, AreOfStep, AreOfRun, Are
 use Rattle.jmodel.specs.history.History.{Call, Entry, Words, made}
 use Rattle.machine.specs.declared.failure.Failure.{Failure}
 use Rattle.machine.specs.declared.failure.Failure.TheVariants as failure
+use Rattle.machine.specs.declared.plain.Flow.{Flow}
+use Rattle.machine.specs.declared.plain.Flow.TheVariants as flow
 use Rattle.machine.specs.declared.running.Stage.{Stage}
 use Rattle.machine.specs.declared.running.Stage.TheVariants.{Ready, Open, Doomed}
 use Rattle.machine.specs.declared.running.Todo.{Todo}
@@ -185,6 +188,32 @@ pub record IsPlain (P : Program) (a a' : Running) (result : Result Doing Failure
   pub frame : Frame
   pub comes : (B : Bounds) (w r : Log) → Way P B (at a w r) [] (On (phase_of a'.stage) (frame ∷ a'.callers) (meter a') w r)
   pub does : (fs : Frames) → IsDone P result a'.frame fs (step P (frame ∷ fs))
+
+-- the same, where it may not have been done
+abbrev pub IsGone : Program → Running → Running → Result Flow Failure → Type 0
+IsGone P a a' (Ok flow.Next) = IsPlain P a a' (Ok doing.Next)
+IsGone P a a' (Ok (flow.Jump to)) = IsPlain P a a' (Ok (doing.Jump to))
+IsGone P a a' (Ok (flow.Trap t)) = IsPlain P a a' (Ok (doing.Trap t))
+IsGone P a a' (Ok flow.Other) = (B : Bounds) (w r : Log) → Way P B (at a w r) [] (at a' w r)
+IsGone P a a' (Err e) = IsPlain P a a' (Err e)
+
+-- A frame that comes to stand so, over whatever frames.
+abbrev pub Reaches : Program → Frame → Frame → Type 0
+Reaches P f g = (B : Bounds) (p : Phase) (fs : Frames) (m : Meter) (w r : Log) → Way P B (On p (f ∷ fs) m w r) [] (On p (g ∷ fs) m w r)
+
+-- Instructions of one frame that each go on to the next, and one behind them, which leaves this to be done.
+pub record HasDone (P : Program) (f f' : Frame) (result : Result Doing Failure) : Type 0 where
+  pub frame : Frame
+  pub reaches : Reaches P f frame
+  pub does : (fs : Frames) → IsDone P result f' fs (step P (frame ∷ fs))
+
+-- the same, where it may not have been done
+abbrev pub IsStraight : Program → Frame → Frame → Result Flow Failure → Type 0
+IsStraight P f f' (Ok flow.Next) = HasDone P f f' (Ok doing.Next)
+IsStraight P f f' (Ok (flow.Jump to)) = HasDone P f f' (Ok (doing.Jump to))
+IsStraight P f f' (Ok (flow.Trap t)) = HasDone P f f' (Ok (doing.Trap t))
+IsStraight P f f' (Ok flow.Other) = Reaches P f f'
+IsStraight P f f' (Err e) = HasDone P f f' (Err e)
 
 -- instructions that ask for nothing but headers, and a turn of the machine behind them
 pub record HasTurned (P : Program) (B : Bounds) (c : Run) (T : List Event → Type 0) (H : Log → Log → Type 0) (a : Running) (result : Result Todo Failure) : Type 0 where

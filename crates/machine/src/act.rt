@@ -1,5 +1,5 @@
 //! What one instruction does to its frame (JVM Specification, Java SE 7, chapter 6).
-ghost use Rattle.std.specs.Prelude.{◌≡◌, ◌∷◌, ◌+◌, ◌<◌, ◌^◌, IfOk, MatchResult, slice_get, Some, None};
+ghost use Rattle.std.specs.Prelude.{◌≡◌, ◌∷◌, ◌+◌, ◌<◌, ◌^◌, IfOk, MatchResult, slice_get, Some, None, length};
 ghost use Rattle.objects.specs.semantics.Program.{Program as JProgram, method_at};
 ghost use Rattle.objects.specs.semantics.Step.{Frames, does, step};
 ghost use Rattle.objects.specs.declared.op.Op.TheVariants as op;
@@ -8,15 +8,20 @@ ghost use Rattle.machine.specs.Meets.{Meets, CanDo, IsDone, IsOfObjects};
 
 use crate::failure::Failure;
 use crate::frame::Frame;
+use crate::plain::Flow;
 use hierarchy::program::{Method, Program};
-use jmodel::value::Value;
-use objects::op::{Doing, Op, Slot, Sort};
+use objects::op::{Doing, Op, Slot, Sort, Width};
 use std::alloc::Global;
 
+/// The most slots that a plain instruction puts on the stack beyond those that it takes.
+const MOST_PUT: usize = 2;
+
 /// The instruction at a place of a method, or `Wrong` where it has none.
-fn op_of(method: &Method, pc: usize) -> Result<&Op, Failure>
+#[inline(always)]
+pub(crate) fn op_of(method: &Method, pc: usize) -> Result<&Op, Failure>
     ensures op { MatchResult result (λ o. slice_get method.now.ops pc ≡ Some o.now) (λ e. (e ≡ failure.Wrong) × (slice_get method.now.ops pc ≡ None)) }
     ensures next { IfOk result (λ _. pc + 1 < 2 ^ 64) }
+    ensures within { IfOk result (λ _. pc < length method.now.ops) }
 {
     match method.ops().get(pc) {
         Some(op) => Ok(op),
@@ -51,25 +56,16 @@ impl Frame {
         ensures place { (self.new.method ≡ self.old.method) × (self.new.pc ≡ self.old.pc) }
     {
         match op {
-            Op::Constant(value) => self.constant(*value),
             Op::Text(n) => self.text(program, *n),
-            Op::Load(sort, i) => self.load(*sort, *i),
-            Op::Store(sort, i) => self.store(*sort, *i),
+            Op::Load(Sort::Long, i) => self.load_long(*i),
+            Op::Store(Sort::Long, i) => self.store_long(*i),
             Op::Stack(r) => self.rearrange(*r),
-            Op::Binary(width, b) => self.binary(*width, *b),
+            Op::Binary(Width::Long, b) => self.add_longs(*b),
             Op::Shift(width, s) => self.shift(*width, *s),
-            Op::Divide(width, d) => self.divide(*width, *d),
+            Op::Divide(Width::Long, d) => self.divide_longs(*d),
             Op::Unary(width, u) => self.unary(*width, *u),
             Op::Convert(c) => self.convert(*c),
             Op::CompareLongs => self.compare_longs(),
-            Op::Increment(i, n) => self.increment(*i, *n),
-            Op::Branch(test, to) => self.branch(*test, *to),
-            Op::BranchInts(test, to) => self.branch_ints(*test, *to),
-            Op::BranchNull(wanted, to) => self.branch_null(*wanted, *to),
-            Op::BranchReferences(wanted, to) => self.branch_references(*wanted, *to),
-            Op::Goto(to) => Ok(Doing::Jump(*to)),
-            Op::Switch { other, cases } => self.switch(*other, cases),
-            Op::GetContext => self.get_context(),
             Op::Context(call) => self.context(*call),
             Op::Return => Ok(Doing::Give(None)),
             Op::ReturnValue(sort) => self.return_value(*sort),
@@ -77,6 +73,19 @@ impl Frame {
             Op::PutStatic(n) => self.put_static(program, *n),
             Op::GetField { field, .. } => self.get_field(program, *field),
             Op::PutField { field, .. } => self.put_field(program, *field),
+            Op::Constant(_)
+            | Op::Load(..)
+            | Op::Store(..)
+            | Op::Binary(..)
+            | Op::Divide(..)
+            | Op::Increment(..)
+            | Op::Branch(..)
+            | Op::BranchInts(..)
+            | Op::BranchNull(..)
+            | Op::BranchReferences(..)
+            | Op::Goto(_)
+            | Op::Switch { .. }
+            | Op::GetContext => self.act_plainly(op),
             op => self.act_on_objects(alloc, program, op),
         }
     }
@@ -113,13 +122,19 @@ impl Frame {
         }
     }
 
-    fn constant(&mut self, value: Value) -> Result<Doing, Failure>
-        ensures does { (P : JProgram) → Meets result self.new (does P (op.Constant value) self.old) }
+    /// The same of plain instructions, for which room is made.
+    fn act_plainly(&mut self, op: &Op) -> Result<Doing, Failure>
+        ensures does { (P : JProgram) → Meets result self.new (does P op.now self.old) }
         ensures can { IfOk result CanDo }
         ensures place { (self.new.method ≡ self.old.method) × (self.new.pc ≡ self.old.pc) }
     {
-        self.stack.push_value(value)?;
-        Ok(Doing::Next)
+        self.stack.make_room(MOST_PUT)?;
+        match self.plain(op)? {
+            Flow::Next => Ok(Doing::Next),
+            Flow::Jump(to) => Ok(Doing::Jump(to)),
+            Flow::Trap(trap) => Ok(Doing::Trap(trap)),
+            Flow::Other => Err(Failure::NoMemory),
+        }
     }
 
     fn text(&mut self, program: &Program, n: usize) -> Result<Doing, Failure>
@@ -141,14 +156,5 @@ impl Frame {
     {
         let value = self.stack.take_value(sort)?;
         Ok(Doing::Give(Some(value)))
-    }
-
-    fn get_context(&mut self) -> Result<Doing, Failure>
-        ensures does { (P : JProgram) → Meets result self.new (does P op.GetContext self.old) }
-        ensures can { IfOk result CanDo }
-        ensures place { (self.new.method ≡ self.old.method) × (self.new.pc ≡ self.old.pc) }
-    {
-        self.stack.push(Slot::Context)?;
-        Ok(Doing::Next)
     }
 }

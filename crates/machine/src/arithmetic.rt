@@ -7,6 +7,7 @@ ghost use Rattle.objects.specs.semantics.Step.{binary, shifted, shift_distance, 
 use objects::op::{Binary, Division, Shift, Test, Unary};
 
 /// Two ints to one. Sums and products wrap around.
+#[inline(always)]
 pub fn binary_ints(operation: Binary, x: i32, y: i32) -> i32
     ensures { result ≡ binary width.Int operation x y }
 {
@@ -61,6 +62,7 @@ pub fn shifted_long(shift: Shift, x: i64, y: i32) -> i64
 }
 
 /// Two ints to one, the second of which isn't 0. The quotient of the least int by -1 wraps around.
+#[inline(always)]
 pub fn divided_ints(operation: Division, x: i32, y: i32) -> i32
     requires { y ≢ pos 0 }
     ensures { result ≡ divided width.Int operation x y }
@@ -123,6 +125,7 @@ pub fn compared_longs(x: i64, y: i64) -> i32
 }
 
 /// Whether a test holds of two ints, with their signs.
+#[inline(always)]
 pub fn holds(test: Test, x: i32, y: i32) -> bool
     ensures { result ≡ test_holds test x y }
 {

@@ -1,29 +1,27 @@
 //! Instructions that branch (JVM Specification, Java SE 7, chapter 6).
-ghost use Rattle.std.specs.Prelude.{◌≡◌, IfOk};
+ghost use Rattle.std.specs.Prelude.{◌≡◌};
 ghost use Rattle.objects.specs.semantics.Program.{Program as JProgram};
-ghost use Rattle.objects.specs.semantics.Step.{Frame as JFrame, Does, does, branches, same as same_of};
+ghost use Rattle.objects.specs.semantics.Step.{Frame as JFrame, does, branches, same as same_of};
 ghost use Rattle.objects.specs.declared.op.Op.TheVariants as op;
-ghost use Rattle.machine.specs.Meets.{Meets, CanDo};
+ghost use Rattle.machine.specs.Meets.{Flows};
 
 use crate::arithmetic::holds;
 use crate::failure::Failure;
 use crate::frame::Frame;
+use crate::plain::Flow;
 use objects::Cases;
-use objects::op::{Doing, Test};
+use objects::op::Test;
 
 /// Where a branch goes, whose test holds or doesn't.
-fn branched(is_taken: bool, to: usize) -> Doing
-    ensures does { (f : JFrame) → branches is_taken to f ≡ Does result f }
-    ensures can { CanDo result }
+#[inline(always)]
+fn branched(is_taken: bool, to: usize) -> Flow
+    ensures { (f g : JFrame) → Flows (Ok result) f g (branches is_taken to f) }
 {
-    if is_taken {
-        Doing::Jump(to)
-    } else {
-        Doing::Next
-    }
+    if is_taken { Flow::Jump(to) } else { Flow::Next }
 }
 
 /// Whether a test has the wanted outcome.
+#[inline(always)]
 fn same(wanted: bool, is: bool) -> bool
     ensures { result ≡ same_of wanted is }
 {
@@ -32,9 +30,9 @@ fn same(wanted: bool, is: bool) -> bool
 
 impl Frame {
     /// On an int and 0.
-    pub(crate) fn branch(&mut self, test: Test, to: usize) -> Result<Doing, Failure>
-        ensures does { (P : JProgram) → Meets result self.new (does P (op.Branch test to) self.old) }
-        ensures can { IfOk result CanDo }
+    #[inline(always)]
+    pub(crate) fn branch(&mut self, test: Test, to: usize) -> Result<Flow, Failure>
+        ensures does { (P : JProgram) → Flows result self.new self.old (does P (op.Branch test to) self.old) }
         ensures place { (self.new.method ≡ self.old.method) × (self.new.pc ≡ self.old.pc) }
     {
         let x = self.stack.take_int()?;
@@ -42,9 +40,9 @@ impl Frame {
     }
 
     /// On two ints.
-    pub(crate) fn branch_ints(&mut self, test: Test, to: usize) -> Result<Doing, Failure>
-        ensures does { (P : JProgram) → Meets result self.new (does P (op.BranchInts test to) self.old) }
-        ensures can { IfOk result CanDo }
+    #[inline(always)]
+    pub(crate) fn branch_ints(&mut self, test: Test, to: usize) -> Result<Flow, Failure>
+        ensures does { (P : JProgram) → Flows result self.new self.old (does P (op.BranchInts test to) self.old) }
         ensures place { (self.new.method ≡ self.old.method) × (self.new.pc ≡ self.old.pc) }
     {
         let y = self.stack.take_int()?;
@@ -53,9 +51,9 @@ impl Frame {
     }
 
     /// On whether a reference is null.
-    pub(crate) fn branch_null(&mut self, wanted: bool, to: usize) -> Result<Doing, Failure>
-        ensures does { (P : JProgram) → Meets result self.new (does P (op.BranchNull wanted to) self.old) }
-        ensures can { IfOk result CanDo }
+    #[inline(always)]
+    pub(crate) fn branch_null(&mut self, wanted: bool, to: usize) -> Result<Flow, Failure>
+        ensures does { (P : JProgram) → Flows result self.new self.old (does P (op.BranchNull wanted to) self.old) }
         ensures place { (self.new.method ≡ self.old.method) × (self.new.pc ≡ self.old.pc) }
     {
         let object = self.stack.take_ref()?;
@@ -63,9 +61,9 @@ impl Frame {
     }
 
     /// On whether two references are the same.
-    pub(crate) fn branch_references(&mut self, wanted: bool, to: usize) -> Result<Doing, Failure>
-        ensures does { (P : JProgram) → Meets result self.new (does P (op.BranchReferences wanted to) self.old) }
-        ensures can { IfOk result CanDo }
+    #[inline(always)]
+    pub(crate) fn branch_references(&mut self, wanted: bool, to: usize) -> Result<Flow, Failure>
+        ensures does { (P : JProgram) → Flows result self.new self.old (does P (op.BranchReferences wanted to) self.old) }
         ensures place { (self.new.method ≡ self.old.method) × (self.new.pc ≡ self.old.pc) }
     {
         let second = self.stack.take_ref()?;
@@ -74,12 +72,12 @@ impl Frame {
     }
 
     /// To the target of the case whose key an int is, else to the other one.
-    pub(crate) fn switch(&mut self, other: usize, cases: &Cases) -> Result<Doing, Failure>
-        ensures does { (P : JProgram) → Meets result self.new (does P (op.Switch other cases.now) self.old) }
-        ensures can { IfOk result CanDo }
+    #[inline(always)]
+    pub(crate) fn switch(&mut self, other: usize, cases: &Cases) -> Result<Flow, Failure>
+        ensures does { (P : JProgram) → Flows result self.new self.old (does P (op.Switch other cases.now) self.old) }
         ensures place { (self.new.method ≡ self.old.method) × (self.new.pc ≡ self.old.pc) }
     {
         let x = self.stack.take_int()?;
-        Ok(Doing::Jump(cases.target(x, other)))
+        Ok(Flow::Jump(cases.target(x, other)))
     }
 }

@@ -9,6 +9,7 @@ pub mod callers;
 mod calls;
 pub mod commit;
 mod context;
+mod current;
 pub mod failure;
 mod fields;
 pub mod frame;

@@ -10,8 +10,8 @@ ghost use Rattle.objects.specs.declared.op.Conversion.TheVariants as conversion;
 ghost use Rattle.machine.specs.Meets.{Meets, CanDo};
 
 use crate::arithmetic::{
-    binary_ints, binary_longs, compared_longs, divided_ints, divided_longs, low_int, shifted_int,
-    shifted_long, unary_int, unary_long,
+    binary_longs, compared_longs, divided_longs, low_int, shifted_int, shifted_long, unary_int,
+    unary_long,
 };
 use crate::failure::Failure;
 use crate::frame::Frame;
@@ -19,30 +19,8 @@ use crate::value::narrowed;
 use objects::op::{Binary, Conversion, Division, Doing, Shift, Slot, Trap, Unary, Width, WordType};
 
 impl Frame {
-    /// Two numbers of a width to one.
-    pub(crate) fn binary(&mut self, width: Width, b: Binary) -> Result<Doing, Failure>
-        ensures does { (P : JProgram) → Meets result self.new (does P (op.Binary width b) self.old) }
-        ensures can { IfOk result CanDo }
-        ensures place { (self.new.method ≡ self.old.method) × (self.new.pc ≡ self.old.pc) }
-    {
-        match width {
-            Width::Int => self.add_ints(b),
-            Width::Long => self.add_longs(b),
-        }
-    }
-
-    fn add_ints(&mut self, b: Binary) -> Result<Doing, Failure>
-        ensures does { (P : JProgram) → Meets result self.new (does P (op.Binary width.Int b) self.old) }
-        ensures can { IfOk result CanDo }
-        ensures place { (self.new.method ≡ self.old.method) × (self.new.pc ≡ self.old.pc) }
-    {
-        let y = self.stack.take_int()?;
-        let x = self.stack.take_int()?;
-        self.stack.push(Slot::Int(binary_ints(b, x, y)))?;
-        Ok(Doing::Next)
-    }
-
-    fn add_longs(&mut self, b: Binary) -> Result<Doing, Failure>
+    /// Two longs to one.
+    pub(crate) fn add_longs(&mut self, b: Binary) -> Result<Doing, Failure>
         ensures does { (P : JProgram) → Meets result self.new (does P (op.Binary width.Long b) self.old) }
         ensures can { IfOk result CanDo }
         ensures place { (self.new.method ≡ self.old.method) × (self.new.pc ≡ self.old.pc) }
@@ -87,33 +65,8 @@ impl Frame {
         Ok(Doing::Next)
     }
 
-    /// A division or a remainder of numbers of a width, which throws where the second is 0.
-    pub(crate) fn divide(&mut self, width: Width, d: Division) -> Result<Doing, Failure>
-        ensures does { (P : JProgram) → Meets result self.new (does P (op.Divide width d) self.old) }
-        ensures can { IfOk result CanDo }
-        ensures place { (self.new.method ≡ self.old.method) × (self.new.pc ≡ self.old.pc) }
-    {
-        match width {
-            Width::Int => self.divide_ints(d),
-            Width::Long => self.divide_longs(d),
-        }
-    }
-
-    fn divide_ints(&mut self, d: Division) -> Result<Doing, Failure>
-        ensures does { (P : JProgram) → Meets result self.new (does P (op.Divide width.Int d) self.old) }
-        ensures can { IfOk result CanDo }
-        ensures place { (self.new.method ≡ self.old.method) × (self.new.pc ≡ self.old.pc) }
-    {
-        let y = self.stack.take_int()?;
-        let x = self.stack.take_int()?;
-        if y == 0 {
-            return Ok(Doing::Trap(Trap::Arithmetic));
-        }
-        self.stack.push(Slot::Int(divided_ints(d, x, y)))?;
-        Ok(Doing::Next)
-    }
-
-    fn divide_longs(&mut self, d: Division) -> Result<Doing, Failure>
+    /// A division or a remainder of longs, which throws where the second is 0.
+    pub(crate) fn divide_longs(&mut self, d: Division) -> Result<Doing, Failure>
         ensures does { (P : JProgram) → Meets result self.new (does P (op.Divide width.Long d) self.old) }
         ensures can { IfOk result CanDo }
         ensures place { (self.new.method ≡ self.old.method) × (self.new.pc ≡ self.old.pc) }

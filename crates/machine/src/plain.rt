@@ -1,53 +1,218 @@
-//! Instructions that ask nothing of what lies outside their frame, one after another.
-ghost use Rattle.std.specs.Prelude.{◌≡◌, IfOk, MatchBool, ◌+◌, ◌<◌, ◌^◌};
-ghost use Rattle.machine.specs.Meets.{CanDo};
-ghost use Rattle.machine.specs.Running.{HasJumped, IsPlain};
+//! Instructions that neither leave their frame nor ask anything of what lies outside it (JVM Specification, Java SE 7, chapter 6). They are small, so
+//! that they may all be inlined where they go on one after another.
+ghost use Rattle.std.specs.Prelude.{◌≡◌, ◌∷◌, ◌+◌, ◌<◌, ◌^◌, IfOk, length};
+ghost use Rattle.objects.specs.semantics.Program.{Program as JProgram, method_at};
+ghost use Rattle.objects.specs.semantics.Step.{Frames, does, leaves, loads, stores, step};
+ghost use Rattle.objects.specs.declared.op.Op.TheVariants as op;
+ghost use Rattle.objects.specs.declared.op.Slot.TheVariants as slot;
+ghost use Rattle.objects.specs.declared.op.Sort.TheVariants as sort_of;
+ghost use Rattle.objects.specs.declared.op.Width.TheVariants as width;
+ghost use Rattle.machine.specs.Meets.{Flows, IsFlow};
+ghost use Rattle.machine.specs.Running.{IsStraight};
 
-use crate::calls::method_of;
+use crate::act::op_of;
+use crate::arithmetic::{binary_ints, divided_ints};
 use crate::failure::Failure;
-use crate::running::{Running, Stage};
-use hierarchy::program::Program;
-use objects::op::Doing;
-use std::alloc::Global;
+use crate::frame::Frame;
+use hierarchy::program::Method;
+use jmodel::value::Value;
+use objects::op::{Binary, Division, Op, Slot, Sort, Trap, Width};
 
-impl Running {
-    /// Jumps in its method, whose turns count or don't. A turn is counted, unless the attempt has none left or there is no attempt: then nothing
-    /// is done.
-    fn jump(&mut self, to: usize, counts: bool) -> bool
-        ensures { MatchBool result (HasJumped to counts self.old self.new) (self.new ≡ self.old) }
+/// What such an instruction leads to.
+#[derive(Clone, Copy, Debug)]
+pub enum Flow {
+    /// The next instruction.
+    Next,
+    /// Another instruction of the method.
+    Jump(usize),
+    /// A new exception.
+    Trap(Trap),
+    /// Nothing was done: it is an instruction of another kind, or the stack has no room.
+    Other,
+}
+
+impl Frame {
+    /// Puts a slot on the stack.
+    #[inline(always)]
+    fn put(&mut self, slot: Slot) -> Result<Flow, Failure>
+        ensures does { Flows result self.new self.old (leaves self.old (slot ∷ self.old.stack)) }
+        ensures place { (self.new.method ≡ self.old.method) × (self.new.pc ≡ self.old.pc) }
     {
-        if counts && to <= self.frame.pc {
-            if self.turns == 0 || !matches!(self.stage, Stage::Open) {
-                return false;
-            }
-            self.turns -= 1;
+        if !self.stack.has_room(1) {
+            return Ok(Flow::Other);
         }
-        self.frame.jump(to);
-        true
+        self.stack.put(slot)?;
+        Ok(Flow::Next)
     }
 
-    /// Does instructions up to the first that does more than go on in its method, and answers what that one leaves to be done. The method is
-    /// looked up once.
-    pub(crate) fn go(&mut self, alloc: Global, program: &Program) -> Result<Doing, Failure>
-        ensures run { IsPlain program.now self.old self.new result }
-        ensures stage { self.new.stage ≡ self.old.stage }
-        ensures tried { self.new.tried ≡ self.old.tried }
-        ensures can { IfOk result CanDo }
-        ensures next { IfOk result (λ _. self.new.frame.pc + 1 < 2 ^ 64) }
+    /// Puts a long on the stack, which takes two slots.
+    #[inline(always)]
+    fn put_long(&mut self, x: i64) -> Result<Flow, Failure>
+        ensures does { Flows result self.new self.old (leaves self.old (slot.Second ∷ slot.Long x ∷ self.old.stack)) }
+        ensures place { (self.new.method ≡ self.old.method) × (self.new.pc ≡ self.old.pc) }
     {
-        let method = method_of(program, self.frame.method)?;
-        let counts = method.is_counted();
-        for _ in 0..u64::MAX {
-            match self.frame.act_in(alloc, program, method)? {
-                Doing::Next => self.frame.advance(),
-                Doing::Jump(to) => {
-                    if !self.jump(to, counts) {
-                        return Ok(Doing::Jump(to));
-                    }
-                }
-                doing => return Ok(doing),
+        if !self.stack.has_room(2) {
+            return Ok(Flow::Other);
+        }
+        self.stack.put(Slot::Long(x))?;
+        self.stack.put(Slot::Second)?;
+        Ok(Flow::Next)
+    }
+
+    #[inline(always)]
+    fn constant(&mut self, value: Value) -> Result<Flow, Failure>
+        ensures does { (P : JProgram) → Flows result self.new self.old (does P (op.Constant value) self.old) }
+        ensures place { (self.new.method ≡ self.old.method) × (self.new.pc ≡ self.old.pc) }
+    {
+        match value {
+            Value::Int(x) => self.put(Slot::Int(x)),
+            Value::Long(x) => self.put_long(x),
+            Value::Ref(object) => self.put(Slot::Ref(object)),
+        }
+    }
+
+    #[inline(always)]
+    fn load_int(&mut self, i: usize) -> Result<Flow, Failure>
+        ensures does { Flows result self.new self.old (loads sort_of.Int i self.old) }
+        ensures place { (self.new.method ≡ self.old.method) × (self.new.pc ≡ self.old.pc) }
+    {
+        let Some(Slot::Int(x)) = self.locals.get(i) else {
+            return Err(Failure::Wrong);
+        };
+        self.put(Slot::Int(x))
+    }
+
+    /// An object or the context.
+    #[inline(always)]
+    fn load_object(&mut self, i: usize) -> Result<Flow, Failure>
+        ensures does { Flows result self.new self.old (loads sort_of.Reference i self.old) }
+        ensures place { (self.new.method ≡ self.old.method) × (self.new.pc ≡ self.old.pc) }
+    {
+        let slot = match self.locals.get(i) {
+            Some(Slot::Ref(object)) => Slot::Ref(object),
+            Some(Slot::Context) => Slot::Context,
+            _ => return Err(Failure::Wrong),
+        };
+        self.put(slot)
+    }
+
+    #[inline(always)]
+    fn store_int(&mut self, i: usize) -> Result<Flow, Failure>
+        ensures does { Flows result self.new self.old (stores sort_of.Int i self.old) }
+        ensures place { (self.new.method ≡ self.old.method) × (self.new.pc ≡ self.old.pc) }
+    {
+        let x = self.stack.take_int()?;
+        if self.locals.set(i, Slot::Int(x)) {
+            Ok(Flow::Next)
+        } else {
+            Err(Failure::Wrong)
+        }
+    }
+
+    #[inline(always)]
+    fn store_object(&mut self, i: usize) -> Result<Flow, Failure>
+        ensures does { Flows result self.new self.old (stores sort_of.Reference i self.old) }
+        ensures place { (self.new.method ≡ self.old.method) × (self.new.pc ≡ self.old.pc) }
+    {
+        let slot = self.stack.take_object()?;
+        if self.locals.set(i, slot) {
+            Ok(Flow::Next)
+        } else {
+            Err(Failure::Wrong)
+        }
+    }
+
+    /// Adds to a local, which holds an int.
+    #[inline(always)]
+    fn increment(&mut self, i: usize, n: i32) -> Result<Flow, Failure>
+        ensures does { (P : JProgram) → Flows result self.new self.old (does P (op.Increment i n) self.old) }
+        ensures place { (self.new.method ≡ self.old.method) × (self.new.pc ≡ self.old.pc) }
+    {
+        let Some(Slot::Int(x)) = self.locals.get(i) else {
+            return Err(Failure::Wrong);
+        };
+        self.locals.set(i, Slot::Int(x.wrapping_add(n)));
+        Ok(Flow::Next)
+    }
+
+    #[inline(always)]
+    fn add_ints(&mut self, b: Binary) -> Result<Flow, Failure>
+        ensures does { (P : JProgram) → Flows result self.new self.old (does P (op.Binary width.Int b) self.old) }
+        ensures place { (self.new.method ≡ self.old.method) × (self.new.pc ≡ self.old.pc) }
+    {
+        let y = self.stack.take_int()?;
+        let x = self.stack.take_int()?;
+        self.stack.put(Slot::Int(binary_ints(b, x, y)))?;
+        Ok(Flow::Next)
+    }
+
+    #[inline(always)]
+    fn divide_ints(&mut self, d: Division) -> Result<Flow, Failure>
+        ensures does { (P : JProgram) → Flows result self.new self.old (does P (op.Divide width.Int d) self.old) }
+        ensures place { (self.new.method ≡ self.old.method) × (self.new.pc ≡ self.old.pc) }
+    {
+        let y = self.stack.take_int()?;
+        let x = self.stack.take_int()?;
+        if y == 0 {
+            return Ok(Flow::Trap(Trap::Arithmetic));
+        }
+        self.stack.put(Slot::Int(divided_ints(d, x, y)))?;
+        Ok(Flow::Next)
+    }
+}
+
+impl Frame {
+    /// Does one instruction, if it is of this kind and the stack has room for what it puts there. `Wrong` where the frame hasn't what it needs.
+    #[inline(always)]
+    pub(crate) fn plain(&mut self, op: &Op) -> Result<Flow, Failure>
+        ensures does { (P : JProgram) → Flows result self.new self.old (does P op.now self.old) }
+        ensures place { (self.new.method ≡ self.old.method) × (self.new.pc ≡ self.old.pc) }
+    {
+        match op {
+            Op::Constant(value) => self.constant(*value),
+            Op::Load(Sort::Int, i) => self.load_int(*i),
+            Op::Load(Sort::Reference, i) => self.load_object(*i),
+            Op::Store(Sort::Int, i) => self.store_int(*i),
+            Op::Store(Sort::Reference, i) => self.store_object(*i),
+            Op::Increment(i, n) => self.increment(*i, *n),
+            Op::Binary(Width::Int, b) => self.add_ints(*b),
+            Op::Divide(Width::Int, d) => self.divide_ints(*d),
+            Op::Branch(test, to) => self.branch(*test, *to),
+            Op::BranchInts(test, to) => self.branch_ints(*test, *to),
+            Op::BranchNull(wanted, to) => self.branch_null(*wanted, *to),
+            Op::BranchReferences(wanted, to) => self.branch_references(*wanted, *to),
+            Op::Goto(to) => Ok(Flow::Jump(*to)),
+            Op::Switch { other, cases } => self.switch(*other, cases),
+            Op::GetContext => self.put(Slot::Context),
+            _ => Ok(Flow::Other),
+        }
+    }
+
+    /// Does the instruction that the frame stands at. `Wrong` where there is none.
+    #[inline(always)]
+    fn plain_in(&mut self, method: &Method) -> Result<Flow, Failure>
+        ensures does { (P : JProgram) (fs : Frames) → method_at P self.old.method ≡ Some method.now
+            → IsFlow P result self.new self.old fs (step P (self.old ∷ fs)) }
+        ensures place { (self.new.method ≡ self.old.method) × (self.new.pc ≡ self.old.pc) }
+        ensures next { IfOk result (λ _. self.new.pc + 1 < 2 ^ 64) }
+        ensures within { IfOk result (λ _. self.new.pc < length method.now.ops) }
+    {
+        let op = op_of(method, self.pc)?;
+        self.plain(op)
+    }
+
+    /// Does instructions of its method up to the first that doesn't go on to the next one.
+    #[inline(always)]
+    pub(crate) fn straight(&mut self, method: &Method) -> Result<Flow, Failure>
+        ensures run { (P : JProgram) → method_at P self.old.method ≡ Some method.now → IsStraight P self.old self.new result }
+        ensures method { self.new.method ≡ self.old.method }
+        ensures next { IfOk result (λ _. self.new.pc + 1 < 2 ^ 64) }
+    {
+        loop {
+            match self.plain_in(method)? {
+                Flow::Next => self.advance(),
+                flow => return Ok(flow),
             }
         }
-        Err(Failure::NoMemory)
     }
 }

@@ -45,8 +45,33 @@ impl Stack {
         })
     }
 
-    /// Puts a slot on top.
+    /// Whether there is room for so many slots more.
     #[inline(always)]
+    pub(crate) fn has_room(&self, slots: usize) -> bool {
+        self.items.capacity().saturating_sub(self.items.len()) >= slots
+    }
+
+    /// Makes room for so many slots more.
+    pub(crate) fn make_room(&mut self, slots: usize) -> Result<(), AllocError>
+        ensures { self.new ≡ self.old }
+    {
+        self.items.reserve(slots)
+    }
+
+    /// Puts a slot on top, where there is room for it.
+    #[inline(always)]
+    pub(crate) fn put(&mut self, slot: Slot) -> Result<(), AllocError>
+        ensures { OnOk result (self.new ≡ slot ∷ self.old) }
+    {
+        if self.items.len() < self.items.capacity() {
+            self.items.push_reserved(slot);
+            Ok(())
+        } else {
+            Err(AllocError)
+        }
+    }
+
+    /// Puts a slot on top.
     pub fn push(&mut self, slot: Slot) -> Result<(), AllocError>
         ensures { OnOk result (self.new ≡ slot ∷ self.old) }
     {
@@ -81,6 +106,7 @@ impl Stack {
     }
 
     /// Takes the topmost slot, if there is one.
+    #[inline(always)]
     pub fn pop(&mut self) -> Option<Slot>
         ensures { MatchOption result ((self.old ≡ []) × (self.new ≡ [])) (λ v. self.old ≡ v ∷ self.new) }
     {
@@ -94,6 +120,7 @@ impl Stack {
     ghost use Rattle.objects.specs.semantics.Step.{on_top, on_int, on_ref, on_long, on_context, on_loaded, on_value, on_word, without, object_in, Did};
 
     /// The topmost slot, or `Wrong` where there is none.
+    #[inline(always)]
     pub fn take(&mut self) -> Result<Slot, Failure>
         ensures take { MatchResult result (λ v. self.old ≡ v ∷ self.new) (λ e. Lacks e (on_top self.old)) }
         ensures none { IfErr result (λ _. self.old ≡ []) }
@@ -102,6 +129,7 @@ impl Stack {
     }
 
     /// The topmost slot, an int, or `Wrong` where there is none.
+    #[inline(always)]
     pub fn take_int(&mut self) -> Result<i32, Failure>
         ensures { MatchResult result (λ x. self.old ≡ Slot.Int x ∷ self.new) (λ e. Lacks e (on_int self.old)) }
     {
@@ -112,6 +140,7 @@ impl Stack {
     }
 
     /// The topmost slot, a reference, or `Wrong` where there is none.
+    #[inline(always)]
     pub fn take_ref(&mut self) -> Result<u64, Failure>
         ensures { MatchResult result (λ o. self.old ≡ Slot.Ref o ∷ self.new) (λ e. Lacks e (on_ref self.old)) }
     {
@@ -155,6 +184,7 @@ impl Stack {
     }
 
     /// The topmost slot, an object or the context, or `Wrong` where there is none.
+    #[inline(always)]
     pub fn take_object(&mut self) -> Result<Slot, Failure>
         ensures { MatchResult result (λ v. (self.old ≡ v ∷ self.new) × ((k : Did) → object_in v k ≡ k)) (λ e. Lacks e (λ (k : Item → List Item → Did). on_top self.old (λ v s. object_in v (k v s)))) }
     {
@@ -306,6 +336,7 @@ impl Locals {
     }
 
     /// The slot of a local, if there is one of this number.
+    #[inline(always)]
     pub fn get(&self, i: usize) -> Option<Slot>
         ensures slot { result ≡ slice_get self.now i }
         ensures next { IfSome result (λ _. i + 1 < 2 ^ 64) }
@@ -327,6 +358,7 @@ impl Locals {
     }
 
     /// Whether there is such a local; it then holds the slot.
+    #[inline(always)]
     pub fn set(&mut self, i: usize, slot: Slot) -> bool
         ensures { MatchBool result ((i < length self.old) × (self.new ≡ slice_set self.old i slot)) (length self.old ≤ i) }
     {
