@@ -1,0 +1,136 @@
+//! An engine whose conflicts are kept.
+use jmodel::value::{Answer, Stamp};
+use std::snapshot::Snapshot;
+use tx_core::{Conflict, Engine, TxEnd};
+
+/// An engine that does what another does, and keeps the conflicts that it tells. It is for a call of this method without arguments.
+#[derive(Drop)]
+pub struct Heard<E> {
+    pub engine: E,
+    pub method: usize,
+    /// How many conflicts were met.
+    pub conflicts: u64,
+    pub last: Option<Conflict>,
+}
+
+impl<E: Engine> Heard<E> {
+    ghost use Rattle.std.specs.Prelude.{◌≡◌};
+    ghost use Rattle.held_tests.specs.Heard.{IsFresh};
+
+    pub fn new(engine: E, method: usize) -> Self
+        requires fresh { IsFresh method (E.stands engine) (E.awaits engine) }
+        ensures fresh { IsFresh result.method (E.stands result.engine) (E.awaits result.engine) }
+        ensures clock { E.clock result.engine ≡ E.clock engine }
+    {
+        Heard {
+            engine,
+            method,
+            conflicts: 0,
+            last: None,
+        }
+    }
+}
+
+impl<E> Heard<E> {
+    ghost use Rattle.std.specs.Prelude.{◌≡◌};
+
+    fn hear(&mut self, conflict: Conflict)
+        ensures engine { self.new.engine ≡ self.old.engine }
+        ensures method { self.new.method ≡ self.old.method }
+    {
+        self.conflicts = self.conflicts.wrapping_add(1);
+        self.last = Some(conflict);
+    }
+
+    fn hear_end(&mut self, end: TxEnd)
+        ensures engine { self.new.engine ≡ self.old.engine }
+        ensures method { self.new.method ≡ self.old.method }
+    {
+        if let TxEnd::Conflict(conflict) = end {
+            self.hear(conflict);
+        }
+    }
+}
+
+impl<E: Engine> Engine for Heard<E> {
+    ghost use Rattle.held_tests.specs.Heard.{StandsFor};
+
+    // Until an entry is added, the call is awaited.
+    ghost stands = { λ s h n r w. StandsFor s.method (E.stands s.engine) (E.awaits s.engine) h n r w };
+
+    ghost is_open = { λ s. E.is_open s.engine };
+
+    ghost awaits = { λ s c used. E.awaits s.engine c used };
+
+    ghost allows = { E.allows };
+
+    ghost begins = { E.begins };
+
+    ghost is_shared = { E.is_shared };
+
+    ghost clock = { λ s. E.clock s.engine };
+
+    ghost has_read = { λ s a. E.has_read s.engine a };
+
+    fn begin(&mut self) {
+        self.engine.begin();
+    }
+
+    fn before_read(&mut self, address: u64) -> Result<(), Conflict> {
+        match self.engine.before_read(address) {
+            Ok(()) => Ok(()),
+            Err(conflict) => {
+                self.hear(conflict);
+                Err(conflict)
+            }
+        }
+    }
+
+    fn raw(&mut self, address: u64) -> u64 {
+        self.engine.raw(address)
+    }
+
+    fn on_read(&mut self, address: u64, raw: u64) -> Result<u64, TxEnd> {
+        match self.engine.on_read(address, raw) {
+            Ok(word) => Ok(word),
+            Err(end) => {
+                self.hear_end(end);
+                Err(end)
+            }
+        }
+    }
+
+    fn on_write(&mut self, address: u64, word: u64) -> Result<(), TxEnd> {
+        match self.engine.on_write(address, word) {
+            Ok(()) => Ok(()),
+            Err(end) => {
+                self.hear_end(end);
+                Err(end)
+            }
+        }
+    }
+
+    fn commit(&mut self, answer: Snapshot<Answer>, used: Snapshot<u64>) -> Result<Stamp, TxEnd> {
+        match self.engine.commit(answer, used) {
+            Ok(stamp) => Ok(stamp),
+            Err(end) => {
+                self.hear_end(end);
+                Err(end)
+            }
+        }
+    }
+
+    fn finish_refused(&mut self, answer: Snapshot<Answer>) -> Stamp {
+        self.engine.finish_refused(answer)
+    }
+
+    fn rollback(&mut self) {
+        self.engine.rollback();
+    }
+
+    fn ticks(&self) -> u64 {
+        self.engine.ticks()
+    }
+
+    ghost snapshot = { λ e h n r w c used stands opens awaits leads. E.snapshot e.engine h n r w c used stands.0 opens awaits leads };
+}

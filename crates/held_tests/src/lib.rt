@@ -1,0 +1,16 @@
+//! Tests that hold a call in the middle of its attempt while another commits, on two threads over one table. They stand apart, so that the engines and
+//! the machine are proved once and not a second time with their tests.
+#![tactic(auto)]
+
+#[cfg(test)]
+mod heard;
+#[cfg(test)]
+mod hold;
+#[cfg(test)]
+mod lanes;
+#[cfg(test)]
+mod lazy;
+#[cfg(test)]
+mod locking;
+#[cfg(test)]
+mod program;
