@@ -105,7 +105,7 @@ def main():
     print("|---|" + "---|" * 4)
     for lanes in (1, 2, 4, 16):
         with tempfile.TemporaryDirectory() as room:
-            row(f"{CALLS:,} of a counter, {lanes} lanes", scripted(program, room, {"Counter": COUNTER}, counters(lanes)), words.rounds)
+            row(f"{CALLS:,} of a counter, lanes: {lanes}", scripted(program, room, {"Counter": COUNTER}, counters(lanes)), words.rounds)
     with tempfile.TemporaryDirectory() as room:
         row(f"{2 * READS:,} sums of {ELEMENTS:,} elements beside {2 * WRITES:,} moves", scripted(program, room, {"Room": ROOM}, readers()), words.rounds)
     for bank in BANKS:
