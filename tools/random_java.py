@@ -1,13 +1,14 @@
 #!/usr/bin/env python3
 """Makes random Java programs, and compares what they answer here with what a Java machine answers.
 
-    tools/random_java.py --seed N --count N [--first N] [--program ./deuce] [--keep FOLDER]
-    tools/random_java.py --seed N --count N --rows FOLDER [--in-row N]
+    tools/random_java.py --seed N --count N [--first N] [--compiler ecj] [--program ./deuce] [--jobs N] [--keep FOLDER]
+    tools/random_java.py --seed N --count N --rows FOLDER [--in-row N] [--compiler ecj]
 
 The first form compiles each program, has a Java machine answer its calls, runs it on the program, and prints a line for
 each that differs and a summary. The status is 1 where one differs. The files of such programs are put under --keep.
 The second form runs nothing. It writes rows of crates/rows, which is FOLDER, from the Java machine's answers alone.
-It needs javac and java of Java 17. A program depends on the seed and on its number alone.
+It needs javac and java of Java 17. With --compiler ecj, `ecj -1.5` compiles the programs.
+A program depends on the seed and on its number alone.
 """
 
 import argparse
@@ -19,7 +20,7 @@ import tempfile
 sys.dont_write_bytecode = True
 
 from common.building import TOP
-from random_java.building import Workshop
+from random_java.building import COMPILERS, Workshop
 from random_java.comparing import compare_all, keep, summary
 from random_java.rows import write_rows
 
@@ -33,7 +34,9 @@ def words():
     parser.add_argument("--seed", type=int, required=True, help="what the programs are made from")
     parser.add_argument("--count", type=int, required=True, help="how many programs are made")
     parser.add_argument("--first", type=int, default=0, help="the number of the first one")
+    parser.add_argument("--compiler", choices=COMPILERS, default="javac", help="what compiles them")
     parser.add_argument("--program", default=f"{TOP}/deuce", help="what runs them")
+    parser.add_argument("--jobs", type=int, default=os.cpu_count(), help="how many run side by side")
     parser.add_argument("--keep", metavar="FOLDER", help="where the files of programs that differ are put")
     parser.add_argument("--rows", metavar="FOLDER", help="writes rows there, and runs nothing")
     parser.add_argument("--in-row", type=int, default=20, help="how many programs a row has")
@@ -48,11 +51,11 @@ def batches(asked):
 def compare(asked, room):
     """Compares all programs, and answers whether none differs."""
     program = os.path.abspath(asked.program)
-    workshop, outcomes, faulty = Workshop(f"{room}/work"), [], {}
+    workshop, outcomes, faulty = Workshop(f"{room}/work", asked.compiler), [], {}
     for numbers in batches(asked):
         answered, faults = workshop.build(asked.seed, numbers)
         faulty.update(faults)
-        for it, outcome in compare_all(program, workshop, answered):
+        for it, outcome in compare_all(program, workshop, answered, asked.jobs):
             outcomes.append(outcome)
             if outcome.kind != "equal":
                 print(f"{it.program.package} {outcome.kind}: {outcome.told}", flush=True)
@@ -66,7 +69,7 @@ def compare(asked, room):
 
 def make_rows(asked, room):
     """Writes rows of all programs."""
-    workshop = Workshop(f"{room}/work")
+    workshop = Workshop(f"{room}/work", asked.compiler)
     answered, faulty = workshop.build(asked.seed, range(asked.first, asked.first + asked.count))
     rows = write_rows(asked.rows, workshop, answered, asked.in_row)
     print(f"programs {len(answered)}, rows {rows}, not compiled {len(faulty)}")

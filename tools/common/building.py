@@ -8,6 +8,10 @@ PROGRAM = f"{TOP}/crates/deuce_main/out/deuce_main"
 ATOMIC = f"{TOP}/examples/src/org/deuce/Atomic.java"
 # Java 7 is the oldest release that javac of Java 17 writes. Its class files differ from those of version 49 in the number alone.
 JAVAC = ("javac", "-source", "7", "-target", "7", "-g:none", "-nowarn", "-Xlint:none", "-proc:none", "-encoding", "UTF-8")
+# The compiler of Eclipse writes version 49 itself.
+ECJ = ("ecj", "-1.5", "-g:none", "-nowarn", "-proc:none", "-encoding", "UTF-8")
+# What calls the methods of class files on a Java machine.
+CALLS = f"{TOP}/tools/common/Calls.java"
 VERSION_AT, VERSION_49 = 6, b"\0\x31"
 
 
@@ -27,6 +31,12 @@ def class_files(folder):
 def compile_atomic(folder):
     """Compiles the annotation into a folder of its own, for class paths."""
     subprocess.run([*JAVAC, "-d", folder, ATOMIC], check=True)
+    return folder
+
+
+def compile_machine(folder, source):
+    """Compiles what makes calls on a Java machine, a source that stands over Calls.java."""
+    subprocess.run(["javac", "-nowarn", "-d", folder, CALLS, source], check=True)
     return folder
 
 

@@ -5,16 +5,32 @@ import os
 import re
 import shutil
 import subprocess
+from collections.abc import Callable
 from dataclasses import dataclass
 
-from common.building import JAVAC, compile_atomic, renumber
+from common.building import ECJ, JAVAC, compile_atomic, compile_machine, renumber
 
+from .java_5 import java_5
 from .programs import Program, make_program
 
 HERE = os.path.dirname(os.path.abspath(__file__))
 # What a script may ask for at most.
 LIMITS = {"budget": 1_000_000, "region": 1_048_576}
-CLASS_LINE = re.compile(r"^.*/src/([^/]+)/\w+\.java:\d+: error: (.*)$", re.M)
+
+
+@dataclass(frozen=True)
+class Compiler:
+    """A Java compiler: the words that begin its command, how it tells a program's fault, and how sources are written for it."""
+
+    words: tuple
+    fault: re.Pattern
+    written: Callable[[list], list]
+
+
+COMPILERS = {
+    "javac": Compiler((*JAVAC, "-Xmaxerrs", "10000"), re.compile(r"^.*/src/([^/]+)/\w+\.java:\d+: error: (.*)$", re.M), list),
+    "ecj": Compiler(ECJ, re.compile(r"^\d+\. ERROR in .*/src/([^/]+)/\w+\.java \(at line \d+\)\n(?:.*\n){2}(.*)$", re.M), java_5),
+}
 
 
 @dataclass(frozen=True)
@@ -28,12 +44,13 @@ class Answered:
 class Workshop:
     """A folder in which programs are built: their sources, class files, calls and answers."""
 
-    def __init__(self, folder):
+    def __init__(self, folder, compiler="javac"):
         self.folder = folder
+        self.compiler = COMPILERS[compiler]
         self.machine = f"{folder}/machine"  # what only the Java machine gets
         os.makedirs(self.machine)
         compile_atomic(self.machine)
-        subprocess.run(["javac", "-nowarn", "-d", self.machine, f"{HERE}/Answers.java"], check=True)
+        compile_machine(self.machine, f"{HERE}/Answers.java")
 
     def build(self, seed, numbers):
         """Makes these programs of a seed, and has their calls answered. Tells those that don't compile."""
@@ -50,7 +67,7 @@ class Workshop:
         folder = f"{self.folder}/src/{program.package}"
         os.makedirs(folder)
         for name, lines in program.sources.items():
-            write(f"{folder}/{name}.java", "\n".join(lines) + "\n")
+            write(f"{folder}/{name}.java", "\n".join(self.compiler.written(lines)) + "\n")
 
     def compile(self, programs):
         """Compiles programs, and answers those that could be, and the first fault of each other one."""
@@ -58,11 +75,11 @@ class Workshop:
         while programs:
             names = [f"{self.folder}/src/{it.package}/{name}.java" for it in programs for name in it.sources]
             write(f"{self.folder}/sources", "\n".join(names))
-            words = [*JAVAC, "-Xmaxerrs", "10000", "-cp", self.machine, "-d", f"{self.folder}/classes", f"@{self.folder}/sources"]
+            words = [*self.compiler.words, "-cp", self.machine, "-d", f"{self.folder}/classes", f"@{self.folder}/sources"]
             done = subprocess.run(words, capture_output=True, text=True)
             if done.returncode == 0:
                 break
-            faults = dict(reversed(CLASS_LINE.findall(done.stderr)))
+            faults = dict(reversed(self.compiler.fault.findall(done.stderr)))
             if not faults:
                 raise RuntimeError(done.stderr[:2000])
             faulty.update(faults)

@@ -23,9 +23,9 @@ class Outcome:
     told: str = ""
 
 
-def compare_all(program, workshop, answered):
-    """Compares programs side by side, and answers each with its outcome."""
-    with ThreadPoolExecutor(os.cpu_count()) as workers:
+def compare_all(program, workshop, answered, jobs):
+    """Compares programs, so many side by side, and answers each with its outcome."""
+    with ThreadPoolExecutor(jobs) as workers:
         return list(zip(answered, workers.map(lambda it: compare(program, workshop, it), answered)))
 
 
