@@ -1,14 +1,16 @@
 //! The arguments of calls, by the types of a method's parameters.
 ghost use Rattle.std.specs.Prelude.{◌≡◌, map, option_map, option_and_then, slice_get, IfOk};
 ghost use Rattle.serde_json.specs.Find.{as_null};
-ghost use Rattle.serde_json.specs.View.{view};
 ghost use Rattle.jmodel.specs.declared.class_file.FieldType.TheVariants as types;
 ghost use Rattle.jmodel.specs.declared.value.Value.TheVariants as values;
 ghost use Rattle.jmodel.specs.format.DescriptorReading.{signature_of};
 ghost use Rattle.jmodel.specs.format.Reading.{Gives};
 ghost use Rattle.script.specs.Script.{as_int, as_long, as_value, types_in, value_in, values_of as values_in};
+ghost use Rattle.script.specs.Seen.{seen};
 
+use crate::members::{is_null, truth_of, whole_of};
 use crate::refusals::at;
+use crate::tree::Tree;
 use const_pool::Descriptor;
 use jmodel::{FieldType, Halt, Refusal, Value};
 use std::alloc::{AllocError, Global};
@@ -25,10 +27,10 @@ pub fn parameter_types(alloc: Global, descriptor: &[u8]) -> Result<Vec<FieldType
 }
 
 // The whole number within these limits that a value is.
-fn int_of(low: i32, high: i32, value: &serde_json::Value) -> Option<Value>
-    ensures { result ≡ as_int low high (view value.now) }
+fn int_of(low: i32, high: i32, value: &Tree) -> Option<Value>
+    ensures { result ≡ as_int low high (seen value.now) }
 {
-    let number = value.as_i64()?;
+    let number = whole_of(value)?;
     if i64::from(low) <= number && number <= i64::from(high) {
         Some(Value::Int(number as i32))
     } else {
@@ -37,27 +39,27 @@ fn int_of(low: i32, high: i32, value: &serde_json::Value) -> Option<Value>
 }
 
 // A boolean is passed as 1 or 0.
-fn boolean(value: &serde_json::Value) -> Option<Value>
-    ensures { result ≡ as_value types.Boolean (view value.now) }
+fn boolean(value: &Tree) -> Option<Value>
+    ensures { result ≡ as_value types.Boolean (seen value.now) }
 {
-    match value.as_bool()? {
+    match truth_of(value)? {
         true => Some(Value::Int(1)),
         false => Some(Value::Int(0)),
     }
 }
 
-fn long(value: &serde_json::Value) -> Option<Value>
-    ensures { result ≡ as_long (view value.now) }
+fn long(value: &Tree) -> Option<Value>
+    ensures { result ≡ as_long (seen value.now) }
 {
-    let number = value.as_i64()?;
+    let number = whole_of(value)?;
     Some(Value::Long(number))
 }
 
 // The one reference that a script may pass is null.
-fn reference(value: &serde_json::Value) -> Option<Value>
-    ensures { result ≡ option_map (λ u. values.Ref 0) (as_null (view value.now)) }
+fn reference(value: &Tree) -> Option<Value>
+    ensures { result ≡ option_map (λ u. values.Ref 0) (as_null (seen value.now)) }
 {
-    if value.is_null() {
+    if is_null(value) {
         Some(Value::Ref(0))
     } else {
         None
@@ -65,8 +67,8 @@ fn reference(value: &serde_json::Value) -> Option<Value>
 }
 
 // What a value is for a parameter of a type.
-fn value_of(parameter: &FieldType, value: &serde_json::Value) -> Option<Value>
-    ensures { result ≡ as_value parameter.now (view value.now) }
+fn value_of(parameter: &FieldType, value: &Tree) -> Option<Value>
+    ensures { result ≡ as_value parameter.now (seen value.now) }
 {
     match parameter {
         FieldType::Boolean => boolean(value),
@@ -81,8 +83,8 @@ fn value_of(parameter: &FieldType, value: &serde_json::Value) -> Option<Value>
 }
 
 // What a value is for the parameter of a number, if there is one.
-fn value_at(parameters: &[FieldType], index: usize, value: &serde_json::Value) -> Option<Value>
-    ensures { result ≡ option_and_then (λ t. as_value t (view value.now)) (slice_get parameters.now index) }
+fn value_at(parameters: &[FieldType], index: usize, value: &Tree) -> Option<Value>
+    ensures { result ≡ option_and_then (λ t. as_value t (seen value.now)) (slice_get parameters.now index) }
 {
     value_of(parameters.get(index)?, value)
 }
@@ -93,9 +95,9 @@ fn argument_at(
     parameters: &[FieldType],
     path: &[u8],
     index: usize,
-    value: &serde_json::Value,
+    value: &Tree,
 ) -> Result<Value, Halt>
-    ensures { Gives (λ v. v) result (value_in parameters.now path.now index (view value.now)) }
+    ensures { Gives (λ v. v) result (value_in parameters.now path.now index (seen value.now)) }
 {
     match value_at(parameters, index, value) {
         Some(argument) => Ok(argument),
@@ -109,9 +111,9 @@ pub fn values_of(
     alloc: Global,
     parameters: &[FieldType],
     path: &[u8],
-    values: &[serde_json::Value],
+    values: &[Tree],
 ) -> Result<Vec<Value>, Halt>
-    ensures { Gives (λ v. v.items) result (values_in parameters.now path.now (map view values.now)) }
+    ensures { Gives (λ v. v.items) result (values_in parameters.now path.now (map seen values.now)) }
 {
     let mut arguments = Vec::new(alloc);
     for (index, value) in values.iter().enumerate() {

@@ -1,18 +1,18 @@
 //! What the phases of a script call.
 ghost use Rattle.std.specs.Prelude.{◌≡◌, map, IfOk};
-ghost use Rattle.serde_json.specs.View.{view};
 ghost use Rattle.jmodel.specs.format.Reading.{Gives};
 ghost use Rattle.objects.specs.semantics.Program.{method_at};
 ghost use Rattle.script.specs.Json.{or_refused, each_from, IsRefused};
 ghost use Rattle.script.specs.Script.{number_named, not_callable as not_callable_at, known_at, call_in, lane_in, lanes_of as lanes_in, bag_of as bag_in, phase_of as phase_in, types_of as types_of_method};
-ghost use Rattle.script.specs.Seen.{values, lists as seen_lists};
+ghost use Rattle.script.specs.Seen.{seen, values, lists as seen_lists};
 
 use crate::arguments::{parameter_types, values_of};
-use crate::json::{list_at, object_at, text_at};
 use crate::lists::{PhaseLists, bag_path, lanes_path};
+use crate::members::{list_at, object_at, text_at};
 use crate::names::{Numbers, names_method, number_of, numbers_of};
 use crate::phases::{Calls, PhaseCalls};
 use crate::refusals::{at, under};
+use crate::tree::Tree;
 use const_pool::ClassFile;
 use hierarchy::Program;
 use jmodel::{Bytes, FieldType, Halt, Refusal, Value};
@@ -119,8 +119,8 @@ impl<'a> Methods<'a> {
     }
 
     /// The call that the value at a path is.
-    fn call_at(&self, alloc: Global, path: &[u8], value: &serde_json::Value) -> Result<Known, Halt>
-        ensures { Gives (λ c. c) result (known_at self.now.classes self.now.program path.now (view value.now)) }
+    fn call_at(&self, alloc: Global, path: &[u8], value: &Tree) -> Result<Known, Halt>
+        ensures { Gives (λ c. c) result (known_at self.now.classes self.now.program path.now (seen value.now)) }
     {
         object_at(alloc, path, value, &["call", "args"])?;
         let text = text_at(alloc, path, "call", value)?;
@@ -142,9 +142,9 @@ impl<'a> Methods<'a> {
         alloc: Global,
         path: &[u8],
         index: usize,
-        value: &serde_json::Value,
+        value: &Tree,
     ) -> Result<Known, Halt>
-        ensures { Gives (λ c. c) result (call_in self.now.classes self.now.program path.now index (view value.now)) }
+        ensures { Gives (λ c. c) result (call_in self.now.classes self.now.program path.now index (seen value.now)) }
     {
         let place = at(alloc, path, index)?;
         self.call_at(alloc, place.as_slice(), value)
@@ -155,9 +155,9 @@ impl<'a> Methods<'a> {
         &self,
         alloc: Global,
         path: &[u8],
-        values: &[serde_json::Value],
+        values: &[Tree],
     ) -> Result<LaneCalls, Halt>
-        ensures { Gives (λ l. l) result (each_from (call_in self.now.classes self.now.program path.now) 0 (map view values.now)) }
+        ensures { Gives (λ l. l) result (each_from (call_in self.now.classes self.now.program path.now) 0 (map seen values.now)) }
     {
         let mut calls = Vec::new(alloc);
         for (index, value) in values.iter().enumerate() {
@@ -172,9 +172,9 @@ impl<'a> Methods<'a> {
         alloc: Global,
         path: &[u8],
         lane: usize,
-        values: &[serde_json::Value],
+        values: &[Tree],
     ) -> Result<LaneCalls, Halt>
-        ensures { Gives (λ l. l) result (lane_in self.now.classes self.now.program path.now lane (map view values.now)) }
+        ensures { Gives (λ l. l) result (lane_in self.now.classes self.now.program path.now lane (map seen values.now)) }
     {
         let place = at(alloc, path, lane)?;
         self.lane_at(alloc, place.as_slice(), values)
@@ -185,7 +185,7 @@ impl<'a> Methods<'a> {
         &self,
         alloc: Global,
         path: &[u8],
-        lists: &[&[serde_json::Value]],
+        lists: &[&[Tree]],
     ) -> Result<Vec<LaneCalls>, Halt>
         ensures { Gives (λ v. v.items) result (each_from (lane_in self.now.classes self.now.program path.now) 0 (map values lists.now)) }
     {
@@ -201,7 +201,7 @@ impl<'a> Methods<'a> {
         &self,
         alloc: Global,
         phase: usize,
-        lists: &[&[serde_json::Value]],
+        lists: &[&[Tree]],
     ) -> Result<Vec<LaneCalls>, Halt>
         ensures { Gives (λ v. v.items) result (lanes_in self.now.classes self.now.program phase (map values lists.now)) }
     {
@@ -214,9 +214,9 @@ impl<'a> Methods<'a> {
         &self,
         alloc: Global,
         phase: usize,
-        calls: &[serde_json::Value],
+        calls: &[Tree],
     ) -> Result<LaneCalls, Halt>
-        ensures { Gives (λ l. l) result (bag_in self.now.classes self.now.program phase (map view calls.now)) }
+        ensures { Gives (λ l. l) result (bag_in self.now.classes self.now.program phase (map seen calls.now)) }
     {
         let path = bag_path(alloc, phase)?;
         self.lane_at(alloc, path.as_slice(), calls)

@@ -1,16 +1,16 @@
 //! What a script says beside its phases.
 ghost use Rattle.std.specs.Prelude.{◌≡◌, ◌<◌, ◌^◌, ◌&&◌, [], pos, int_le, codes, IfOk};
-ghost use Rattle.serde_json.specs.View.{view};
 ghost use Rattle.jmodel.specs.declared.refusal.Refusal.TheVariants.{OverLimit};
 ghost use Rattle.jmodel.specs.format.Reading.{Gives};
 ghost use Rattle.script.specs.Json.{Tests, wanted, may_be};
 ghost use Rattle.script.specs.Script.{as_form, as_engine, head_of as head_in, numbers_within as are_numbers_within, is_within, region_limit};
+ghost use Rattle.script.specs.Seen.{seen};
 ghost use Rattle.script.specs.declared.head.EngineKind.TheVariants as engines;
 
-use crate::json::{whole_at, whole_or};
+use crate::members::{member_of, text_of, whole_at, whole_of, whole_or};
 use crate::refusals::{bad_member, over_limit};
+use crate::tree::Tree;
 use jmodel::Halt;
-use serde_json::Value;
 use std::alloc::{AllocError, Global};
 
 /// The most words of a region.
@@ -37,23 +37,23 @@ pub struct Head {
 }
 
 /// A script names the form 1.
-fn form_of(alloc: Global, script: &Value) -> Result<i64, Halt>
-    ensures { Gives (λ n. n) result (wanted as_form [] (codes "form") (view script.now)) }
+fn form_of(alloc: Global, script: &Tree) -> Result<i64, Halt>
+    ensures { Gives (λ n. n) result (wanted as_form [] (codes "form") (seen script.now)) }
 {
-    match script.get("form").and_then(Value::as_i64) {
+    match member_of(script, "form").and_then(whole_of) {
         Some(1) => Ok(1),
         _ => Err(bad_member(alloc, b"", "form")),
     }
 }
 
 /// The engine that a script names, or TL2 where it names none.
-fn engine_of(alloc: Global, script: &Value) -> Result<EngineKind, Halt>
-    ensures { Gives (λ e. e) result (may_be as_engine engines.Tl2 [] (codes "engine") (view script.now)) }
+fn engine_of(alloc: Global, script: &Tree) -> Result<EngineKind, Halt>
+    ensures { Gives (λ e. e) result (may_be as_engine engines.Tl2 [] (codes "engine") (seen script.now)) }
 {
-    let Some(engine) = script.get("engine") else {
+    let Some(engine) = member_of(script, "engine") else {
         return Ok(EngineKind::Tl2);
     };
-    match engine.as_str() {
+    match text_of(engine) {
         Some("tl2") => Ok(EngineKind::Tl2),
         Some("lsa") => Ok(EngineKind::Lsa),
         _ => Err(bad_member(alloc, b"", "engine")),
@@ -62,8 +62,8 @@ fn engine_of(alloc: Global, script: &Value) -> Result<EngineKind, Halt>
 
 /// What a script says beside its phases. A call may take 100,000 turns and 1,000,000 attempts, and a region has 65,536 words, where it says no
 /// other.
-pub fn head_of(alloc: Global, script: &Value) -> Result<Head, Halt>
-    ensures { Gives (λ h. h) result (head_in (view script.now)) }
+pub fn head_of(alloc: Global, script: &Tree) -> Result<Head, Halt>
+    ensures { Gives (λ h. h) result (head_in (seen script.now)) }
 {
     form_of(alloc, script)?;
     let engine = engine_of(alloc, script)?;

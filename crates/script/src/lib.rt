@@ -4,12 +4,15 @@
 mod arguments;
 mod calls;
 mod head;
-mod json;
 mod lists;
+mod members;
 mod names;
+mod numbers;
 mod phases;
 mod reading;
 mod refusals;
+mod texts;
+mod tree;
 
 pub use calls::{Known, LaneCalls};
 pub use head::EngineKind;

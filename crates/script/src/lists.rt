@@ -1,29 +1,28 @@
 //! The lists of calls of a script, by phase and lane.
 ghost use Rattle.std.specs.Prelude.{◌≡◌, ◌<◌, ◌^◌, List, length, map, codes, IfOk};
-ghost use Rattle.serde_json.specs.View.{view};
 ghost use Rattle.jmodel.specs.format.Reading.{Gives};
 ghost use Rattle.script.specs.Script.{lanes_path as lanes_path_of, bag_path as bag_path_of, lanes_at as lanes_in_phase_at, list_in, lists_of_lanes as lists_in_lanes, lists_at as lists_in_phase_at, lists_of_phase as lists_in_phase, lists_of as lists_in_script};
 ghost use Rattle.script.specs.Json.{each_from};
-ghost use Rattle.script.specs.Seen.{values, lane_lists, lists};
+ghost use Rattle.script.specs.Seen.{seen, values, lane_lists, lists};
 
 use crate::head::Head;
-use crate::json::{is_object_with, list_at, list_of};
+use crate::members::{is_object_with, list_at, list_of};
 use crate::refusals::{at, bad_shape, under};
+use crate::tree::Tree;
 use jmodel::{Bytes, Halt};
-use serde_json::Value;
 use std::alloc::{AllocError, Global};
 
 /// The lists of calls of a phase, by lane.
 #[derive(Drop)]
 pub struct LaneLists<'a> {
-    pub lanes: Vec<&'a [Value]>,
+    pub lanes: Vec<&'a [Tree]>,
 }
 
 /// The calls of a phase: a list for each lane, or that of a bag.
 #[derive(Drop)]
 pub enum PhaseLists<'a> {
     Lanes(LaneLists<'a>),
-    Bag(&'a [Value]),
+    Bag(&'a [Tree]),
 }
 
 /// The path of the lists of calls of a phase.
@@ -47,9 +46,9 @@ fn calls_at<'a>(
     alloc: Global,
     path: &[u8],
     lane: usize,
-    value: &'a Value,
-) -> Result<&'a [Value], Halt>
-    ensures { Gives values result (list_in path.now lane (view value.now)) }
+    value: &'a Tree,
+) -> Result<&'a [Tree], Halt>
+    ensures { Gives values result (list_in path.now lane (seen value.now)) }
 {
     match list_of(value) {
         Some(calls) => Ok(calls),
@@ -58,8 +57,8 @@ fn calls_at<'a>(
 }
 
 /// The lists of calls that the items of a list at a path are.
-fn lists_in<'a>(alloc: Global, path: &[u8], values: &'a [Value]) -> Result<LaneLists<'a>, Halt>
-    ensures { Gives lane_lists result (each_from (list_in path.now) 0 (map view values.now)) }
+fn lists_in<'a>(alloc: Global, path: &[u8], values: &'a [Tree]) -> Result<LaneLists<'a>, Halt>
+    ensures { Gives lane_lists result (each_from (list_in path.now) 0 (map seen values.now)) }
 {
     let mut lanes = Vec::new(alloc);
     for (lane, value) in values.iter().enumerate() {
@@ -73,9 +72,9 @@ fn lists_of_lanes<'a>(
     alloc: Global,
     head: Head,
     path: &[u8],
-    values: &'a [Value],
+    values: &'a [Tree],
 ) -> Result<LaneLists<'a>, Halt>
-    ensures { Gives lane_lists result (lists_in_lanes head.lanes path.now (map view values.now)) }
+    ensures { Gives lane_lists result (lists_in_lanes head.lanes path.now (map seen values.now)) }
 {
     if values.len() as i64 > head.lanes {
         return Err(bad_shape(alloc, path));
@@ -88,9 +87,9 @@ fn lanes_at<'a>(
     alloc: Global,
     head: Head,
     path: &[u8],
-    phase: &'a Value,
+    phase: &'a Tree,
 ) -> Result<LaneLists<'a>, Halt>
-    ensures { Gives lane_lists result (lanes_in_phase_at head.lanes path.now (view phase.now)) }
+    ensures { Gives lane_lists result (lanes_in_phase_at head.lanes path.now (seen phase.now)) }
 {
     let values = list_at(alloc, path, "lanes", phase)?;
     let place = under(alloc, path, "lanes")?;
@@ -102,9 +101,9 @@ fn lists_at<'a>(
     alloc: Global,
     head: Head,
     path: &[u8],
-    phase: &'a Value,
+    phase: &'a Tree,
 ) -> Result<PhaseLists<'a>, Halt>
-    ensures { Gives lists result (lists_in_phase_at head.lanes path.now (view phase.now)) }
+    ensures { Gives lists result (lists_in_phase_at head.lanes path.now (seen phase.now)) }
 {
     if is_object_with(phase, "lanes") {
         Ok(PhaseLists::Lanes(lanes_at(alloc, head, path, phase)?))
@@ -120,9 +119,9 @@ fn lists_of_phase<'a>(
     alloc: Global,
     head: Head,
     index: usize,
-    phase: &'a Value,
+    phase: &'a Tree,
 ) -> Result<PhaseLists<'a>, Halt>
-    ensures { Gives lists result (lists_in_phase head.lanes index (view phase.now)) }
+    ensures { Gives lists result (lists_in_phase head.lanes index (seen phase.now)) }
 {
     let path = at(alloc, b"/phases", index)?;
     lists_at(alloc, head, path.as_slice(), phase)
@@ -132,9 +131,9 @@ fn lists_of_phase<'a>(
 fn lists_of_phases<'a>(
     alloc: Global,
     head: Head,
-    values: &'a [Value],
+    values: &'a [Tree],
 ) -> Result<Vec<PhaseLists<'a>>, Halt>
-    ensures { Gives (λ v. map lists v.items) result (each_from (lists_in_phase head.lanes) 0 (map view values.now)) }
+    ensures { Gives (λ v. map lists v.items) result (each_from (lists_in_phase head.lanes) 0 (map seen values.now)) }
 {
     let mut phases = Vec::new(alloc);
     for (index, phase) in values.iter().enumerate() {
@@ -147,9 +146,9 @@ fn lists_of_phases<'a>(
 pub fn lists_of<'a>(
     alloc: Global,
     head: Head,
-    script: &'a Value,
+    script: &'a Tree,
 ) -> Result<Vec<PhaseLists<'a>>, Halt>
-    ensures { Gives (λ v. map lists v.items) result (lists_in_script head.lanes (view script.now)) }
+    ensures { Gives (λ v. map lists v.items) result (lists_in_script head.lanes (seen script.now)) }
 {
     let values = list_at(alloc, b"", "phases", script)?;
     lists_of_phases(alloc, head, values)

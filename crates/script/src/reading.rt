@@ -1,23 +1,23 @@
 //! Scripts.
 ghost use Rattle.std.specs.Prelude.{◌≡◌, Err, IfOk, IfSome, length, map, pos, sum_by};
-ghost use Rattle.serde_json.specs.View.{view};
 ghost use Rattle.jmodel.specs.declared.refusal.Halt.TheVariants as halts;
 ghost use Rattle.jmodel.specs.declared.refusal.Refusal.{Refusal as Why};
 ghost use Rattle.jmodel.specs.format.Reading.{Gives};
 ghost use Rattle.objects.specs.linking.Layout.{fixed_words};
 ghost use Rattle.script.specs.Script.{Script as Form, calls_of as calls_in, script_in, script_of as script_made_of, script_with as script_made_with, IsScript, IsFault};
-ghost use Rattle.script.specs.Seen.{lists as seen_lists};
+ghost use Rattle.script.specs.Seen.{seen, lists as seen_lists};
 
 use crate::calls::{LaneCalls, Methods};
 use crate::head::{EngineKind, Head, head_of, limits_of};
-use crate::json::object_at;
 use crate::lists::{PhaseLists, lists_of};
+use crate::members::object_at;
 use crate::phases::{Calls, PhaseCalls};
 use crate::refusals::over_limit;
+use crate::tree::Tree;
+use crate::texts::tree_of;
 use const_pool::ClassFile;
 use hierarchy::Program;
-use jmodel::{Halt, Refusal};
-use serde_json::Value;
+use jmodel::Halt;
 use std::alloc::Global;
 use std::marker::Model;
 
@@ -128,10 +128,10 @@ fn script_from(
     classes: &[&ClassFile],
     program: &Program,
     fixed: u64,
-    value: &Value,
+    value: &Tree,
 ) -> Result<Script, Halt>
     requires { fixed ≡ fixed_words (map (λ c. c.now) classes.now) }
-    ensures { Gives (λ s. s) result (script_in (map (λ c. c.now) classes.now) program.now (view value.now)) }
+    ensures { Gives (λ s. s) result (script_in (map (λ c. c.now) classes.now) program.now (seen value.now)) }
 {
     object_at(alloc, b"", value, &KEYS)?;
     let head = head_of(alloc, value)?;
@@ -157,9 +157,6 @@ pub fn read_script(
     if bytes.len() > MOST_BYTES {
         return Err(over_limit(alloc, "script", bytes.len() as i64));
     }
-    match Value::from_slice(alloc, bytes) {
-        Ok(value) => script_from(alloc, classes, program, fixed, &value),
-        Err(error) if error.is_memory() => Err(Halt::NoMemory),
-        Err(_) => Err(Halt::Refused(Refusal::NotJson)),
-    }
+    let value = tree_of(alloc, bytes)?;
+    script_from(alloc, classes, program, fixed, &value)
 }

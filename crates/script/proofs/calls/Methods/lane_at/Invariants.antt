@@ -1,5 +1,5 @@
 use Rattle.std.proofs.Common.{◌≡◌, map, drop}
-use Rattle.serde_json.specs.View.{view}
+use Rattle.script.specs.Seen.{seen}
 use Rattle.script.specs.Json.{each_from}
 use Rattle.script.specs.Script.{call_in}
 use Rattle.script.proofs.Each.{with_front}
@@ -7,4 +7,4 @@ use Rattle.script.proofs.calls.Methods.lane_at.Given as goal
 
 -- what was collected, and what is still collected
 abbrev pub invariant-loop-index : goal.invariant-loop-index
-invariant-loop-index l = with_front l.calls.items (each_from (call_in l.self.classes l.self.program l.path) l.index (drop l.index (map view l.values))) ≡ each_from (call_in l.self.classes l.self.program l.path) 0 (map view l.values)
+invariant-loop-index l = with_front l.calls.items (each_from (call_in l.self.classes l.self.program l.path) l.index (drop l.index (map seen l.values))) ≡ each_from (call_in l.self.classes l.self.program l.path) 0 (map seen l.values)
