@@ -1,6 +1,6 @@
 -- Trees and their data.
 use Rattle.std.proofs.Common.{◌≡◌, ◌∷◌, [], ◌++◌, List, ℕ, Bool, true, false, true≢false, ◌&&◌, cond, Option, Some, None, Vec, String, Ordering, Less, Equal, Greater, refl, sym, ap, ◌∙◌, rules}
-use Rattle.std.specs.Prelude.{map, option_map, bytes_eq, string_bytes}
+use Rattle.std.specs.Prelude.{map, bytes_eq, string_bytes}
 use Rattle.std.specs.List.{list_all, list_any}
 use Rattle.std.specs.Borrow.{Bor}
 use Rattle.std.specs.Ordering.{nat_cmp, match_ordering, is_eq}
@@ -16,7 +16,7 @@ use Rattle.serde_json.specs.View.{items_of}
 use Rattle.serde_json.proofs.Views.{get_member-put, get_member-put_other}
 use Rattle.hierarchy.proofs.Parts.{any_map}
 use Rattle.script.specs.Json.{data_in, has_only}
-use Rattle.script.specs.Seen.{seen, items_seen, members_seen, put_each}
+use Rattle.script.specs.Seen.{seen, items_seen, members_seen}
 use Rattle.script.specs.declared.tree.Tree.{Tree, List as ListOf, Object, the_lemmas}
 
 abbrev pub Entry : Type 0

@@ -137,13 +137,7 @@ impl<'a> Methods<'a> {
     }
 
     /// A call of the lane at a path.
-    fn call_of(
-        &self,
-        alloc: Global,
-        path: &[u8],
-        index: usize,
-        value: &Tree,
-    ) -> Result<Known, Halt>
+    fn call_of(&self, alloc: Global, path: &[u8], index: usize, value: &Tree) -> Result<Known, Halt>
         ensures { Gives (λ c. c) result (call_in self.now.classes self.now.program path.now index (seen value.now)) }
     {
         let place = at(alloc, path, index)?;
@@ -151,12 +145,7 @@ impl<'a> Methods<'a> {
     }
 
     /// What the lane at a path calls.
-    fn lane_at(
-        &self,
-        alloc: Global,
-        path: &[u8],
-        values: &[Tree],
-    ) -> Result<LaneCalls, Halt>
+    fn lane_at(&self, alloc: Global, path: &[u8], values: &[Tree]) -> Result<LaneCalls, Halt>
         ensures { Gives (λ l. l) result (each_from (call_in self.now.classes self.now.program path.now) 0 (map seen values.now)) }
     {
         let mut calls = Vec::new(alloc);
@@ -210,12 +199,7 @@ impl<'a> Methods<'a> {
     }
 
     /// The calls of a phase that is a bag.
-    fn bag_of(
-        &self,
-        alloc: Global,
-        phase: usize,
-        calls: &[Tree],
-    ) -> Result<LaneCalls, Halt>
+    fn bag_of(&self, alloc: Global, phase: usize, calls: &[Tree]) -> Result<LaneCalls, Halt>
         ensures { Gives (λ l. l) result (bag_in self.now.classes self.now.program phase (map seen calls.now)) }
     {
         let path = bag_path(alloc, phase)?;

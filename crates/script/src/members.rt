@@ -125,12 +125,7 @@ pub fn is_object_with(value: &Tree, key: &str) -> bool
 }
 
 /// The value at a path is to be an object that has no other keys than these.
-pub fn object_at(
-    alloc: Global,
-    path: &[u8],
-    value: &Tree,
-    keys: &[&str],
-) -> Result<(), Halt>
+pub fn object_at(alloc: Global, path: &[u8], value: &Tree, keys: &[&str]) -> Result<(), Halt>
     ensures { Tests result (is_object_with_keys (map (λ k. k.now) keys.now) (seen value.now)) (bad_shape_at path.now) }
 {
     if is_object_of(value, keys) {
@@ -156,12 +151,7 @@ pub fn list_at<'a>(
 }
 
 /// The text that a key of the object at a path has.
-pub fn text_at<'a>(
-    alloc: Global,
-    path: &[u8],
-    key: &str,
-    value: &'a Tree,
-) -> Result<&'a str, Halt>
+pub fn text_at<'a>(alloc: Global, path: &[u8], key: &str, value: &'a Tree) -> Result<&'a str, Halt>
     ensures { Gives (λ text. text.now) result (wanted as_str path.now key.now (seen value.now)) }
 {
     match member_of(value, key).and_then(text_of) {
