@@ -149,6 +149,7 @@ impl Frame {
         Ok(Doing::Next)
     }
 
+    #[inline(always)]
     fn return_value(&mut self, sort: Sort) -> Result<Doing, Failure>
         ensures does { (P : JProgram) → Meets result self.new (does P (op.ReturnValue sort) self.old) }
         ensures can { IfOk result CanDo }

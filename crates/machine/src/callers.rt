@@ -40,6 +40,7 @@ impl Callers {
     }
 
     /// A frame to be entered, whose slots are of no use, with memory of one that ended, if there is one.
+    #[inline(always)]
     pub(crate) fn spare(&mut self, alloc: Global) -> Frame
         ensures { self.new ≡ self.old }
     {
@@ -50,6 +51,7 @@ impl Callers {
     }
 
     /// Keeps the memory of a frame that ended, or gives it back where there is none to keep it in.
+    #[inline(always)]
     pub(crate) fn keep(&mut self, frame: Frame)
         ensures { self.new ≡ self.old }
     {
@@ -64,6 +66,7 @@ impl Callers {
     }
 
     /// Puts a frame innermost.
+    #[inline(always)]
     pub fn push(&mut self, frame: Frame) -> Result<(), AllocError>
         requires { frame.pc + 1 < 2 ^ 64 }
         ensures { OnOk result (self.new ≡ frame ∷ self.old) }
@@ -73,6 +76,7 @@ impl Callers {
     }
 
     /// Takes the innermost frame, if there is one.
+    #[inline(always)]
     pub fn pop(&mut self) -> Option<Frame>
         ensures frame { MatchOption result ((self.old ≡ []) × (self.new ≡ [])) (λ f. self.old ≡ f ∷ self.new) }
         ensures next { IfSome result (λ f. f.pc + 1 < 2 ^ 64) }

@@ -47,6 +47,7 @@ impl Frame {
         }
     }
 
+    #[inline(always)]
     pub(crate) fn invoke_static(&mut self, program: &Program, n: usize) -> Result<Doing, Failure>
         ensures does { Meets result self.new (does program.now (op.InvokeStatic n) self.old) }
         ensures can { IfOk result CanDo }

@@ -74,6 +74,7 @@ impl Running {
 
     /// Does instructions up to the first that does more than go on in its method, and answers what that one leaves to be done. The method is
     /// looked up once.
+    #[inline(always)]
     pub(crate) fn go(&mut self, alloc: Global, program: &Program) -> Result<Doing, Failure>
         ensures run { IsPlain program.now self.old self.new result }
         ensures stage { self.new.stage ≡ self.old.stage }

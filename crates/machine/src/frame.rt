@@ -65,6 +65,7 @@ impl Frame {
     }
 
     /// Becomes the frame at the start of a method, whose arguments it takes from its caller's stack. `Wrong` where these are too few.
+    #[inline(always)]
     pub(crate) fn enter(
         &mut self,
         method: usize,
@@ -127,6 +128,7 @@ impl Frame {
     }
 
     /// Goes on to the next instruction, with a value on the stack.
+    #[inline(always)]
     pub fn resume_with(&mut self, value: Value) -> Result<(), AllocError>
         requires { self.old.pc + 1 < 2 ^ 64 }
         ensures { OnOk result (self.new ≡ next (with_stack self.old (pushed value self.old.stack))) }

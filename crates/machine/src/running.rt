@@ -29,6 +29,7 @@ use jmodel::value::Value;
 use objects::event::Event;
 use objects::op::{Asking, Place, Request, Slot, WordType};
 use std::alloc::Global;
+use std::thread::yield_now;
 use tx_core::{Engine, TxEnd};
 
 /// Where a call stands before its commit.
@@ -115,6 +116,7 @@ impl Running {
     }
 
     /// Counts a turn, before the test whether there are too many frames.
+    #[inline(always)]
     pub(crate) fn count(&mut self, deep: bool) -> Result<Todo, Failure>
         ensures run { (B : Bounds) (r w : Log)
             → Lands B (entered B (phase_of self.old.stage) deep (frames self.old) (meter self.old) w r) self.new w r result }
@@ -218,8 +220,15 @@ fn address(place: Place) -> u64
     place.object + place.index
 }
 
+/// Lets other threads run before an attempt that follows on another.
+fn pause(tried: u64) {
+    if tried > 0 {
+        yield_now();
+    }
+}
+
 impl Running {
-    /// Begins an attempt, if there may be one more.
+    /// Begins an attempt, if there may be one more. A call that met a conflict lets other threads run first.
     fn begin<E: Engine, G: Gate>(
         &mut self,
         limits: Limits,
@@ -248,6 +257,7 @@ impl Running {
         if self.tried >= most {
             return Ok(Todo::Spent);
         }
+        pause(self.tried);
         engine.begin();
         gate.at(Event::Began);
         self.stage = Stage::Open;

@@ -72,6 +72,7 @@ impl Stack {
     }
 
     /// Puts a slot on top.
+    #[inline(always)]
     pub fn push(&mut self, slot: Slot) -> Result<(), AllocError>
         ensures { OnOk result (self.new ≡ slot ∷ self.old) }
     {
@@ -88,6 +89,7 @@ impl Stack {
     }
 
     /// Puts a value on top, a long in two slots.
+    #[inline(always)]
     pub fn push_value(&mut self, value: Value) -> Result<(), AllocError>
         ensures { OnOk result (self.new ≡ pushed value self.old) }
     {
@@ -206,6 +208,7 @@ impl Stack {
     }
 
     /// The topmost value, of a sort, or `Wrong` where there is none.
+    #[inline(always)]
     pub fn take_value(&mut self, sort: Sort) -> Result<Value, Failure>
         ensures { MatchResult result (λ v. (k : Value → List Item → Did) → on_value sort self.old k ≡ k v self.new) (λ e. Lacks e (on_value sort self.old)) }
     {
@@ -305,6 +308,7 @@ impl Locals {
         })
     }
 
+    #[inline(always)]
     fn push(&mut self, slot: Slot) -> Result<(), AllocError>
         ensures { OnOk result (self.new ≡ self.old ++ slot ∷ []) }
     {
@@ -312,6 +316,7 @@ impl Locals {
         Ok(())
     }
 
+    #[inline(always)]
     fn push_value(&mut self, value: Value) -> Result<(), AllocError>
         ensures { OnOk result (self.new ≡ self.old ++ slots_of value) }
     {
@@ -326,6 +331,7 @@ impl Locals {
     }
 
     /// Adds so many locals in which nothing was stored.
+    #[inline(always)]
     pub fn add_empty(&mut self, count: usize) -> Result<(), AllocError>
         ensures { OnOk result (self.new ≡ self.old ++ replicate count Slot.Empty) }
     {
@@ -376,6 +382,7 @@ impl Locals {
     ghost use Rattle.objects.specs.semantics.Step.{take_args, Took, TooFew};
 
     /// Becomes the arguments of a call, the topmost slots of the caller's stack, or `Wrong` where there are too few.
+    #[inline(always)]
     pub(crate) fn take_args(&mut self, from: &mut Stack, count: usize) -> Result<(), Failure>
         ensures { MatchResult result (λ _. take_args count [] from.old ≡ Took self.new from.new) (λ e. e ≡ failure.Wrong → take_args count [] from.old ≡ TooFew) }
     {

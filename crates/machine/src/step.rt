@@ -63,6 +63,7 @@ pub fn step(
 }
 
 /// Does to the frames what an instruction leaves to be done.
+#[inline(always)]
 pub(crate) fn settle(
     alloc: Global,
     program: &Program,
@@ -97,6 +98,7 @@ pub(crate) fn settle(
 }
 
 /// Jumps. A jump back in code whose turns count is a turn.
+#[inline(always)]
 fn jump(program: &Program, to: usize, frame: &mut Frame) -> Asking
     ensures step { (fs : Frames) → IsAsked result (frame.new ∷ fs) (jumps program.now to frame.old fs) }
     ensures can { CanAsk result frame.new }
@@ -107,6 +109,7 @@ fn jump(program: &Program, to: usize, frame: &mut Frame) -> Asking
 }
 
 /// Enters a method, whose arguments it takes from the stack.
+#[inline(always)]
 fn invoke(
     alloc: Global,
     program: &Program,
@@ -150,6 +153,7 @@ pub(crate) fn enter_found(
 }
 
 /// Whether too many frames count. Where there are so few that all may count, none is looked at.
+#[inline(always)]
 fn is_too_deep(program: &Program, frame: &Frame, callers: &Callers) -> bool
     ensures { result ≡ nat_lt 200 (depth program.now (frame.now ∷ callers.now)) }
 {
@@ -165,6 +169,7 @@ fn is_too_deep(program: &Program, frame: &Frame, callers: &Callers) -> bool
 }
 
 /// Leaves the frame, and gives its caller a value or none.
+#[inline(always)]
 fn give(value: Option<Value>, frame: &mut Frame, callers: &mut Callers) -> Result<Asking, Failure>
     ensures step { IsStep result (frame.new ∷ callers.new) (gives value callers.old) }
     ensures can { IfOk result (λ a. CanAsk a frame.new) }
