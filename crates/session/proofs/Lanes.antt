@@ -1,42 +1,14 @@
 -- One call more of a lane.
-use Rattle.std.proofs.Common.{
-  ◌≤◌,
-  ◌≡◌,
-  ◌<◌,
-  ◌+◌,
-  ℕ,
-  suc,
-  List,
-  [],
-  ◌∷◌,
-  ◌++◌,
-  length,
-  map,
-  take,
-  get_or,
-  Bool,
-  true,
-  false,
-  refl,
-  sym,
-  ◌∙◌,
-  ap,
-  subst,
-  arith,
-  append_assoc,
-  inl,
-  inr,
-}
-use Rattle.std.specs.Prelude.{filter, nat_eq, if◌then◌else◌}
+use Rattle.std.proofs.Common.{◌≤◌, ◌≡◌, ◌<◌, ◌+◌, ℕ, suc, List, [], ◌∷◌, ◌++◌, length, map, take, get_or, Bool, true, false, refl, sym, ◌∙◌, ap, subst, arith}
+use Rattle.std.specs.Prelude.{filter, nat_eq}
 use Rattle.std.proofs.lemmas.Bool.Decides.{nat_tests}
 use Rattle.std.specs.Bool.{MatchBool}
 use Rattle.std.proofs.lemmas.List.{map-append, append-nil, length-take, take_more}
 use Rattle.std.proofs.lemmas.List.Elements.{filter-append}
 use Rattle.objects.specs.semantics.Program.{Program}
 use Rattle.objects.specs.rewriting.Attempt.{Log, Bounds}
-use Rattle.jmodel.specs.history.History.{Call, Entry, Told, Words, told, used_after, used_with}
+use Rattle.jmodel.specs.history.History.{Call, Entry, Told, Words, told, used_after}
 use Rattle.jmodel.specs.history.Schedule.{Known, is_memory, call_at, lane_calls}
-use Rattle.tx_core.specs.Engine.{AreUsed}
 use Rattle.machine.specs.declared.room.Room.{Room}
 use Rattle.machine.specs.declared.machine.Limits.{Limits}
 use Rattle.machine.specs.Sound.{IsOverStates}
@@ -44,9 +16,8 @@ use Rattle.session.specs.declared.record.Record.{Record}
 use Rattle.session.specs.declared.record.Lane.{Lane}
 use Rattle.session.specs.declared.record.Place.{Place}
 use Rattle.session.specs.Lane.{is_placed, is_unplaced, record_of, Takes, HasMade}
-use Rattle.session.specs.Rule.{Leads}
 use Rattle.session.specs.Passes.{limits_with}
-use Rattle.session.specs.Adds.{told_by, call_of, is_spent, AddsSpent, AddsEntry, AddsNothing, AddsCall, has_place, has_none, AddsRecord, AddsMade, AddsOne, IsEmpty}
+use Rattle.session.specs.Adds.{told_by, call_of, is_spent, AddsSpent, AddsEntry, AddsNothing, AddsCall, has_place, has_none, AddsRecord, AddsMade, IsEmpty}
 
 calls_more : (phase lane i : ℕ) (cs : List Known) (c : Known) → lane_calls phase lane i (cs ++ c ∷ []) ≡ lane_calls phase lane i cs ++ call_at phase lane (i
     + length cs) c ∷ []

@@ -9,3 +9,4 @@ pub mod Stood
 pub mod Claiming
 pub mod Longer
 pub mod Either
+pub mod Telling

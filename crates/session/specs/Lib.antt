@@ -4,3 +4,4 @@ pub mod Adds
 pub mod Passes
 pub mod Claimed
 pub mod Engines
+pub mod Telling

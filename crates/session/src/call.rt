@@ -7,11 +7,14 @@ ghost use Rattle.tx_table.specs.Book.{IsOfLane};
 ghost use Rattle.session.specs.Rule.{IsRuled, IsReady, IsCallOf, Leads};
 ghost use Rattle.session.specs.Lane.{record_of};
 ghost use Rattle.session.specs.Adds.{call_of, told_by, AddsCall, AddsOne};
+ghost use Rattle.objects.specs.declared.event.Event.{Event};
+ghost use Rattle.objects.specs.rewriting.Events.{Grows};
 ghost use Rattle.session.specs.Passes.{limits_with, bounds_with};
+ghost use Rattle.session.specs.Telling.{TellsCall, TellsOne};
 
 use crate::record::{Lane, Place, Record};
 use hierarchy::Program;
-use machine::{End, Limits, Machine, Open};
+use machine::{End, Gate, Limits, Machine};
 use script::Known;
 use std::alloc::{AllocError, Global};
 use tx_core::Engine;
@@ -41,8 +44,14 @@ impl<'a> Making<'a> {
 
     /// Makes the call at a place, which the engine awaits, and tells how it ended, and how many words of its region are used then. The rewriting of
     /// the original, which is what runs, is never stuck. An answer `Spent` says that the attempts were used up, each by a conflict, and `NoMemory`
-    /// that memory was: such a call adds nothing to the history.
-    pub fn make_next<E: Engine>(&self, engine: &mut E, at: Place, call: &Known) -> (Record, u64)
+    /// that memory was: such a call adds nothing to the history. The gate is told the events of the call's attempts.
+    pub fn make_next<E: Engine, G: Gate>(
+        &self,
+        engine: &mut E,
+        gate: &mut G,
+        at: Place,
+        call: &Known,
+    ) -> (Record, u64)
         requires ready { IsReady self.now.original.now self.now.rewritten.now }
         requires call { IsCallOf self.now.original.now call.now }
         requires region { IsOfLane (call_of self.now.limits.room at call.now) }
@@ -56,12 +65,14 @@ impl<'a> Making<'a> {
         ensures tells { result.0 ≡ record_of (told_by self.now.limits.room at call.now result.0) }
         ensures adds { (h : List Entry) (n : ℕ) → E.stands engine.old h n [] [] → AddsCall self.now.original.now self.now.rewritten.now (bounds_of self.now.limits) (E.stands engine.new) h n (told_by self.now.limits.room at call.now result.0) result.1 }
         ensures clock { E.clock engine.new ≤ E.clock engine.old + self.now.limits.attempts }
+        // Where the gate tells its events, they are those before, and then the events of the call's run, if it has a place in the history.
+        ensures told { (es : List Event) × TellsCall result.0.answer self.now.rewritten.now (bounds_of self.now.limits) call.now.method call.now.args es × Grows (G.told gate.old) (G.told gate.new) es }
     {
         match Machine::call(
             self.alloc,
             self.rewritten,
             engine,
-            &mut Open,
+            gate,
             self.limits,
             call.method,
             call.args.as_slice(),
@@ -89,9 +100,10 @@ impl<'a> Making<'a> {
 
     /// Makes the next call of a lane, at a place, and keeps its record. Gives whether it was made: a call whose attempts are used up is not, and
     /// leaves the lane as it was.
-    pub(crate) fn make_one<E: Engine>(
+    pub(crate) fn make_one<E: Engine, G: Gate>(
         &self,
         engine: &mut E,
+        gate: &mut G,
         at: Place,
         lane: &mut Lane,
         call: &Known,
@@ -110,8 +122,9 @@ impl<'a> Making<'a> {
         ensures adds { (h : List Entry) (n : ℕ) → E.stands engine.old h n [] []
             → IfOk result (λ made. AddsOne made self.now.original.now self.now.rewritten.now (bounds_with self.now.limits lane.old.used) (call_of self.now.limits.room at call.now) (E.stands engine.new) h n lane.old lane.new) }
         ensures clock { E.clock engine.new ≤ E.clock engine.old + self.now.limits.attempts }
+        ensures told { IfOk result (λ made. TellsOne made self.now.rewritten.now (bounds_with self.now.limits lane.old.used) at call.now lane.old lane.new (Grows (G.told gate.old) (G.told gate.new))) }
     {
-        let (one, used) = self.with_used(lane.used).make_next(engine, at, call);
+        let (one, used) = self.with_used(lane.used).make_next(engine, gate, at, call);
         if one.is_spent() {
             return Ok(false);
         }

@@ -12,11 +12,15 @@ ghost use Rattle.session.specs.Rule.{IsRuled, IsReady, IsCallOf, Begun};
 ghost use Rattle.session.specs.Lane.{HasMade};
 ghost use Rattle.session.specs.Passes.{IsStarting, IsEnding, HasSpent};
 ghost use Rattle.session.specs.Claimed.{calls_at, HasTaken, HasEmptied};
+ghost use Rattle.objects.specs.rewriting.Events.{Grows};
+ghost use Rattle.machine.specs.Machine.{bounds_of};
+ghost use Rattle.session.specs.Telling.{IsRecordOf, HasTold};
 
 use crate::call::Making;
 use crate::record::{Lane, Place};
 use crate::shared::{Beginning, Named, engine_of};
 use claims::{Bag, BagPass};
+use machine::Gate;
 use script::{EngineKind, Known};
 use std::alloc::AllocError;
 use std::marker::Brand;
@@ -37,8 +41,8 @@ impl<'a> Making<'a> {
     /// Claims the calls of a bag, one after another, and makes each over a pass of a table that others share. It ends once all are claimed, or at the first
     /// whose attempts are used up by conflicts. Each call may take the turns and the attempts of `limits`, and the calls together the words of its room,
     /// which is that of the lane. The rewritten program is what runs, and what the table's history may begin with is of states. The calls are numbered from
-    /// the place on. Gives the pass back; the entries that it got stand behind all that it knew.
-    pub fn make_claimed<T: Ruled>(
+    /// the place on. Gives the pass back; the entries that it got stand behind all that it knew. The gate is told the events of the calls' attempts.
+    pub fn make_claimed<T: Ruled, G: Gate>(
         &self,
         kind: EngineKind,
         shared: &Shared<T>,
@@ -47,6 +51,7 @@ impl<'a> Making<'a> {
         bag: &Bag,
         claims: &mut BagPass,
         calls: &[Known],
+        gate: &mut G,
     ) -> Result<Taken, AllocError>
         requires ready { IsReady self.now.original.now self.now.rewritten.now }
         requires calls { AllByRecursion (IsCallOf self.now.original.now) calls.now }
@@ -64,11 +69,13 @@ impl<'a> Making<'a> {
         ensures emptied { IfOk result (λ r. r.lane.made ≡ length r.indexes.items → HasEmptied (length calls.now) (claims_of claims.new) r.indexes.items) }
         ensures bag { IsOf bag.now claims.new }
         ensures claims { IfOk result (λ r. HasTaken (length calls.now) (claims_of claims.new) r.indexes.items) }
+        // Where the gate tells its events, they are those before, and then the events of the placed calls' runs, each in one piece, in their order.
+        ensures told { IfOk result (λ r. HasTold self.now.rewritten.now (bounds_of self.now.limits) (IsRecordOf at (calls_at calls.now r.indexes.items)) r.lane.placed.items (Grows (G.told gate.old) (G.told gate.new))) }
     {
-        self.claim_over::<Brand, T>(kind, shared, pass, at, bag, claims, calls)
+        self.claim_over::<Brand, T, G>(kind, shared, pass, at, bag, claims, calls, gate)
     }
 
-    fn claim_over<K: Beginning, T: Ruled>(
+    fn claim_over<K: Beginning, T: Ruled, G: Gate>(
         &self,
         kind: EngineKind,
         shared: &Shared<T>,
@@ -77,6 +84,7 @@ impl<'a> Making<'a> {
         bag: &Bag,
         claims: &mut BagPass,
         calls: &[Known],
+        gate: &mut G,
     ) -> Result<Taken, AllocError>
         requires ready { IsReady self.now.original.now self.now.rewritten.now }
         requires calls { AllByRecursion (IsCallOf self.now.original.now) calls.now }
@@ -96,6 +104,8 @@ impl<'a> Making<'a> {
         ensures emptied { IfOk result (λ r. r.lane.made ≡ length r.indexes.items → HasEmptied (length calls.now) (claims_of claims.new) r.indexes.items) }
         ensures bag { IsOf bag.now claims.new }
         ensures claims { IfOk result (λ r. HasTaken (length calls.now) (claims_of claims.new) r.indexes.items) }
+        // Where the gate tells its events, they are those before, and then the events of the placed calls' runs, each in one piece, in their order.
+        ensures told { IfOk result (λ r. HasTold self.now.rewritten.now (bounds_of self.now.limits) (IsRecordOf at (calls_at calls.now r.indexes.items)) r.lane.placed.items (Grows (G.told gate.old) (G.told gate.new))) }
     {
         let mut lane = Lane::new(self.alloc, self.limits.room.used);
         let mut indexes = Vec::new(self.alloc);
@@ -121,7 +131,7 @@ impl<'a> Making<'a> {
             let call = &calls[index as usize];
             let here = at.onward(count);
             engine.set_call(Named::of(self.limits.room, here, call));
-            let is_made = self.make_one(&mut engine, here, &mut lane, call)?;
+            let is_made = self.make_one(&mut engine, gate, here, &mut lane, call)?;
             if !is_made {
                 break;
             }

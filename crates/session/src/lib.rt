@@ -8,5 +8,5 @@ mod shared;
 
 pub use call::Making;
 pub use claimed::Taken;
-pub use machine::{Limits, Room};
+pub use machine::{Gate, Limits, Room};
 pub use record::{Lane, Place, Record};

@@ -10,12 +10,15 @@ ghost use Rattle.tl2.specs.Standing.{Keeps};
 ghost use Rattle.session.specs.Engines.{pass_of, named_by, StandsIn};
 ghost use Rattle.session.specs.Rule.{IsRuled, IsReady, IsCallOf, Begun};
 ghost use Rattle.session.specs.Lane.{HasMade};
+ghost use Rattle.objects.specs.rewriting.Events.{Grows};
+ghost use Rattle.machine.specs.Machine.{bounds_of};
 ghost use Rattle.session.specs.Passes.{IsStarting, IsEnding, HasSpent};
+ghost use Rattle.session.specs.Telling.{IsRecordOf, HasTold};
 
 use crate::call::Making;
 use crate::record::{Lane, Place};
 use engines::TableEngine;
-use machine::Room;
+use machine::{Gate, Room};
 use script::{EngineKind, Known};
 use std::alloc::{AllocError, Global};
 use std::marker::{Brand, PhantomData};
@@ -46,14 +49,16 @@ impl<'a> Making<'a> {
     /// Makes the calls of a lane from a place on, one after another, over a pass of a table that others share. It ends before the first call whose attempts
     /// are used up by conflicts. A pass that holds every number meets none, so that all are made. Each call may take the turns and the attempts of
     /// `limits`, and the calls together the words of its room, which is that of the lane. The rewritten program is what runs, and what the table's history
-    /// may begin with is of states. Gives the pass back; the entries that it got stand behind all that it knew.
-    pub fn make_shared<T: Ruled>(
+    /// may begin with is of states. Gives the pass back; the entries that it got stand behind all that it knew. The gate is told the events of the calls'
+    /// attempts.
+    pub fn make_shared<T: Ruled, G: Gate>(
         &self,
         kind: EngineKind,
         shared: &Shared<T>,
         pass: Pass,
         at: Place,
         calls: &[Known],
+        gate: &mut G,
     ) -> Result<(Lane, Pass), AllocError>
         requires ready { IsReady self.now.original.now self.now.rewritten.now }
         requires calls { AllByRecursion (IsCallOf self.now.original.now) calls.now }
@@ -67,17 +72,20 @@ impl<'a> Making<'a> {
         ensures made { IfOk result (λ r. (h : List Entry) × IsEnding shared.now.table.shared.table_id (book pass) at (length calls.now) r.0.made r.0.used h r.1 × HasMade at self.now.limits.room.used calls.now h r.0) }
         ensures stopped { IfOk result (λ r. r.0.made ≢ length calls.now → HasSpent self.now.original.now self.now.rewritten.now self.now.limits calls.now r.0.made r.0.used (book pass) r.1) }
         ensures all { (book pass).numbers ≡ 2 ^ 20 → IfOk result (λ r. r.0.made ≡ length calls.now) }
+        // Where the gate tells its events, they are those before, and then the events of the placed calls' runs, each in one piece, in their order.
+        ensures told { IfOk result (λ r. HasTold self.now.rewritten.now (bounds_of self.now.limits) (IsRecordOf at calls.now) r.0.placed.items (Grows (G.told gate.old) (G.told gate.new))) }
     {
-        self.make_over::<Brand, T>(kind, shared, pass, at, calls)
+        self.make_over::<Brand, T, G>(kind, shared, pass, at, calls, gate)
     }
 
-    fn make_over<K: Beginning, T: Ruled>(
+    fn make_over<K: Beginning, T: Ruled, G: Gate>(
         &self,
         kind: EngineKind,
         shared: &Shared<T>,
         pass: Pass,
         at: Place,
         calls: &[Known],
+        gate: &mut G,
     ) -> Result<(Lane, Pass), AllocError>
         requires ready { IsReady self.now.original.now self.now.rewritten.now }
         requires calls { AllByRecursion (IsCallOf self.now.original.now) calls.now }
@@ -93,6 +101,8 @@ impl<'a> Making<'a> {
         ensures made { IfOk result (λ r. (h : List Entry) × IsEnding shared.now.table.shared.table_id (book pass) at (length calls.now) r.0.made r.0.used h r.1 × HasMade at self.now.limits.room.used calls.now h r.0) }
         ensures stopped { IfOk result (λ r. r.0.made ≢ length calls.now → HasSpent self.now.original.now self.now.rewritten.now self.now.limits calls.now r.0.made r.0.used (book pass) r.1) }
         ensures all { (book pass).numbers ≡ 2 ^ 20 → IfOk result (λ r. r.0.made ≡ length calls.now) }
+        // Where the gate tells its events, they are those before, and then the events of the placed calls' runs, each in one piece, in their order.
+        ensures told { IfOk result (λ r. HasTold self.now.rewritten.now (bounds_of self.now.limits) (IsRecordOf at calls.now) r.0.placed.items (Grows (G.told gate.old) (G.told gate.new))) }
     {
         let mut lane = Lane::new(self.alloc, self.limits.room.used);
         let Some(first) = calls.first() else {
@@ -108,7 +118,7 @@ impl<'a> Making<'a> {
         for (index, call) in calls.iter().enumerate() {
             let here = at.onward(index);
             engine.set_call(Named::of(self.limits.room, here, call));
-            let is_made = self.make_one(&mut engine, here, &mut lane, call)?;
+            let is_made = self.make_one(&mut engine, gate, here, &mut lane, call)?;
             if !is_made {
                 break;
             }

@@ -1,4 +1,4 @@
-use Rattle.std.proofs.Common.{suc, inl, inr, ◌≡◌, ◌≤◌, ◌<◌, ◌+◌, ◌*◌, ◌++◌, ℕ, List, [], Some, None, length, reverse, get_or, sym, ◌∙◌, ap, subst, arith}
+use Rattle.std.proofs.Common.{suc, inl, inr, ◌≡◌, ◌≤◌, ◌<◌, ◌+◌, ◌*◌, ◌++◌, ◌∷◌, ℕ, List, [], Some, None, length, reverse, get_or, sym, ◌∙◌, ap, subst, arith}
 use Rattle.std.proofs.lemmas.List.{get_or_default, length_push, reverse-reverse}
 use Rattle.claims.specs.Claims.{HasClaimed}
 use Rattle.claims.specs.Passes.{claims_of}
@@ -10,6 +10,7 @@ use Rattle.tl2.specs.Standing.{Keeps}
 use Rattle.session.specs.Engines.{pass_of, named_by, StandsIn}
 use Rattle.session.proofs.Either.{rests}
 use Rattle.session.specs.declared.record.Lane.{Lane}
+use Rattle.session.specs.declared.record.Record.{Record}
 use Rattle.session.specs.declared.record.Place.{Place}
 use Rattle.session.specs.Adds.{call_of}
 use Rattle.session.specs.Rule.{IsCallOf}
@@ -20,7 +21,11 @@ use Rattle.session.proofs.Elements.{all_here}
 use Rattle.session.proofs.Lanes.{lane_empty, over_more}
 use Rattle.session.proofs.Stood.{awaits_next, keeps_first, rests_after, ticks_after, stood_first, stood_more, was_made, was_left, has_spent, ending, untouched}
 use Rattle.session.proofs.Claiming.{claiming_first, claiming_more, index_under, has_taken, has_ended, taken_at, emptied_whole, emptied_behind}
-use Rattle.session.proofs.Longer.{made_next, call_last, length_calls}
+use Rattle.session.proofs.Longer.{made_next, call_last, length_calls, calls_push}
+use Rattle.machine.specs.Machine.{bounds_of}
+use Rattle.objects.specs.rewriting.Events.{Grows}
+use Rattle.session.specs.Telling.{IsRecordOf, HasTold}
+use Rattle.session.proofs.Telling.{told_first, told_more, told_lost, told_weaker, record_here, record_longer, was_told, was_lost}
 use Rattle.session.proofs.call.Making.claim_over.Goals as goal
 use Rattle.session.proofs.call.Making.claim_over.Goals.{else-loop-count-test, then-loop-count-test+in_default-claim, then-loop-count-test+in-Some-claim+in_ok-push+in_ok-is_made+then-not-is_made}
 
@@ -46,6 +51,8 @@ loop-count-init g c =
       ticks = let same = ap (λ (x : Pass). (book x).ticks) c.engine_of-engine.ensures.pass in omega (arith, same);
       bag = c.requires.bag.0;
       claiming = claiming_first (length c.args.calls.now) (claims_of c.args.claims.now) c.new-indexes.result.items c.requires.claims c.new-indexes.ensures.items;
+      told = told_first c.args.self.now.rewritten.now (bounds_of c.args.self.now.limits) (IsRecordOf c.args.at (calls_at c.args.calls.now c.new-indexes.result.items)) c.new-lane.result.placed.items
+          (g.G.Gate.told c.args.gate.now) c.new-lane.ensures.placed;
     }
 
 pub make_one-requires-clause-call : goal.make_one-requires-clause-call
@@ -116,6 +123,16 @@ loop-count-preserved g c =
       ticks = let same = ap (λ (p : Pass). (book p).ticks) c.set_call.ensures.pass in omega (arith, same, c.make_one.ensures.clock, c.requires.attempts.1, c.loop-count.invariant.ticks);
       bag = c.claim.ensures.bag;
       claiming = claiming;
+      told =
+          let Q = c.args.self.now.rewritten.now in
+          let B = bounds_of c.args.self.now.limits in
+          let made = was_told c.in_ok-is_made.is_made Q (bounds_with c.args.self.now.limits c.loop-count.lane.used) c.onward-here.result call c.loop-count.lane c.make_one.new.lane _
+          c.if-not-is_made.false c.in_ok-is_made.ensures.told in
+          told_more Q B (IsRecordOf c.args.at (calls_at calls new)) c.loop-count.lane.used c.onward-here.result call c.loop-count.lane c.make_one.new.lane
+          (g.G.Gate.told c.args.gate.now) (g.G.Gate.told c.loop-count.gate) (g.G.Gate.told c.make_one.new.gate)
+          (told_weaker Q B (IsRecordOf c.args.at (calls_at calls old)) (IsRecordOf c.args.at (calls_at calls new))
+          (record_longer c.args.at (calls_at calls old) (calls_at calls (i ∷ [])) (calls_at calls new) (calls_push calls old new i pushed)) c.loop-count.lane.placed.items _ c.loop-count.invariant.told) made
+          (record_here c.args.at c.onward-here.result (calls_at calls new) c.loop-count.count call made.one c.onward-here.ensures room last made.phase made.lane made.index);
     }
 
 pub returns-clause-made : goal.returns-clause-made
@@ -309,3 +326,54 @@ returns-clause-claims g c =
 
 pub make_one-requires-clause-region : goal.make_one-requires-clause-region
 make_one-requires-clause-region g c = inr (c.requires.region ∙ ap (λ (p : Place). suc p.lane) (sym c.onward-here.ensures))
+
+pub returns-in_default-clause-told : goal.returns-in_default-clause-told
+returns-in_default-clause-told g c =
+    told_first c.args.self.now.rewritten.now (bounds_of c.args.self.now.limits) (IsRecordOf c.args.at (calls_at c.args.calls.now c.new-indexes.result.items)) c.new-lane.result.placed.items
+    (g.G.Gate.told c.args.gate.now) c.new-lane.ensures.placed
+
+pub returns-clause-told : goal.returns-clause-told
+returns-clause-told g c =
+    let Q = c.args.self.now.rewritten.now in
+    let B = bounds_of c.args.self.now.limits in
+    let calls = c.args.calls.now in
+    let C : List ℕ → Record → Known → Type 0 = λ l. IsRecordOf c.args.at (calls_at calls l) in
+    let first = g.G.Gate.told c.args.gate.now in
+    let Told : List ℕ → Lane → g.row.G.Denot → Type 0 = λ is l d. HasTold Q B (C is) l.placed.items (Grows first (g.G.Gate.told d)) in
+    let all = c.loop-count-test.indexes.items in
+    elim c.loop-count-test.branch [
+      | else-loop-count-test w ↦
+          let indexes : c.loop-count.indexes.items ≡ all = cc in
+          let lane : c.loop-count.lane ≡ c.loop-count-test.lane = cc in
+          let gate : c.loop-count.gate ≡ c.loop-count-test.gate = cc in
+          subst (λ (is : List ℕ). Told is c.loop-count-test.lane c.loop-count-test.gate) indexes
+          (subst (λ (l : Lane). Told c.loop-count.indexes.items l c.loop-count-test.gate) lane (subst (Told c.loop-count.indexes.items c.loop-count.lane) gate c.loop-count.invariant.told))
+      | then-loop-count-test+in_default-claim w ↦
+          let indexes : c.loop-count.indexes.items ≡ all = cc in
+          let lane : c.loop-count.lane ≡ c.loop-count-test.lane = cc in
+          let gate : c.loop-count.gate ≡ c.loop-count-test.gate = cc in
+          subst (λ (is : List ℕ). Told is c.loop-count-test.lane c.loop-count-test.gate) indexes
+          (subst (λ (l : Lane). Told c.loop-count.indexes.items l c.loop-count-test.gate) lane (subst (Told c.loop-count.indexes.items c.loop-count.lane) gate c.loop-count.invariant.told))
+      | then-loop-count-test+in-Some-claim+in_ok-push+in_ok-is_made+then-not-is_made w ↦
+          let i = w.in-Some-claim.index in
+          let old = c.loop-count.indexes.items in
+          let new = w.push.new.self.items in
+          let indexes : new ≡ all = cc in
+          let pushed = w.in_ok-push.ensures.items in
+          let so = c.loop-count.invariant.stood in
+          let entries = reverse (book c.args.pass).entries in
+          let S = StandsIn g.K.Beginning.began w.make_one.new.engine in
+          let still = was_left w.in_ok-is_made.is_made c.args.self.now.original.now Q (bounds_with c.args.self.now.limits c.loop-count.lane.used) (call_of c.args.self.now.limits.room w.onward-here.result w.index-calls-index.result) S
+          (entries ++ so.history) so.conflicts c.loop-count.lane w.make_one.new.lane w.if-not-is_made.true
+          (w.in_ok-is_made.ensures.adds (entries ++ so.history) so.conflicts (w.set_call.ensures.stands (entries ++ so.history) so.conflicts [] [] so.stands)) in
+          let last : w.make_one.new.lane ≡ c.loop-count-test.lane = cc in
+          let lane : c.loop-count.lane ≡ c.loop-count-test.lane = sym still.0 ∙ last in
+          let gate : w.make_one.new.gate ≡ c.loop-count-test.gate = cc in
+          let lost = was_lost w.in_ok-is_made.is_made Q (bounds_with c.args.self.now.limits c.loop-count.lane.used) w.onward-here.result w.index-calls-index.result c.loop-count.lane w.make_one.new.lane _
+          w.if-not-is_made.true w.in_ok-is_made.ensures.told in
+          let longer = told_weaker Q B (C old) (C new) (record_longer c.args.at (calls_at calls old) (calls_at calls (i ∷ [])) (calls_at calls new) (calls_push calls old new i pushed)) c.loop-count.lane.placed.items _
+          c.loop-count.invariant.told in
+          subst (λ (is : List ℕ). Told is c.loop-count-test.lane c.loop-count-test.gate) indexes
+          (subst (λ (l : Lane). Told new l c.loop-count-test.gate) lane (subst (Told new c.loop-count.lane) gate
+          (told_lost Q B (C new) c.loop-count.lane.placed.items first (g.G.Gate.told c.loop-count.gate) (g.G.Gate.told w.make_one.new.gate) longer lost)))
+    ]

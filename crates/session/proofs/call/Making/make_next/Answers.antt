@@ -1,6 +1,8 @@
 use Rattle.std.proofs.Common.{◌≡◌, refl, ap, sym, ◌∙◌}
 use Rattle.jmodel.specs.history.Schedule.{Known}
+use Rattle.machine.specs.Machine.{bounds_of}
 use Rattle.session.proofs.Calling.{may_run, may_start, typed_call, call_adds}
+use Rattle.session.proofs.Telling.{call_told}
 use Rattle.session.specs.Adds.{call_of}
 use Rattle.session.proofs.call.Making.make_next.Goals as goal
 
@@ -36,3 +38,17 @@ returns-clause-adds g c = λ h n stands.
     let may = may_run P Q c.requires.ready c.args.self.now.limits at k c.requires.call c.requires.region g.E.Engine.allows c.requires.rule in
     call_adds P Q c.requires.ready c.args.self.now.limits at k c.requires.call c.requires.region c.requires.attempts.0 (g.E.Engine.stands c.call-2.new.tx) h n c.in-Ok.field-0
     (c.in-Ok.ensures.run h n (call_of c.args.self.now.limits.room at k) stands c.requires.awaits method args may)
+
+pub returns-clause-told : goal.returns-clause-told
+returns-clause-told g c =
+    let P = c.args.self.now.original.now in
+    let Q = c.args.self.now.rewritten.now in
+    let k = c.args.call.now in
+    let at = c.args.at in
+    let method : k.method ≡ c.call.inside.method = ap (λ (x : Known). x.method) (sym c.call.view_is) in
+    let args : k.args ≡ c.as_slice.result.now = ap (λ (x : Known). x.args) (sym c.call.view_is) ∙ sym c.as_slice.ensures.value in
+    let may = may_run P Q c.requires.ready c.args.self.now.limits at k c.requires.call c.requires.region g.E.Engine.allows c.requires.rule in
+    let h = c.requires.stands.0 in
+    let n = c.requires.stands.1 in
+    call_told Q (bounds_of c.args.self.now.limits) (call_of c.args.self.now.limits.room at k) (g.E.Engine.stands c.call-2.new.tx) h n _ c.in-Ok.field-0
+    (c.in-Ok.ensures.told h n (call_of c.args.self.now.limits.room at k) c.requires.stands.2 c.requires.awaits method args may)

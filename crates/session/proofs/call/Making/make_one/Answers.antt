@@ -1,10 +1,15 @@
-use Rattle.std.proofs.Common.{◌≡◌, refl, sym, ◌∙◌, subst}
+use Rattle.std.proofs.Common.{◌≡◌, List, refl, sym, ◌∙◌, ap, subst}
 use Rattle.machine.specs.Machine.{bounds_of}
 use Rattle.session.specs.declared.call.Making.{Making}
 use Rattle.session.specs.Lane.{record_of}
 use Rattle.session.specs.Adds.{told_by, AddsCall}
+use Rattle.session.specs.Telling.{TellsCall}
+use Rattle.objects.specs.declared.event.Event.{Event}
+use Rattle.objects.specs.rewriting.Events.{Grows}
+use Rattle.session.specs.declared.record.Record.{Record}
 use Rattle.session.specs.Passes.{limits_with, bounds_with}
 use Rattle.session.proofs.Lanes.{made_one}
+use Rattle.session.proofs.Telling.{spent_open}
 use Rattle.session.proofs.call.Making.make_one.Goals as goal
 
 pub make_next-one-requires-clause-fits : goal.make_next-one-requires-clause-fits
@@ -36,3 +41,38 @@ make_next-one-requires-clause-states g c = rw c.with_used.ensures c.requires.sta
 
 pub make_next-one-requires-clause-stands : goal.make_next-one-requires-clause-stands
 make_next-one-requires-clause-stands g c = rw c.with_used.ensures c.requires.stands
+
+pub returns-clause-told : goal.returns-clause-told
+returns-clause-told g c =
+    let self = c.args.self.now in
+    let one = c.make_next-one.result.0 in
+    let k = c.args.call.now in
+    let Told : Making → Type 0 = λ m. (es : List Event) × TellsCall one.answer m.rewritten.now (bounds_of m.limits) k.method k.args es
+    × Grows (g.G.Gate.told c.args.gate.now) (g.G.Gate.told c.make_next-one.new.gate) es in
+    let told = subst Told c.with_used.ensures c.make_next-one.ensures.told in
+    let tells = subst (λ (m : Making). one ≡ record_of (told_by m.limits.room c.args.at k one)) c.with_used.ensures c.make_next-one.ensures.tells in
+    record {
+      one = one;
+      phase = ap (λ (r : Record). r.phase) tells;
+      lane = ap (λ (r : Record). r.lane) tells;
+      index = ap (λ (r : Record). r.index) tells;
+      unspent = sym c.is_spent.ensures ∙ c.if-is_spent.false;
+      placed = c.in_ok-add.ensures.placed;
+      events = told.0;
+      tells = told.1;
+      told = told.2;
+    }
+
+pub returns-then-is_spent-clause-told : goal.returns-then-is_spent-clause-told
+returns-then-is_spent-clause-told g c =
+    let self = c.args.self.now in
+    let one = c.make_next-one.result.0 in
+    let k = c.args.call.now in
+    let Told : Making → Type 0 = λ m. (es : List Event) × TellsCall one.answer m.rewritten.now (bounds_of m.limits) k.method k.args es
+    × Grows (g.G.Gate.told c.args.gate.now) (g.G.Gate.told c.make_next-one.new.gate) es in
+    let told = subst Told c.with_used.ensures c.make_next-one.ensures.told in
+    record {
+      events = told.0;
+      no_entry = spent_open self.rewritten.now (bounds_with self.limits c.args.lane.now.used) k.method k.args one.answer (sym c.is_spent.ensures ∙ c.if-is_spent.true) told.0 told.1;
+      told = told.2;
+    }

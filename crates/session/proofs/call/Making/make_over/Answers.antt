@@ -11,7 +11,11 @@ use Rattle.session.specs.declared.record.Place.{Place}
 use Rattle.session.specs.Adds.{call_of}
 use Rattle.session.specs.Lane.{HasMade}
 use Rattle.session.specs.Passes.{IsEnding, bounds_with, HasSpent}
+use Rattle.machine.specs.Machine.{bounds_of}
+use Rattle.objects.specs.rewriting.Events.{Grows}
+use Rattle.session.specs.Telling.{IsRecordOf, HasTold}
 use Rattle.session.proofs.Lanes.{lane_empty, over_more}
+use Rattle.session.proofs.Telling.{told_first, told_more, told_lost, record_here, was_told, was_lost}
 use Rattle.session.proofs.Stood.{awaits_next, keeps_first, rests_after, ticks_after, stood_first, stood_more, was_made, was_left, has_spent, meets_none, ending, untouched}
 use Rattle.session.proofs.call.Making.make_over.Goals as goal
 use Rattle.session.proofs.call.Making.make_over.Goals.{else-loop-index-test, then-loop-index-test+in_ok-is_made+then-not-is_made}
@@ -35,6 +39,7 @@ loop-index-init g c =
           (length (book p).lost) c.new-lane.ensures (c.engine_of-engine.ensures.stands first (sym (reverse-reverse (book p).entries)) keeps);
       count = c.new-lane.ensures.made;
       ticks = let same = ap (λ (x : Pass). (book x).ticks) c.engine_of-engine.ensures.pass in omega (arith, same);
+      told = told_first c.args.self.now.rewritten.now (bounds_of c.args.self.now.limits) (IsRecordOf c.args.at c.args.calls.now) c.new-lane.result.placed.items (g.G.Gate.told c.args.gate.now) c.new-lane.ensures.placed;
     }
 
 pub make_one-requires-clause-stands : goal.make_one-requires-clause-stands
@@ -80,6 +85,12 @@ loop-index-preserved g c =
           first so.history (length (book c.args.pass).lost) so.conflicts so.later so.made so.earlier adds;
       count = omega (arith, adds.record_is.made, c.loop-index.invariant.count);
       ticks = let same = ap (λ (p : Pass). (book p).ticks) c.set_call.ensures.pass in omega (arith, same, c.make_one.ensures.clock, c.requires.attempts.1, c.loop-index.invariant.ticks);
+      told =
+          let made = was_told c.in_ok-is_made.is_made c.args.self.now.rewritten.now (bounds_with c.args.self.now.limits c.loop-index.lane.used) c.onward-here.result call c.loop-index.lane c.make_one.new.lane _
+          c.if-not-is_made.false c.in_ok-is_made.ensures.told in
+          told_more c.args.self.now.rewritten.now (bounds_of c.args.self.now.limits) (IsRecordOf c.args.at c.args.calls.now) c.loop-index.lane.used c.onward-here.result call c.loop-index.lane c.make_one.new.lane
+          (g.G.Gate.told c.args.gate.now) (g.G.Gate.told c.loop-index.gate) (g.G.Gate.told c.make_one.new.gate) c.loop-index.invariant.told made
+          (record_here c.args.at c.onward-here.result c.args.calls.now c.loop-index.index call made.one c.onward-here.ensures c.loop-index-test.true c.index-calls-index.is made.phase made.lane made.index);
     }
 
 pub returns-clause-made : goal.returns-clause-made
@@ -184,3 +195,35 @@ returns-clause-all g c = λ whole.
 
 pub make_one-requires-clause-region : goal.make_one-requires-clause-region
 make_one-requires-clause-region g c = inr (c.requires.region ∙ ap (λ (p : Place). suc p.lane) (sym c.onward-here.ensures))
+
+pub returns-in_default-clause-told : goal.returns-in_default-clause-told
+returns-in_default-clause-told g c =
+    told_first c.args.self.now.rewritten.now (bounds_of c.args.self.now.limits) (IsRecordOf c.args.at c.args.calls.now) c.new-lane.result.placed.items (g.G.Gate.told c.args.gate.now) c.new-lane.ensures.placed
+
+pub returns-clause-told : goal.returns-clause-told
+returns-clause-told g c =
+    let Q = c.args.self.now.rewritten.now in
+    let B = bounds_of c.args.self.now.limits in
+    let C = IsRecordOf c.args.at c.args.calls.now in
+    let first = g.G.Gate.told c.args.gate.now in
+    let Told : Lane → g.row.G.Denot → Type 0 = λ l d. HasTold Q B C l.placed.items (Grows first (g.G.Gate.told d)) in
+    elim c.loop-index-test.branch [
+      | else-loop-index-test w ↦
+          let lane : c.loop-index.lane ≡ c.loop-index-test.lane = cc in
+          let gate : c.loop-index.gate ≡ c.loop-index-test.gate = cc in
+          subst (λ (l : Lane). Told l c.loop-index-test.gate) lane (subst (Told c.loop-index.lane) gate c.loop-index.invariant.told)
+      | then-loop-index-test+in_ok-is_made+then-not-is_made w ↦
+          let so = c.loop-index.invariant.stood in
+          let first_entries = reverse (book c.args.pass).entries in
+          let S = StandsIn g.K.Beginning.began w.make_one.new.engine in
+          let still = was_left w.in_ok-is_made.is_made c.args.self.now.original.now Q (bounds_with c.args.self.now.limits c.loop-index.lane.used) (call_of c.args.self.now.limits.room w.onward-here.result w.index-calls-index.result) S
+          (first_entries ++ so.history) so.conflicts c.loop-index.lane w.make_one.new.lane w.if-not-is_made.true
+          (w.in_ok-is_made.ensures.adds (first_entries ++ so.history) so.conflicts (w.set_call.ensures.stands (first_entries ++ so.history) so.conflicts [] [] so.stands)) in
+          let last : w.make_one.new.lane ≡ c.loop-index-test.lane = cc in
+          let lane : c.loop-index.lane ≡ c.loop-index-test.lane = sym still.0 ∙ last in
+          let gate : w.make_one.new.gate ≡ c.loop-index-test.gate = cc in
+          let lost = was_lost w.in_ok-is_made.is_made Q (bounds_with c.args.self.now.limits c.loop-index.lane.used) w.onward-here.result w.index-calls-index.result c.loop-index.lane w.make_one.new.lane _
+          w.if-not-is_made.true w.in_ok-is_made.ensures.told in
+          subst (λ (l : Lane). Told l c.loop-index-test.gate) lane (subst (Told c.loop-index.lane) gate
+          (told_lost Q B C c.loop-index.lane.placed.items first (g.G.Gate.told c.loop-index.gate) (g.G.Gate.told w.make_one.new.gate) c.loop-index.invariant.told lost))
+    ]
