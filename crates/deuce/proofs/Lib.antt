@@ -21,3 +21,4 @@ pub mod Filed
 pub mod PutFiles
 pub mod Refused
 pub mod HelperPath
+pub mod Told

@@ -16,6 +16,9 @@ use Rattle.deuce.specs.Rewritten.{IsRewriting}
 use Rattle.script.specs.Script.{script_limit}
 use Rattle.deuce.specs.Folder.{class_limit, HoldsClasses, HoldsContents, IsFrontOf, Holds, IsFileOf, IsGoodFile, HasClasses, IsBadClass, helper_path, LacksHelper, AreClassPaths, with_files, placed_with, ArePutUpTo}
 use Rattle.deuce.proofs.Lists.{all_at}
+use Rattle.objects.specs.declared.event.Event.{Event}
+use Rattle.runner.specs.Telling.{TellsRunOf}
+use Rattle.deuce.specs.Telling.{TellsJournalOf}
 use Rattle.deuce.specs.Ending.{IsClassInput, AreClassInputs, AreInputs, paths_of, AreClassesOf, IsFirstFault, AreLinked, HasBadClasses, IsHelperAmong, IsReservedAs, IsJournalOf, AreRewritten, IsRewritingOf, StopsAt, HasUnopened}
 
 whole : (most limit : ℕ) (o : Option (List ℕ)) (bytes : List ℕ) → most ≡ suc limit → option_map (take most) o ≡ Some bytes → length bytes ≤ limit → o ≡ Some bytes
@@ -164,6 +167,21 @@ journal_of files dir script inputs cs text a good free run =
       script_bytes = inputs.script;
       script_holds = holds files script (script_limit + 1) script_limit inputs.script refl a.script_bytes run.are_calls.is_script.fits;
       run = record { files = cs; are_files = are_files inputs.classes.items cs good; run = run };
+    }
+
+-- what gates were told of a run of what was read whole
+pub told_journal : (files : Option Files) (dir script : List ℕ) (inputs : Inputs) (cs : List ClassFile) (text : List ℕ) (x y : List (Option (List Event))) → AreInputs files dir script inputs
+    → AreClassesOf inputs.classes.items cs → length inputs.script ≤ script_limit → TellsRunOf cs inputs.script text x y → TellsJournalOf files dir script text x y
+told_journal files dir script inputs cs text x y a good fits told =
+    record {
+      paths = paths_of inputs.classes.items;
+      contents = contents_of inputs.classes.items;
+      class_files = read_whole files dir inputs.classes.items cs a.of_classes good;
+      script_bytes = inputs.script;
+      script_holds = holds files script (script_limit + 1) script_limit inputs.script refl a.script_bytes fits;
+      read = cs;
+      are_read = are_files inputs.classes.items cs good;
+      told = told;
     }
 
 -- a run that doesn't begin, of what was read whole

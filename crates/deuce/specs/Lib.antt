@@ -6,3 +6,4 @@ pub mod Headline
 pub mod Listing
 pub mod Outcomes
 pub mod Rewritten
+pub mod Telling

@@ -1,16 +1,19 @@
 //! The command `bank`, which reads no folder.
-ghost use Rattle.std.specs.Prelude.{◌≡◌, List, String, IfOk};
+ghost use Rattle.std.specs.Prelude.{◌≡◌, List, String, IfOk, Option, length};
 ghost use Rattle.std.specs.declared.alloc.Global.{Global};
 ghost use Rattle.deuce_io.specs.Seen.{Seen};
+ghost use Rattle.deuce_io.specs.Files.{Files};
 ghost use Rattle.deuce.specs.Command.{AsksBank, engine_word};
 ghost use Rattle.deuce.specs.Bank.{engine_of};
 ghost use Rattle.deuce.specs.Outcomes.{IsOutcome};
+ghost use Rattle.deuce.specs.Telling.{told_by, TellsOutcome};
 
 use crate::commands::refused;
 use crate::outcome::Outcome;
 use crate::words::BankWords;
 use bankgen::{Figures, bank, summary};
 use jmodel::{Halt, NoMemory};
+use machine::Gate;
 use runner::count_calls;
 use script::EngineKind;
 use std::alloc::Global;
@@ -19,13 +22,16 @@ use std::thread::Threads;
 /// The phase of a bank's total, the only call that it has.
 const LAST_PHASE: u32 = 1;
 
-/// Runs the script of a bank on its classes.
-pub fn bank_command<R: Threads + Sync>(
+/// Runs the script of a bank on its classes, and tells the gates.
+pub fn bank_command<R: Threads + Sync, G: Gate + Send + Drop>(
     rt: &R,
     alloc: Global,
     asked: BankWords,
+    gates: &mut Vec<G>,
 ) -> Result<Outcome, NoMemory>
-    ensures { IfOk result (λ o. (words : List (String Global)) (old new : Seen) → new.files ≡ old.files → AsksBank words asked → IsOutcome words old new o) }
+    requires gates { length gates.old.items ≡ 16 }
+    ensures told { IfOk result (λ o. (words : List (String Global)) (files : Option Files) → AsksBank words asked → TellsOutcome words files (told_by G.told gates.old.items) (told_by G.told gates.new.items) o) }
+    ensures outcome { IfOk result (λ o. (words : List (String Global)) (old new : Seen) → new.files ≡ old.files → AsksBank words asked → IsOutcome words old new o) }
 {
     let Figures {
         seed,
@@ -46,6 +52,7 @@ pub fn bank_command<R: Threads + Sync>(
         workload.script.as_slice(),
         asked.engine,
         LAST_PHASE,
+        gates,
     ) {
         Ok(counts) => {
             let answer = counts.answer.as_slice();

@@ -1,8 +1,9 @@
 //! The commands, each over a folder.
-ghost use Rattle.std.specs.Prelude.{◌≡◌, List, String, IfOk};
+ghost use Rattle.std.specs.Prelude.{◌≡◌, List, String, IfOk, length};
 ghost use Rattle.std.specs.declared.alloc.Global.{Global};
 ghost use Rattle.deuce.specs.Command.{seen_words, run_words, rewrite_words};
 ghost use Rattle.deuce.specs.Outcomes.{IsUnreadAs, IsRefusedAs, IsNotPutAs, IsOutcome, ArePut};
+ghost use Rattle.deuce.specs.Telling.{told_by, TellsOutcome};
 
 use crate::classes::classes_of;
 use crate::inputs::{InputEnd, read_classes, read_inputs};
@@ -12,20 +13,25 @@ use crate::reserved::reserved;
 use crate::rewriting::write_rewriting;
 use deuce_io::Folder;
 use jmodel::NoMemory;
+use machine::Gate;
 use runner::{RunEnd, run_files};
 use std::alloc::Global;
 use std::thread::Threads;
 
-/// Runs a script on the class files under a folder.
-pub fn run_command<R: Threads + Sync, F: Folder>(
+/// Runs a script on the class files under a folder, and tells the gates.
+pub fn run_command<R: Threads + Sync, F: Folder, G: Gate + Send + Drop>(
     rt: &R,
     alloc: Global,
     folder: &mut F,
     dir: &str,
     script: &str,
+    gates: &mut Vec<G>,
 ) -> Result<Outcome, NoMemory>
+    requires gates { length gates.old.items ≡ 16 }
     ensures outcome { IfOk result (λ o. (words : List (String Global)) → seen_words words ≡ run_words dir.now script.now
         → IsOutcome words (F.seen folder.old) (F.seen folder.new) o) }
+    ensures told { IfOk result (λ o. (words : List (String Global)) → seen_words words ≡ run_words dir.now script.now
+        → TellsOutcome words (F.seen folder.old).files (told_by G.told gates.old.items) (told_by G.told gates.new.items) o) }
     ensures files_kept { (F.seen folder.new).files ≡ (F.seen folder.old).files }
 {
     let inputs = match read_inputs(alloc, folder, dir, script) {
@@ -39,7 +45,7 @@ pub fn run_command<R: Threads + Sync, F: Folder>(
     if let Some(refusal) = reserved(alloc, inputs.classes.as_slice(), files.as_slice())? {
         return Ok(Outcome::BadProgram(refusal));
     }
-    match run_files(rt, alloc, files.as_slice(), inputs.script.as_slice()) {
+    match run_files(rt, alloc, files.as_slice(), inputs.script.as_slice(), gates) {
         Ok(text) => Ok(Outcome::Journal(text)),
         Err(end) => refused(end),
     }

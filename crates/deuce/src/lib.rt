@@ -16,3 +16,5 @@ mod reserved;
 mod rewriting;
 pub mod top;
 mod words;
+
+pub use machine::{Event, Gate, LogGate, Open};

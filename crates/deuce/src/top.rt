@@ -1,16 +1,18 @@
 //! The top call: all that the program does.
-ghost use Rattle.std.specs.Prelude.{◌≡◌, ◌⊎◌, ℕ, List, IfOk, codes};
+ghost use Rattle.std.specs.Prelude.{◌≡◌, ◌⊎◌, ℕ, List, Option, IfOk, codes, length};
 ghost use Rattle.deuce_io.specs.Fault.{Rose};
 ghost use Rattle.jmodel.specs.declared.refusal.Refusal.{Refusal};
 ghost use Rattle.jmodel.specs.declared.value.Answer.{Answer};
 ghost use Rattle.jmodel.specs.history.Output.{◌and◌, answer_text, refusal_text, error_text};
 ghost use Rattle.deuce.specs.Command.{seen_words, run_words, rewrite_words, AsksBank, AsksNoFolder, IsNoRewriting, IsNoCommand};
 ghost use Rattle.deuce.specs.declared.words.BankWords.{BankWords};
+ghost use Rattle.deuce_io.specs.Files.{Files};
 ghost use Rattle.deuce_io.specs.Seen.{Seen};
 ghost use Rattle.deuce.specs.Bank.{IsSummaryOf};
 ghost use Rattle.deuce.specs.Ending.{IsJournalOf, IsRewritingOf};
 ghost use Rattle.deuce.specs.Outcomes.{IsOutcome, IsBadClassOfWords, IsBadProgramOfWords, IsUntypableOfWords, IsBadScriptOfWords, IsUnopenedOfWords, HasHelperOfWords, CanRunWords, CanRunBankOfWords, CanRewriteWords, IsOutsideOfWords, FailedOutside, FailedPutOfWords, ArePut, IsRefusal, IsRefusedOrFailed, IsStatus, IsRunOrFailed, IsBankRunOrFailed, IsOutsideOrFailed, IsRewrittenOrFailed, Appends, IsCut};
 ghost use Rattle.deuce.specs.Rewritten.{counts_text};
+ghost use Rattle.deuce.specs.Telling.{told_by, TellsJournalOf, TellsBankOf, TellsOutcome};
 
 use crate::bank::bank_command;
 use crate::commands::{rewrite_command, run_command};
@@ -19,10 +21,12 @@ use crate::print::print;
 use crate::words::{Command, bank_of, command_of};
 use deuce_io::{Folder, IoEnd, Sink};
 use jmodel::NoMemory;
+use machine::Gate;
 use std::alloc::Global;
 use std::thread::Threads;
 
-/// Does what the words ask for, over a folder and a sink, and answers the exit status.
+/// Does what the words ask for, over a folder and a sink, and answers the exit status. The calls of lane k tell gate k their events; with status 0 as many
+/// gates stand there then, in their order.
 ///
 /// | Status | Comes |
 /// |---|---|
@@ -37,13 +41,16 @@ use std::thread::Threads;
 /// | 9 | the sink failed; a front of the output was written |
 /// | 10 | memory ran out; nothing was written, or a front of the output |
 /// | 11 | the put of a rewritten class file or of the helper failed; those before it, in the order of their paths and the helper last, were put |
-pub fn deuce<R: Threads + Sync, F: Folder, O: Sink>(
+pub fn deuce<R: Threads + Sync, F: Folder, O: Sink, G: Gate + Send + Drop>(
     rt: &R,
     alloc: Global,
     words: &[String],
     folder: &mut F,
     out: &mut O,
+    gates: &mut Vec<G>,
 ) -> u8
+    requires gates { length gates.old.items ≡ 16 }
+
     // Where the words are of no form, that is said, unless it can't be written or memory runs out.
     ensures no_form { IsNoCommand words.now → (result ≡ 2) ⊎ ((result ≡ 9) ⊎ (result ≡ 10)) }
     ensures usage { result ≡ 2 → IsNoCommand words.now }
@@ -60,6 +67,19 @@ pub fn deuce<R: Threads + Sync, F: Folder, O: Sink>(
     // the numbers and the engine alone.
     ensures summary { result ≡ 0 → (b : BankWords) → AsksBank words.now b
         → (text : List ℕ) × IsSummaryOf b text × Appends (O.written out.old) (O.written out.new) text }
+
+    // What the gates were told, where they tell it: lane k's gate, behind what it told before, the
+    // events of the lane's placed calls, which the rewritten code ran, each call's in one piece.
+    ensures told { result ≡ 0
+        → (dir script : List ℕ) → seen_words words.now ≡ run_words dir script
+        → (text : List ℕ)
+        × TellsJournalOf (F.seen folder.old).files dir script text (told_by G.told gates.old.items)
+        (told_by G.told gates.new.items)
+        × Appends (O.written out.old) (O.written out.new) text }
+    ensures told_bank { result ≡ 0 → (b : BankWords) → AsksBank words.now b
+        → (text : List ℕ)
+        × TellsBankOf b text (told_by G.told gates.old.items) (told_by G.told gates.new.items)
+        × Appends (O.written out.old) (O.written out.new) text }
 
     // `rewrite DIR OUT`: what was put, where the folder tells its files, and the counts that were
     // written.
@@ -149,7 +169,7 @@ pub fn deuce<R: Threads + Sync, F: Folder, O: Sink>(
 
     ensures statuses { IsStatus result }
 {
-    let Ok(outcome) = outcome_of(rt, alloc, words, folder) else {
+    let Ok(outcome) = outcome_of(rt, alloc, words, folder, gates) else {
         return 10;
     };
     let status = outcome.status();
@@ -164,34 +184,40 @@ pub fn deuce<R: Threads + Sync, F: Folder, O: Sink>(
 }
 
 /// How the command that the words ask for ends.
-fn outcome_of<R: Threads + Sync, F: Folder>(
+fn outcome_of<R: Threads + Sync, F: Folder, G: Gate + Send + Drop>(
     rt: &R,
     alloc: Global,
     words: &[String],
     folder: &mut F,
+    gates: &mut Vec<G>,
 ) -> Result<Outcome, NoMemory>
+    requires gates { length gates.old.items ≡ 16 }
+    ensures told { IfOk result (TellsOutcome words.now (F.seen folder.old).files (told_by G.told gates.old.items) (told_by G.told gates.new.items)) }
     ensures outcome { IfOk result (IsOutcome words.now (F.seen folder.old) (F.seen folder.new)) }
     ensures files_kept { IsNoRewriting words.now → (F.seen folder.new).files ≡ (F.seen folder.old).files }
     ensures put { ArePut words.now (F.seen folder.old).files (F.seen folder.new).files }
 {
     match command_of(words) {
-        Some(Command::Run { dir, script }) => run_command(rt, alloc, folder, dir, script),
+        Some(Command::Run { dir, script }) => run_command(rt, alloc, folder, dir, script, gates),
         Some(Command::Rewrite { dir, out }) => rewrite_command(alloc, folder, dir, out),
-        None => bank_or_usage(rt, alloc, words),
+        None => bank_or_usage(rt, alloc, words, gates),
     }
 }
 
 /// How the command ends that words ask for that name no folder: that of a bank, or none.
-fn bank_or_usage<R: Threads + Sync>(
+fn bank_or_usage<R: Threads + Sync, G: Gate + Send + Drop>(
     rt: &R,
     alloc: Global,
     words: &[String],
+    gates: &mut Vec<G>,
 ) -> Result<Outcome, NoMemory>
-    requires { AsksNoFolder words.now }
-    ensures { IfOk result (λ o. (old new : Seen) → new.files ≡ old.files → IsOutcome words.now old new o) }
+    requires none { AsksNoFolder words.now }
+    requires gates { length gates.old.items ≡ 16 }
+    ensures told { IfOk result (λ o. (files : Option Files) → TellsOutcome words.now files (told_by G.told gates.old.items) (told_by G.told gates.new.items) o) }
+    ensures outcome { IfOk result (λ o. (old new : Seen) → new.files ≡ old.files → IsOutcome words.now old new o) }
 {
     match bank_of(alloc, words)? {
-        Some(asked) => bank_command(rt, alloc, asked),
+        Some(asked) => bank_command(rt, alloc, asked, gates),
         None => Ok(Outcome::Usage),
     }
 }

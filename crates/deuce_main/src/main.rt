@@ -1,12 +1,16 @@
 //! Deuce STM: rewrites Java class files so that `@Atomic` methods run as transactions, and runs the rewritten code.
 #![tactic(auto)]
 
+use deuce::Open;
 use deuce::top::deuce;
 use deuce_io::{RealFolder, StdSink};
 use std::io::ErrorKind;
 use std::process::ExitCode;
 use std::rt::Env;
 use std::{env, io};
+
+/// How many lanes a script has at most, each with a gate.
+const LANES: usize = 16;
 
 /// The status where memory runs out.
 const NO_MEMORY: u8 = 10;
@@ -22,7 +26,10 @@ fn main(rt: HostRuntime) -> ExitCode {
     };
     let mut folder = RealFolder::new(alloc, &rt);
     let mut out = StdSink::new(&rt);
-    ExitCode::from(deuce(&rt, alloc, &words, &mut folder, &mut out))
+    let Ok(mut gates) = vec![in alloc; Open; LANES] else {
+        return ExitCode::from(NO_MEMORY);
+    };
+    ExitCode::from(deuce(&rt, alloc, &words, &mut folder, &mut out, &mut gates))
 }
 
 fn words_after_name<R: Env + AllocGlobal>(rt: &R) -> io::Result<Vec<String>> {

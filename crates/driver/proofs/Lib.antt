@@ -31,3 +31,10 @@ pub mod More
 pub mod Rooms
 pub mod Telling
 pub mod States
+pub mod Told
+pub mod Rising
+pub mod ToldBags
+pub mod ToldRuns
+pub mod Handing
+pub mod Handed
+pub mod HandedWorkers

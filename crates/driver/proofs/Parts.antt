@@ -28,7 +28,7 @@ filter_joined test (t ∷ ts) (u ∷ us) e =
     (IsPermutation-refl (filter test t ++ filter test u)) (filter_joined test ts us (omega (arith, e))))
 
 -- all of a lane's calls, made first and behind
-lane_joined : (phase lane : ℕ) (cs : List Known) (t u : List Told) (r s : Part) → IsPart phase lane 0 cs t r → IsPart phase lane r.made cs u s
+pub lane_joined : (phase lane : ℕ) (cs : List Known) (t u : List Told) (r s : Part) → IsPart phase lane 0 cs t r → IsPart phase lane r.made cs u s
     → r.made + s.made ≡ length cs
     → calls_of (t ++ u) ≡ lane_calls phase lane 0 cs
 lane_joined phase lane cs t u r s h k whole =

@@ -9,3 +9,4 @@ pub mod Over
 pub mod Passing
 pub mod Bags
 pub mod Workers
+pub mod Telling

@@ -2,6 +2,7 @@
 #![tactic(auto)]
 
 mod bag;
+mod gates;
 mod journal;
 mod memory;
 mod order;
@@ -19,4 +20,5 @@ mod workers;
 pub use journal::Journal;
 pub use memory::{Limits, Memory};
 pub use run::Runner;
+pub use session::Gate;
 pub use setting_up::{SetUpEnd, set_up};

@@ -1,5 +1,5 @@
 //! The calls of a phase, over the table of a run.
-ghost use Rattle.std.specs.Prelude.{◌≡◌, ◌≤◌, ◌<◌, ℕ, suc, List, ◌∷◌, [], length, IfOk, OnOk, All, count_by, nat_lt};
+ghost use Rattle.std.specs.Prelude.{◌≡◌, ◌≤◌, ◌<◌, ℕ, suc, List, ◌∷◌, [], length, map, IfOk, OnOk, All, Option, count_by, nat_lt};
 ghost use Rattle.std.specs.List.{AllByRecursion};
 ghost use Rattle.atomic_table.specs.Seated.{TableId};
 ghost use Rattle.tx_table.specs.Book.{Book};
@@ -8,20 +8,23 @@ ghost use Rattle.jmodel.specs.history.Schedule.{Known as Form, Lanes as ALanes, 
 ghost use Rattle.tx_table.specs.declared.shared.Pass.{Pass as APass};
 ghost use Rattle.tx_table.specs.Passes.{book};
 ghost use Rattle.driver.specs.Memory.{AreOfStates};
+ghost use Rattle.objects.specs.declared.event.Event.{Event};
 ghost use Rattle.session.specs.Rule.{IsRuled, IsReady, IsCallOf};
 ghost use Rattle.driver.specs.Sides.{made_counts};
 ghost use Rattle.driver.specs.Runs.{HasLanes};
 ghost use Rattle.driver.specs.Over.{AddsPhase};
 ghost use Rattle.driver.specs.Passing.{AreUsed, call_count, IsWhole, HasRoom, IsMidway};
+ghost use Rattle.driver.specs.Telling.{AreTold, IsCallAt, TellsPhase};
 
 use crate::journal::Records;
 use crate::memory::LANES;
 use crate::order::sort_placed;
 use crate::run::Runner;
-use crate::side::{Part, Side};
+use crate::side::{Kept, Part, Side};
 use crate::table::{Keeping, Opening};
 use crate::taken::{by_lane, number};
 use script::{Calls, Known, LaneCalls, PhaseCalls};
+use session::Gate;
 use std::alloc::{AllocError, Global};
 use std::slice::from_ref;
 use std::thread::Threads;
@@ -29,14 +32,14 @@ use tx_table::{Pass, Shared};
 
 impl<'a> Runner<'a> {
     /// Makes the calls of a phase over the pass that holds every number, and adds them to the journal. Gives the pass back.
-    pub(crate) fn run_phase<R: Threads + Sync, K: Keeping + Sync>(
+    pub(crate) fn run_phase<R: Threads + Sync, K: Keeping + Sync, G: Gate + Send + Drop>(
         &self,
         rt: &R,
         shared: &Shared<Opening<K>>,
         pass: Pass,
         number: u32,
         phase: &PhaseCalls,
-        used: &mut [u64; LANES],
+        kept: &mut Kept<G>,
         journal: &mut Records,
     ) -> Result<Pass, AllocError>
         requires ready { IsReady self.now.original.now self.now.rewritten.now }
@@ -49,10 +52,12 @@ impl<'a> Runner<'a> {
         requires states { AreOfStates self.now.original.now self.now.limits.size self.now.limits.budget K.words K.used K.rule }
         requires pass { IsWhole shared.now.table.shared.table_id number pass }
         requires room { HasRoom (call_count (lists_in phase.now)) (book pass) }
-        requires used { AreUsed used.old (book pass) }
+        requires used { AreUsed kept.old.used (book pass) }
+        requires gates { 16 ≤ length kept.old.gates.items }
         ensures whole { IfOk result (IsWhole shared.now.table.shared.table_id (suc number)) }
-        ensures used { IfOk result (λ left. AreUsed used.new (book left)) }
+        ensures used { IfOk result (λ left. AreUsed kept.new.used (book left)) }
         ensures adds { IfOk result (λ left. AddsPhase number (call_count (lists_in phase.now)) phase.now (book pass) (book left) journal.old journal.new) }
+        ensures told { IfOk result (λ _. TellsPhase self.now.rewritten.now self.now.limits number phase.now journal.old.placed.items journal.new.placed.items (map G.told kept.old.gates.items) (map G.told kept.new.gates.items)) }
     {
         match &phase.calls {
             Calls::Lanes(lanes) => self.run_lanes(
@@ -61,18 +66,18 @@ impl<'a> Runner<'a> {
                 pass,
                 number,
                 lanes.as_slice(),
-                used,
+                kept,
                 journal,
             ),
             Calls::Bag { lanes, calls } => self.run_bag(
-                rt, shared, pass, number, *lanes, calls, used, journal,
+                rt, shared, pass, number, *lanes, calls, kept, journal,
             ),
         }
     }
 
     /// Makes the calls of a bag and adds them to the journal. Workers, as many as the lesser of the lanes and the calls, each take the next call that is
     /// left; one alone makes them as those of lane 0.
-    fn run_bag<R: Threads + Sync, K: Keeping + Sync>(
+    fn run_bag<R: Threads + Sync, K: Keeping + Sync, G: Gate + Send + Drop>(
         &self,
         rt: &R,
         shared: &Shared<Opening<K>>,
@@ -80,7 +85,7 @@ impl<'a> Runner<'a> {
         phase: u32,
         lanes: u64,
         calls: &LaneCalls,
-        used: &mut [u64; LANES],
+        kept: &mut Kept<G>,
         journal: &mut Records,
     ) -> Result<Pass, AllocError>
         requires ready { IsReady self.now.original.now self.now.rewritten.now }
@@ -93,21 +98,23 @@ impl<'a> Runner<'a> {
         requires states { AreOfStates self.now.original.now self.now.limits.size self.now.limits.budget K.words K.used K.rule }
         requires pass { IsWhole shared.now.table.shared.table_id phase pass }
         requires room { HasRoom (call_count (calls.now ∷ [])) (book pass) }
-        requires used { AreUsed used.old (book pass) }
+        requires used { AreUsed kept.old.used (book pass) }
+        requires gates { 16 ≤ length kept.old.gates.items }
         ensures whole { IfOk result (IsWhole shared.now.table.shared.table_id (suc phase)) }
-        ensures used { IfOk result (λ left. AreUsed used.new (book left)) }
+        ensures used { IfOk result (λ left. AreUsed kept.new.used (book left)) }
         ensures adds { IfOk result (λ left. AddsPhase phase (call_count (calls.now ∷ [])) (ABag lanes calls.now) (book pass) (book left) journal.old journal.new) }
+        ensures told { IfOk result (λ _. TellsPhase self.now.rewritten.now self.now.limits phase (ABag lanes calls.now) journal.old.placed.items journal.new.placed.items (map G.told kept.old.gates.items) (map G.told kept.new.gates.items)) }
     {
         let bag = calls.calls.as_slice();
         let workers = lanes.min(bag.len() as u64) as u8;
         if workers < 2 {
-            return self.run_lanes(rt, shared, pass, phase, from_ref(calls), used, journal);
+            return self.run_lanes(rt, shared, pass, phase, from_ref(calls), kept, journal);
         }
-        self.work_bag(rt, shared, pass, phase, workers, bag, used, journal)
+        self.work_bag(rt, shared, pass, phase, workers, bag, kept, journal)
     }
 
     /// Makes the calls of a bag by so many workers and adds them to the journal.
-    fn work_bag<R: Threads + Sync, K: Keeping + Sync>(
+    fn work_bag<R: Threads + Sync, K: Keeping + Sync, G: Gate + Send + Drop>(
         &self,
         rt: &R,
         shared: &Shared<Opening<K>>,
@@ -115,7 +122,7 @@ impl<'a> Runner<'a> {
         phase: u32,
         workers: u8,
         bag: &[Known],
-        used: &mut [u64; LANES],
+        kept: &mut Kept<G>,
         journal: &mut Records,
     ) -> Result<Pass, AllocError>
         requires ready { IsReady self.now.original.now self.now.rewritten.now }
@@ -128,17 +135,19 @@ impl<'a> Runner<'a> {
         requires states { AreOfStates self.now.original.now self.now.limits.size self.now.limits.budget K.words K.used K.rule }
         requires pass { IsWhole shared.now.table.shared.table_id phase pass }
         requires room { HasRoom (length bag.now) (book pass) }
-        requires used { AreUsed used.old (book pass) }
+        requires used { AreUsed kept.old.used (book pass) }
+        requires gates { 16 ≤ length kept.old.gates.items }
         ensures whole { IfOk result (IsWhole shared.now.table.shared.table_id (suc phase)) }
-        ensures used { IfOk result (λ left. AreUsed used.new (book left)) }
+        ensures used { IfOk result (λ left. AreUsed kept.new.used (book left)) }
         ensures adds { (lanes : ℕ) → workers ≤ lanes
             → IfOk result (λ left. AddsPhase phase (length bag.now) (ABag lanes bag.now) (book pass) (book left) journal.old journal.new) }
+        ensures told { (lanes : ℕ) → workers ≤ lanes → IfOk result (λ _. TellsPhase self.now.rewritten.now self.now.limits phase (ABag lanes bag.now) journal.old.placed.items journal.new.placed.items (map G.told kept.old.gates.items) (map G.told kept.new.gates.items)) }
     {
         let mut pass = pass;
-        let (first, taken) = self.bag_side(rt, shared, &mut pass, phase, workers, bag, used)?;
+        let (first, taken) = self.bag_side(rt, shared, &mut pass, phase, workers, bag, kept)?;
         let by_worker = by_lane(self.alloc, bag, &taken)?;
         let mut made = Records::new(self.alloc);
-        let left = self.add_rest(shared, pass, first, phase, &by_worker, used, &mut made)?;
+        let left = self.add_rest(shared, pass, first, phase, &by_worker, kept, &mut made)?;
         number(&mut made.placed, &taken);
         number(&mut made.unplaced, &taken);
         journal.append(made)?;
@@ -146,14 +155,14 @@ impl<'a> Runner<'a> {
     }
 
     /// Makes the calls of the lanes of a phase and adds them to the journal.
-    fn run_lanes<R: Threads + Sync, K: Keeping + Sync>(
+    fn run_lanes<R: Threads + Sync, K: Keeping + Sync, G: Gate + Send + Drop>(
         &self,
         rt: &R,
         shared: &Shared<Opening<K>>,
         pass: Pass,
         phase: u32,
         lanes: &[LaneCalls],
-        used: &mut [u64; LANES],
+        kept: &mut Kept<G>,
         journal: &mut Records,
     ) -> Result<Pass, AllocError>
         requires ready { IsReady self.now.original.now self.now.rewritten.now }
@@ -166,25 +175,27 @@ impl<'a> Runner<'a> {
         requires states { AreOfStates self.now.original.now self.now.limits.size self.now.limits.budget K.words K.used K.rule }
         requires pass { IsWhole shared.now.table.shared.table_id phase pass }
         requires room { HasRoom (call_count lanes.now) (book pass) }
-        requires used { AreUsed used.old (book pass) }
+        requires used { AreUsed kept.old.used (book pass) }
+        requires gates { 16 ≤ length kept.old.gates.items }
         ensures whole { IfOk result (IsWhole shared.now.table.shared.table_id (suc phase)) }
-        ensures used { IfOk result (λ left. AreUsed used.new (book left)) }
+        ensures used { IfOk result (λ left. AreUsed kept.new.used (book left)) }
         ensures adds { IfOk result (λ left. AddsPhase phase (call_count lanes.now) (ALanes lanes.now) (book pass) (book left) journal.old journal.new) }
+        ensures told { IfOk result (λ _. TellsPhase self.now.rewritten.now self.now.limits phase (ALanes lanes.now) journal.old.placed.items journal.new.placed.items (map G.told kept.old.gates.items) (map G.told kept.new.gates.items)) }
     {
         let mut pass = pass;
-        let first = self.first_side(rt, shared, &mut pass, phase, lanes, used)?;
-        self.add_rest(shared, pass, first, phase, lanes, used, journal)
+        let first = self.first_side(rt, shared, &mut pass, phase, lanes, kept)?;
+        self.add_rest(shared, pass, first, phase, lanes, kept, journal)
     }
 
     /// Makes what is left of a phase, one lane after another, and adds all of its calls to the journal.
-    fn add_rest<K: Keeping>(
+    fn add_rest<K: Keeping, G: Gate>(
         &self,
         shared: &Shared<Opening<K>>,
         pass: Pass,
         first: Side,
         phase: u32,
         lanes: &[LaneCalls],
-        used: &mut [u64; LANES],
+        kept: &mut Kept<G>,
         journal: &mut Records,
     ) -> Result<Pass, AllocError>
         requires ready { IsReady self.now.original.now self.now.rewritten.now }
@@ -196,14 +207,18 @@ impl<'a> Runner<'a> {
         requires rule { (e : Entry) → IsRuled self.now.original.now self.now.rewritten.now self.now.limits.size self.now.limits.budget self.now.limits.attempts e → K.rule e }
         requires states { AreOfStates self.now.original.now self.now.limits.size self.now.limits.budget K.words K.used K.rule }
         requires side { (b : Book) × IsMidway shared.now.table.shared.table_id b phase lanes.now first pass }
-        requires used { AreUsed used.old (book pass) }
+        requires used { AreUsed kept.old.used (book pass) }
+        requires gates { 16 ≤ length kept.old.gates.items }
         ensures whole { IfOk result (IsWhole shared.now.table.shared.table_id (suc phase)) }
-        ensures used { IfOk result (λ left. AreUsed used.new (book left)) }
+        ensures used { IfOk result (λ left. AreUsed kept.new.used (book left)) }
         ensures adds { (b : Book) → IsMidway shared.now.table.shared.table_id b phase lanes.now first pass
             → IfOk result (λ left. AddsPhase phase (call_count lanes.now) (ALanes lanes.now) b (book left) journal.old journal.new) }
+        ensures told { (b : Book) (before : List (Option (List Event))) → IsMidway shared.now.table.shared.table_id b phase lanes.now first pass
+            → AreTold self.now.rewritten.now self.now.limits (IsCallAt phase (ALanes lanes.now)) (length lanes.now) first.placed.items before (map G.told kept.old.gates.items)
+            → IfOk result (λ _. TellsPhase self.now.rewritten.now self.now.limits phase (ALanes lanes.now) journal.old.placed.items journal.new.placed.items before (map G.told kept.new.gates.items)) }
     {
         let firsts = made_counts(self.alloc, &first.parts)?;
-        let (mut rest, left) = self.one_after_another(shared, pass, phase, lanes, &firsts, used)?;
+        let (mut rest, left) = self.one_after_another(shared, pass, phase, lanes, &firsts, kept)?;
         let mut placed = first.placed;
         placed.append(&mut rest.placed)?;
         sort_placed(&mut placed)?;
@@ -212,14 +227,14 @@ impl<'a> Runner<'a> {
     }
 
     /// Makes the calls of a phase side by side, where more than one lane has calls, and otherwise none of them.
-    fn first_side<R: Threads + Sync, K: Keeping + Sync>(
+    fn first_side<R: Threads + Sync, K: Keeping + Sync, G: Gate + Send + Drop>(
         &self,
         rt: &R,
         shared: &Shared<Opening<K>>,
         pass: &mut Pass,
         phase: u32,
         lanes: &[LaneCalls],
-        used: &mut [u64; LANES],
+        kept: &mut Kept<G>,
     ) -> Result<Side, AllocError>
         requires ready { IsReady self.now.original.now self.now.rewritten.now }
         requires calls { AllByRecursion (AllByRecursion (IsCallOf self.now.original.now)) lanes.now }
@@ -231,14 +246,16 @@ impl<'a> Runner<'a> {
         requires states { AreOfStates self.now.original.now self.now.limits.size self.now.limits.budget K.words K.used K.rule }
         requires pass { IsWhole shared.now.table.shared.table_id phase pass.old }
         requires room { HasRoom (call_count lanes.now) (book pass.old) }
-        requires used { AreUsed used.old (book pass.old) }
+        requires used { AreUsed kept.old.used (book pass.old) }
+        requires gates { 16 ≤ length kept.old.gates.items }
         ensures midway { IfOk result (λ side. IsMidway shared.now.table.shared.table_id (book pass.old) phase lanes.now side pass.new) }
-        ensures used { OnOk result (AreUsed used.new (book pass.new)) }
+        ensures used { OnOk result (AreUsed kept.new.used (book pass.new)) }
+        ensures told { IfOk result (λ side. AreTold self.now.rewritten.now self.now.limits (IsCallAt phase (ALanes lanes.now)) (length lanes.now) side.placed.items (map G.told kept.old.gates.items) (map G.told kept.new.gates.items)) }
     {
         if has_several(lanes) {
-            self.side_by_side(rt, shared, pass, phase, lanes, used)
+            self.side_by_side(rt, shared, pass, phase, lanes, kept)
         } else {
-            untouched(self.alloc, lanes, used)
+            untouched(self.alloc, lanes, &kept.used)
         }
     }
 }
@@ -252,7 +269,8 @@ fn has_several(lanes: &[LaneCalls]) -> bool
 /// No calls of a phase.
 fn untouched(alloc: Global, lanes: &[LaneCalls], used: &[u64; LANES]) -> Result<Side, AllocError>
     requires { length lanes.now ≤ 16 }
-    ensures { (t : TableId) (phase : ℕ) (p : APass) → IsWhole t phase p → HasRoom (call_count lanes.now) (book p) → AreUsed used.now (book p)
+    ensures none { IfOk result (λ side. side.placed.items ≡ []) }
+    ensures midway { (t : TableId) (phase : ℕ) (p : APass) → IsWhole t phase p → HasRoom (call_count lanes.now) (book p) → AreUsed used.now (book p)
         → IfOk result (λ side. IsMidway t (book p) phase lanes.now side p) }
 {
     let mut parts = Vec::new(alloc);

@@ -1,5 +1,5 @@
 //! What is left of a phase's calls, one lane after another, over the pass that holds every number.
-ghost use Rattle.std.specs.Prelude.{◌≡◌, ◌≤◌, ◌<◌, ◌+◌, ◌*◌, ◌^◌, ℕ, suc, List, [], length, drop, slice_index_or, IfOk};
+ghost use Rattle.std.specs.Prelude.{◌≡◌, ◌≤◌, ◌<◌, ◌+◌, ◌*◌, ◌^◌, ℕ, suc, List, [], length, map, drop, slice_index_or, IfOk, OnOk};
 ghost use Rattle.std.specs.List.{AllByRecursion, AllZip};
 ghost use Rattle.jmodel.specs.history.History.{Entry};
 ghost use Rattle.jmodel.specs.history.Schedule.{Known as Form};
@@ -10,27 +10,31 @@ ghost use Rattle.session.specs.Lane.{HasMade};
 ghost use Rattle.session.specs.Passes.{IsStarting, IsEnding, behind};
 ghost use Rattle.driver.specs.Sides.{AreWhole};
 ghost use Rattle.driver.specs.Passing.{MayGoOn, AreUsed, first_of, call_count, IsResting};
+ghost use Rattle.jmodel.specs.history.Schedule.{Lanes};
+ghost use Rattle.objects.specs.rewriting.Events.{Grows};
+ghost use Rattle.machine.specs.Machine.{bounds_of};
+ghost use Rattle.session.specs.Telling.{IsRecordOf, HasTold};
+ghost use Rattle.driver.specs.Telling.{AreTold, IsCallAt};
 
-use crate::memory::LANES;
 use crate::run::Runner;
-use crate::side::{Part, Side};
+use crate::side::{Kept, Part, Side};
 use crate::table::{Keeping, Opening};
 use script::{Known, LaneCalls};
-use session::{Lane, Limits as CallLimits, Making, Place};
+use session::{Gate, Lane, Limits as CallLimits, Making, Place};
 use std::alloc::AllocError;
 use tx_table::{Pass, Shared};
 
 impl<'a> Runner<'a> {
     /// Makes the calls of a phase that are left, one lane after another. `firsts` has for each lane how many of its calls were made before. The pass
     /// holds every number, so that no call meets a conflict, and each of them is made. Gives what is kept of them, and the pass.
-    pub(crate) fn one_after_another<K: Keeping>(
+    pub(crate) fn one_after_another<K: Keeping, G: Gate>(
         &self,
         shared: &Shared<Opening<K>>,
         pass: Pass,
         phase: u32,
         lanes: &[LaneCalls],
         firsts: &[usize],
-        used: &mut [u64; LANES],
+        kept: &mut Kept<G>,
     ) -> Result<(Side, Pass), AllocError>
         requires ready { IsReady self.now.original.now self.now.rewritten.now }
         requires calls { AllByRecursion (AllByRecursion (IsCallOf self.now.original.now)) lanes.now }
@@ -46,10 +50,12 @@ impl<'a> Runner<'a> {
         requires ticks { (book pass).ticks + call_count lanes.now * 1000000 ≤ 2 ^ 40 }
         requires begins { (lane : ℕ) → lane < length lanes.now → MayGoOn (behind (first_of phase lane) (slice_index_or firsts.now lane 0)) (book pass) }
         requires resting { IsResting shared.now.table.shared.table_id (book pass) phase 0 [] [] [] [] pass }
-        requires used { AreUsed used.old (book pass) }
+        requires used { AreUsed kept.old.used (book pass) }
+        requires gates { 16 ≤ length kept.old.gates.items }
         ensures made { IfOk result (λ r. IsResting shared.now.table.shared.table_id (book pass) phase (call_count lanes.now) lanes.now firsts.now r.0.placed.items r.0.parts.items r.1) }
         ensures whole { IfOk result (λ r. AreWhole lanes.now firsts.now r.0.parts.items) }
-        ensures used { IfOk result (λ r. AreUsed used.new (book r.1)) }
+        ensures used { IfOk result (λ r. AreUsed kept.new.used (book r.1)) }
+        ensures told { IfOk result (λ r. AreTold self.now.rewritten.now self.now.limits (IsCallAt phase (Lanes lanes.now)) (length lanes.now) r.0.placed.items (map G.told kept.old.gates.items) (map G.told kept.new.gates.items)) }
     {
         let mut placed = Vec::new(self.alloc);
         let mut parts = Vec::new(self.alloc);
@@ -64,9 +70,10 @@ impl<'a> Runner<'a> {
             let (made, left) = self.make_rest(
                 shared,
                 pass,
-                self.limits.in_region(number as u64 + 1, used[number]),
+                self.limits.in_region(number as u64 + 1, kept.used[number]),
                 at,
                 &lane.calls,
+                &mut kept.gates[number],
             )?;
             let Lane {
                 placed: mut more,
@@ -80,7 +87,7 @@ impl<'a> Runner<'a> {
                 used: taken,
                 unplaced,
             })?;
-            used[number] = taken;
+            kept.used[number] = taken;
             pass = left;
         }
         Ok((Side { placed, parts }, pass))
@@ -89,13 +96,14 @@ impl<'a> Runner<'a> {
 
 impl<'a> Runner<'a> {
     /// Makes the calls of a lane from a place on. Gives what is kept of them, and the pass.
-    fn make_rest<K: Keeping>(
+    fn make_rest<K: Keeping, G: Gate>(
         &self,
         shared: &Shared<Opening<K>>,
         pass: Pass,
         limits: CallLimits,
         at: Place,
         calls: &[Known],
+        gate: &mut G,
     ) -> Result<(Lane, Pass), AllocError>
         requires ready { IsReady self.now.original.now self.now.rewritten.now }
         requires calls { AllByRecursion (IsCallOf self.now.original.now) calls.now }
@@ -110,6 +118,7 @@ impl<'a> Runner<'a> {
         ensures made { IfOk result (λ r. let rest = drop at.first calls.now in
             (h : List Entry) × IsEnding shared.now.table.shared.table_id (book pass) at (length rest) r.0.made r.0.used h r.1 × HasMade at limits.room.used rest h r.0) }
         ensures all { (book pass).numbers ≡ 2 ^ 20 → IfOk result (λ r. r.0.made ≡ length (drop at.first calls.now)) }
+        ensures told { IfOk result (λ r. HasTold self.now.rewritten.now (bounds_of limits) (IsRecordOf at (drop at.first calls.now)) r.0.placed.items (Grows (G.told gate.old) (G.told gate.new))) }
     {
         let rest = &calls[at.first as usize..];
         let making = Making {
@@ -118,6 +127,6 @@ impl<'a> Runner<'a> {
             rewritten: self.rewritten,
             limits,
         };
-        making.make_shared(self.engine, shared, pass, at, rest)
+        making.make_shared(self.engine, shared, pass, at, rest, gate)
     }
 }

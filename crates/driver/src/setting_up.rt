@@ -11,6 +11,7 @@ ghost use Rattle.driver.specs.SetUp.{AnswersAlone, OpensTo, EndsSetUp};
 use crate::memory::{Limits, Memory};
 use hierarchy::Program;
 use jmodel::Answer;
+use machine::Open;
 use script::Known;
 use session::{Making, Place};
 use std::alloc::{AllocError, Global};
@@ -131,7 +132,7 @@ fn call_over<K: Origin>(
         rewritten,
         limits: limits.in_region(0, used),
     };
-    let (record, used) = making.make_next(&mut engine, at, &call);
+    let (record, used) = making.make_next(&mut engine, &mut Open, at, &call);
     let words = engine.into_words();
     match record.answer {
         Answer::NoMemory => Err(AllocError),

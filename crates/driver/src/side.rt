@@ -1,6 +1,6 @@
 //! What a part of a phase's calls leaves.
 ghost use Rattle.std.specs.Prelude.{◌≡◌, ◌<◌, ◌≤◌, ℕ, length, slice_index, slice_index_or};
-ghost use Rattle.driver.specs.declared.side.Part.{Part as Kept};
+ghost use Rattle.driver.specs.declared.side.Part.{Part as Left};
 
 use crate::memory::LANES;
 use session::Record;
@@ -25,10 +25,19 @@ pub(crate) struct Side {
     pub parts: Vec<Part>,
 }
 
+/// What lanes keep from phase to phase.
+#[derive(Drop)]
+pub(crate) struct Kept<G> {
+    /// How many words of its region each lane has used.
+    pub used: [u64; LANES],
+    /// The gate of each lane.
+    pub gates: Vec<G>,
+}
+
 /// How many words of its region each lane has used, once the first lanes made these parts of their calls.
 pub(crate) fn keep_used(used: &mut [u64; LANES], parts: &[Part])
     requires { length parts.now ≤ 16 }
-    ensures lanes { (lane : ℕ) (d : Kept) → lane < length parts.now → slice_index used.new lane ≡ (slice_index_or parts.now lane d).used }
+    ensures lanes { (lane : ℕ) (d : Left) → lane < length parts.now → slice_index used.new lane ≡ (slice_index_or parts.now lane d).used }
     ensures others { (lane : ℕ) → length parts.now ≤ lane → slice_index used.new lane ≡ slice_index used.old lane }
 {
     for (lane, part) in parts.iter().enumerate() {

@@ -10,6 +10,7 @@ ghost use Rattle.program_typing.specs.Tables.{IsTypedOrBare};
 ghost use Rattle.rewriter.specs.Asked.{AreFiled};
 
 use const_pool::ClassFile;
+use deuce::Open;
 use deuce::classes::class_of;
 use deuce::listing::class_paths;
 use deuce::top::deuce;
@@ -27,6 +28,9 @@ use std::thread::Threads;
 
 /// The most bytes of a class file.
 const CLASS_LIMIT: usize = 1_048_576;
+
+/// How many lanes a script has at most, each with a gate.
+const LANES: usize = 16;
 
 fn main(rt: HostRuntime) -> io::Result<()> {
     for name in &names_in(&rt, rt.alloc(), "folders")? {
@@ -50,7 +54,15 @@ fn print_folder<R: Runtime + AllocGlobal + Threads + Sync>(
     }
     let mut folder = RealFolder::new(alloc, rt);
     let mut out = MemSink::new(alloc, 64);
-    let status = deuce(rt, alloc, words.as_slice(), &mut folder, &mut out);
+    let mut gates = vec![in alloc; Open; LANES]?;
+    let status = deuce(
+        rt,
+        alloc,
+        words.as_slice(),
+        &mut folder,
+        &mut out,
+        &mut gates,
+    );
     let text = str::from_utf8(out.written.as_slice()).unwrap_or("no text\n");
     print!(rt; "status {status}\n{text}")?;
     if status == 0 {

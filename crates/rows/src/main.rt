@@ -2,6 +2,7 @@
 //! order of their names, the program makes the top call over the machine's files, and prints what it answered.
 #![tactic(auto)]
 
+use deuce::Open;
 use deuce::listing::class_paths;
 use deuce::top::deuce;
 use deuce_io::{MemSink, RealFolder, names_in};
@@ -9,6 +10,9 @@ use std::alloc::Global;
 use std::rt::Runtime;
 use std::thread::Threads;
 use std::{fs, io};
+
+/// How many lanes a script has at most, each with a gate.
+const LANES: usize = 16;
 
 fn main(rt: HostRuntime) -> io::Result<()> {
     for name in &names_in(&rt, rt.alloc(), "rows")? {
@@ -26,7 +30,15 @@ fn print_row<R: Runtime + AllocGlobal + Threads + Sync>(
     let words = words_of(rt, alloc, name)?;
     let mut folder = RealFolder::new(alloc, rt);
     let mut out = MemSink::new(alloc, 64);
-    let status = deuce(rt, alloc, words.as_slice(), &mut folder, &mut out);
+    let mut gates = vec![in alloc; Open; LANES]?;
+    let status = deuce(
+        rt,
+        alloc,
+        words.as_slice(),
+        &mut folder,
+        &mut out,
+        &mut gates,
+    );
     let text = str::from_utf8(out.written.as_slice()).unwrap_or("no text\n");
     print!(rt; "== {name}\nstatus {status}\n{text}")?;
     let put = format!(in alloc; "rows/{name}/out")?;

@@ -1,4 +1,5 @@
 //! The example's class, and runs of it over folders and sinks in memory.
+use deuce::Open;
 use deuce::top::deuce;
 use deuce_io::{Folder, IoEnd, MemFolder, MemSink};
 use jmodel::Bytes;
@@ -28,6 +29,9 @@ pub const THREE_CALLS: &[u8] =
 pub const ONE_CALL: &[u8] =
     b"{\"form\":1,\"lanes\":1,\"phases\":[{\"lanes\":[[{\"call\":\"Counter.inc()I\",\"args\":[]}]]}]}";
 
+/// How many lanes a script has at most, each with a gate.
+pub const LANES: usize = 16;
+
 /// The words `run d s`.
 pub const RUN: [&str; 3] = ["run", "d", "s"];
 
@@ -54,7 +58,8 @@ pub fn call<R: Threads + Sync>(
     for word in words {
         list.push(String::from_str(alloc, word)?)?;
     }
-    let status = deuce(rt, alloc, list.as_slice(), folder, &mut out);
+    let mut gates = vec![in alloc; Open; LANES]?;
+    let status = deuce(rt, alloc, list.as_slice(), folder, &mut out, &mut gates);
     Ok((status, out.written))
 }
 

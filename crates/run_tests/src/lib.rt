@@ -9,6 +9,8 @@ mod fixture;
 #[cfg(test)]
 mod folders;
 #[cfg(test)]
+mod gates;
+#[cfg(test)]
 mod lanes;
 #[cfg(test)]
 mod log_gate;

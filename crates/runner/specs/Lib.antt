@@ -3,3 +3,4 @@ pub mod Headline
 pub mod Kept
 pub mod Lines
 pub mod Placing
+pub mod Telling

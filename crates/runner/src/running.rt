@@ -12,13 +12,14 @@ ghost use Rattle.script.specs.Script.{IsScript};
 ghost use Rattle.runner.specs.Headline.{IsRunnable, IsRunOf, AreCountsOf};
 ghost use Rattle.runner.specs.Kept.{AreOfRun};
 ghost use Rattle.runner.specs.Faults.{EndsRun, EndsScript};
+ghost use Rattle.runner.specs.Telling.{TellsRunOf, TellsCountsOf, TellsKept};
 
 use crate::opening::opened;
 use crate::outcome::RunEnd;
 use crate::preparing::prepare;
 use crate::text::{answer_in, journal};
 use const_pool::ClassFile;
-use driver::{Journal, Limits, Runner};
+use driver::{Gate, Journal, Limits, Runner};
 use heap_layout::texts::fixed_words;
 use hierarchy::Program;
 use jmodel::{Bytes, Halt};
@@ -41,20 +42,24 @@ pub struct Counts {
     pub answer: Bytes,
 }
 
-/// Runs a script on class files, and gives the text of its journal.
-pub fn run_files<R: Threads + Sync>(
+/// Runs a script on class files, and gives the text of its journal. Lane k's calls tell gate k; after an `Ok` as many gates stand there, in their order.
+pub fn run_files<R: Threads + Sync, G: Gate + Send + Drop>(
     rt: &R,
     alloc: Global,
     files: &[ClassFile],
     script: &[u8],
+    gates: &mut Vec<G>,
 ) -> Result<Bytes, RunEnd>
     requires few { length files.now ≤ 256 }
     requires form { AllByRecursion IsClassFile files.now }
     requires filed { AllByRecursion AreFiled files.now }
+    requires gates { length gates.old.items ≡ 16 }
     ensures run { IfOk result (λ text. IsRunOf files.now script.now text) }
+    // Where a gate tells its events, they are those before, and then those of its lane's placed calls, run by the rewriting.
+    ensures told { IfOk result (λ text. TellsRunOf files.now script.now text (map G.told gates.old.items) (map G.told gates.new.items)) }
     ensures cause { IfErr result (EndsRun files.now script.now) }
 {
-    let ran = run_on(rt, alloc, files, script, None)?;
+    let ran = run_on(rt, alloc, files, script, None, gates)?;
     Ok(journal(
         alloc,
         &ran.program,
@@ -64,21 +69,24 @@ pub fn run_files<R: Threads + Sync>(
 }
 
 /// Runs a script on class files, by an engine that takes the place of the script's if there is one, and counts its calls. The answer is that of the first placed call of a phase, or `nomemory` where none is placed.
-pub fn count_calls<R: Threads + Sync>(
+pub fn count_calls<R: Threads + Sync, G: Gate + Send + Drop>(
     rt: &R,
     alloc: Global,
     files: &[ClassFile],
     script: &[u8],
     engine: Option<EngineKind>,
     phase: u32,
+    gates: &mut Vec<G>,
 ) -> Result<Counts, RunEnd>
     requires few { length files.now ≤ 256 }
     requires form { AllByRecursion IsClassFile files.now }
     requires filed { AllByRecursion AreFiled files.now }
+    requires gates { length gates.old.items ≡ 16 }
     ensures run { IfOk result (λ c. AreCountsOf files.now script.now phase c.placed c.unplaced c.answer) }
+    ensures told { IfOk result (λ c. TellsCountsOf files.now script.now c.placed (map G.told gates.old.items) (map G.told gates.new.items)) }
     ensures cause { IfErr result (EndsRun files.now script.now) }
 {
-    let ran = run_on(rt, alloc, files, script, engine)?;
+    let ran = run_on(rt, alloc, files, script, engine, gates)?;
     let answer = answer_in(alloc, ran.calls.placed.as_slice(), phase)?;
     Ok(Counts {
         placed: ran.calls.placed.len(),
@@ -88,17 +96,20 @@ pub fn count_calls<R: Threads + Sync>(
 }
 
 /// Runs a script on class files, by an engine that takes the place of the script's if there is one.
-fn run_on<R: Threads + Sync>(
+fn run_on<R: Threads + Sync, G: Gate + Send + Drop>(
     rt: &R,
     alloc: Global,
     files: &[ClassFile],
     script: &[u8],
     engine: Option<EngineKind>,
+    gates: &mut Vec<G>,
 ) -> Result<Ran, RunEnd>
     requires few { length files.now ≤ 256 }
     requires form { AllByRecursion IsClassFile files.now }
     requires filed { AllByRecursion AreFiled files.now }
+    requires gates { length gates.old.items ≡ 16 }
     ensures run { IfOk result (λ r. AreOfRun files.now script.now r.program r.calls) }
+    ensures told { IfOk result (λ r. TellsKept (order_of_classes files.now) script.now r.program r.calls (map G.told gates.old.items) (map G.told gates.new.items)) }
     ensures cause { IfErr result (EndsRun files.now script.now) }
 {
     let prepared = prepare(alloc, files)?;
@@ -110,6 +121,7 @@ fn run_on<R: Threads + Sync>(
         &prepared.rewritten,
         script,
         engine,
+        gates,
     )?;
     Ok(Ran {
         program: prepared.original,
@@ -136,7 +148,7 @@ fn script_of(
 }
 
 /// Runs a script on the program of classes by its rewriting, over an engine that takes the place of the script's if there is one.
-fn run_script<R: Threads + Sync>(
+fn run_script<R: Threads + Sync, G: Gate + Send + Drop>(
     rt: &R,
     alloc: Global,
     classes: &[&ClassFile],
@@ -144,10 +156,13 @@ fn run_script<R: Threads + Sync>(
     rewritten: &Program,
     script: &[u8],
     engine: Option<EngineKind>,
+    gates: &mut Vec<G>,
 ) -> Result<Journal, RunEnd>
     requires read { AreRead (map (λ c. c.now) classes.now) }
     requires links { linking (map (λ c. c.now) classes.now) ≡ Ok (Some original.now) }
     requires ready { IsReady original.now rewritten.now }
+    requires gates { length gates.old.items ≡ 16 }
+    ensures told { IfOk result (λ calls. TellsKept (map (λ c. c.now) classes.now) script.now original.now calls (map G.told gates.old.items) (map G.told gates.new.items)) }
     ensures run { IfOk result (λ calls. (files : List Form) → order_of_classes files ≡ map (λ c. c.now) classes.now → IsRunnable files original.now → AreOfRun files script.now original.now calls) }
     ensures cause { IfErr result (EndsScript original.now (map (λ c. c.now) classes.now) script.now) }
 {
@@ -165,5 +180,5 @@ fn run_script<R: Threads + Sync>(
         engine: engine.unwrap_or(wanted.engine),
         limits,
     };
-    Ok(runner.run_phases(rt, memory, wanted.phases.as_slice())?)
+    Ok(runner.run_phases(rt, memory, wanted.phases.as_slice(), gates)?)
 }

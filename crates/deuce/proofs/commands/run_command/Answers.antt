@@ -5,7 +5,8 @@ use Rattle.deuce.specs.Outcomes.{IsUnreadAs, IsRefusedAs}
 use Rattle.deuce.proofs.HelperPath.{are_elsewhere}
 use Rattle.deuce.proofs.Lists.{on_ok}
 use Rattle.deuce.proofs.Outcomes.{unread, not_good, kept_for_helper, refused}
-use Rattle.deuce.proofs.Reading.{all_form, few_files, lacks_helper, journal_of, unopened_of}
+use Rattle.deuce.proofs.Reading.{all_form, few_files, lacks_helper, journal_of, told_journal, unopened_of}
+use Rattle.deuce.proofs.Told.{told_unread, told_refused}
 use Rattle.deuce.proofs.commands.run_command.Goals as goal
 
 pub run_files-requires-clause-form : goal.run_files-requires-clause-form
@@ -75,3 +76,28 @@ returns-clause-outcome g c =
     (λ r bad has. inl (dir, c.args.script.now, w, record { free = free; script_bytes = bytes; script_front = a.script_bytes; of_classes = has }))
     (λ name x h has. inl (dir, c.args.script.now, w, unopened_of files dir c.args.script.now bytes name x free a.script_bytes h.is_script.fits has))
     (rw (c.as_slice-4.ensures.value, c.as_slice-5.ensures) at c.in-Err-run_files.ensures.cause) is) c.refused.ensures
+
+pub returns-in-Err-clause-told : goal.returns-in-Err-clause-told
+returns-in-Err-clause-told g c =
+    on_ok c.unread.result (IsUnreadAs c.in-Err.end) _
+    (λ o is words w. told_unread words (g.F.Folder.seen c.args.folder.now).files _ _ c.in-Err.end o is) c.unread.ensures
+
+pub returns-in-Err-classes_of-clause-told : goal.returns-in-Err-classes_of-clause-told
+returns-in-Err-classes_of-clause-told g c =
+    on_ok c.unread-in-Err-classes_of.result (IsUnreadAs c.in-Err-classes_of.end) _
+    (λ o is words w. told_unread words (g.F.Folder.seen c.args.folder.now).files _ _ c.in-Err-classes_of.end o is) c.unread-in-Err-classes_of.ensures
+
+pub returns-in-Ok-run_files-clause-told : goal.returns-in-Ok-run_files-clause-told
+returns-in-Ok-run_files-clause-told g c = λ words w. (
+  c.args.dir.now,
+  c.args.script.now,
+  w,
+  told_journal (g.F.Folder.seen c.args.folder.now).files c.args.dir.now c.args.script.now c.in-Ok.inputs c.in-Ok-classes_of.files.items c.in-Ok-run_files.text _ _ c.in-Ok.ensures.inputs
+      (rw c.as_slice.ensures.value at c.in-Ok-classes_of.ensures.classes) (rw (c.as_slice-4.ensures.value, c.as_slice-5.ensures) at c.in-Ok-run_files.ensures.run).are_calls.is_script.fits
+      (rw (c.as_slice-4.ensures.value, c.as_slice-5.ensures) at c.in-Ok-run_files.ensures.told),
+)
+
+pub returns-clause-told : goal.returns-clause-told
+returns-clause-told g c =
+    on_ok c.refused.result (IsRefusedAs c.in-Err-run_files.end) _
+    (λ o is words w. told_refused words (g.F.Folder.seen c.args.folder.now).files _ _ c.in-Err-run_files.end o is) c.refused.ensures

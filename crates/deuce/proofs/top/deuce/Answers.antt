@@ -2,6 +2,7 @@ use Rattle.std.proofs.Common.{Err, ap, inr}
 use Rattle.deuce.proofs.Printed.{journal_printed, summary_printed, rewriting_printed, fault_printed, program_printed, untyped_printed, script_printed, unopened_printed, put_printed, refusal_keeps}
 use Rattle.deuce.proofs.Complete.{complete, complete_rewriting, helper_refused}
 use Rattle.deuce.proofs.Banks.{complete_bank, outside_limits}
+use Rattle.deuce.proofs.Told.{told_printed, told_of_bank}
 use Rattle.deuce.proofs.top.deuce.Goals as goal
 
 pub returns-in-Ok-print-clause-journal : goal.returns-in-Ok-print-clause-journal
@@ -86,3 +87,13 @@ returns-clause-cut_or_none g c = λ ten.
         front = front.1;
       },
     )
+
+pub returns-in-Ok-print-clause-told : goal.returns-in-Ok-print-clause-told
+returns-in-Ok-print-clause-told g c = λ zero.
+    told_printed c.args.words.now (g.F.Folder.seen c.args.folder.now).files _ _ (g.F.Folder.seen c.args.folder.now) (g.F.Folder.seen c.outcome_of.new.folder) c.in-Ok-text_of.text _ _ c.status-status.result c.in-Ok.outcome
+    c.in-Ok.ensures.outcome.1 c.in-Ok.ensures.told c.status-status.ensures c.in-Ok-text_of.ensures (rw c.as_slice.ensures at c.in-Ok-print.ensures.written) zero
+
+pub returns-in-Ok-print-clause-told_bank : goal.returns-in-Ok-print-clause-told_bank
+returns-in-Ok-print-clause-told_bank g c = λ zero.
+    told_of_bank c.args.words.now (g.F.Folder.seen c.args.folder.now).files _ _ (g.F.Folder.seen c.args.folder.now) (g.F.Folder.seen c.outcome_of.new.folder) c.in-Ok-text_of.text _ _ c.status-status.result c.in-Ok.outcome
+    c.in-Ok.ensures.outcome.1 c.in-Ok.ensures.told c.status-status.ensures c.in-Ok-text_of.ensures (rw c.as_slice.ensures at c.in-Ok-print.ensures.written) zero

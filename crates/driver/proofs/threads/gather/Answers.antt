@@ -1,11 +1,13 @@
-use Rattle.std.proofs.Common.{ℕ, List, [], length, take, sym, subst, ◌∙◌}
-use Rattle.std.proofs.lemmas.List.{length_push}
+use Rattle.std.proofs.Common.{◌≡◌, ◌++◌, ℕ, List, [], length, take, sym, ap, subst, ◌∙◌}
+use Rattle.std.specs.List.{flat_map}
+use Rattle.std.proofs.lemmas.List.{length_push, flat_map_more, map-id}
 use Rattle.std.proofs.lemmas.Iterator.Adapters.{YieldsList-from_vec}
 use Rattle.std.proofs.lemmas.Iterator.Consumers.{YieldsList-turn, YieldsList-end}
 use Rattle.session.specs.declared.record.Record.{Record}
 use Rattle.driver.specs.declared.side.Part.{Part}
 use Rattle.driver.specs.Passing.{call_count, IsJoining}
 use Rattle.driver.proofs.Joining.{joins_first, may_join, sums_fit, gathers_next, gathers_all}
+use Rattle.driver.specs.Telling.{kept_of}
 use Rattle.driver.proofs.threads.gather.Goals as goal
 
 pub loop-end-init : goal.loop-end-init
@@ -16,6 +18,7 @@ loop-end-init g c = record {
       let Placed : List Record → Type 0 = λ rs. IsJoining t b phase n 0 [] rs c.new-parts.result.items c.args.pass.now in
       let Parts : List Part → Type 0 = λ ps. IsJoining t b phase n 0 [] [] ps c.args.pass.now in
       subst Placed (sym c.new-placed.ensures.items) (subst Parts (sym c.new-parts.ensures.items) (joins_first t b phase n c.args.pass.now ending.split));
+  placed = c.new-placed.ensures.items;
 }
 
 pub join-requires-clause-table : goal.join-requires-clause-table
@@ -76,13 +79,25 @@ loop-end-preserved g c =
           (gathers_next t b phase k lanes ends c.in-Some.end c.in_ok-lane.lane c.args.pass.now c.loop-end.pass c.in_ok-lane.other c.loop-end.placed.items
           c.loop-end.parts.items ending turn.0 turn.1 c.in_ok-lane.was j c.join.new.self c.append.new.self.items c.push.new.self.items c.join.ensures.same
           c.join.ensures.book c.in_ok-append.ensures.items c.in_ok-push.ensures.items);
+      placed =
+          let kept : c.in_ok-lane.lane.placed.items ≡ kept_of c.in-Some.end = ap kept_of (sym c.in_ok-lane.was) in
+          c.in_ok-append.ensures.items ∙ ap (λ (rs : List Record). rs ++ c.in_ok-lane.lane.placed.items) c.loop-end.invariant.placed
+          ∙ ap (λ (rs : List Record). flat_map kept_of c.loop-end.yielded ++ rs) kept ∙ flat_map_more kept_of [] c.loop-end.yielded c.in-Some.end;
     }
 
-pub returns : goal.returns
-returns g c = λ b phase lanes ending.
+pub returns-clause-joining : goal.returns-clause-joining
+returns-clause-joining g c = λ b phase lanes ending.
     let ends = c.args.ends.items in
     let from = c.into_iter-end-iterator.ensures.into_iter_gives in
     let end = YieldsList-end (YieldsList-from_vec ends from.0 (from.1 ∙ c.args.ends.ok.0))
     c.loop-end.yielded c.loop-end.end-iterator c.loop-end.yielded_by c.next.result c.next.new.self c.in-None.is c.next.ensures.steps in
     gathers_all c.args.shared.now.table.shared.table_id b phase (length c.loop-end.yielded) lanes ends c.loop-end.placed.items c.loop-end.parts.items c.args.pass.now
     c.loop-end.pass ending end.1 (c.loop-end.invariant.joining b phase lanes ending)
+
+pub returns-clause-placed : goal.returns-clause-placed
+returns-clause-placed g c =
+    let ends = c.args.ends.items in
+    let from = c.into_iter-end-iterator.ensures.into_iter_gives in
+    let end = YieldsList-end (YieldsList-from_vec ends from.0 (from.1 ∙ c.args.ends.ok.0))
+    c.loop-end.yielded c.loop-end.end-iterator c.loop-end.yielded_by c.next.result c.next.new.self c.in-None.is c.next.ensures.steps in
+    c.loop-end.invariant.placed ∙ ap (flat_map kept_of) (sym (map-id c.loop-end.yielded) ∙ end.0)

@@ -3,6 +3,7 @@ use Rattle.jmodel.specs.format.ClassFile.{ClassFile}
 use Rattle.objects.specs.linking.Linking.{linking}
 use Rattle.objects.specs.laws.LinkingLaw.{AreRead}
 use Rattle.runner.specs.Faults.{EndsScript, EndsRun}
+use Rattle.runner.specs.Telling.{TellsKept}
 use Rattle.runner.proofs.Lists.{err_is}
 use Rattle.runner.proofs.Readying.{of_preparing}
 use Rattle.runner.proofs.Together.{of_script}
@@ -33,3 +34,10 @@ returns-in_err-calls-clause-cause g c =
 pub returns-clause-run : goal.returns-clause-run
 returns-clause-run g c =
     c.in_ok-calls.ensures.run c.args.files.now (sym (ap (map (λ k. k.now)) c.as_slice.ensures.value ∙ c.in_ok-prepared.ensures.order)) c.in_ok-prepared.ensures.runnable
+
+pub returns-clause-told : goal.returns-clause-told
+returns-clause-told g c =
+    let order = ap (map (λ k. k.now)) c.as_slice.ensures.value ∙ c.in_ok-prepared.ensures.order in
+    let x = map g.G.Gate.told c.args.gates.now.items in
+    let y = map g.G.Gate.told c.run_script.new.gates.items in
+    subst (λ (cs : List ClassFile). TellsKept cs c.args.script.now c.in_ok-prepared.prepared.original c.in_ok-calls.calls x y) order c.in_ok-calls.ensures.told

@@ -1,4 +1,4 @@
-use Rattle.std.proofs.Common.{◌≡◌, ◌∙◌, ap, sym, subst, List}
+use Rattle.std.proofs.Common.{◌≡◌, ◌∙◌, ℕ, ap, sym, subst, List}
 use Rattle.std.specs.Prelude.{map}
 use Rattle.objects.specs.linking.Layout.{opening_state}
 use Rattle.jmodel.specs.format.ClassFile.{ClassFile}
@@ -8,6 +8,7 @@ use Rattle.objects.proofs.Links.{links}
 use Rattle.jmodel.specs.history.Schedule.{ScriptPhase}
 use Rattle.script.specs.Script.{Script, IsScript}
 use Rattle.driver.specs.Runs.{AreScripted}
+use Rattle.driver.specs.Telling.{TellsScript}
 use Rattle.runner.proofs.Scripted.{scripted, few_attempts, region_fits, lanes_fit}
 use Rattle.runner.specs.Faults.{EndsScript}
 use Rattle.runner.proofs.Lists.{err_is}
@@ -67,4 +68,27 @@ returns-clause-run g c = λ files order is.
     let Ordered : List ClassFile → Type 0 = λ ds. Opening P c.wanted.inside.region c.wanted.inside.budget (opening_state ds) (initialisers_in ds P) opened.0 in
     let Scripts : List ClassFile → Type 0 = λ ds. IsScript ds P c.args.script.now wanted in
     of_run c.args.script.now files P wanted c.as_slice.result.now c.wanted.inside.region c.wanted.inside.budget c.in_ok-memory.memory c.in_ok-run_phases.field-0 is (subst Scripts (sym order) c.in_ok-wanted.ensures.script)
-    phases size budget opened.0 (subst Ordered (sym order) opened.1) c.in_ok-run_phases.ensures opened.2
+    phases size budget opened.0 (subst Ordered (sym order) opened.1) c.in_ok-run_phases.ensures.run opened.2
+
+pub returns-clause-told : goal.returns-clause-told
+returns-clause-told g c =
+    let wanted = c.in_ok-wanted.wanted in
+    let Q = c.args.rewritten.now in
+    let phases : c.as_slice.result.now ≡ wanted.phases = c.as_slice.ensures.value ∙ ap (λ (s : Script). s.phases) c.wanted.view_is in
+    let budget : c.wanted.inside.budget ≡ wanted.budget = ap (λ (s : Script). s.budget) c.wanted.view_is in
+    let attempts : c.wanted.inside.attempts ≡ wanted.attempts = ap (λ (s : Script). s.attempts) c.wanted.view_is in
+    let size : c.wanted.inside.region ≡ wanted.region = ap (λ (s : Script). s.region) c.wanted.view_is in
+    let placed = c.in_ok-run_phases.field-0.placed.items in
+    let x = map g.G.Gate.told c.args.gates.now.items in
+    let y = map g.G.Gate.told c.run_phases.new.gates.items in
+    let Told : ℕ → ℕ → ℕ → List ScriptPhase → Type 0 = λ b a r ps. TellsScript Q (record { budget = b; attempts = a; size = r }) ps placed x y in
+    let all = subst (Told c.wanted.inside.budget c.wanted.inside.attempts c.wanted.inside.region) phases c.in_ok-run_phases.ensures.told in
+    record {
+      script = wanted;
+      is_script = c.in_ok-wanted.ensures.script;
+      rewriting = Q;
+      ready = c.requires.ready;
+      told = subst (λ (r : ℕ). Told wanted.budget wanted.attempts r wanted.phases) size
+          (subst (λ (a : ℕ). Told wanted.budget a c.wanted.inside.region wanted.phases) attempts
+          (subst (λ (b : ℕ). Told b c.wanted.inside.attempts c.wanted.inside.region wanted.phases) budget all));
+    }

@@ -10,6 +10,8 @@ use Rattle.driver.specs.Passing.{MayGoOn, first_of, call_count, IsResting}
 use Rattle.driver.proofs.Added.{phase_added}
 use Rattle.driver.proofs.Midway.{may_rest, firsts_within}
 use Rattle.driver.proofs.Resting.{whole_next}
+use Rattle.driver.proofs.Told.{told_phase}
+use Rattle.driver.proofs.Rising.{lanes_rise}
 use Rattle.driver.proofs.run.Runner.add_rest.Goals as goal
 
 pub one_after_another-requires-clause-firsts : goal.one_after_another-requires-clause-firsts
@@ -86,3 +88,24 @@ returns-clause-adds g c = λ b m.
     let moved = subst (λ (rs : List Record). IsPermutation rs sorted) c.in_ok-append.ensures.items c.in_ok-sort_placed.ensures.moved in
     phase_added t c.args.phase b lanes first rest.placed.items sorted rest.parts.items c.args.pass left c.args.journal.now c.add_phase.new.self c.requires.lanes m resting
     whole moved c.in_ok-sort_placed.ensures.sorted c.in_ok-add_phase.ensures.placed c.in_ok-add_phase.ensures.unplaced
+
+pub returns-clause-told : goal.returns-clause-told
+returns-clause-told g c = λ b before m told.
+    let t = c.args.shared.now.table.shared.table_id in
+    let Q = c.args.self.now.rewritten.now in
+    let limits = c.args.self.now.limits in
+    let lanes = c.args.lanes.now in
+    let first = c.args.first in
+    let counts : c.deref-2.result.now ≡ made_counts first.parts.items = c.deref-2.ensures.value ∙ c.in_ok-firsts.ensures ∙ ap made_counts c.deref.ensures.value in
+    let rest = c.in_ok-rest.rest in
+    let left = c.in_ok-rest.left in
+    let Resting : List ℕ → Type 0 =
+    λ ns. IsResting t (book c.args.pass) c.args.phase (call_count lanes) lanes ns rest.placed.items rest.parts.items left in
+    let resting = subst Resting counts c.in_ok-rest.ensures.made in
+    let sorted = c.sort_placed.new.placed.items in
+    let whole = subst (λ (ns : List ℕ). AreWhole lanes ns rest.parts.items) counts c.in_ok-rest.ensures.whole in
+    let moved = subst (λ (rs : List Record). IsPermutation rs sorted) c.in_ok-append.ensures.items c.in_ok-sort_placed.ensures.moved in
+    let gathered = m.joining.gathered in
+    told_phase Q limits c.args.phase lanes first.placed.items rest.placed.items sorted _ _ before _ _ told c.in_ok-rest.ensures.told moved c.in_ok-add_phase.ensures.placed
+    (lanes_rise c.args.phase lanes first.placed.items rest.placed.items gathered.tolds resting.over.tolds first.parts.items rest.parts.items gathered.parts_are resting.over.parts_are whole
+    gathered.placed_are resting.over.placed_are)

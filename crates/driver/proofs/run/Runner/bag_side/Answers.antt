@@ -1,4 +1,8 @@
-use Rattle.std.proofs.Common.{ℕ, ◌≡◌, length, sym, subst, arith}
+use Rattle.std.proofs.Common.{ℕ, ◌≡◌, length, map, sym, ◌∙◌, subst, arith}
+use Rattle.std.proofs.lemmas.List.{length-map}
+use Rattle.std.proofs.lemmas.List.Folds.{flat_map-map}
+use Rattle.driver.specs.Telling.{kept_of}
+use Rattle.driver.proofs.Told.{told_side}
 use Rattle.tx_table.specs.Passes.{book}
 use Rattle.driver.specs.Bags.{lists, as_lanes}
 use Rattle.driver.specs.Passing.{call_count, HasRoom}
@@ -46,7 +50,7 @@ returns-clause-midway g c =
     let whole : c.args.workers ≡ length lanes = omega (arith, long, c.in_ok-ends.ensures.len, c.in_ok-starts.ensures.len) in
     let ending =
     ending_of t b c.args.phase c.args.workers lanes c.in_ok-ends.ends.items c.start_lanes.new.pass room whole c.in_ok-starts.ensures.pass ended in
-    midway_of t c.args.phase lanes c.in_ok-side.side p c.gather.new.pass c.requires.pass room (c.in_ok-side.ensures b c.args.phase lanes ending)
+    midway_of t c.args.phase lanes c.in_ok-side.side p c.gather.new.pass c.requires.pass room (c.in_ok-side.ensures.joining b c.args.phase lanes ending)
 
 pub keep_used-requires : goal.keep_used-requires
 keep_used-requires g c =
@@ -60,7 +64,7 @@ keep_used-requires g c =
     let whole : c.args.workers ≡ length lanes = omega (arith, long, c.in_ok-ends.ensures.len, c.in_ok-starts.ensures.len) in
     let ending =
     ending_of t b c.args.phase c.args.workers lanes c.in_ok-ends.ends.items c.start_lanes.new.pass room whole c.in_ok-starts.ensures.pass ended in
-    let j = c.in_ok-side.ensures b c.args.phase lanes ending in
+    let j = c.in_ok-side.ensures.joining b c.args.phase lanes ending in
     let as_many = joined_long t b c.args.phase lanes c.in_ok-side.side c.gather.new.pass j in
     rw c.as_slice.ensures.value (omega (arith, as_many, whole, c.requires.workers.1))
 
@@ -76,9 +80,23 @@ returns-clause-used g c =
     let whole : c.args.workers ≡ length lanes = omega (arith, long, c.in_ok-ends.ensures.len, c.in_ok-starts.ensures.len) in
     let ending =
     ending_of t b c.args.phase c.args.workers lanes c.in_ok-ends.ends.items c.start_lanes.new.pass room whole c.in_ok-starts.ensures.pass ended in
-    let j = c.in_ok-side.ensures b c.args.phase lanes ending in
+    let j = c.in_ok-side.ensures.joining b c.args.phase lanes ending in
     let as_many = joined_long t b c.args.phase lanes c.in_ok-side.side c.gather.new.pass j in
     let kept = rw c.as_slice.ensures.value at c.keep_used.ensures.lanes in
     let others = rw c.as_slice.ensures.value at c.keep_used.ensures.others in
-    used_back t b c.args.phase (call_count lanes) lanes c.in_ok-side.side.placed.items c.in_ok-side.side.parts.items c.gather.new.pass c.args.used.now
+    used_back t b c.args.phase (call_count lanes) lanes c.in_ok-side.side.placed.items c.in_ok-side.side.parts.items c.gather.new.pass c.args.kept.now.used
     c.keep_used.new.used j c.requires.used as_many kept others
+
+pub returns-clause-told : goal.returns-clause-told
+returns-clause-told g c =
+    let Q = c.args.self.now.rewritten.now in
+    let limits = c.args.self.now.limits in
+    let taken = lists c.in_ok-ends.taken.items in
+    let lanes = as_lanes c.args.calls.now taken in
+    let ends = c.in_ok-ends.ends.items in
+    let b = book c.args.pass.now in
+    let ended = c.in_ok-ends.ensures.ended b.seen (c.in_ok-starts.ensures.starts c.args.phase c.requires.pass) in
+    let long = lanes_long c.args.calls.now c.in_ok-ends.taken.items in
+    let many : length (map kept_of ends) ≡ c.args.workers = length-map ends kept_of ∙ ended.len ∙ long ∙ c.in_ok-ends.ensures.len ∙ c.in_ok-starts.ensures.len in
+    told_side Q limits c.args.phase lanes (map kept_of ends) c.in_ok-side.side.placed.items c.args.workers _ _ c.in_ok-ends.ensures.told
+    (c.in_ok-side.ensures.placed ∙ sym (flat_map-map (λ rs. rs) kept_of ends)) many

@@ -32,3 +32,6 @@ returns-clause-made g c = rw take_rest at c.make_shared.ensures.made
 
 pub returns-clause-all : goal.returns-clause-all
 returns-clause-all g c = rw take_rest at c.make_shared.ensures.all
+
+pub returns-clause-told : goal.returns-clause-told
+returns-clause-told g c = rw take_rest at c.make_shared.ensures.told

@@ -1,4 +1,4 @@
-use Rattle.std.proofs.Common.{◌≡◌, ◌≤◌, ◌^◌, ℕ, List, [], length, get_or, refl, sym, ap, ◌∙◌, subst, arith}
+use Rattle.std.proofs.Common.{◌≡◌, ◌≤◌, ◌^◌, ℕ, List, [], length, map, set, drop, None, ◌<◌, ◌+◌, get_or, refl, sym, ap, ◌∙◌, subst, arith}
 use Rattle.std.specs.List.{AllByRecursion}
 use Rattle.std.proofs.lemmas.List.{get_or_default}
 use Rattle.jmodel.specs.history.Schedule.{Known}
@@ -13,6 +13,14 @@ use Rattle.driver.proofs.Lists.{all_here, zip_here}
 use Rattle.driver.proofs.Midway.{may_go_on, goes_on, whole_on}
 use Rattle.driver.proofs.Passing.{used_on}
 use Rattle.driver.proofs.Places.{IsFew}
+use Rattle.jmodel.specs.history.Schedule.{Lanes}
+use Rattle.driver.specs.Telling.{IsCallAt}
+use Rattle.machine.specs.Machine.{bounds_of}
+use Rattle.objects.specs.rewriting.Events.{Grows}
+use Rattle.session.specs.Telling.{IsRecordOf, HasTold}
+use Rattle.std.proofs.lemmas.List.{length-map}
+use Rattle.driver.proofs.Handing.{told_got, told_set_here, told_set_other, told_set_long}
+use Rattle.driver.proofs.Told.{told_nothing, told_turn}
 use Rattle.driver.proofs.run.Runner.one_after_another.Goals as goal
 
 pub loop-number-init : goal.loop-number-init
@@ -25,6 +33,7 @@ loop-number-init g c =
       resting = subst Placed (sym c.new-placed.ensures.items) (subst Parts (sym c.new-parts.ensures.items) c.requires.resting);
       used = c.requires.used;
       whole = subst (AreWhole [] []) (sym c.new-parts.ensures.items) tt;
+      told = told_nothing c.args.self.now.rewritten.now c.args.self.now.limits (IsCallAt c.args.phase (Lanes c.args.lanes.now)) (length c.args.lanes.now) c.new-placed.result.items (map g.G.Gate.told c.args.kept.now.gates.items) c.new-placed.ensures.items;
     }
 
 pub overflow_cast-at-in-loop-number : goal.overflow_cast-at-in-loop-number
@@ -101,7 +110,22 @@ loop-number-preserved g c =
           refl i.resting c.in_ok-made.made made.0 c.in_ok-made.left within c.append.new.self.items c.push.new.self.items placed_is parts_is
           c.in_region.result.room.used c.in_ok-made.made.used made.1 made.2;
       used = used_on t (record { phase = c.args.phase; lane = n; first = first }) c.in_region.result.room.used _ c.in_ok-made.made.made c.in_ok-made.made.used _
-          c.in_ok-made.made made.0 c.loop-number.pass c.in_ok-made.left c.loop-number.used (omega (arith, inside, c.requires.lanes)) made.1 made.2 i.used;
+          c.in_ok-made.made made.0 c.loop-number.pass c.in_ok-made.left c.loop-number.kept.used (omega (arith, inside, c.requires.lanes)) made.1 made.2 i.used;
       whole = whole_on t b c.args.phase n first lanes firsts cs c.loop-number.placed.items c.loop-number.parts.items c.loop-number.pass inside here c.requires.firsts
           refl i.resting c.in_ok-made.made made.0 c.in_ok-made.left within c.append.new.self.items c.push.new.self.items placed_is parts_is i.whole all;
+      told =
+          let T = g.G.Gate.told in
+          let gs = c.loop-number.kept.gates.items in
+          let gate = c.make_rest.new.gate in
+          let old = c.index_mut.result.now in
+          let low : n < length gs = omega (arith, inside, c.requires.lanes, c.requires.gates, i.told.len, length-map gs T, length-map c.args.kept.now.gates.items T) in
+          let more = c.in_ok-made.made.placed.items in
+          let has = rw is at c.in_ok-made.ensures.told in
+          let before = told_got T gs n old low c.index_mut.ensures.value in
+          let after = told_set_here T gs n gate low in
+          told_turn c.args.self.now.rewritten.now c.args.self.now.limits c.args.phase n first lanes cs c.in_region.result (n + 1) (get_or c.loop-number.kept.used n 0) c.loop-number.placed.items more c.append.new.self.items
+          (map T c.args.kept.now.gates.items) (map T gs) (map T (set gs n gate)) inside here c.in_region.ensures (omega arith)
+          (subst (λ a. HasTold c.args.self.now.rewritten.now (bounds_of c.in_region.result) (IsRecordOf (record { phase = c.args.phase; lane = n; first = first }) (drop first cs)) more (Grows a (get_or (map T (set gs n gate)) n None))) (sym before)
+          (subst (λ b. HasTold c.args.self.now.rewritten.now (bounds_of c.in_region.result) (IsRecordOf (record { phase = c.args.phase; lane = n; first = first }) (drop first cs)) more (Grows (T old) b)) (sym after) has))
+          (told_set_long T gs n gate) (told_set_other T gs n gate) i.told placed_is;
     }

@@ -1,4 +1,6 @@
-use Rattle.std.proofs.Common.{take}
+use Rattle.std.proofs.Common.{length, map, take}
+use Rattle.jmodel.specs.history.Schedule.{Lanes}
+use Rattle.driver.specs.Telling.{AreTold, IsCallAt}
 use Rattle.tx_table.specs.Passes.{book}
 use Rattle.driver.specs.Sides.{AreWhole}
 use Rattle.driver.specs.Passing.{AreUsed, call_count, IsResting}
@@ -8,6 +10,7 @@ abbrev pub invariant-loop-number : goal.invariant-loop-number
 invariant-loop-number g l = record {
   resting : IsResting l.shared.table.shared.table_id (book l.fn.pass) l.phase (call_count (take l.number l.lanes)) (take l.number l.lanes) (take l.number l.firsts)
       l.placed.items l.parts.items l.pass;
-  used : AreUsed l.used (book l.pass);
+  used : AreUsed l.kept.used (book l.pass);
   whole : AreWhole (take l.number l.lanes) (take l.number l.firsts) l.parts.items;
+  told : AreTold l.self.rewritten.now l.self.limits (IsCallAt l.phase (Lanes l.lanes)) (length l.lanes) l.placed.items (map g.G.Gate.told l.fn.kept.gates.items) (map g.G.Gate.told l.kept.gates.items);
 }

@@ -1,16 +1,19 @@
-use Rattle.std.proofs.Common.{◌≡◌, ◌≤◌, ◌<◌, ℕ, List, [], length, get_or, arith, ◌+◌, sym, ap, ◌∙◌, subst}
+use Rattle.std.proofs.Common.{◌≡◌, ◌≤◌, ◌<◌, ℕ, List, [], length, get_or, arith, ◌+◌, suc, sym, ap, ◌∙◌, subst}
 use Rattle.std.proofs.lemmas.List.{get_or_default}
 use Rattle.jmodel.specs.history.Schedule.{Known}
-use Rattle.std.specs.Prelude.{IfOk}
 use Rattle.tx_table.specs.Passes.{book}
 use Rattle.machine.specs.declared.machine.Limits.{Limits as CallLimits}
 use Rattle.session.specs.Passes.{IsStarting}
 use Rattle.driver.specs.Passing.{first_of, HasEnded}
-use Rattle.driver.proofs.Lists.{on_ok, all_here}
+use Rattle.driver.proofs.Lists.{all_here}
 use Rattle.driver.proofs.Places.{IsFew}
 use Rattle.driver.proofs.Passing.{may_start, is_done}
 use Rattle.driver.proofs.States.{over_lane}
 use Rattle.driver.proofs.Rooms.{room_fits}
+use Rattle.machine.specs.Machine.{bounds_of}
+use Rattle.objects.specs.rewriting.Events.{Grows}
+use Rattle.session.specs.Telling.{IsRecordOf, HasTold}
+use Rattle.driver.proofs.Told.{lane_told}
 use Rattle.driver.proofs.run.Runner.run_lane.Goals as goal
 
 pub make_shared-requires-clause-region : goal.make_shared-requires-clause-region
@@ -33,7 +36,7 @@ make_shared-requires-clause-states g c =
 
 pub make_shared-requires-clause-pass : goal.make_shared-requires-clause-pass
 make_shared-requires-clause-pass g c =
-    let start = c.args.start in
+    let start = c.args.begun.0 in
     let inside = subst (λ (n : ℕ). n < length c.args.lanes.now) (sym c.from.ensures) c.requires.lane in
     let few = all_here IsFew c.args.lanes.now c.from.result c.index-lanes-from.result c.requires.few inside c.index-lanes-from.is in
     let short : length c.as_slice.result.now ≤ 100000 = rw (c.as_slice.ensures.value ∙ c.calls.view_is) few in
@@ -46,7 +49,9 @@ make_shared-requires-clause-pass g c =
 pub returns : goal.returns
 returns g c =
     let t = c.args.shared.now.table.shared.table_id in
-    let start = c.args.start in
+    let start = c.args.begun.0 in
+    let Q = c.args.self.now.rewritten.now in
+    let limits = c.args.self.now.limits in
     let seen = (book start.pass).seen in
     let calls = c.as_slice.result.now in
     let at = first_of c.args.phase start.lane in
@@ -55,13 +60,20 @@ returns g c =
     (c.as_slice.ensures.value ∙ c.calls.view_is) ∙ c.index-lanes-from.is
     ∙ get_or_default c.args.lanes.now c.from.result c.index-lanes-from.result [] inside
     ∙ ap (λ (n : ℕ). get_or c.args.lanes.now n []) c.from.ensures in
-    subst (λ (cs : List Known). IfOk c.make_shared.result (HasEnded t seen c.args.phase start.lane cs)) same
-    (on_ok c.make_shared.result _ (HasEnded t seen c.args.phase start.lane calls)
-    (λ r made. let before = c.in_region.result.room.used in
-    let done = is_done t seen at before (length calls) r.0.made r.0.used calls r.0 made.0 start.pass r.1 c.requires.pass made.1 made.2 in record {
-      history = made.0;
-      before = before;
-      pass = done.0;
-      made = made.2;
-      used = done.1;
-    }) c.make_shared.ensures.made)
+    let end = c.in_ok-end.end in
+    let made = c.in_ok-end.ensures.made in
+    let before = c.in_region.result.room.used in
+    let done = is_done t seen at before (length calls) end.0.made end.0.used calls end.0 made.0 start.pass end.1 c.requires.pass made.1 made.2 in
+    let placed = end.0.placed.items in
+    let region : c.from-2.result + 1 ≡ suc start.lane = omega (arith, c.from-2.ensures) in
+    let T = Grows (g.G.Gate.told c.args.begun.1) (g.G.Gate.told c.make_shared.new.gate) in
+    let told = subst (λ (cs : List Known). HasTold Q (bounds_of c.in_region.result) (IsRecordOf at cs) placed T) same c.in_ok-end.ensures.told in (
+      subst (λ (cs : List Known). HasEnded t seen c.args.phase start.lane cs end) same (record {
+        history = made.0;
+        before = before;
+        pass = done.0;
+        made = made.2;
+        used = done.1;
+      }),
+      lane_told Q limits c.in_region.result (c.from-2.result + 1) start.lane start.used (IsRecordOf at (get_or c.args.lanes.now start.lane [])) placed T c.in_region.ensures region told,
+    )

@@ -1,4 +1,4 @@
-use Rattle.std.proofs.Common.{◌≡◌, ◌<◌, ◌+◌, ℕ, suc, List, length, map, take, replicate, slice_index, refl, sym, ◌∙◌, subst, arith}
+use Rattle.std.proofs.Common.{◌≡◌, ◌<◌, ◌+◌, ℕ, suc, List, [], length, map, take, replicate, slice_index, refl, sym, ◌∙◌, subst, arith}
 use Rattle.std.specs.List.{AllByRecursion}
 use Rattle.std.proofs.lemmas.List.{length-take-le, take_all, get_or-replicate}
 use Rattle.tx_table.specs.Rule.{Ends}
@@ -16,6 +16,11 @@ use Rattle.driver.proofs.Places.{IsFew, few_in_script, few_in_phases}
 use Rattle.driver.proofs.More.{lanes_more}
 use Rattle.driver.proofs.Over.{HasRunOver, run_none, over_more, run_over}
 use Rattle.driver.proofs.Spending.{room_for, ticks_next}
+use Rattle.std.specs.Prelude.{slice_get, Some}
+use Rattle.std.proofs.lemmas.List.{length-map}
+use Rattle.std.proofs.lemmas.Option.{slice_get_read}
+use Rattle.driver.specs.Telling.{TellsPhase}
+use Rattle.driver.proofs.ToldRuns.{ToldTo, told_to_first, told_to_next}
 use Rattle.driver.proofs.run.Runner.run_over.Goals as goal
 
 -- no word of any lane's region is used at first
@@ -33,6 +38,10 @@ loop-number-init g c =
       ticks = omega (arith, unused.ticks);
       used = λ lane low. none_anywhere lane low ∙ sym (c.in_ok-shared.ensures.unused lane low);
       over = run_none (book c.in_ok-shared.pass) c.new-records.result unused.entries c.new-records.ensures.placed c.new-records.ensures.unplaced;
+      told =
+          let x = map g.G.Gate.told c.args.gates.now.items in
+          let first = told_to_first c.args.self.now.rewritten.now c.args.self.now.limits c.args.phases.now c.new-records.result.placed.items x c.new-records.ensures.placed in
+          subst (λ gs. ToldTo c.args.self.now.rewritten.now c.args.self.now.limits c.args.phases.now [] c.new-records.result.placed.items x (map g.G.Gate.told gs.items)) (sym c.replace.ensures.value) first;
     }
 
 pub run_phase-requires-clause-calls : goal.run_phase-requires-clause-calls
@@ -93,10 +102,23 @@ loop-number-preserved g c =
       used = c.in_ok-pass.ensures.used;
       over = subst (λ (ps : List ScriptPhase). HasRunOver ps (book left) c.run_phase.new.journal) (lanes_more phases n phase below c.index-phases-number.is)
           (over_more (take n phases) phase count b (book left) c.loop-number.records c.run_phase.new.journal i.over (subst Adds (sym long) adds));
+      told =
+          let Q = c.args.self.now.rewritten.now in
+          let limits = c.args.self.now.limits in
+          let first = take n phases in
+          let there : slice_get phases (length first) ≡ Some phase = subst (λ (k : ℕ). slice_get phases k ≡ Some phase) (sym long) (slice_get_read phases (length phases) n phase refl below c.index-phases-number.is) in
+          let x = map g.G.Gate.told c.args.gates.now.items in
+          let y = map g.G.Gate.told c.loop-number.kept.gates.items in
+          let z = map g.G.Gate.told c.run_phase.new.kept.gates.items in
+          let old = c.loop-number.records.placed.items in
+          let new = c.run_phase.new.journal.placed.items in
+          let tells = subst (λ (k : ℕ). TellsPhase Q limits k phase old new y z) (sym long) c.in_ok-pass.ensures.told in
+          subst (λ (ps : List ScriptPhase). ToldTo Q limits phases ps new x z) (lanes_more phases n phase below c.index-phases-number.is)
+          (told_to_next Q limits phases first phase there old new x y z i.told tells);
     }
 
-pub returns : goal.returns
-returns g c =
+pub returns-clause-run : goal.returns-clause-run
+returns-clause-run g c =
     let phases = c.args.phases.now in
     let n = c.loop-number.number in
     let done = c.loop-number-test.false in
@@ -111,3 +133,11 @@ returns g c =
     run_over c.args.self.now.original.now c.args.self.now.rewritten.now c.args.self.now.limits.size c.args.self.now.limits.budget c.args.self.now.limits.attempts memory after rule c.requires.ruled b phases c.loop-number.records
     (subst (λ (ps : List ScriptPhase). HasRunOver ps b c.loop-number.records) all c.loop-number.invariant.over) ends
     _ refl refl refl
+
+pub run_phase-requires-clause-gates : goal.run_phase-requires-clause-gates
+run_phase-requires-clause-gates g c = λ κs lives.
+    let gs = c.loop-number.kept.gates.items in
+    omega (arith, c.loop-number.invariant.told.script.len, length-map gs g.G.Gate.told, length-map c.args.gates.now.items g.G.Gate.told, c.requires.gates)
+
+pub returns-clause-told : goal.returns-clause-told
+returns-clause-told g c = c.loop-number.invariant.told.script

@@ -1,4 +1,8 @@
-use Rattle.std.proofs.Common.{length, refl, arith}
+use Rattle.std.proofs.Common.{◌≡◌, length, map, refl, sym, ◌∙◌, arith}
+use Rattle.std.proofs.lemmas.List.{length-map}
+use Rattle.std.proofs.lemmas.List.Folds.{flat_map-map}
+use Rattle.driver.specs.Telling.{kept_of}
+use Rattle.driver.proofs.Told.{told_side}
 use Rattle.tx_table.specs.Passes.{book}
 use Rattle.driver.specs.Passing.{call_count}
 use Rattle.driver.proofs.Midway.{room_within, ending_of, midway_of, joined_long}
@@ -19,7 +23,7 @@ gather-requires g c =
     let t = c.args.shared.now.table.shared.table_id in
     let b = book c.args.pass.now in
     let lanes = c.args.lanes.now in
-    let ended = c.in_ok-ends.ensures b.seen (c.in_ok-starts.ensures.starts c.args.phase c.requires.pass) in (
+    let ended = c.in_ok-ends.ensures.ended b.seen (c.in_ok-starts.ensures.starts c.args.phase c.requires.pass) in (
       b,
       c.args.phase,
       lanes,
@@ -31,10 +35,10 @@ keep_used-requires g c =
     let t = c.args.shared.now.table.shared.table_id in
     let b = book c.args.pass.now in
     let lanes = c.args.lanes.now in
-    let ended = c.in_ok-ends.ensures b.seen (c.in_ok-starts.ensures.starts c.args.phase c.requires.pass) in
+    let ended = c.in_ok-ends.ensures.ended b.seen (c.in_ok-starts.ensures.starts c.args.phase c.requires.pass) in
     let ending =
     ending_of t b c.args.phase (length lanes) lanes c.in_ok-ends.ends.items c.start_lanes.new.pass c.requires.room refl c.in_ok-starts.ensures.pass ended in
-    let j = c.in_ok-side.ensures b c.args.phase lanes ending in
+    let j = c.in_ok-side.ensures.joining b c.args.phase lanes ending in
     let long = joined_long t b c.args.phase lanes c.in_ok-side.side c.gather.new.pass j in
     rw c.as_slice.ensures.value (omega (arith, long, c.requires.lanes))
 
@@ -44,10 +48,10 @@ returns-clause-midway g c =
     let p = c.args.pass.now in
     let b = book p in
     let lanes = c.args.lanes.now in
-    let ended = c.in_ok-ends.ensures b.seen (c.in_ok-starts.ensures.starts c.args.phase c.requires.pass) in
+    let ended = c.in_ok-ends.ensures.ended b.seen (c.in_ok-starts.ensures.starts c.args.phase c.requires.pass) in
     let ending =
     ending_of t b c.args.phase (length lanes) lanes c.in_ok-ends.ends.items c.start_lanes.new.pass c.requires.room refl c.in_ok-starts.ensures.pass ended in
-    midway_of t c.args.phase lanes c.in_ok-side.side p c.gather.new.pass c.requires.pass c.requires.room (c.in_ok-side.ensures b c.args.phase lanes ending)
+    midway_of t c.args.phase lanes c.in_ok-side.side p c.gather.new.pass c.requires.pass c.requires.room (c.in_ok-side.ensures.joining b c.args.phase lanes ending)
 
 pub returns-clause-used : goal.returns-clause-used
 returns-clause-used g c =
@@ -55,12 +59,27 @@ returns-clause-used g c =
     let b = book c.args.pass.now in
     let lanes = c.args.lanes.now in
     let parts = c.in_ok-side.side.parts.items in
-    let ended = c.in_ok-ends.ensures b.seen (c.in_ok-starts.ensures.starts c.args.phase c.requires.pass) in
+    let ended = c.in_ok-ends.ensures.ended b.seen (c.in_ok-starts.ensures.starts c.args.phase c.requires.pass) in
     let ending =
     ending_of t b c.args.phase (length lanes) lanes c.in_ok-ends.ends.items c.start_lanes.new.pass c.requires.room refl c.in_ok-starts.ensures.pass ended in
-    let j = c.in_ok-side.ensures b c.args.phase lanes ending in
+    let j = c.in_ok-side.ensures.joining b c.args.phase lanes ending in
     let long = joined_long t b c.args.phase lanes c.in_ok-side.side c.gather.new.pass j in
     let kept = rw c.as_slice.ensures.value at c.keep_used.ensures.lanes in
     let others = rw c.as_slice.ensures.value at c.keep_used.ensures.others in
-    used_back t b c.args.phase (call_count lanes) lanes c.in_ok-side.side.placed.items parts c.gather.new.pass c.args.used.now c.keep_used.new.used j c.requires.used long
+    used_back t b c.args.phase (call_count lanes) lanes c.in_ok-side.side.placed.items parts c.gather.new.pass c.args.kept.now.used c.keep_used.new.used j c.requires.used long
     kept others
+
+pub run_all-requires-clause-gates : goal.run_all-requires-clause-gates
+run_all-requires-clause-gates g c = λ κs lives. omega (arith, c.requires.gates, c.requires.lanes)
+
+pub returns-clause-told : goal.returns-clause-told
+returns-clause-told g c =
+    let Q = c.args.self.now.rewritten.now in
+    let limits = c.args.self.now.limits in
+    let lanes = c.args.lanes.now in
+    let ends = c.in_ok-ends.ends.items in
+    let b = book c.args.pass.now in
+    let ended = c.in_ok-ends.ensures.ended b.seen (c.in_ok-starts.ensures.starts c.args.phase c.requires.pass) in
+    let many : length (map kept_of ends) ≡ length lanes = length-map ends kept_of ∙ ended.len in
+    told_side Q limits c.args.phase lanes (map kept_of ends) c.in_ok-side.side.placed.items (length lanes) _ _ c.in_ok-ends.ensures.told
+    (c.in_ok-side.ensures.placed ∙ sym (flat_map-map (λ rs. rs) kept_of ends)) many

@@ -1,4 +1,4 @@
-use Rattle.std.proofs.Common.{ℕ, ◌+◌, length, arith, sym, ap, subst, ◌∙◌}
+use Rattle.std.proofs.Common.{◌≡◌, ℕ, suc, ◌+◌, length, arith, sym, ap, subst, ◌∙◌}
 use Rattle.tx_table.specs.Passes.{book}
 use Rattle.session.specs.Claimed.{calls_at}
 use Rattle.machine.specs.declared.machine.Limits.{Limits as CallLimits}
@@ -8,6 +8,9 @@ use Rattle.driver.proofs.Passing.{may_start, is_done}
 use Rattle.driver.proofs.States.{over_lane}
 use Rattle.driver.proofs.Rooms.{room_fits}
 use Rattle.driver.proofs.Working.{done_as}
+use Rattle.objects.specs.rewriting.Events.{Grows}
+use Rattle.session.specs.Telling.{IsRecordOf}
+use Rattle.driver.proofs.Told.{lane_told}
 use Rattle.driver.proofs.run.Runner.work.Goals as goal
 
 pub make_claimed-requires-clause-region : goal.make_claimed-requires-clause-region
@@ -29,7 +32,7 @@ make_claimed-requires-clause-states g c =
 
 pub make_claimed-requires-clause-pass : goal.make_claimed-requires-clause-pass
 make_claimed-requires-clause-pass g c =
-    let start = c.args.worker.start in
+    let start = c.args.begun.0.start in
     let t = c.args.shared.now.table.shared.table_id in
     let at = first_of c.args.phase start.lane in
     let count = length c.args.calls.now in
@@ -39,7 +42,9 @@ make_claimed-requires-clause-pass g c =
 pub returns : goal.returns
 returns g c =
     let t = c.args.shared.now.table.shared.table_id in
-    let start = c.args.worker.start in
+    let start = c.args.begun.0.start in
+    let Q = c.args.self.now.rewritten.now in
+    let limits = c.args.self.now.limits in
     let seen = (book start.pass).seen in
     let at = first_of c.args.phase start.lane in
     let taken = c.in_ok-taken.taken in
@@ -48,14 +53,18 @@ returns g c =
     let calls = calls_at c.args.calls.now indexes in
     let before = c.in_region.result.room.used in
     let done = is_done t seen at before (length indexes) taken.lane.made taken.lane.used calls taken.lane made.0 start.pass taken.pass c.requires.pass made.1 made.2 in
-    record {
-      ended = record {
-        history = made.0;
-        before = before;
-        pass = done_as t seen at c.args.calls.now indexes taken.lane.made made.0 taken.pass done.0;
-        made = made.2;
-        used = done.1;
-      };
-      bag = c.make_claimed.ensures.bag;
-      taken = c.in_ok-taken.ensures.claims;
-    }
+    let region : c.from.result + 1 ≡ suc start.lane = omega (arith, c.from.ensures) in
+    let T = Grows (g.G.Gate.told c.args.begun.1) (g.G.Gate.told c.make_claimed.new.gate) in (
+      record {
+        ended = record {
+          history = made.0;
+          before = before;
+          pass = done_as t seen at c.args.calls.now indexes taken.lane.made made.0 taken.pass done.0;
+          made = made.2;
+          used = done.1;
+        };
+        bag = c.make_claimed.ensures.bag;
+        taken = c.in_ok-taken.ensures.claims;
+      },
+      lane_told Q limits c.in_region.result (c.from.result + 1) start.lane start.used (IsRecordOf at calls) taken.lane.placed.items T c.in_region.ensures region c.in_ok-taken.ensures.told,
+    )

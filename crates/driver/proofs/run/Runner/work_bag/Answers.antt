@@ -13,6 +13,9 @@ use Rattle.driver.specs.Passing.{call_count, IsMidway}
 use Rattle.driver.proofs.Giving.{take_whole}
 use Rattle.driver.proofs.Together.{all_under, taken_hold, few_taken}
 use Rattle.driver.proofs.Bags.{adds_bag, made_inside, count_in_bag}
+use Rattle.session.specs.Claimed.{calls_at}
+use Rattle.driver.specs.Telling.{IsCallAt, AreTold, TellsPhase}
+use Rattle.driver.proofs.ToldBags.{told_in_bag}
 use Rattle.driver.proofs.run.Runner.work_bag.Goals as goal
 
 pub by_lane-requires : goal.by_lane-requires
@@ -126,3 +129,39 @@ returns-clause-adds g c = λ lanes some.
     let few : length (lists taken) ≤ min lanes (length B) = omega (arith, c.in_ok-first.ensures.len, long, some, c.requires.workers.2) in
     adds_bag n (length B) lanes B (lists taken) b (book left) c.new-made.result made old c.append.new.self are few c.new-made.ensures.placed c.new-made.ensures.unplaced adds
     (appended ∙ ap (λ l. old.placed.items ++ l) placed) (appended_too ∙ ap (λ l. old.unplaced.items ++ l) unplaced)
+
+pub returns-clause-told : goal.returns-clause-told
+returns-clause-told g c = λ lanes some.
+    let B = c.args.bag.now in
+    let Q = c.args.self.now.rewritten.now in
+    let limits = c.args.self.now.limits in
+    let taken = c.in_ok-first.taken.items in
+    let are = c.in_ok-first.ensures.taken in
+    let ls = as_lanes B (lists taken) in
+    let same : c.deref-2.result.now ≡ ls =
+    c.deref-2.ensures.value ∙ c.in_ok-by_worker.ensures ∙ ap (λ (vs : List (Vec ℕ Global)). as_lanes B (lists vs)) c.deref.ensures.value in
+    let t = c.args.shared.now.table.shared.table_id in
+    let n = c.args.phase in
+    let b = book c.args.pass in
+    let made = c.add_rest.new.journal in
+    let midway = subst (λ (l : Phase). IsMidway t b n l c.in_ok-first.first c.bag_side.new.pass) (sym same) c.in_ok-first.ensures.midway in
+    let T = g.G.Gate.told in
+    let x = map T c.args.kept.now.gates.items in
+    let y = map T c.bag_side.new.kept.gates.items in
+    let z = map T c.add_rest.new.kept.gates.items in
+    let long : length ls ≡ c.args.workers = length-map (lists taken) (calls_at B) ∙ length-map taken (λ (v : Vec ℕ Global). v.items) ∙ c.in_ok-first.ensures.len in
+    let first = subst (λ (k : ℕ). AreTold Q limits (IsCallAt n (Lanes ls)) k c.in_ok-first.first.placed.items x y) (sym long) c.in_ok-first.ensures.told in
+    let started = subst (λ (l : Phase). AreTold Q limits (IsCallAt n (Lanes l)) (length l) c.in_ok-first.first.placed.items x y) (sym same) first in
+    let told = c.in_ok-left.ensures.told b x midway started in
+    let old = c.args.journal.now in
+    let all = subst (λ (rs : List Record). TellsPhase Q limits n (Lanes ls) rs made.placed.items x z) c.new-made.ensures.placed
+    (subst (λ (l : Phase). TellsPhase Q limits n (Lanes l) c.new-made.result.placed.items made.placed.items x z) same told) in
+    let Number : List (Vec ℕ Global) → List Record → List Record = λ vs rs. map (numbered (lists vs)) rs in
+    let placed = c.number.ensures ∙ ap (λ vs. Number vs c.deref_mut.result.now) c.deref-3.ensures.value ∙ ap (Number taken) c.deref_mut.ensures.value in
+    let count_of : made.placed.len ≡ length c.number.new.records =
+    made.placed.ok.0 ∙ sym (ap length placed ∙ length-map made.placed.items (numbered (lists taken))) in
+    let appended : c.append.new.self.placed.items ≡ old.placed.items ++ c.number.new.records =
+    c.in_ok-append.ensures.placed ∙ ap (λ (l : List Record). old.placed.items ++ l) (take_whole made.placed.len c.number.new.records _ count_of) in
+    let few : length (lists taken) ≤ lanes = omega (arith, c.in_ok-first.ensures.len, length-map taken (λ (v : Vec ℕ Global). v.items), some) in
+    told_in_bag n B (lists taken) are Q limits lanes few made.placed.items old.placed.items c.append.new.self.placed.items x z all
+    (appended ∙ ap (λ l. old.placed.items ++ l) placed)
