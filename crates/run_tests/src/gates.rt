@@ -28,7 +28,8 @@ const BAG_OF_TWO: &[u8] =
     b"{\"form\":1,\"lanes\":2,\"phases\":[{\"bag\":[{\"call\":\"Counter.inc()I\",\"args\":[]},{\"call\":\"Counter.inc()I\",\"args\":[]}]}]}";
 
 /// What a run of `TWO_LANES` prints where lane 1's call came first.
-const LANE_1_FIRST: &str = "0 1 0 Counter.inc()I 1\n0 0 0 Counter.inc()I 2\nunplaced 0\n";
+const LANE_1_FIRST: &str =
+    "history 2\n0 1 0 Counter.inc()I 1\n0 0 0 Counter.inc()I 2\nunplaced 0\n";
 
 /// The status of a run of the example's class with a script, whose lanes have these gates, and what is written.
 fn run_gated<R: Threads + Sync, G: Gate + Send + Drop>(
