@@ -6,8 +6,8 @@ use native.Mathlib.Decide.{ℕ_discrete}
 use lib.ListN.{get_elem?}
 use Rattle.atomic_table.specs.Table.{State}
 use Rattle.jmodel.specs.history.History.{Entry}
-use Rattle.tx_table.specs.Book.{lookup, Has, In, Book}
-use Rattle.tx_table.specs.Rule.{Story, start, stripe, wrote, total, weigh, face_of, faces, Ends}
+use Rattle.tx_table.specs.Book.{lookup, Has, In, Region, Book}
+use Rattle.tx_table.specs.Rule.{Story, used_at, start, stripe, wrote, region_after, total, weigh, face_of, faces, Ends}
 use Rattle.tx_table.specs.Steps.{IsKept}
 use Rattle.std.proofs.Math.Dec.{ltb}
 use Rattle.std.proofs.lemmas.Bool.{ltb-true}
@@ -15,7 +15,7 @@ use Rattle.tx_table.proofs.Values.{value_same}
 use Rattle.tx_table.proofs.Private.{face_at, two_le}
 use Rattle.tx_table.proofs.Order.{bool_or, comes}
 use Rattle.tx_table.proofs.Sorting.{insert, insert_under, insert_over, insert_nil, history, sorted_in}
-use Rattle.tx_table.proofs.Histories.{oldest, in_oldest, memory_is, is_legal, regions_kept}
+use Rattle.tx_table.proofs.Histories.{oldest, in_oldest, memory_is, used_is, is_legal, regions_kept}
 use Rattle.tx_table.proofs.Snapshots.{good, agree, memory_value, base_le_at}
 
 no_total : (f : Book → ℕ) (views : List Book) → ((k : ℕ) (w : Book) → get_elem? views k ≡ some w → f w ≡ 0) → total f views ≡ 0
@@ -69,4 +69,10 @@ module _ {S : Type 0} (key : Story) (s : State S Book) (r : IsKept key s) (me : 
         absurd (some-ne-none (2 * r.ver (stripe a)) (sym l ∙ ap (λ m. lookup m (stripe a)) (all_free h.0)))) (r.locks.heap a));
     account = λ h. weigh_oldest h X ∙ (weigh_history h clock r.log r.annals.stamps ∙ (r.account h ∙ total_only (λ b. weigh h b.entries) s.views me v at (λ k w n e. ap (weigh h) (others_idle k w n e).0)));
     regions = regions_kept key X g.sorted;
+    used = λ q u f.
+        let k = r.each me v at in
+        let m = k.regions q u f in
+        let low = m.2 in
+        let known = k.known in
+        used_is X q (used_at key q) ∙ (ap (λ z. (region_after (used_at key q) z).used) (g.ends q (omega (arith, low, known))) ∙ ap (λ (z : Region). z.used) m.1);
   }

@@ -284,7 +284,8 @@ abbrev pub IsRegionKept : Entry → Entry → Type 0
 IsRegionKept d e = d.call.region ≡ e.call.region → rises d.call e.call ≡ true
 
 -- What a pass learns that holds every number at the end: one legal history of runs, which has the entries of its book, each as
--- often as the book has it, leaves the words of the heap. The entries of one region stand in the order of their calls.
+-- often as the book has it, leaves the words of the heap, and the used words of the regions that the book holds. The entries of one region stand in the
+-- order of their calls.
 pub record Ends (S : Story) (b : Book) (words : List ℕ) : Type 0 where
   pub history : List Entry
   pub legal : IsLegal (start S) (used_at S) history
@@ -292,3 +293,4 @@ pub record Ends (S : Story) (b : Book) (words : List ℕ) : Type 0 where
   pub heap : (a : ℕ) → slice_index words a ≡ memory_after history (start S) a
   pub account : (h : Entry → ℕ) → weigh h history ≡ weigh h b.entries
   pub regions : AllPairs IsRegionKept history
+  pub used : (r : ℕ) (g : Region) → lookup b.regions r ≡ some g → used_after history r (used_at S r) ≡ g.used
