@@ -1,5 +1,5 @@
 -- Instructions that ask for nothing, one after another.
-use Rattle.std.proofs.Common.{◌≡◌, ℕ, suc, Bool, true, false, ◌&&◌, nat_le, [], ◌∷◌, Result, Ok, Err, Option, Some, None, option_and_then, slice_get, refl, ap, ◌∙◌}
+use Rattle.std.proofs.Common.{◌≡◌, ℕ, ℤ, suc, Bool, true, false, ◌&&◌, nat_le, [], ◌∷◌, Result, Ok, Err, Option, Some, None, option_and_then, slice_get, refl, ap, ◌∙◌}
 use Rattle.objects.specs.declared.op.Op.{Op}
 use Rattle.objects.specs.declared.op.Doing.{Doing}
 use Rattle.objects.specs.declared.op.Doing.TheVariants.{Next, Jump, Trap}
@@ -13,7 +13,9 @@ use Rattle.machine.specs.declared.failure.Failure.TheVariants as failure
 use Rattle.machine.specs.declared.running.Running.{Running}
 use Rattle.machine.specs.declared.plain.Flow.{Flow}
 use Rattle.machine.specs.declared.plain.Flow.TheVariants as flow
-use Rattle.machine.specs.Meets.{Meets, IsDone, Flows, IsFlow}
+use Rattle.machine.specs.declared.plain.Outcome.{Outcome}
+use Rattle.machine.specs.declared.plain.Outcome.TheVariants as outcome
+use Rattle.machine.specs.Meets.{Meets, IsDone, Flows, IsFlow, FlowsOn, IsOutcome, with_int}
 use Rattle.machine.specs.Running.{at, meter, phase_of, Way, Reaches, HasDone, IsStraight, IsGone, IsPlain}
 use Rattle.machine.proofs.Ways.{way_here, way_trans, way_quiet, step_tells, jump_quiet}
 
@@ -52,6 +54,10 @@ done_of P f g fs o (Err failure.NoMemory) e h = tt
 pub done_none : (P : Program) (f : Frame) (fs : Frames) (e : Failure) → e ≡ failure.Wrong → op_at P f.method f.pc ≡ None → IsDone P (Err e) f fs (step P (f ∷ fs))
 done_none P f fs e q h = rw q (step_none P f fs h)
 
+-- where there is none, nothing is said of the frame behind it
+pub missing_fails : (P : Program) (f g : Frame) (fs : Frames) (e : Failure) → e ≡ failure.Wrong → op_at P f.method f.pc ≡ None → IsDone P (Err e) g fs (step P (f ∷ fs))
+missing_fails P f g fs e q h = rw q (step_none P f fs h)
+
 -- a run after a step whose frames are these
 pub runs_step : (P : Program) (B : Bounds) (fs : Frames) (x : Asked) (p : Phase) (m : Meter) (w r : Log) → step P fs ≡ x
     → next_run P B (Gives 0) (On p fs m w r) ≡ on_asked P B x p (Gives 0) m w r
@@ -82,6 +88,12 @@ flow_of P f g fs o (Ok (flow.Trap t)) e h = step_does P f g fs o (Trap t) e h
 flow_of P f g fs o (Ok flow.Other) e h = h
 flow_of P f g fs o (Err x) e h = done_of P f g fs o (Err x) e h
 
+-- the same where an int may be held behind it
+pub outcome_of : (P : Program) (f g : Frame) (fs : Frames) (o : Op) (x : Result Outcome Failure) → op_at P f.method f.pc ≡ Some o → FlowsOn x g f (does P o f) → IsOutcome P x g f fs (step P (f ∷ fs))
+outcome_of P f g fs o (Ok (outcome.Int i)) e h = step_does P f (with_int i g) fs o Next e h
+outcome_of P f g fs o (Ok (outcome.Flow w)) e h = flow_of P f g fs o (Ok w) e h
+outcome_of P f g fs o (Err x) e h = done_of P f g fs o (Err x) e h
+
 module _ (P : Program) (f g f' : Frame) where
   -- one more instruction of a frame that goes on to the next
   pub reaches_next : (h : Frame) → Reaches P f g → ((fs : Frames) → step P (g ∷ fs) ≡ on_doing P Next f' fs) → h ≡ next f' → Reaches P f h
@@ -97,6 +109,29 @@ module _ (P : Program) (f g f' : Frame) where
   straight_ends (Ok (flow.Trap t)) k h = record { frame = g; reaches = k; does = h }
   straight_ends (Ok flow.Other) k h = rw (h []) k
   straight_ends (Err e) k h = record { frame = g; reaches = k; does = h }
+
+  -- or that an int is held behind
+  pub reaches_held : (x : ℤ) (h : Frame) → Reaches P f g → ((fs : Frames) → step P (g ∷ fs) ≡ on_doing P Next (with_int x f') fs) → h ≡ next f' → Reaches P f (with_int x h)
+  reaches_held x h k e q = λ B p fs m w r.
+      way_quiet P B (On p (f ∷ fs) m w r) (On p (g ∷ fs) m w r) (On p (with_int x h ∷ fs) m w r) (Gives 0) (k B p fs m w r)
+      (runs_step P B (g ∷ fs) _ p m w r (e fs) ∙ rw q refl)
+      (step_tells P B (Gives 0) p (g ∷ fs) m w r (on_doing P Next (with_int x f') fs) [] (e fs) refl)
+
+  -- more instructions, before those that are done
+  pub reaches_trans : Reaches P f g → Reaches P g f' → Reaches P f f'
+  reaches_trans k h = λ B p fs m w r.
+      way_trans P B (On p (f ∷ fs) m w r) (On p (g ∷ fs) m w r) (On p (f' ∷ fs) m w r) [] [] (k B p fs m w r) (h B p fs m w r)
+
+module _ (P : Program) (f g f' : Frame) (k : Reaches P f g) where
+  done_behind : (x : Result Doing Failure) → HasDone P g f' x → HasDone P f f' x
+  done_behind x h = record { frame = h.frame; reaches = reaches_trans P f g h.frame k h.reaches; does = h.does }
+
+  pub straight_behind : (x : Result Flow Failure) → IsStraight P g f' x → IsStraight P f f' x
+  straight_behind (Ok flow.Next) h = done_behind (Ok Next) h
+  straight_behind (Ok (flow.Jump to)) h = done_behind (Ok (Jump to)) h
+  straight_behind (Ok (flow.Trap t)) h = done_behind (Ok (Trap t)) h
+  straight_behind (Ok flow.Other) h = reaches_trans P f g f' k h
+  straight_behind (Err e) h = done_behind (Err e) h
 
 pub reaches_here : (P : Program) (f : Frame) → Reaches P f f
 reaches_here P f = λ B p fs m w r. way_here P B (On p (f ∷ fs) m w r)

@@ -1,7 +1,7 @@
 -- What functions of the machine say of an instruction's meaning.
-use Rattle.std.specs.Prelude.{◌≡◌, ℕ, ◌+◌, ◌<◌, ◌^◌, List, [], ◌++◌, replicate, Bool, true, false, Result, Ok, Err}
+use Rattle.std.specs.Prelude.{◌≡◌, ℕ, ℤ, ◌+◌, ◌<◌, ◌^◌, List, [], ◌∷◌, ◌++◌, replicate, Bool, true, false, Result, Ok, Err}
 use Rattle.objects.specs.declared.op.Slot.{Slot}
-use Rattle.objects.specs.declared.op.Slot.TheVariants.{Empty}
+use Rattle.objects.specs.declared.op.Slot.TheVariants.{Empty, Int}
 use Rattle.objects.specs.declared.op.Op.{Op}
 use Rattle.objects.specs.declared.op.Op.TheVariants as op
 use Rattle.objects.specs.declared.op.Use.{Use}
@@ -19,6 +19,8 @@ use Rattle.machine.specs.declared.failure.Failure.{Failure}
 use Rattle.machine.specs.declared.failure.Failure.TheVariants as failure
 use Rattle.machine.specs.declared.plain.Flow.{Flow}
 use Rattle.machine.specs.declared.plain.Flow.TheVariants as flow
+use Rattle.machine.specs.declared.plain.Outcome.{Outcome}
+use Rattle.machine.specs.declared.plain.Outcome.TheVariants as outcome
 
 -- memory may be short at any instruction
 abbrev pub Meets : Result Doing Failure → Frame → Did → Type 0
@@ -33,6 +35,16 @@ Flows (Ok (flow.Jump to)) f g x = x ≡ Does (doing.Jump to) f
 Flows (Ok (flow.Trap t)) f g x = x ≡ Does (doing.Trap t) f
 Flows (Ok flow.Other) f g x = f ≡ g
 Flows (Err e) f g x = Meets (Err e) f x
+
+-- a frame with an int on its stack that is held beside it
+abbrev pub with_int : ℤ → Frame → Frame
+with_int x f = record f { stack = Int x ∷ f.stack }
+
+-- the same of an instruction behind which an int may be held
+abbrev pub FlowsOn : Result Outcome Failure → Frame → Frame → Did → Type 0
+FlowsOn (Ok (outcome.Int x)) f g d = d ≡ Does doing.Next (with_int x f)
+FlowsOn (Ok (outcome.Flow w)) f g d = Flows (Ok w) f g d
+FlowsOn (Err e) f g d = Meets (Err e) f d
 
 -- what is looked for isn't there, whatever would be done with it
 abbrev pub Lacks : {K : Type 0} → Failure → (K → Did) → Type 0
@@ -98,6 +110,12 @@ IsFlow P (Ok (flow.Jump to)) f g fs x = x ≡ on_doing P (doing.Jump to) f fs
 IsFlow P (Ok (flow.Trap t)) f g fs x = x ≡ on_doing P (doing.Trap t) f fs
 IsFlow P (Ok flow.Other) f g fs x = f ≡ g
 IsFlow P (Err e) f g fs x = IsDone P (Err e) f fs x
+
+-- the same of an instruction behind which an int may be held
+abbrev pub IsOutcome : Program → Result Outcome Failure → Frame → Frame → Frames → Asked → Type 0
+IsOutcome P (Ok (outcome.Int i)) f g fs x = x ≡ on_doing P doing.Next (with_int i f) fs
+IsOutcome P (Ok (outcome.Flow w)) f g fs x = IsFlow P (Ok w) f g fs x
+IsOutcome P (Err e) f g fs x = IsDone P (Err e) f fs x
 
 -- a frame at the start of a method, whose arguments were taken from the slots s and left s'
 abbrev pub IsEntered : ℕ → ℕ → ℕ → List Slot → List Slot → Frame → Result (Unit {0}) Failure → Type 0

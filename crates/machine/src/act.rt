@@ -8,7 +8,7 @@ ghost use Rattle.machine.specs.Meets.{Meets, CanDo, IsDone, IsOfObjects};
 
 use crate::failure::Failure;
 use crate::frame::Frame;
-use crate::plain::Flow;
+use crate::plain::{Flow, Outcome};
 use hierarchy::program::{Method, Program};
 use objects::op::{Doing, Op, Slot, Sort, Width};
 use std::alloc::Global;
@@ -130,10 +130,14 @@ impl Frame {
     {
         self.stack.make_room(MOST_PUT)?;
         match self.plain(op)? {
-            Flow::Next => Ok(Doing::Next),
-            Flow::Jump(to) => Ok(Doing::Jump(to)),
-            Flow::Trap(trap) => Ok(Doing::Trap(trap)),
-            Flow::Other => Err(Failure::NoMemory),
+            Outcome::Int(x) => {
+                self.stack.put(Slot::Int(x))?;
+                Ok(Doing::Next)
+            }
+            Outcome::Flow(Flow::Next) => Ok(Doing::Next),
+            Outcome::Flow(Flow::Jump(to)) => Ok(Doing::Jump(to)),
+            Outcome::Flow(Flow::Trap(trap)) => Ok(Doing::Trap(trap)),
+            Outcome::Flow(Flow::Other) => Err(Failure::NoMemory),
         }
     }
 

@@ -14,7 +14,7 @@ use objects::op::Test;
 
 /// Where a branch goes, whose test holds or doesn't.
 #[inline(always)]
-fn branched(is_taken: bool, to: usize) -> Flow
+pub(crate) fn branched(is_taken: bool, to: usize) -> Flow
     ensures { (f g : JFrame) → Flows (Ok result) f g (branches is_taken to f) }
 {
     if is_taken { Flow::Jump(to) } else { Flow::Next }

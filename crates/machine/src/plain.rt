@@ -1,17 +1,19 @@
 //! Instructions that neither leave their frame nor ask anything of what lies outside it (JVM Specification, Java SE 7, chapter 6). They are small, so
-//! that they may all be inlined where they go on one after another.
-ghost use Rattle.std.specs.Prelude.{◌≡◌, ◌∷◌, ◌+◌, ◌<◌, ◌^◌, IfOk, length};
+//! that they may all be inlined where they go on one after another. An int that one of them puts on the stack is
+//! held beside it until an instruction needs it there. So an int that the next one takes needn't go through memory.
+ghost use Rattle.std.specs.Prelude.{◌≡◌, ◌∷◌, ◌+◌, ◌<◌, ◌≤◌, ◌^◌, IfOk, Ok, length};
 ghost use Rattle.objects.specs.semantics.Program.{Program as JProgram, method_at};
 ghost use Rattle.objects.specs.semantics.Step.{Frames, does, leaves, loads, stores, step};
 ghost use Rattle.objects.specs.declared.op.Op.TheVariants as op;
 ghost use Rattle.objects.specs.declared.op.Slot.TheVariants as slot;
 ghost use Rattle.objects.specs.declared.op.Sort.TheVariants as sort_of;
 ghost use Rattle.objects.specs.declared.op.Width.TheVariants as width;
-ghost use Rattle.machine.specs.Meets.{Flows, IsFlow};
+ghost use Rattle.machine.specs.Meets.{Flows, IsOutcome, FlowsOn, with_int};
 ghost use Rattle.machine.specs.Running.{IsStraight};
 
 use crate::act::op_of;
-use crate::arithmetic::{binary_ints, divided_ints};
+use crate::arithmetic::{binary_ints, divided_ints, holds};
+use crate::branches::branched;
 use crate::failure::Failure;
 use crate::frame::Frame;
 use hierarchy::program::Method;
@@ -29,6 +31,14 @@ pub enum Flow {
     Trap(Trap),
     /// Nothing was done: it is an instruction of another kind, or the stack has no room.
     Other,
+}
+
+/// The same, where an int that belongs on the stack is held beside it.
+#[derive(Clone, Copy, Debug)]
+pub enum Outcome {
+    /// The next instruction, with this int topmost: it is held, and the stack has room for it.
+    Int(i32),
+    Flow(Flow),
 }
 
 impl Frame {
@@ -59,27 +69,38 @@ impl Frame {
         Ok(Flow::Next)
     }
 
+    /// Holds an int that belongs on the stack, if there is room for it.
     #[inline(always)]
-    fn constant(&mut self, value: Value) -> Result<Flow, Failure>
-        ensures does { (P : JProgram) → Flows result self.new self.old (does P (op.Constant value) self.old) }
-        ensures place { (self.new.method ≡ self.old.method) × (self.new.pc ≡ self.old.pc) }
+    fn hold(&self, x: i32) -> Outcome
+        ensures { FlowsOn (Ok result) self.now self.now (leaves self.now (slot.Int x ∷ self.now.stack)) }
     {
-        match value {
-            Value::Int(x) => self.put(Slot::Int(x)),
-            Value::Long(x) => self.put_long(x),
-            Value::Ref(object) => self.put(Slot::Ref(object)),
+        if self.stack.has_room(1) {
+            Outcome::Int(x)
+        } else {
+            Outcome::Flow(Flow::Other)
         }
     }
 
     #[inline(always)]
-    fn load_int(&mut self, i: usize) -> Result<Flow, Failure>
-        ensures does { Flows result self.new self.old (loads sort_of.Int i self.old) }
+    fn constant(&mut self, value: Value) -> Result<Outcome, Failure>
+        ensures does { (P : JProgram) → FlowsOn result self.new self.old (does P (op.Constant value) self.old) }
         ensures place { (self.new.method ≡ self.old.method) × (self.new.pc ≡ self.old.pc) }
+    {
+        match value {
+            Value::Int(x) => Ok(self.hold(x)),
+            Value::Long(x) => Ok(Outcome::Flow(self.put_long(x)?)),
+            Value::Ref(object) => Ok(Outcome::Flow(self.put(Slot::Ref(object))?)),
+        }
+    }
+
+    #[inline(always)]
+    fn load_int(&self, i: usize) -> Result<Outcome, Failure>
+        ensures { FlowsOn result self.now self.now (loads sort_of.Int i self.now) }
     {
         let Some(Slot::Int(x)) = self.locals.get(i) else {
             return Err(Failure::Wrong);
         };
-        self.put(Slot::Int(x))
+        Ok(self.hold(x))
     }
 
     /// An object or the context.
@@ -136,69 +157,152 @@ impl Frame {
     }
 
     #[inline(always)]
-    fn add_ints(&mut self, b: Binary) -> Result<Flow, Failure>
-        ensures does { (P : JProgram) → Flows result self.new self.old (does P (op.Binary width.Int b) self.old) }
+    fn add_ints(&mut self, b: Binary) -> Result<Outcome, Failure>
+        ensures does { (P : JProgram) → FlowsOn result self.new self.old (does P (op.Binary width.Int b) self.old) }
         ensures place { (self.new.method ≡ self.old.method) × (self.new.pc ≡ self.old.pc) }
     {
         let y = self.stack.take_int()?;
         let x = self.stack.take_int()?;
-        self.stack.put(Slot::Int(binary_ints(b, x, y)))?;
-        Ok(Flow::Next)
+        Ok(Outcome::Int(binary_ints(b, x, y)))
     }
 
     #[inline(always)]
-    fn divide_ints(&mut self, d: Division) -> Result<Flow, Failure>
-        ensures does { (P : JProgram) → Flows result self.new self.old (does P (op.Divide width.Int d) self.old) }
+    fn divide_ints(&mut self, d: Division) -> Result<Outcome, Failure>
+        ensures does { (P : JProgram) → FlowsOn result self.new self.old (does P (op.Divide width.Int d) self.old) }
         ensures place { (self.new.method ≡ self.old.method) × (self.new.pc ≡ self.old.pc) }
     {
         let y = self.stack.take_int()?;
         let x = self.stack.take_int()?;
         if y == 0 {
-            return Ok(Flow::Trap(Trap::Arithmetic));
+            return Ok(Outcome::Flow(Flow::Trap(Trap::Arithmetic)));
         }
-        self.stack.put(Slot::Int(divided_ints(d, x, y)))?;
-        Ok(Flow::Next)
+        Ok(Outcome::Int(divided_ints(d, x, y)))
+    }
+}
+
+impl Frame {
+    /// Puts the held int on the stack, and holds another one above it, if there is room for both.
+    #[inline(always)]
+    fn hold_over(&mut self, top: i32, x: i32) -> Result<Outcome, Failure>
+        ensures does { FlowsOn result self.new (with_int top self.old) (leaves self.old (slot.Int x ∷ slot.Int top ∷ self.old.stack)) }
+        ensures place { (self.new.method ≡ self.old.method) × (self.new.pc ≡ self.old.pc) }
+    {
+        if self.stack.put_below(Slot::Int(top)) {
+            return Ok(Outcome::Int(x));
+        }
+        self.stack.put(Slot::Int(top))?;
+        Ok(Outcome::Flow(Flow::Other))
+    }
+
+    /// Does one instruction while the topmost int is held, if it is one of those that mostly stand behind an int. Else it puts the int on the stack,
+    /// and does nothing.
+    #[inline(always)]
+    fn plain_over(&mut self, top: i32, op: &Op) -> Result<Outcome, Failure>
+        ensures does { (P : JProgram) → FlowsOn result self.new (with_int top self.old) (does P op.now (with_int top self.old)) }
+        ensures place { (self.new.method ≡ self.old.method) × (self.new.pc ≡ self.old.pc) }
+    {
+        match op {
+            Op::Constant(Value::Int(x)) => self.hold_over(top, *x),
+            Op::Load(Sort::Int, i) => match self.locals.get(*i) {
+                Some(Slot::Int(x)) => self.hold_over(top, x),
+                _ => Err(Failure::Wrong),
+            },
+            Op::Store(Sort::Int, i) => {
+                if self.locals.set(*i, Slot::Int(top)) {
+                    Ok(Outcome::Flow(Flow::Next))
+                } else {
+                    Err(Failure::Wrong)
+                }
+            }
+            Op::Binary(Width::Int, b) => {
+                let x = self.stack.take_int()?;
+                Ok(Outcome::Int(binary_ints(*b, x, top)))
+            }
+            Op::Branch(test, to) => Ok(Outcome::Flow(branched(holds(*test, top, 0), *to))),
+            Op::BranchInts(test, to) => {
+                let x = self.stack.take_int()?;
+                Ok(Outcome::Flow(branched(holds(*test, x, top), *to)))
+            }
+            _ => {
+                self.stack.put(Slot::Int(top))?;
+                Ok(Outcome::Flow(Flow::Other))
+            }
+        }
     }
 }
 
 impl Frame {
     /// Does one instruction, if it is of this kind and the stack has room for what it puts there. `Wrong` where the frame hasn't what it needs.
     #[inline(always)]
-    pub(crate) fn plain(&mut self, op: &Op) -> Result<Flow, Failure>
-        ensures does { (P : JProgram) → Flows result self.new self.old (does P op.now self.old) }
+    pub(crate) fn plain(&mut self, op: &Op) -> Result<Outcome, Failure>
+        ensures does { (P : JProgram) → FlowsOn result self.new self.old (does P op.now self.old) }
         ensures place { (self.new.method ≡ self.old.method) × (self.new.pc ≡ self.old.pc) }
     {
-        match op {
-            Op::Constant(value) => self.constant(*value),
-            Op::Load(Sort::Int, i) => self.load_int(*i),
-            Op::Load(Sort::Reference, i) => self.load_object(*i),
-            Op::Store(Sort::Int, i) => self.store_int(*i),
-            Op::Store(Sort::Reference, i) => self.store_object(*i),
-            Op::Increment(i, n) => self.increment(*i, *n),
-            Op::Binary(Width::Int, b) => self.add_ints(*b),
-            Op::Divide(Width::Int, d) => self.divide_ints(*d),
-            Op::Branch(test, to) => self.branch(*test, *to),
-            Op::BranchInts(test, to) => self.branch_ints(*test, *to),
-            Op::BranchNull(wanted, to) => self.branch_null(*wanted, *to),
-            Op::BranchReferences(wanted, to) => self.branch_references(*wanted, *to),
-            Op::Goto(to) => Ok(Flow::Jump(*to)),
-            Op::Switch { other, cases } => self.switch(*other, cases),
-            Op::GetContext => self.put(Slot::Context),
-            _ => Ok(Flow::Other),
-        }
+        let flow = match op {
+            Op::Constant(value) => return self.constant(*value),
+            Op::Load(Sort::Int, i) => return self.load_int(*i),
+            Op::Load(Sort::Reference, i) => self.load_object(*i)?,
+            Op::Store(Sort::Int, i) => self.store_int(*i)?,
+            Op::Store(Sort::Reference, i) => self.store_object(*i)?,
+            Op::Increment(i, n) => self.increment(*i, *n)?,
+            Op::Binary(Width::Int, b) => return self.add_ints(*b),
+            Op::Divide(Width::Int, d) => return self.divide_ints(*d),
+            Op::Branch(test, to) => self.branch(*test, *to)?,
+            Op::BranchInts(test, to) => self.branch_ints(*test, *to)?,
+            Op::BranchNull(wanted, to) => self.branch_null(*wanted, *to)?,
+            Op::BranchReferences(wanted, to) => self.branch_references(*wanted, *to)?,
+            Op::Goto(to) => Flow::Jump(*to),
+            Op::Switch { other, cases } => self.switch(*other, cases)?,
+            Op::GetContext => self.put(Slot::Context)?,
+            _ => Flow::Other,
+        };
+        Ok(Outcome::Flow(flow))
     }
 
     /// Does the instruction that the frame stands at. `Wrong` where there is none.
     #[inline(always)]
-    fn plain_in(&mut self, method: &Method) -> Result<Flow, Failure>
+    fn plain_in(&mut self, method: &Method) -> Result<Outcome, Failure>
         ensures does { (P : JProgram) (fs : Frames) → method_at P self.old.method ≡ Some method.now
-            → IsFlow P result self.new self.old fs (step P (self.old ∷ fs)) }
+            → IsOutcome P result self.new self.old fs (step P (self.old ∷ fs)) }
         ensures place { (self.new.method ≡ self.old.method) × (self.new.pc ≡ self.old.pc) }
         ensures next { IfOk result (λ _. self.new.pc + 1 < 2 ^ 64) }
         ensures within { IfOk result (λ _. self.new.pc < length method.now.ops) }
     {
         let op = op_of(method, self.pc)?;
         self.plain(op)
+    }
+
+    /// The same while the topmost int is held.
+    #[inline(always)]
+    fn plain_over_in(&mut self, top: i32, method: &Method) -> Result<Outcome, Failure>
+        ensures does { (P : JProgram) (fs : Frames) → method_at P self.old.method ≡ Some method.now
+            → IsOutcome P result self.new (with_int top self.old) fs (step P (with_int top self.old ∷ fs)) }
+        ensures place { (self.new.method ≡ self.old.method) × (self.new.pc ≡ self.old.pc) }
+        ensures next { IfOk result (λ _. self.new.pc + 1 < 2 ^ 64) }
+        ensures within { IfOk result (λ _. self.new.pc < length method.now.ops) }
+    {
+        let op = op_of(method, self.pc)?;
+        self.plain_over(top, op)
+    }
+
+    /// Does instructions of its method while the topmost int is held, up to the first behind which none is.
+    #[inline(always)]
+    fn straight_over(&mut self, held: i32, method: &Method) -> Result<Flow, Failure>
+        ensures run { (P : JProgram) → method_at P self.old.method ≡ Some method.now → IsStraight P (with_int held self.old) self.new result }
+        ensures method { self.new.method ≡ self.old.method }
+        ensures onward { self.old.pc ≤ self.new.pc }
+        ensures next { IfOk result (λ _. self.new.pc + 1 < 2 ^ 64) }
+    {
+        let mut top = held;
+        loop {
+            match self.plain_over_in(top, method)? {
+                Outcome::Int(x) => {
+                    top = x;
+                    self.advance();
+                }
+                Outcome::Flow(flow) => return Ok(flow),
+            }
+        }
     }
 
     /// Does instructions of its method up to the first that doesn't go on to the next one.
@@ -210,8 +314,16 @@ impl Frame {
     {
         loop {
             match self.plain_in(method)? {
-                Flow::Next => self.advance(),
-                flow => return Ok(flow),
+                Outcome::Flow(Flow::Next) => self.advance(),
+                Outcome::Flow(flow) => return Ok(flow),
+                Outcome::Int(x) => {
+                    self.advance();
+                    match self.straight_over(x, method)? {
+                        Flow::Next => self.advance(),
+                        Flow::Other => {}
+                        flow => return Ok(flow),
+                    }
+                }
             }
         }
     }

@@ -1,5 +1,5 @@
 //! The operand stack and the locals of a frame.
-ghost use Rattle.std.specs.Prelude.{◌≡◌, List, [], ◌∷◌, IfOk, MatchOption, OnErr, OnOk, MatchResult, IfErr, reverse, slice_get};
+ghost use Rattle.std.specs.Prelude.{◌≡◌, List, [], ◌∷◌, IfOk, MatchOption, OnErr, OnOk, MatchResult, IfErr, MatchBool, reverse, slice_get};
 ghost use Rattle.objects.specs.declared.op.Slot.{Slot as Item};
 ghost use Rattle.objects.specs.semantics.Step.{sort_of as sort_of_type};
 
@@ -69,6 +69,18 @@ impl Stack {
         } else {
             Err(AllocError)
         }
+    }
+
+    /// Puts a slot on top, where there is room for it and for one more.
+    #[inline(always)]
+    pub(crate) fn put_below(&mut self, slot: Slot) -> bool
+        ensures { MatchBool result (self.new ≡ slot ∷ self.old) (self.new ≡ self.old) }
+    {
+        if self.items.capacity().saturating_sub(self.items.len()) < 2 {
+            return false;
+        }
+        self.items.push_reserved(slot);
+        true
     }
 
     /// Puts a slot on top.
@@ -275,7 +287,7 @@ impl Model for Locals {
 }
 
 impl Locals {
-    ghost use Rattle.std.specs.Prelude.{slice_set, length, ◌<◌, ◌≤◌, ◌+◌, ◌^◌, MatchBool, ◌++◌, replicate, IfSome};
+    ghost use Rattle.std.specs.Prelude.{slice_set, length, ◌<◌, ◌≤◌, ◌+◌, ◌^◌, ◌++◌, replicate, IfSome};
     ghost use Rattle.std.specs.List.{flat_map};
     ghost use Rattle.objects.specs.semantics.Value.{slots_of};
 
