@@ -1,5 +1,5 @@
 -- Runs, step by step.
-use Rattle.std.proofs.Common.{◌≡◌, ℕ, Bool, List, [], ◌∷◌, ◌++◌, Result, Ok, Err, ◌⊎◌, inl, inr, refl, ap, ◌∙◌}
+use Rattle.std.proofs.Common.{◌≡◌, ℕ, Bool, List, [], ◌∷◌, ◌++◌, Result, Ok, ◌⊎◌, inl, inr, refl, ap, ◌∙◌}
 use Rattle.objects.specs.declared.op.Phase.TheVariants.{Closed}
 use Rattle.objects.specs.declared.op.Asking.{Asking}
 use Rattle.objects.specs.declared.op.Asking.TheVariants.{Go, Turn, Enter, Return, Throw, Raise, Make, Head, Ask}
@@ -7,16 +7,11 @@ use Rattle.objects.specs.declared.op.Made.{Made}
 use Rattle.objects.specs.declared.op.Use.{Use}
 use Rattle.objects.specs.declared.op.Request.{Request}
 use Rattle.objects.specs.declared.op.Request.TheVariants as request
-use Rattle.jmodel.specs.declared.value.Answer.{Answer}
 use Rattle.jmodel.specs.declared.value.Answer.TheVariants.{Returned}
 use Rattle.objects.specs.semantics.Program.{Program}
 use Rattle.objects.specs.semantics.Step.{Frames, Asked, Fails, step}
 use Rattle.objects.specs.rewriting.Attempt.{Log, Bounds, Meter, Run, On, Ended, Stuck, Reply, Gives, class_of, threw_of, on_request, on_asked, next_run, run, Comes}
 use Rattle.machine.specs.declared.failure.Failure.{Failure}
-use Rattle.machine.specs.declared.failure.Failure.TheVariants as failure
-use Rattle.jmodel.specs.history.History.{Call, Entry}
-use Rattle.machine.specs.declared.running.Running.{Running}
-use Rattle.machine.specs.Running.{Holds, IsFinished, IsCommit}
 use Rattle.machine.specs.Meets.{IsStep}
 
 pub run_append : (P : Program) (B : Bounds) (us vs : List Reply) (c : Run) → run P B (us ++ vs) c ≡ run P B vs (run P B us c)

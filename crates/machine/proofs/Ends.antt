@@ -1,5 +1,5 @@
 -- How calls end.
-use Rattle.std.proofs.Common.{◌≡◌, ◌≢◌, inl, inr, ℕ, ◌+◌, ◌-◌, ◌<◌, ◌≤◌, ◌^◌, List, [], ◌∷◌, ◌++◌, Result, Ok, Err, refl, sym, subst, arith}
+use Rattle.std.proofs.Common.{◌≡◌, ◌≢◌, inl, ℕ, ◌+◌, ◌-◌, ◌<◌, ◌≤◌, ◌^◌, List, [], ◌∷◌, ◌++◌, Result, Ok, Err, refl, sym, subst, arith}
 use Rattle.jmodel.specs.declared.value.Answer.{Answer}
 use Rattle.jmodel.specs.declared.value.Answer.TheVariants as answer
 use Rattle.jmodel.specs.declared.value.Value.{Value}
@@ -23,10 +23,12 @@ use Rattle.tx_core.specs.declared.engine.TxEnd.TheVariants.{Conflict, NoMemory}
 use Rattle.tx_core.specs.Engine.{raised, IsAllowed, IsOfWrites, Adds, MayEnd}
 use Rattle.machine.specs.Machine.{MayRun, MayStart, AddsEntry, AddsNone, AddsBy, AddsRun, Begins, HasTried, TriesBy, TriesRun}
 use Rattle.machine.specs.Telling.{TellsNone, TellsEntry, TellsBy, TellsRun}
-use Rattle.machine.specs.Running.{at, Way, Holds, Leaves, IsWithin, HasTurned, IsCommit, IsLast, IsStarted, HasAdded, Ends, OnWay, IsEndBy, IsEnd}
+use Rattle.machine.specs.Running.{at, frames, meter, Way, Knows, Moves, Holds, Leaves, IsWithin, HasTurned, IsCommit, IsLast, IsStarted, HasAdded, Ends, OnWay, IsEndBy, IsEnd}
 use Rattle.machine.proofs.Comes.{comes_on, comes_trans}
-use Rattle.machine.proofs.Ways.{none_told, nothing_told, none_after, open_append, way_here, way_trans, way_more, comes_of}
+use Rattle.machine.proofs.Ways.{none_told, nothing_told, none_after, open_append, comes_of}
 use Rattle.machine.proofs.Knowing.{knew_end}
+use Rattle.machine.proofs.Seeing.{KnowsFewer}
+use Rattle.machine.proofs.Seen.{Seen, seen_turned, coming, from_at, to_at, shut}
 
 -- within the attempts the clock stays low
 pub within_open : (first attempts clock tried : ℕ) (s : Stage) → IsWithin first attempts clock s tried → s ≡ Open → first + attempts ≤ 2 ^ 40 → clock < 2 ^ 40
@@ -39,18 +41,21 @@ pub leaves_of : (S : ℕ → Log → Log → Type 0) (K : Log → Type 0) (n : �
 leaves_of S K n s tried r w h = record { conflicts = h.conflicts; reads = r; writes = w; later = h.later; stands = h.stands; idle = h.idle }
 
 -- one turn more
-pub way_on : (P : Program) (B : Bounds) (c : Run) (T T' T'' : List Event → Type 0) (S S' : ℕ → Log → Log → Type 0) (K : Log → Type 0) (n : ℕ) (a a' : Running) → (o : OnWay P B c T S K n a)
+pub way_on : (P : Program) (B : Bounds) (c : Run) (T T' T'' : List Event → Type 0) (S S' : ℕ → Log → Log → Type 0) (K : Log → Type 0) (n : ℕ) (a a' : Running) → KnowsFewer K → Moves a.stage a.tried a'.stage a'.tried → (o : OnWay P B c T S K n a)
     → ((es : List Event) → T' es → T'' (o.events ++ es)) → HasTurned P B (at a o.writes o.reads) T' (Holds S' K n a'.stage a'.tried) a' (Ok Go) → OnWay P B c T'' S' K n a'
-way_on P B c T T' T'' S S' K n a a' o f u =
+way_on P B c T T' T'' S S' K n a a' fewer moves o f u =
     let t = u.turn in
     let es = t.3.2.0 in
+    let x = seen_turned P B K fewer c (at a o.writes o.reads) o.events es T' (Holds S' K n a'.stage a'.tried) a' (Ok Go) (at a' t.1 t.0) t.3.0 o.comes o.knows u t.3.1 t.3.2.1
+    (coming a.stage a.tried) (from_at a.stage (frames a) (meter a) o.writes o.reads) (to_at K a.stage a'.stage a.tried (frames a') (meter a') t.1 t.0 moves t.2.knew) in
     record {
       reads = t.0;
       writes = t.1;
       holds = t.2;
       events = o.events ++ (u.events ++ es);
       no_entry = open_append o.events (u.events ++ es) o.no_entry (open_append u.events es u.no_entry t.3.2.2);
-      comes = way_trans P B c (at a o.writes o.reads) _ o.events (u.events ++ es) o.comes (way_more P B (at a o.writes o.reads) u.before _ t.3.0 u.events es u.comes t.3.1 t.3.2.1);
+      comes = x.0;
+      knows = x.1;
       told = f (u.events ++ es) t.3.2.3;
     }
 
@@ -76,11 +81,6 @@ pub comes_turned : (P : Program) (B : Bounds) (c d : Run) (ds : List Event) (T' 
     → Way P B c ds d → (u : HasTurned P B d T' H a result) → next_run P B v u.before ≡ e → Comes P B c e
 comes_turned P B c d ds T' H a result e v m u q = comes_on P B c u.before e v (comes_trans P B c d u.before (comes_of P B c d ds m) (comes_of P B d u.before u.events u.comes)) q
 
--- and what is told on the way
-pub way_turned : (P : Program) (B : Bounds) (c d : Run) (ds fs : List Event) (T' : List Event → Type 0) (H : Log → Log → Type 0) (a : Running) (result : Result Todo Failure) (e : Run) (v : Reply)
-    → Way P B c ds d → (u : HasTurned P B d T' H a result) → next_run P B v u.before ≡ e → AreOfStep P B v u.before fs → Way P B c (ds ++ (u.events ++ fs)) e
-way_turned P B c d ds fs T' H a result e v m u q t = way_trans P B c d e ds (u.events ++ fs) m (way_more P B d u.before e v u.events fs u.comes q t)
-
 -- an error in a commit
 pub commit_ends : (P : Program) (B : Bounds) (c : Run) (f : Reply → Run) (A A' : Call → ℕ → Type 0) (allows : Entry → Type 0) (T : ℕ → Type 0) (G : List Event → Type 0) (S : List Entry → ℕ → Log → Log → Type 0) (h : List Entry) (n : ℕ) (K : Log → Type 0) (a : Running) (m : Meter) (r w : Log) (e : Failure)
     → TellsNone G → Comes P B c (f (Gives 0)) → IsCommit P B f A' allows K S h n m r w a (Err e)
@@ -104,7 +104,8 @@ way_start P B T S K n a g e t s =
       holds = rw (e, t) (record { conflicts = n; later = omega arith; stands = s; tries = refl; idle = (refl, refl); knew = inl (refl, refl) });
       events = [];
       no_entry = tt;
-      comes = way_here P B _;
+      comes = ([], refl, refl);
+      knows = λ r h. absurd (shut a e [] [] r h);
       told = g;
     }
 
@@ -126,29 +127,29 @@ end_left P B c A allows T T' G S S' h n K s failure.Wrong f t = (f t.0, t.1, t.2
 end_left P B c A allows T T' G S S' h n K s failure.NoMemory f t = (f t.0, t.1)
 
 -- a run that ended with an entry has an answer of one
-pub ends_by : (P : Program) (B : Bounds) (c : Run) (A : Call → ℕ → Type 0) (allows : Entry → Type 0) (T : ℕ → Type 0) (G : List Event → Type 0) (S : List Entry → ℕ → Log → Log → Type 0) (h : List Entry) (n : ℕ) (e : End) (x : Answer)
-    → IsLast x → Ends P B c A allows T G S h n e → IsEndBy x P B c A allows T G S h n e
-ends_by P B c A allows T G S h n e (answer.Returned v) l t = t
-ends_by P B c A allows T G S h n e (answer.Threw k) l t = t
-ends_by P B c A allows T G S h n e answer.Budget l t = absurd l
-ends_by P B c A allows T G S h n e answer.Depth l t = absurd l
-ends_by P B c A allows T G S h n e (answer.Heap u v z) l t = absurd l
-ends_by P B c A allows T G S h n e answer.Spent l t = absurd l
-ends_by P B c A allows T G S h n e answer.NoMemory l t = absurd l
+pub ends_by : (P : Program) (B : Bounds) (c : Run) (A : Call → ℕ → Type 0) (allows : Entry → Type 0) (T : ℕ → Type 0) (G : List Event → Type 0) (S : List Entry → ℕ → Log → Log → Type 0) (h : List Entry) (n : ℕ) (K : Log → Type 0) (e : End) (x : Answer)
+    → IsLast x → Ends P B c A allows T G S h n K e → IsEndBy x P B c A allows T G S h n K e
+ends_by P B c A allows T G S h n K e (answer.Returned v) l t = t
+ends_by P B c A allows T G S h n K e (answer.Threw k) l t = t
+ends_by P B c A allows T G S h n K e answer.Budget l t = absurd l
+ends_by P B c A allows T G S h n K e answer.Depth l t = absurd l
+ends_by P B c A allows T G S h n K e (answer.Heap u v z) l t = absurd l
+ends_by P B c A allows T G S h n K e answer.Spent l t = absurd l
+ends_by P B c A allows T G S h n K e answer.NoMemory l t = absurd l
 
 -- the same by the answer that it has
-pub end_by : (P : Program) (B : Bounds) (c : Run) (A : Call → ℕ → Type 0) (allows : Entry → Type 0) (T : ℕ → Type 0) (G : List Event → Type 0) (S : List Entry → ℕ → Log → Log → Type 0) (h : List Entry) (n : ℕ) (e : End) (x : Answer)
-    → e.answer ≡ x → IsEndBy x P B c A allows T G S h n e → IsEndBy e.answer P B c A allows T G S h n e
-end_by P B c A allows T G S h n e x q t = subst (λ (y : Answer). IsEndBy y P B c A allows T G S h n e) (sym q) t
+pub end_by : (P : Program) (B : Bounds) (c : Run) (A : Call → ℕ → Type 0) (allows : Entry → Type 0) (T : ℕ → Type 0) (G : List Event → Type 0) (S : List Entry → ℕ → Log → Log → Type 0) (h : List Entry) (n : ℕ) (K : Log → Type 0) (e : End) (x : Answer)
+    → e.answer ≡ x → IsEndBy x P B c A allows T G S h n K e → IsEndBy e.answer P B c A allows T G S h n K e
+end_by P B c A allows T G S h n K e x q t = subst (λ (y : Answer). IsEndBy y P B c A allows T G S h n K e) (sym q) t
 
 -- the attempts aren't used up at such an end
 pub last_made : (x : Answer) → IsLast x → x ≢ answer.Spent
 last_made x l e = subst IsLast e l
 
 -- an entry that a call may leave stands
-pub adds_entry : (P : Program) (B : Bounds) (c : Call) (A : Call → ℕ → Type 0) (allows : Entry → Type 0) (T : ℕ → Type 0) (G : List Event → Type 0) (S : List Entry → ℕ → Log → Log → Type 0) (h : List Entry) (n : ℕ) (e : End)
-    → e.answer ≢ answer.Spent → A c B.used → MayRun allows P B c → Ends P B (run_start P B c.method c.args) A allows T G S h n e → AddsEntry P B c S h n e
-adds_entry P B c A allows T G S h n e other aw may t =
+pub adds_entry : (P : Program) (B : Bounds) (c : Call) (A : Call → ℕ → Type 0) (allows : Entry → Type 0) (T : ℕ → Type 0) (G : List Event → Type 0) (S : List Entry → ℕ → Log → Log → Type 0) (h : List Entry) (n : ℕ) (K : Log → Type 0) (e : End)
+    → e.answer ≢ answer.Spent → A c B.used → MayRun allows P B c → Ends P B (run_start P B c.method c.args) A allows T G S h n K e → AddsEntry P B c S h n e
+adds_entry P B c A allows T G S h n K e other aw may t =
     let k : Runs P B c.method c.args e.answer e.used t.writes t.reads = record { meter = t.meter_then; comes = comes_of P B (run_start P B c.method c.args) (Ended e.answer t.meter_then t.writes t.reads) t.steps t.comes; leaves = t.leaves; made = other } in
     let taking = keeps_region P B c.method c.args e.answer e.used t.writes t.reads k in
     record {
@@ -172,16 +173,16 @@ pub adds_of : (P : Program) (B : Bounds) (c : Call) (A : Call → ℕ → Type 0
     → IsEnd P B (run_start P B c.method c.args) A allows T G S h n (AddsNone (S h) n) K (Ok e) → AddsRun P B c S h n (Ok e)
 adds_of P B c A allows T G S h n K e aw may t = go e.answer refl t
   where
-    more : e.answer ≢ answer.Spent → Ends P B (run_start P B c.method c.args) A allows T G S h n e → AddsEntry P B c S h n e
-    more other t = adds_entry P B c A allows T G S h n e other aw may t
+    more : e.answer ≢ answer.Spent → Ends P B (run_start P B c.method c.args) A allows T G S h n K e → AddsEntry P B c S h n e
+    more other t = adds_entry P B c A allows T G S h n K e other aw may t
 
-    go : (x : Answer) → e.answer ≡ x → IsEndBy x P B (run_start P B c.method c.args) A allows T G S h n e → AddsBy x P B c S h n e
+    go : (x : Answer) → e.answer ≡ x → IsEndBy x P B (run_start P B c.method c.args) A allows T G S h n K e → AddsBy x P B c S h n e
     go (answer.Returned v) q t = more (λ s. cc) t
     go (answer.Threw k) q t = more (λ s. cc) t
     go answer.Budget q t = more (λ s. cc) t
     go answer.Depth q t = more (λ s. cc) t
     go (answer.Heap u v z) q t = more (λ s. cc) t
-    go answer.Spent q t = record { meter = t.meter_then; comes = t.comes; stands = t.stands; unplaced = t.unplaced }
+    go answer.Spent q t = record { meter = t.meter_then; comes = comes_of P B (run_start P B c.method c.args) (Ended answer.Spent t.meter_then [] []) t.steps t.comes; stands = t.stands; unplaced = t.unplaced }
     go answer.NoMemory q t = absurd t
 
 -- what is awaited at first is awaited still
@@ -206,15 +207,16 @@ may_refuse P B start allows S S' A A' m x M r w n k s other comes = record {
 }
 
 -- a refusal that a turn has come to ends the run
-pub refuses : (P : Program) (B : Bounds) (start : Run) (allows : Entry → Type 0) (T : ℕ → Type 0) (G : List Event → Type 0) (S S' : List Entry → ℕ → Log → Log → Type 0) (A A' : Call → ℕ → Type 0) (h : List Entry) (n k : ℕ) (e : End) (M : Meter) (r : Log) (es : List Event)
-    → ((c : Call) (used : ℕ) → A c used → A' c used) → n ≤ k → n + M.tried ≡ k + 1 → T M.tried → G (es ++ event.Ended ∷ []) → e.used ≡ B.used → Way P B start es (Ended e.answer (set_back B M) [] r)
-    → IsOfWrites e.stamp [] × Adds A' allows S' h k e.answer (λ used. used) e.stamp r [] → Ends P B start A allows T G S' h n e
-refuses P B start allows T G S S' A A' h n k e M r es aw later tries begun told used comes f = record {
+pub refuses : (P : Program) (B : Bounds) (start : Run) (allows : Entry → Type 0) (T : ℕ → Type 0) (G : List Event → Type 0) (S S' : List Entry → ℕ → Log → Log → Type 0) (A A' : Call → ℕ → Type 0) (h : List Entry) (n k : ℕ) (K : Log → Type 0) (e : End) (M : Meter) (r : Log) (es : List Event)
+    → ((c : Call) (used : ℕ) → A c used → A' c used) → n ≤ k → n + M.tried ≡ k + 1 → T M.tried → G (es ++ event.Ended ∷ []) → e.used ≡ B.used → Seen P B K start es (Ended e.answer (set_back B M) [] r)
+    → IsOfWrites e.stamp [] × Adds A' allows S' h k e.answer (λ used. used) e.stamp r [] → Ends P B start A allows T G S' h n K e
+refuses P B start allows T G S S' A A' h n k K e M r es aw later tries begun told used comes f = record {
   reads = r;
   writes = [];
   meter_then = set_back B M;
   steps = es;
-  comes = comes;
+  comes = comes.0;
+  knows = comes.1;
   leaves = sym used;
   begun = begun;
   added = record {
@@ -228,11 +230,11 @@ refuses P B start allows T G S S' A A' h n k e M r es aw later tries begun told 
 }
 
 -- the attempts of a run that ended as an entry: one for each conflict, and one
-pub tries_entry : (P : Program) (B : Bounds) (c : Call) (A : Call → ℕ → Type 0) (allows : Entry → Type 0) (C C' : ℕ → Type 0) (G : List Event → Type 0) (S : List Entry → ℕ → Log → Log → Type 0) (h : List Entry) (n k : ℕ) (e : End)
-    → e.answer ≢ answer.Spent → A c B.used → MayRun allows P B c → C k → Ends P B (run_start P B c.method c.args) A allows (Begins C C') G S h n e → HasTried S C' n k 1
+pub tries_entry : (P : Program) (B : Bounds) (c : Call) (A : Call → ℕ → Type 0) (allows : Entry → Type 0) (C C' : ℕ → Type 0) (G : List Event → Type 0) (S : List Entry → ℕ → Log → Log → Type 0) (h : List Entry) (n k : ℕ) (K : Log → Type 0) (e : End)
+    → e.answer ≢ answer.Spent → A c B.used → MayRun allows P B c → C k → Ends P B (run_start P B c.method c.args) A allows (Begins C C') G S h n K e → HasTried S C' n k 1
 unfolding adds_entry
-tries_entry P B c A allows C C' G S h n k e other aw may s t =
-    let a = adds_entry P B c A allows (Begins C C') G S h n e other aw may t in
+tries_entry P B c A allows C C' G S h n k K e other aw may s t =
+    let a = adds_entry P B c A allows (Begins C C') G S h n K e other aw may t in
     let l = t.added.later in
     let q = t.added.tries in
     let many : k + t.meter_then.tried ≡ k + (t.added.conflicts - n) + 1 = omega arith in
@@ -243,10 +245,10 @@ pub tries_of : (P : Program) (B : Bounds) (c : Call) (A : Call → ℕ → Type 
     → A c B.used → MayRun allows P B c → C k → IsEnd P B (run_start P B c.method c.args) A allows (Begins C C') G S h n (AddsNone (S h) n) K (Ok e) → TriesRun S C' n k (Ok e)
 tries_of P B c A allows C C' G S h n k K e aw may s t = go e.answer refl t
   where
-    more : e.answer ≢ answer.Spent → Ends P B (run_start P B c.method c.args) A allows (Begins C C') G S h n e → HasTried S C' n k 1
-    more other t = tries_entry P B c A allows C C' G S h n k e other aw may s t
+    more : e.answer ≢ answer.Spent → Ends P B (run_start P B c.method c.args) A allows (Begins C C') G S h n K e → HasTried S C' n k 1
+    more other t = tries_entry P B c A allows C C' G S h n k K e other aw may s t
 
-    go : (x : Answer) → e.answer ≡ x → IsEndBy x P B (run_start P B c.method c.args) A allows (Begins C C') G S h n e → TriesBy x S C' n k
+    go : (x : Answer) → e.answer ≡ x → IsEndBy x P B (run_start P B c.method c.args) A allows (Begins C C') G S h n K e → TriesBy x S C' n k
     go (answer.Returned v) q t = more (λ s. cc) t
     go (answer.Threw k) q t = more (λ s. cc) t
     go answer.Budget q t = more (λ s. cc) t
@@ -261,33 +263,45 @@ tries_of P B c A allows C C' G S h n k K e aw may s t = go e.answer refl t
 pub stuck_of_call : (P : Program) (B : Bounds) (c : Call) (m : ℕ) (args : List Value) (r : Log) → c.method ≡ m → c.args ≡ args → Comes P B (run_start P B m args) (Stuck r) → Comes P B (run_start P B c.method c.args) (Stuck r)
 stuck_of_call P B c m args r p q t = rw (p, q) t
 
+-- what the gate was told of an entry
+pub tells_entry : (P : Program) (B : Bounds) (c : Call) (A : Call → ℕ → Type 0) (allows : Entry → Type 0) (T : ℕ → Type 0) (G : List Event → Type 0) (S : List Entry → ℕ → Log → Log → Type 0) (h : List Entry) (n : ℕ) (K : Log → Type 0) (e : End)
+    → e.answer ≢ answer.Spent → A c B.used → MayRun allows P B c → Ends P B (run_start P B c.method c.args) A allows T G S h n K e → TellsEntry P B c S h n G e
+unfolding adds_entry
+tells_entry P B c A allows T G S h n K e other aw may t =
+    let a = adds_entry P B c A allows T G S h n K e other aw may t in
+    record {
+      conflicts = t.added.conflicts;
+      later = t.added.later;
+      reads = t.reads;
+      writes = t.writes;
+      events = t.steps ++ event.Ended ∷ [];
+      tells = record { meter = t.meter_then; replies = t.comes.0; ends = t.comes.1; leaves = t.leaves; made = other; steps = t.steps; told = t.comes.2; events = refl };
+      tries = t.added.tries;
+      stamped = t.added.stamped;
+      stands = a.stands;
+      told = t.told;
+    }
+
+-- its replies are those of which it is known what they let attempts read
+pub knows_told : (P : Program) (B : Bounds) (c : Call) (A : Call → ℕ → Type 0) (allows : Entry → Type 0) (T : ℕ → Type 0) (G : List Event → Type 0) (S : List Entry → ℕ → Log → Log → Type 0) (h : List Entry) (n : ℕ) (K : Log → Type 0) (e : End)
+    → (other : e.answer ≢ answer.Spent) → (aw : A c B.used) → (may : MayRun allows P B c) → (t : Ends P B (run_start P B c.method c.args) A allows T G S h n K e)
+    → Knows P B K (tells_entry P B c A allows T G S h n K e other aw may t).tells.replies (run_start P B c.method c.args)
+unfolding tells_entry
+knows_told P B c A allows T G S h n K e other aw may t = t.knows
+
 -- the end of a call, by what it told
 pub tells_of : (P : Program) (B : Bounds) (c : Call) (A : Call → ℕ → Type 0) (allows : Entry → Type 0) (T : ℕ → Type 0) (G : List Event → Type 0) (S : List Entry → ℕ → Log → Log → Type 0) (h : List Entry) (n : ℕ) (K : Log → Type 0) (e : End) → A c B.used → MayRun allows P B c
     → IsEnd P B (run_start P B c.method c.args) A allows T G S h n (AddsNone (S h) n) K (Ok e) → TellsRun P B c S h n G (Ok e)
-unfolding adds_entry
 tells_of P B c A allows T G S h n K e aw may t = go e.answer refl t
   where
-    more : e.answer ≢ answer.Spent → Ends P B (run_start P B c.method c.args) A allows T G S h n e → TellsEntry P B c S h n G e
-    more other t =
-        let a = adds_entry P B c A allows T G S h n e other aw may t in
-        record {
-          conflicts = t.added.conflicts;
-          later = t.added.later;
-          reads = t.reads;
-          writes = t.writes;
-          events = t.steps ++ event.Ended ∷ [];
-          tells = record { meter = t.meter_then; replies = t.comes.0; ends = t.comes.1; leaves = t.leaves; made = other; steps = t.steps; told = t.comes.2; events = refl };
-          tries = t.added.tries;
-          stamped = t.added.stamped;
-          stands = a.stands;
-          told = t.told;
-        }
+    more : e.answer ≢ answer.Spent → Ends P B (run_start P B c.method c.args) A allows T G S h n K e → TellsEntry P B c S h n G e
+    more other t = tells_entry P B c A allows T G S h n K e other aw may t
 
-    go : (x : Answer) → e.answer ≡ x → IsEndBy x P B (run_start P B c.method c.args) A allows T G S h n e → TellsBy x P B c S h n G e
+    go : (x : Answer) → e.answer ≡ x → IsEndBy x P B (run_start P B c.method c.args) A allows T G S h n K e → TellsBy x P B c S h n G e
     go (answer.Returned v) q t = more (λ s. cc) t
     go (answer.Threw k) q t = more (λ s. cc) t
     go answer.Budget q t = more (λ s. cc) t
     go answer.Depth q t = more (λ s. cc) t
     go (answer.Heap u v z) q t = more (λ s. cc) t
-    go answer.Spent q t = t.tells
+    go answer.Spent q t = record { events = t.steps; no_entry = t.no_entry; told = t.told }
     go answer.NoMemory q t = absurd t

@@ -1,5 +1,5 @@
 -- What a gate is told of the example's calls.
-use Rattle.std.proofs.Common.{◌≡◌, inl, ℕ, ◌+◌, ◌*◌, ◌^◌, refl}
+use Rattle.std.proofs.Common.{◌≡◌, inl, ℕ, ◌*◌, ◌^◌, refl}
 use Rattle.std.specs.Prelude.{pos, List, [], ◌∷◌, ◌++◌, Some, None, replicate}
 use Rattle.jmodel.specs.declared.value.Value.TheVariants.{Int}
 use Rattle.jmodel.specs.declared.value.Answer.TheVariants.{Returned}

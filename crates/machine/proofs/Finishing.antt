@@ -1,5 +1,5 @@
 -- The code after a commit.
-use Rattle.std.proofs.Common.{◌≡◌, ℕ, List, [], Result, Ok, Err, refl}
+use Rattle.std.proofs.Common.{◌≡◌, ℕ, List, [], Result, Ok, Err}
 use Rattle.jmodel.specs.declared.value.Answer.{Answer}
 use Rattle.jmodel.specs.history.History.{Call, Entry}
 use Rattle.objects.specs.declared.op.Phase.TheVariants.{Closed}

@@ -1,8 +1,8 @@
 -- What is known of an attempt's reads.
-use Rattle.std.proofs.Common.{◌≡◌, ◌⊎◌, inl, inr, ℕ, List, []}
+use Rattle.std.proofs.Common.{◌≡◌, ◌⊎◌, inl, inr, ℕ, List, [], ◌∷◌}
+use Rattle.jmodel.specs.declared.access.Access.{Access}
 use Rattle.jmodel.specs.history.History.{Call, Entry, Words}
 use Rattle.objects.specs.rewriting.Attempt.{Log}
-use Rattle.tx_core.specs.Engine.{LeadsTo}
 use Rattle.machine.specs.declared.running.Stage.{Stage}
 use Rattle.machine.specs.declared.running.Stage.TheVariants.{Ready, Open, Doomed}
 use Rattle.machine.specs.Running.{IsIdle, Saw, Knew}
@@ -23,6 +23,13 @@ pub saw_none : (shared : Type 0) (begins : Words → (ℕ → ℕ) → Type 0) (
 saw_none shared begins allows h c used r s leads =
     let x = s leads in
     record { first = x.first; opened = x.opened; begun = x.begun; history = x.history; entries = x.entries; allowed = x.allowed; reads = tt; left = x.left }
+
+-- and of those before the last
+pub saw_fewer : (shared : Type 0) (begins : Words → (ℕ → ℕ) → Type 0) (allows : Entry → Type 0) (h : List Entry) (c : Call) (used : ℕ) (l : Access) (r : Log)
+    → Saw shared begins allows h c used (l ∷ r) → Saw shared begins allows h c used r
+saw_fewer shared begins allows h c used l r s leads =
+    let x = s leads in
+    record { first = x.first; opened = x.opened; begun = x.begun; history = x.history; entries = x.entries; allowed = x.allowed; reads = x.reads.1; left = x.left }
 
 -- of what was read when a run is stuck
 pub knew_end : (K : Log → Type 0) (s : Stage) (tried : ℕ) (r w : Log) → IsIdle s r w → Knew K s tried r → (r ≡ []) ⊎ K r

@@ -5,9 +5,14 @@ pub mod Finishing
 pub mod Ends
 pub mod Going
 pub mod Knowing
+pub mod Seeing
+pub mod Moving
+pub mod Seen
+pub mod Losing
 pub mod Making
 pub mod Throwing
 pub mod Slots
 pub mod Soundly
+pub mod Opaquely
 pub mod Indexing
 pub mod ExampleEvents

@@ -1,5 +1,5 @@
 -- Objects that a call makes.
-use Rattle.std.proofs.Common.{◌≡◌, ℕ, ◌+◌, List, [], ◌∷◌, Ok, Err, Option, Some, None, Bool, true, false, refl, sym, subst, ap, ◌∙◌}
+use Rattle.std.proofs.Common.{◌≡◌, ℕ, ◌+◌, List, [], ◌∷◌, Ok, Err, Option, None, Bool, true, false, refl, sym, subst, ap, ◌∙◌}
 use Rattle.objects.specs.declared.op.Made.{Made}
 use Rattle.objects.specs.declared.op.Made.TheVariants.{Pushed, Raised}
 use Rattle.objects.specs.declared.op.Phase.TheVariants.{Open}
@@ -9,8 +9,8 @@ use Rattle.objects.specs.rewriting.Events.{made_events, header_events}
 use Rattle.objects.specs.semantics.Program.{Row, Holds, Words, Elements, Program, row_at}
 use Rattle.objects.specs.semantics.Region.{has_words, next_reference}
 use Rattle.objects.specs.semantics.State.{Object, header, words_of, object_of}
-use Rattle.objects.specs.semantics.Step.{Frames, unwinds}
-use Rattle.objects.specs.rewriting.Attempt.{Log, Bounds, Meter, Run, Reply, Gives, Refuses, access, Stuck, unwound, on_made, on_thrown, meter_thrown, meter_with, makes, made, making}
+use Rattle.objects.specs.semantics.Step.{unwinds}
+use Rattle.objects.specs.rewriting.Attempt.{Log, Bounds, Reply, Gives, Refuses, access, Stuck, unwound, on_made, on_thrown, meter_thrown, meter_with, makes, made, making}
 use Rattle.machine.specs.declared.failure.Failure.{Failure}
 use Rattle.machine.specs.declared.failure.Failure.TheVariants as failure
 use Rattle.machine.specs.declared.running.Running.{Running}

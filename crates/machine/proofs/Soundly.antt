@@ -8,7 +8,7 @@ use Rattle.jmodel.specs.history.History.{Call, Entry, Words, Agrees, used_after}
 use Rattle.tx_core.specs.Engine.{LeadsTo}
 use Rattle.objects.specs.semantics.Program.{Program}
 use Rattle.objects.specs.semantics.State.{Object, State}
-use Rattle.objects.specs.rewriting.Attempt.{Log, Stuck, run, run_start}
+use Rattle.objects.specs.rewriting.Attempt.{Stuck, run, run_start}
 use Rattle.objects.specs.history.Meaning.{Represents, IsInRegion, Explains}
 use Rattle.objects.specs.rewriting.Rewriting.{rewritten}
 use Rattle.objects.specs.typing.Typing.{Table}
@@ -51,7 +51,7 @@ module _ (P : Program) (size region u : ℕ) (ws : Words) (σ : State) (R : Repr
   }
 
 -- each entry of a list is explained
-explained_all : (P : Program) (size budget : ℕ) (allows : Entry → Type 0) (f : (e : Entry) → allows e → Explains P size budget e) (h : List Entry) → AllByRecursion allows h → AllByRecursion (Explains P size budget) h
+pub explained_all : (P : Program) (size budget : ℕ) (allows : Entry → Type 0) (f : (e : Entry) → allows e → Explains P size budget e) (h : List Entry) → AllByRecursion allows h → AllByRecursion (Explains P size budget) h
 explained_all P size budget allows f [] a = tt
 explained_all P size budget allows f (e ∷ h) a = (f e a.0, explained_all P size budget allows f h a.1)
 

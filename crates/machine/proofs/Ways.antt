@@ -1,5 +1,5 @@
 -- Runs with what they tell, step by step.
-use Rattle.std.proofs.Common.{◌≡◌, ℕ, Bool, true, false, List, [], ◌∷◌, ◌++◌, Option, Some, None, ◌⊎◌, inl, inr, refl, ap, sym, subst, ◌∙◌}
+use Rattle.std.proofs.Common.{◌≡◌, Bool, true, false, List, [], ◌∷◌, ◌++◌, Option, Some, None, refl, ap, sym, ◌∙◌}
 use Rattle.std.proofs.lemmas.List.{append-nil, append_assoc}
 use Rattle.objects.specs.declared.event.Event.{Event}
 use Rattle.objects.specs.declared.event.Event.TheVariants as event
@@ -9,9 +9,9 @@ use Rattle.objects.specs.declared.op.Asking.TheVariants.{Go, Turn, Enter, Return
 use Rattle.objects.specs.declared.op.Request.{Request}
 use Rattle.objects.specs.declared.op.Request.TheVariants as request
 use Rattle.objects.specs.semantics.Program.{Program}
-use Rattle.objects.specs.semantics.Step.{Frame, Frames, Asked, Asks, Fails, step, goes}
-use Rattle.objects.specs.rewriting.Attempt.{Log, Bounds, Meter, Run, On, Reply, Gives, next_run, run, Comes}
-use Rattle.objects.specs.rewriting.Events.{AreOfAsking, AreOfAsked, AreOfStep, AreOfRun, AreOpen, Grows, request_events}
+use Rattle.objects.specs.semantics.Step.{Frames, Asked, Asks, Fails, step, goes}
+use Rattle.objects.specs.rewriting.Attempt.{Log, Bounds, Meter, Run, On, Reply, next_run, run, Comes}
+use Rattle.objects.specs.rewriting.Events.{AreOfAsked, AreOfStep, AreOfRun, AreOpen, Grows, request_events}
 use Rattle.machine.specs.Telling.{TellsNone}
 use Rattle.machine.specs.Running.{Way, Told}
 use Rattle.machine.proofs.Comes.{run_append}
@@ -61,7 +61,7 @@ none_after T T' es o f t = record { events = es ++ t.events; no_entry = open_app
 pub way_here : (P : Program) (B : Bounds) (c : Run) → Way P B c [] c
 way_here P B c = ([], refl, refl)
 
-told_append : (P : Program) (B : Bounds) (us vs : List Reply) (c : Run) (es fs : List Event) → AreOfRun P B us c es → AreOfRun P B vs (run P B us c) fs → AreOfRun P B (us ++ vs) c (es ++ fs)
+pub told_append : (P : Program) (B : Bounds) (us vs : List Reply) (c : Run) (es fs : List Event) → AreOfRun P B us c es → AreOfRun P B vs (run P B us c) fs → AreOfRun P B (us ++ vs) c (es ++ fs)
 told_append P B [] vs c es fs a b = rw a b
 told_append P B (u ∷ us) vs c es fs a b =
     (a.0, a.1 ++ fs, a.2, told_append P B us vs (next_run P B u c) a.1 fs a.3 b, ap (λ (l : List Event). l ++ fs) a.4 ∙ append_assoc a.0 a.1 fs)

@@ -3,4 +3,5 @@ pub mod Machine
 pub mod Telling
 pub mod Running
 pub mod Sound
+pub mod Opacity
 pub mod Gates

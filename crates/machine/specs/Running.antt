@@ -19,6 +19,7 @@ use Rattle.objects.specs.declared.op.Made.TheVariants.{Pushed, Raised}
 use Rattle.objects.specs.declared.op.Slot.TheVariants as slot
 use Rattle.objects.specs.rewriting.Attempt.{Thrown as ThrownAs, Log, Bounds, Meter, Run, On, Asking, Ended, Stuck, Reply, Gives, Refuses, set_back, on_asked, on_asking, on_commit, on_thrown, meter_thrown, next_run, run, Comes, run_start}
 use Rattle.objects.specs.rewriting.Events.{AreOfAsking, AreOfStep, AreOfRun, AreOpen}
+use Rattle.objects.specs.semantics.Traps.{IsOpen}
 use Rattle.jmodel.specs.history.History.{Call, Entry, Words, made}
 use Rattle.machine.specs.declared.failure.Failure.{Failure}
 use Rattle.machine.specs.declared.failure.Failure.TheVariants as failure
@@ -96,6 +97,16 @@ pub record IsWithin (first attempts clock : ℕ) (s : Stage) (tried : ℕ) : Typ
   pub clock_below : clock + opened s ≤ first + tried
   pub tried_below : tried ≤ attempts
 
+-- From a stage, with so many attempts begun, to another: no attempt was both begun and lost on the way.
+abbrev pub Moves : Stage → ℕ → Stage → ℕ → Type 0
+Moves Ready t Ready u = u ≡ t
+Moves Ready t Open u = u ≡ t + 1
+Moves Open t Open u = u ≡ t
+Moves Open t Doomed u = u ≡ t
+Moves Doomed t Doomed u = u ≡ t
+Moves Doomed t Ready u = u ≡ t
+Moves s t z u = ⊥
+
 -- what the state and an answer stand for
 abbrev pub land : Bounds → Running → Log → Log → Result Todo Failure → Run
 land B a w r (Ok Budget) = Ended answer.Budget (set_back B (meter a)) [] r
@@ -114,6 +125,11 @@ Lands B x a w r result = x ≡ land B a w r result
 -- a run from c comes to d, and tells these events on its way
 abbrev pub Way : Program → Bounds → Run → List Event → Run → Type 0
 Way P B c es d = (vs : List Reply) × (run P B vs c ≡ d) × AreOfRun P B vs c es
+
+-- K is known of what an attempt has read by each step of a run at which it is open
+abbrev pub Knows : Program → Bounds → (Log → Type 0) → List Reply → Run → Type 0
+Knows P B K [] c = (r : Log) → IsOpen r c → K r
+Knows P B K (v ∷ vs) c = ((r : Log) → IsOpen r c → K r) × Knows P B K vs (next_run P B v c)
 
 -- what a gate was told of a step: events that are of it by D, and no entry
 abbrev pub Told : (List Event → Type 0) → (List Event → Type 0) → Type 0
@@ -274,32 +290,36 @@ IsStarted P B m args (Ok a) = (run_start P B m args ≡ at a [] []) × (a.stage 
 IsStarted P B m args (Err failure.Wrong) = run_start P B m args ≡ Stuck []
 IsStarted P B m args (Err failure.NoMemory) = Unit {0}
 
--- a run that ended with an entry; T says how many attempts were begun, and G what the gate was told
-pub record Ends (P : Program) (B : Bounds) (c : Run) (A : Call → ℕ → Type 0) (allows : Entry → Type 0) (T : ℕ → Type 0) (G : List Event → Type 0) (S : List Entry → ℕ → Log → Log → Type 0) (h : List Entry) (n : ℕ) (e : End) : Type 0 where
+-- a run that ended with an entry; T says how many attempts were begun, G what the gate was told, and K what is known of reads
+pub record Ends (P : Program) (B : Bounds) (c : Run) (A : Call → ℕ → Type 0) (allows : Entry → Type 0) (T : ℕ → Type 0) (G : List Event → Type 0) (S : List Entry → ℕ → Log → Log → Type 0) (h : List Entry) (n : ℕ) (K : Log → Type 0) (e : End) : Type 0 where
   pub reads : Log
   pub writes : Log
   pub meter_then : Meter
   pub steps : List Event
   pub comes : Way P B c steps (Ended e.answer meter_then writes reads)
+  pub knows : Knows P B K comes.0 c
   pub leaves : meter_then.used ≡ e.used
   pub begun : T meter_then.tried
   pub added : HasAdded A allows S h n B.used meter_then.tried e reads writes
   pub told : G (steps ++ event.Ended ∷ [])
 
 -- the attempts were used up, each by a conflict
-pub record IsSpent (P : Program) (B : Bounds) (c : Run) (T : ℕ → Type 0) (G : List Event → Type 0) (S : ℕ → Log → Log → Type 0) (n : ℕ) (e : End) : Type 0 where
+pub record IsSpent (P : Program) (B : Bounds) (c : Run) (T : ℕ → Type 0) (G : List Event → Type 0) (S : ℕ → Log → Log → Type 0) (n : ℕ) (K : Log → Type 0) (e : End) : Type 0 where
   pub meter_then : Meter
   pub begun : T meter_then.tried
-  pub comes : Comes P B c (Ended answer.Spent meter_then [] [])
+  pub steps : List Event
+  pub no_entry : AreOpen steps
+  pub comes : Way P B c steps (Ended answer.Spent meter_then [] [])
+  pub knows : Knows P B K comes.0 c
   pub stands : S (n + meter_then.tried) [] []
   pub unplaced : IsUnplaced B e
-  pub tells : TellsNone G
+  pub told : G steps
 
 -- how a run ends, by its answer
-abbrev pub IsEndBy : Answer → Program → Bounds → Run → (Call → ℕ → Type 0) → (Entry → Type 0) → (ℕ → Type 0) → (List Event → Type 0) → (List Entry → ℕ → Log → Log → Type 0) → List Entry → ℕ → End → Type 0
-IsEndBy answer.Spent P B c A allows T G S h n e = IsSpent P B c T G (S h) n e
-IsEndBy answer.NoMemory P B c A allows T G S h n e = ⊥
-IsEndBy x P B c A allows T G S h n e = Ends P B c A allows T G S h n e
+abbrev pub IsEndBy : Answer → Program → Bounds → Run → (Call → ℕ → Type 0) → (Entry → Type 0) → (ℕ → Type 0) → (List Event → Type 0) → (List Entry → ℕ → Log → Log → Type 0) → List Entry → ℕ → (Log → Type 0) → End → Type 0
+IsEndBy answer.Spent P B c A allows T G S h n K e = IsSpent P B c T G (S h) n K e
+IsEndBy answer.NoMemory P B c A allows T G S h n K e = ⊥
+IsEndBy x P B c A allows T G S h n K e = Ends P B c A allows T G S h n K e
 
 -- a run that is stuck, and what is known of its reads
 pub record IsStuckBy (P : Program) (B : Bounds) (c : Run) (K : Log → Type 0) : Type 0 where
@@ -307,9 +327,9 @@ pub record IsStuckBy (P : Program) (B : Bounds) (c : Run) (K : Log → Type 0) :
   pub comes : Comes P B c (Stuck reads)
   pub knew : (reads ≡ []) ⊎ K reads
 
--- how a run ends; E says what is known after an error, and K of the reads of one that is stuck
+-- how a run ends; E says what is known after an error, and K of what its attempts read
 abbrev pub IsEnd : Program → Bounds → Run → (Call → ℕ → Type 0) → (Entry → Type 0) → (ℕ → Type 0) → (List Event → Type 0) → (List Entry → ℕ → Log → Log → Type 0) → List Entry → ℕ → Type 0 → (Log → Type 0) → Result End Failure → Type 0
-IsEnd P B c A allows T G S h n E K (Ok e) = IsEndBy e.answer P B c A allows T G S h n e
+IsEnd P B c A allows T G S h n E K (Ok e) = IsEndBy e.answer P B c A allows T G S h n K e
 IsEnd P B c A allows T G S h n E K (Err failure.Wrong) = E × IsStuckBy P B c K × TellsNone G
 IsEnd P B c A allows T G S h n E K (Err failure.NoMemory) = E × TellsNone G
 
@@ -321,4 +341,5 @@ pub record OnWay (P : Program) (B : Bounds) (c : Run) (T : List Event → Type 0
   pub events : List Event
   pub no_entry : AreOpen events
   pub comes : Way P B c events (at a writes reads)
+  pub knows : Knows P B K comes.0 c
   pub told : T events

@@ -11,6 +11,7 @@ ghost use Rattle.objects.specs.declared.event.Event.TheVariants as event;
 ghost use Rattle.objects.specs.rewriting.Events.{Grows};
 ghost use Rattle.machine.specs.Telling.{TellsRun};
 ghost use Rattle.machine.specs.Sound.{IsTypedCall, IsOverStates};
+ghost use Rattle.machine.specs.Opacity.{OpaqueRun};
 ghost use Rattle.machine.specs.Running.{at, Saw, Leaves, IsEnd};
 
 use crate::failure::Failure;
@@ -119,6 +120,14 @@ impl Machine {
             → E.stands tx.old h n [] [] → E.awaits tx.old c limits.room.used → c.region ≡ limits.room.region
             → E.is_shared ⊎ ((first : Words) (opened : ℕ → ℕ) → E.begins first opened → LeadsTo opened h c limits.room.used)
             → IsOverStates P limits E.begins E.allows → IsOk result }
+        // Opacity: whenever an attempt is open, it has read only what one state has, and met the traps that the original meets first from there. So has
+        // one that meets a conflict later. The run is that by which the call came to its entry, or used its attempts up, with the events that were told.
+        ensures prefixes { (P : JProgram) (Ts : List Table) (h : List Entry) (n : ℕ) (c : Call) → IsTypedCall P Ts program.now method args.now
+            → E.stands tx.old h n [] [] → E.awaits tx.old c limits.room.used → c.method ≡ method → c.args ≡ args.now → c.region ≡ limits.room.region
+            → MayRun E.allows program.now (bounds_of limits) c
+            → E.is_shared ⊎ ((first : Words) (opened : ℕ → ℕ) → E.begins first opened → LeadsTo opened h c limits.room.used)
+            → IsOverStates P limits E.begins E.allows
+            → OpaqueRun P program.now (bounds_of limits) E.begins E.allows c (E.stands tx.new) h n (Grows (G.told gate.old) (G.told gate.new)) result }
         ensures ticks { E.clock tx.new ≤ E.clock tx.old + limits.attempts }
     {
         match attempts(alloc, program, tx, gate, limits, Called { method, args }) {

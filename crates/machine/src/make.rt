@@ -14,7 +14,7 @@ ghost use Rattle.machine.specs.declared.running.Stage.TheVariants as stage;
 ghost use Rattle.machine.specs.declared.failure.Failure.TheVariants as failure;
 ghost use Rattle.machine.specs.Machine.{bounds_of};
 ghost use Rattle.machine.specs.Meets.{HasPlace, CanAsk};
-ghost use Rattle.machine.specs.Running.{frames, meter, phase_of, Saw, Holds, IsWithin, Told, IsTurn, IsHeaded, IsFresh, IsFollowed, Lands, settled};
+ghost use Rattle.machine.specs.Running.{frames, meter, phase_of, Saw, Holds, IsWithin, Moves, Told, IsTurn, IsHeaded, IsFresh, IsFollowed, Lands, settled};
 ghost use Rattle.tx_core.specs.Engine.{raised};
 
 use crate::failure::Failure;
@@ -114,6 +114,7 @@ impl Running {
             (Holds (E.stands engine.new h) (Saw E.is_shared E.begins E.allows h k used) n self.new.stage self.new.tried) self.new result }
         ensures no_commit { result ≢ Ok Todo.Commit }
         ensures not_spent { result ≢ Ok Todo.Spent }
+        ensures moves { IfOk result (λ _. Moves stage.Open self.old.tried self.new.stage self.new.tried) }
         ensures attempts { (k : ℕ) → E.attempts engine.old (k + self.old.tried) → E.attempts engine.new (k + self.new.tried) }
         ensures ticks { (t attempts : ℕ) → IsWithin t attempts (E.clock engine.old) self.old.stage self.old.tried
             → IsWithin t attempts (E.clock engine.new) self.new.stage self.new.tried }
@@ -178,6 +179,7 @@ impl Running {
             (Holds (E.stands engine.new h) (Saw E.is_shared E.begins E.allows h k used) n self.new.stage self.new.tried) self.new result }
         ensures no_commit { result ≢ Ok Todo.Commit }
         ensures not_spent { result ≢ Ok Todo.Spent }
+        ensures moves { IfOk result (λ _. Moves self.old.stage self.old.tried self.new.stage self.new.tried) }
         ensures attempts { (k : ℕ) → E.attempts engine.old (k + self.old.tried) → E.attempts engine.new (k + self.new.tried) }
         ensures ticks { (t attempts : ℕ) → IsWithin t attempts (E.clock engine.old) self.old.stage self.old.tried
             → IsWithin t attempts (E.clock engine.new) self.new.stage self.new.tried }
@@ -210,6 +212,7 @@ impl Running {
             (Holds (E.stands engine.new h) (Saw E.is_shared E.begins E.allows h k used) n self.new.stage self.new.tried) self.new result }
         ensures no_commit { result ≢ Ok Todo.Commit }
         ensures not_spent { result ≢ Ok Todo.Spent }
+        ensures moves { IfOk result (λ _. Moves stage.Open self.old.tried self.new.stage self.new.tried) }
         ensures attempts { (k : ℕ) → E.attempts engine.old (k + self.old.tried) → E.attempts engine.new (k + self.new.tried) }
         ensures ticks { (t attempts : ℕ) → IsWithin t attempts (E.clock engine.old) self.old.stage self.old.tried
             → IsWithin t attempts (E.clock engine.new) self.new.stage self.new.tried }
@@ -261,6 +264,7 @@ impl Running {
             (Holds (E.stands engine.new h) (Saw E.is_shared E.begins E.allows h k used) n self.new.stage self.new.tried) self.new result }
         ensures open { (a : Wanted) → result ≡ Ok (Some a) → self.new.stage ≡ stage.Open }
         ensures can { (a : Wanted) → result ≡ Ok (Some a) → CanAsk a self.new.frame }
+        ensures moves { IfOk result (λ _. (self.old.stage ≡ stage.Open) × Moves stage.Open self.old.tried self.new.stage self.new.tried) }
         ensures attempts { (k : ℕ) → E.attempts engine.old (k + self.old.tried) → E.attempts engine.new (k + self.new.tried) }
         ensures ticks { (t attempts : ℕ) → IsWithin t attempts (E.clock engine.old) self.old.stage self.old.tried
             → IsWithin t attempts (E.clock engine.new) self.new.stage self.new.tried }
@@ -293,6 +297,7 @@ impl Running {
             (Holds (E.stands engine.new h) (Saw E.is_shared E.begins E.allows h k used) n self.new.stage self.new.tried) self.new result }
         ensures open { (a : Wanted) → result ≡ Ok (Some a) → self.new.stage ≡ stage.Open }
         ensures can { (a : Wanted) → result ≡ Ok (Some a) → CanAsk a self.new.frame }
+        ensures moves { IfOk result (λ _. Moves stage.Open self.old.tried self.new.stage self.new.tried) }
         ensures attempts { (k : ℕ) → E.attempts engine.old (k + self.old.tried) → E.attempts engine.new (k + self.new.tried) }
         ensures ticks { (t attempts : ℕ) → IsWithin t attempts (E.clock engine.old) self.old.stage self.old.tried
             → IsWithin t attempts (E.clock engine.new) self.new.stage self.new.tried }

@@ -12,7 +12,7 @@ ghost use Rattle.machine.specs.declared.running.Stage.TheVariants as stage;
 ghost use Rattle.objects.specs.declared.op.Phase.TheVariants as phase;
 ghost use Rattle.machine.specs.Meets.{HasAddress};
 ghost use Rattle.machine.specs.Machine.{bounds_of};
-ghost use Rattle.machine.specs.Running.{at, frames, meter, phase_of, Saw, Holds, IsWithin, IsTurn, HasTurned, Waits, IsHeaded, thrown_of};
+ghost use Rattle.machine.specs.Running.{at, frames, meter, phase_of, Saw, Holds, IsWithin, Moves, IsTurn, HasTurned, Waits, IsHeaded, thrown_of};
 
 use crate::callers::Callers;
 use crate::calls::method_of;
@@ -244,6 +244,7 @@ impl Running {
             (Holds (E.stands engine.new h) (Saw E.is_shared E.begins E.allows h k used) n self.new.stage self.new.tried) self.new result }
         ensures no_commit { result ≢ Ok Todo.Commit }
         ensures spent { result ≡ Ok Todo.Spent → self.new.stage ≡ stage.Ready }
+        ensures moves { IfOk result (λ _. Moves stage.Ready self.old.tried self.new.stage self.new.tried) }
         ensures attempts { (k : ℕ) → E.attempts engine.old (k + self.old.tried) → E.attempts engine.new (k + self.new.tried) }
         ensures ticks { (t : ℕ) → IsWithin t limits.attempts (E.clock engine.old) self.old.stage self.old.tried
             → IsWithin t limits.attempts (E.clock engine.new) self.new.stage self.new.tried }
@@ -284,6 +285,7 @@ impl Running {
             (λ v. AreOfAsking program.now B (asking.Ask (request.Look place)) phase.Open v (meter self.old)) (Grows (G.told gate.old) (G.told gate.new))
             (Holds (E.stands engine.new h) (Saw E.is_shared E.begins E.allows h k used) n self.new.stage self.new.tried) self.new result }
         ensures go { IfOk result (λ todo. todo ≡ Todo.Go) }
+        ensures moves { IfOk result (λ _. Moves stage.Open self.old.tried self.new.stage self.new.tried) }
         ensures attempts { (k : ℕ) → E.attempts engine.old (k + self.old.tried) → E.attempts engine.new (k + self.new.tried) }
         ensures ticks { (t attempts : ℕ) → IsWithin t attempts (E.clock engine.old) self.old.stage self.old.tried
             → IsWithin t attempts (E.clock engine.new) self.new.stage self.new.tried }
@@ -319,6 +321,7 @@ impl Running {
             (λ v. AreOfAsking program.now B (asking.Ask (request.Read place word_type)) phase.Open v (meter self.old)) (Grows (G.told gate.old) (G.told gate.new))
             (Holds (E.stands engine.new h) (Saw E.is_shared E.begins E.allows h k used) n self.new.stage self.new.tried) self.new result }
         ensures go { IfOk result (λ todo. todo ≡ Todo.Go) }
+        ensures moves { IfOk result (λ _. Moves stage.Open self.old.tried self.new.stage self.new.tried) }
         ensures attempts { (k : ℕ) → E.attempts engine.old (k + self.old.tried) → E.attempts engine.new (k + self.new.tried) }
         ensures ticks { (t attempts : ℕ) → IsWithin t attempts (E.clock engine.old) self.old.stage self.old.tried
             → IsWithin t attempts (E.clock engine.new) self.new.stage self.new.tried }
@@ -356,6 +359,7 @@ impl Running {
             (λ v. AreOfAsking program.now B (asking.Ask (request.Write place word)) phase.Open v (meter self.old)) (Grows (G.told gate.old) (G.told gate.new))
             (Holds (E.stands engine.new h) (Saw E.is_shared E.begins E.allows h k used) n self.new.stage self.new.tried) self.new result }
         ensures go { IfOk result (λ todo. todo ≡ Todo.Go) }
+        ensures moves { IfOk result (λ _. Moves stage.Open self.old.tried self.new.stage self.new.tried) }
         ensures attempts { (k : ℕ) → E.attempts engine.old (k + self.old.tried) → E.attempts engine.new (k + self.new.tried) }
         ensures ticks { (t attempts : ℕ) → IsWithin t attempts (E.clock engine.old) self.old.stage self.old.tried
             → IsWithin t attempts (E.clock engine.new) self.new.stage self.new.tried }
@@ -383,6 +387,7 @@ impl Running {
             (λ v. AreOfAsking P (bounds_of limits) (asking.Ask request.Rollback) phase.Doomed v (meter self.old)) (Grows told told)
             (Holds (E.stands engine.new h) (Saw E.is_shared E.begins E.allows h k used) n self.new.stage self.new.tried) self.new result }
         ensures go { IfOk result (λ todo. todo ≡ Todo.Go) }
+        ensures moves { IfOk result (λ _. Moves stage.Doomed self.old.tried self.new.stage self.new.tried) }
         ensures attempts { (k : ℕ) → E.attempts engine.old (k + self.old.tried) → E.attempts engine.new (k + self.new.tried) }
         ensures ticks { (t attempts : ℕ) → IsWithin t attempts (E.clock engine.old) self.old.stage self.old.tried
             → IsWithin t attempts (E.clock engine.new) self.new.stage self.new.tried }
@@ -411,6 +416,7 @@ impl Running {
             → IsTurn (bounds_of limits) (λ v. on_request program.now (bounds_of limits) request (phase_of self.old.stage) v (frames self.old) (meter self.old) w r)
             (λ v. AreOfAsking program.now (bounds_of limits) (asking.Ask request) (phase_of self.old.stage) v (meter self.old)) (Grows (G.told gate.old) (G.told gate.new))
             (Holds (E.stands engine.new h) (Saw E.is_shared E.begins E.allows h k used) n self.new.stage self.new.tried) self.new result }
+        ensures moves { IfOk result (λ _. Moves self.old.stage self.old.tried self.new.stage self.new.tried) }
         ensures attempts { (k : ℕ) → E.attempts engine.old (k + self.old.tried) → E.attempts engine.new (k + self.new.tried) }
         ensures ticks { (t : ℕ) → IsWithin t limits.attempts (E.clock engine.old) self.old.stage self.old.tried
             → IsWithin t limits.attempts (E.clock engine.new) self.new.stage self.new.tried }

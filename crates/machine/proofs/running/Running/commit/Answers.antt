@@ -1,4 +1,4 @@
-use Rattle.std.proofs.Common.{◌+◌, [], refl, inr, arith}
+use Rattle.std.proofs.Common.{◌+◌, refl, inr, arith}
 use Rattle.std.proofs.lemmas.Result.{err_from_is_err_and}
 use Rattle.objects.specs.rewriting.Attempt.{on_commit}
 use Rattle.machine.specs.Machine.{bounds_of}

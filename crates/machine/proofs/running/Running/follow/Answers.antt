@@ -1,4 +1,4 @@
-use Rattle.std.proofs.Common.{◌≡◌, [], Ok, Some, ap, refl}
+use Rattle.std.proofs.Common.{[], refl, sym, ◌∙◌}
 use Rattle.std.proofs.lemmas.List.{append-nil}
 use Rattle.std.proofs.lemmas.Result.{err_from_is_err_and}
 use Rattle.objects.specs.declared.op.Asking.TheVariants as asking
@@ -8,11 +8,13 @@ use Rattle.machine.specs.Machine.{bounds_of}
 use Rattle.machine.specs.Running.{phase_of, frames, meter}
 use Rattle.machine.proofs.Ways.{grows_same, grows_trans}
 use Rattle.machine.proofs.Turning.{follows_here, head_fails, head_goes, head_asks, turned_from, turned_waiting, waits_head, waits_head_tells}
+use Rattle.machine.proofs.Moving.{moves_as, moves_if}
 use Rattle.machine.proofs.running.Running.follow.Goals as goal
 
 pub loop-init : goal.loop-init
 loop-init g c = record {
   can = c.requires.can;
+  same = (refl, refl);
   begun = c.requires.begun;
   awaits = λ k used a. a;
   attempts = λ k a. a;
@@ -51,6 +53,11 @@ returns-in-None-clause-run g c = λ h n r w k used a s d waits.
 pub returns-in-None-clause-ticks : goal.returns-in-None-clause-ticks
 returns-in-None-clause-ticks g c = λ t i. c.in_ok-next-in-Head.ensures.ticks t c.args.limits.attempts (c.loop.invariant.ticks t i)
 
+pub returns-in-None-clause-moves : goal.returns-in-None-clause-moves
+returns-in-None-clause-moves g c =
+    let moves = c.in_ok-next-in-Head.ensures.moves in
+    moves_as _ _ _ _ _ _ (sym moves.0 ∙ c.loop.invariant.same.0) c.loop.invariant.same.1 moves.1
+
 pub returns-in_default : goal.returns-in_default
 returns-in_default g c = record {
   run = λ h n r w k used a s d waits.
@@ -66,6 +73,7 @@ returns-in_default g c = record {
   «open» = c.answer.ensures.open;
   next = c.answer.ensures.next;
   spent = c.answer.ensures.spent;
+  moves = moves_if c.answer.result _ _ _ _ _ _ c.loop.invariant.same.0 c.loop.invariant.same.1 c.answer.ensures.moves;
   begun = c.answer.ensures.begun;
   awaits = λ j u x. c.answer.ensures.awaits j u (c.loop.invariant.awaits j u x);
   budget = c.answer.ensures.budget;
@@ -77,8 +85,11 @@ pub loop-preserved : goal.loop-preserved
 loop-preserved g c =
     let P = c.args.program.now in
     let B = bounds_of c.args.limits in
+    let still = c.in_ok-next-in-Head.ensures.open c.in-Some.next (rw c.in-Some.is refl) in
+    let moves = c.in_ok-next-in-Head.ensures.moves in
     record {
       can = c.in_ok-next-in-Head.ensures.can c.in-Some.next (rw c.in-Some.is refl);
+      same = (still ∙ sym moves.0 ∙ c.loop.invariant.same.0, (rw still at moves.1) ∙ c.loop.invariant.same.1);
       begun = c.in_ok-next-in-Head.ensures.begun;
       awaits = λ j u x. c.in_ok-next-in-Head.ensures.awaits j u (c.loop.invariant.awaits j u x);
       attempts = λ j x. c.in_ok-next-in-Head.ensures.attempts j (c.loop.invariant.attempts j x);

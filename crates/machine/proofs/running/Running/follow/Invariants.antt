@@ -11,6 +11,7 @@ use Rattle.machine.proofs.running.Running.follow.Given as goal
 abbrev pub invariant-loop : goal.invariant-loop
 invariant-loop g l = record {
   can : CanAsk l.asking l.self.frame;
+  same : (l.self.stage ≡ l.initial.self.stage) × (l.self.tried ≡ l.initial.self.tried);
   begun : l.self.stage ≡ Open → g.E.Engine.is_open l.engine;
   awaits : (c : Call) (used : ℕ) → g.E.Engine.awaits l.initial.engine c used → g.E.Engine.awaits l.engine c used;
   attempts : (k : ℕ) → g.E.Engine.attempts l.initial.engine (k + l.initial.self.tried) → g.E.Engine.attempts l.engine (k + l.self.tried);

@@ -2,8 +2,8 @@ use Rattle.std.proofs.Common.{◌≡◌, ◌+◌, [], ◌∷◌, arith, inr, ref
 use Rattle.std.proofs.lemmas.Result.{err_from_is_err_and}
 use Rattle.objects.specs.declared.event.Event.TheVariants as event
 use Rattle.objects.specs.semantics.State.{type_in, length_in}
-use Rattle.objects.specs.semantics.Step.{told, unwinds}
-use Rattle.objects.specs.rewriting.Attempt.{Gives, Refuses, recorded, written, answered, heads, followed, unwound}
+use Rattle.objects.specs.semantics.Step.{told}
+use Rattle.objects.specs.rewriting.Attempt.{Gives, Refuses, recorded, written, heads, followed}
 use Rattle.machine.specs.Running.{Saw, frames, meter}
 use Rattle.machine.proofs.Ways.{grows_same, told_as, none_told, nothing_told}
 use Rattle.machine.proofs.Turning.{heads_other, heads_plain, headed_of, head_tells, plain_tells}

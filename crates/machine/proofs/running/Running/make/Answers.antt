@@ -1,4 +1,4 @@
-use Rattle.std.proofs.Common.{◌≡◌, ◌+◌, [], ◌∷◌, refl, sym, arith, inr}
+use Rattle.std.proofs.Common.{◌+◌, [], ◌∷◌, refl, sym, arith, inr}
 use Rattle.objects.specs.declared.event.Event.TheVariants as event
 use Rattle.std.proofs.lemmas.Result.{err_from_is_err_and}
 use Rattle.objects.specs.rewriting.Attempt.{Gives, Refuses, access}

@@ -1,4 +1,4 @@
-use Rattle.std.proofs.Common.{◌≡◌, ◌+◌, [], ◌∷◌, arith, inr, refl}
+use Rattle.std.proofs.Common.{◌+◌, [], ◌∷◌, arith, inr, refl}
 use Rattle.objects.specs.declared.event.Event.TheVariants as event
 use Rattle.objects.specs.rewriting.Attempt.{Gives, Refuses, recorded, written}
 use Rattle.machine.proofs.Ways.{none_told}

@@ -1,4 +1,4 @@
-use Rattle.std.proofs.Common.{List, [], ◌++◌, subst, ◌≡◌, ◌+◌, refl, sym, ◌∙◌, arith}
+use Rattle.std.proofs.Common.{ℕ, List, [], ◌++◌, subst, ◌≡◌, ◌+◌, refl, sym, ◌∙◌, arith}
 use Rattle.std.proofs.lemmas.List.{append-nil}
 use Rattle.std.proofs.lemmas.Result.{err_from_is_err_and}
 use Rattle.jmodel.specs.declared.value.Answer.TheVariants as answer
@@ -9,8 +9,10 @@ use Rattle.machine.specs.Running.{at, frames, meter, Saw}
 use Rattle.objects.specs.declared.event.Event.{Event}
 use Rattle.objects.specs.rewriting.Events.{Grows}
 use Rattle.machine.proofs.Comes.{comes_trans}
-use Rattle.machine.proofs.Ways.{grows_same, grows_trans, open_append, none_told, nothing_told, way_trans}
-use Rattle.machine.proofs.Ends.{within_open, within_end, way_on, told_turn, turn_fails, comes_turned, way_turned, commit_ends, ends_by, end_by, last_made, leaves_of, added_as, may_refuse, refuses}
+use Rattle.machine.proofs.Ways.{grows_same, grows_trans, open_append, nothing_told}
+use Rattle.machine.proofs.Ends.{within_open, within_end, way_start, way_on, told_turn, turn_fails, comes_turned, commit_ends, ends_by, end_by, last_made, leaves_of, added_as, may_refuse, refuses}
+use Rattle.machine.proofs.Knowing.{saw_fewer}
+use Rattle.machine.proofs.Seen.{seen_committed, seen_refused, seen_spent, seen_again}
 use Rattle.machine.proofs.running.Running.run.Goals as goal
 use Rattle.machine.proofs.running.Running.run.Goals.{in-Go, in-Commit+in_ok-end-in-Commit+in_default}
 
@@ -56,13 +58,15 @@ returns-in-Some-clause-run g c = λ h n kc s aw.
     let e = (rw c.in-Commit.is at c.in_ok-turn.ensures.open) refl in
     let k = (rw c.in-Some.is at c.in_ok-end-in-Commit.ensures.run) h n t.0 t.1 kc c.args.limits.room.used (rw e at t.2) in
     let B = bounds_of c.args.limits in
-    ends_by c.args.program.now B (at c.args.self.now [] []) (g.E.Engine.awaits c.args.tx.now) g.E.Engine.allows (Begins (g.E.Engine.attempts c.args.tx.now) (g.E.Engine.attempts c.commit.new.engine)) (Grows (g.G.Gate.told c.args.gate.now) (g.G.Gate.told c.commit.new.gate)) (g.E.Engine.stands c.commit.new.engine) h n c.in-Some.end c.in-Some.end.answer k.0.1 (record {
+    let x = seen_committed c.args.program.now B (Saw g.E.Engine.is_shared g.E.Engine.begins g.E.Engine.allows h kc c.args.limits.room.used) (saw_fewer g.E.Engine.is_shared g.E.Engine.begins g.E.Engine.allows h kc c.args.limits.room.used) (at c.args.self.now [] []) c.loop.self o.writes o.reads o.events [] [] _ _ c.turn.new.self _ c.in-Some.end.answer _ t.1 t.0 (Gives 0) o.comes o.knows u (t.3 (Gives 0)) (t.4.0 (Gives 0)) k.0.0 (last_made c.in-Some.end.answer k.0.1) e c.in_ok-turn.ensures.moves t.2.knew in
+    ends_by c.args.program.now B (at c.args.self.now [] []) (g.E.Engine.awaits c.args.tx.now) g.E.Engine.allows (Begins (g.E.Engine.attempts c.args.tx.now) (g.E.Engine.attempts c.commit.new.engine)) (Grows (g.G.Gate.told c.args.gate.now) (g.G.Gate.told c.commit.new.gate)) (g.E.Engine.stands c.commit.new.engine) h n (Saw g.E.Engine.is_shared g.E.Engine.begins g.E.Engine.allows h kc c.args.limits.room.used) c.in-Some.end c.in-Some.end.answer k.0.1 (record {
       reads = t.0;
       writes = t.1;
       meter_then = meter c.turn.new.self;
-      steps = (o.events ++ (u.events ++ [])) ++ [];
-      comes = way_trans c.args.program.now B (at c.args.self.now [] []) _ _ (o.events ++ (u.events ++ [])) [] (way_turned c.args.program.now B (at c.args.self.now [] []) (at c.loop.self o.writes o.reads) o.events [] _ _ _ _ _ (Gives 0) o.comes u (t.3 (Gives 0)) (t.4.0 (Gives 0))) k.0.0;
-      told = rw (append-nil (o.events ++ (u.events ++ []))) (grows_trans _ _ _ (o.events ++ (u.events ++ [])) _ (grows_trans _ _ _ o.events (u.events ++ []) o.told t.4.1) (rw c.in-Some.is at c.in_ok-end-in-Commit.ensures.told));
+      steps = o.events ++ ((u.events ++ []) ++ []);
+      comes = x.0;
+      knows = x.1;
+      told = rw (append-nil (u.events ++ [])) (grows_trans _ _ _ (o.events ++ (u.events ++ [])) _ (grows_trans _ _ _ o.events (u.events ++ []) o.told t.4.1) (rw c.in-Some.is at c.in_ok-end-in-Commit.ensures.told));
       leaves = sym k.0.2;
       begun = λ j a. c.in_ok-end-in-Commit.ensures.attempts _ (c.in_ok-turn.ensures.attempts j (c.loop.invariant.4 j a));
       added = added_as (g.E.Engine.awaits c.args.tx.now) (g.E.Engine.awaits c.turn.new.engine) g.E.Engine.allows (g.E.Engine.stands c.commit.new.engine) h n c.args.limits.room.used c.turn.new.self.tried c.in-Some.end t.0 t.1
@@ -142,12 +146,12 @@ returns-in-Budget-clause-run g c = λ h n kc s aw.
     let t = u.turn in
     let e = (rw c.in-Budget.is at c.in_ok-turn.ensures.budget) refl in
     let k = c.refuse in
-    end_by c.args.program.now (bounds_of c.args.limits) (at c.args.self.now [] []) (g.E.Engine.awaits c.args.tx.now) g.E.Engine.allows (Begins (g.E.Engine.attempts c.args.tx.now) (g.E.Engine.attempts k.new.tx)) (Grows (g.G.Gate.told c.args.gate.now) (g.G.Gate.told k.new.gate)) (g.E.Engine.stands k.new.tx) h n k.result answer.Budget k.ensures.answer (refuses c.args.program.now (bounds_of c.args.limits) (at c.args.self.now [] []) g.E.Engine.allows (Begins (g.E.Engine.attempts c.args.tx.now) (g.E.Engine.attempts k.new.tx)) (Grows (g.G.Gate.told c.args.gate.now) (g.G.Gate.told k.new.gate)) (g.E.Engine.stands c.args.tx.now) (g.E.Engine.stands k.new.tx)
-    (g.E.Engine.awaits c.args.tx.now) (g.E.Engine.awaits c.turn.new.engine) h n t.2.conflicts k.result (meter c.turn.new.self) t.0 (o.events ++ (u.events ++ t.3.2.0))
+    end_by c.args.program.now (bounds_of c.args.limits) (at c.args.self.now [] []) (g.E.Engine.awaits c.args.tx.now) g.E.Engine.allows (Begins (g.E.Engine.attempts c.args.tx.now) (g.E.Engine.attempts k.new.tx)) (Grows (g.G.Gate.told c.args.gate.now) (g.G.Gate.told k.new.gate)) (g.E.Engine.stands k.new.tx) h n (Saw g.E.Engine.is_shared g.E.Engine.begins g.E.Engine.allows h kc c.args.limits.room.used) k.result answer.Budget k.ensures.answer (refuses c.args.program.now (bounds_of c.args.limits) (at c.args.self.now [] []) g.E.Engine.allows (Begins (g.E.Engine.attempts c.args.tx.now) (g.E.Engine.attempts k.new.tx)) (Grows (g.G.Gate.told c.args.gate.now) (g.G.Gate.told k.new.gate)) (g.E.Engine.stands c.args.tx.now) (g.E.Engine.stands k.new.tx)
+    (g.E.Engine.awaits c.args.tx.now) (g.E.Engine.awaits c.turn.new.engine) h n t.2.conflicts (Saw g.E.Engine.is_shared g.E.Engine.begins g.E.Engine.allows h kc c.args.limits.room.used) k.result (meter c.turn.new.self) t.0 (o.events ++ (u.events ++ t.3.2.0))
     (λ k used a. c.in_ok-turn.ensures.awaits k used (c.loop.invariant.2 k used a)) t.2.later (rw e at t.2.tries)
     (λ j a. k.ensures.attempts _ (c.in_ok-turn.ensures.attempts j (c.loop.invariant.4 j a)))
     (grows_trans _ _ _ (o.events ++ (u.events ++ t.3.2.0)) _ (grows_trans _ _ _ o.events (u.events ++ t.3.2.0) o.told t.3.2.3) k.ensures.told) k.ensures.used
-    (rw k.ensures.answer (way_turned c.args.program.now (bounds_of c.args.limits) (at c.args.self.now [] []) (at c.loop.self o.writes o.reads) o.events t.3.2.0 _ _ _ _ _ t.3.0 o.comes u t.3.1 t.3.2.1))
+    (rw k.ensures.answer (seen_refused c.args.program.now (bounds_of c.args.limits) (Saw g.E.Engine.is_shared g.E.Engine.begins g.E.Engine.allows h kc c.args.limits.room.used) (saw_fewer g.E.Engine.is_shared g.E.Engine.begins g.E.Engine.allows h kc c.args.limits.room.used) (at c.args.self.now [] []) c.loop.self o.writes o.reads o.events t.3.2.0 _ _ c.turn.new.self _ _ t.0 t.3.0 o.comes o.knows u t.3.1 t.3.2.1 (λ q. cc) e c.in_ok-turn.ensures.moves t.2.knew))
     (rw k.ensures.answer (k.ensures.run h t.2.conflicts t.0 t.1 t.2.stands)))
 
 pub returns-in-Budget-clause-ticks : goal.returns-in-Budget-clause-ticks
@@ -160,12 +164,12 @@ returns-in-Depth-clause-run g c = λ h n kc s aw.
     let t = u.turn in
     let e = (rw c.in-Depth.is at c.in_ok-turn.ensures.depth) refl in
     let k = c.refuse-in-Depth in
-    end_by c.args.program.now (bounds_of c.args.limits) (at c.args.self.now [] []) (g.E.Engine.awaits c.args.tx.now) g.E.Engine.allows (Begins (g.E.Engine.attempts c.args.tx.now) (g.E.Engine.attempts k.new.tx)) (Grows (g.G.Gate.told c.args.gate.now) (g.G.Gate.told k.new.gate)) (g.E.Engine.stands k.new.tx) h n k.result answer.Depth k.ensures.answer (refuses c.args.program.now (bounds_of c.args.limits) (at c.args.self.now [] []) g.E.Engine.allows (Begins (g.E.Engine.attempts c.args.tx.now) (g.E.Engine.attempts k.new.tx)) (Grows (g.G.Gate.told c.args.gate.now) (g.G.Gate.told k.new.gate)) (g.E.Engine.stands c.args.tx.now) (g.E.Engine.stands k.new.tx)
-    (g.E.Engine.awaits c.args.tx.now) (g.E.Engine.awaits c.turn.new.engine) h n t.2.conflicts k.result (meter c.turn.new.self) t.0 (o.events ++ (u.events ++ t.3.2.0))
+    end_by c.args.program.now (bounds_of c.args.limits) (at c.args.self.now [] []) (g.E.Engine.awaits c.args.tx.now) g.E.Engine.allows (Begins (g.E.Engine.attempts c.args.tx.now) (g.E.Engine.attempts k.new.tx)) (Grows (g.G.Gate.told c.args.gate.now) (g.G.Gate.told k.new.gate)) (g.E.Engine.stands k.new.tx) h n (Saw g.E.Engine.is_shared g.E.Engine.begins g.E.Engine.allows h kc c.args.limits.room.used) k.result answer.Depth k.ensures.answer (refuses c.args.program.now (bounds_of c.args.limits) (at c.args.self.now [] []) g.E.Engine.allows (Begins (g.E.Engine.attempts c.args.tx.now) (g.E.Engine.attempts k.new.tx)) (Grows (g.G.Gate.told c.args.gate.now) (g.G.Gate.told k.new.gate)) (g.E.Engine.stands c.args.tx.now) (g.E.Engine.stands k.new.tx)
+    (g.E.Engine.awaits c.args.tx.now) (g.E.Engine.awaits c.turn.new.engine) h n t.2.conflicts (Saw g.E.Engine.is_shared g.E.Engine.begins g.E.Engine.allows h kc c.args.limits.room.used) k.result (meter c.turn.new.self) t.0 (o.events ++ (u.events ++ t.3.2.0))
     (λ k used a. c.in_ok-turn.ensures.awaits k used (c.loop.invariant.2 k used a)) t.2.later (rw e at t.2.tries)
     (λ j a. k.ensures.attempts _ (c.in_ok-turn.ensures.attempts j (c.loop.invariant.4 j a)))
     (grows_trans _ _ _ (o.events ++ (u.events ++ t.3.2.0)) _ (grows_trans _ _ _ o.events (u.events ++ t.3.2.0) o.told t.3.2.3) k.ensures.told) k.ensures.used
-    (rw k.ensures.answer (way_turned c.args.program.now (bounds_of c.args.limits) (at c.args.self.now [] []) (at c.loop.self o.writes o.reads) o.events t.3.2.0 _ _ _ _ _ t.3.0 o.comes u t.3.1 t.3.2.1))
+    (rw k.ensures.answer (seen_refused c.args.program.now (bounds_of c.args.limits) (Saw g.E.Engine.is_shared g.E.Engine.begins g.E.Engine.allows h kc c.args.limits.room.used) (saw_fewer g.E.Engine.is_shared g.E.Engine.begins g.E.Engine.allows h kc c.args.limits.room.used) (at c.args.self.now [] []) c.loop.self o.writes o.reads o.events t.3.2.0 _ _ c.turn.new.self _ _ t.0 t.3.0 o.comes o.knows u t.3.1 t.3.2.1 (λ q. cc) e c.in_ok-turn.ensures.moves t.2.knew))
     (rw k.ensures.answer (k.ensures.run h t.2.conflicts t.0 t.1 t.2.stands)))
 
 pub returns-in-Depth-clause-ticks : goal.returns-in-Depth-clause-ticks
@@ -178,12 +182,12 @@ returns-in-Heap-clause-run g c = λ h n kc s aw.
     let t = u.turn in
     let e = (rw c.in-Heap.is at c.in_ok-turn.ensures.heap) c.in-Heap.wanted refl in
     let k = c.refuse-in-Heap in
-    end_by c.args.program.now (bounds_of c.args.limits) (at c.args.self.now [] []) (g.E.Engine.awaits c.args.tx.now) g.E.Engine.allows (Begins (g.E.Engine.attempts c.args.tx.now) (g.E.Engine.attempts k.new.tx)) (Grows (g.G.Gate.told c.args.gate.now) (g.G.Gate.told k.new.gate)) (g.E.Engine.stands k.new.tx) h n k.result (answer.Heap c.turn.new.self.used c.in-Heap.wanted c.args.limits.room.size) k.ensures.answer (refuses c.args.program.now (bounds_of c.args.limits) (at c.args.self.now [] []) g.E.Engine.allows (Begins (g.E.Engine.attempts c.args.tx.now) (g.E.Engine.attempts k.new.tx)) (Grows (g.G.Gate.told c.args.gate.now) (g.G.Gate.told k.new.gate)) (g.E.Engine.stands c.args.tx.now) (g.E.Engine.stands k.new.tx)
-    (g.E.Engine.awaits c.args.tx.now) (g.E.Engine.awaits c.turn.new.engine) h n t.2.conflicts k.result (meter c.turn.new.self) t.0 (o.events ++ (u.events ++ t.3.2.0))
+    end_by c.args.program.now (bounds_of c.args.limits) (at c.args.self.now [] []) (g.E.Engine.awaits c.args.tx.now) g.E.Engine.allows (Begins (g.E.Engine.attempts c.args.tx.now) (g.E.Engine.attempts k.new.tx)) (Grows (g.G.Gate.told c.args.gate.now) (g.G.Gate.told k.new.gate)) (g.E.Engine.stands k.new.tx) h n (Saw g.E.Engine.is_shared g.E.Engine.begins g.E.Engine.allows h kc c.args.limits.room.used) k.result (answer.Heap c.turn.new.self.used c.in-Heap.wanted c.args.limits.room.size) k.ensures.answer (refuses c.args.program.now (bounds_of c.args.limits) (at c.args.self.now [] []) g.E.Engine.allows (Begins (g.E.Engine.attempts c.args.tx.now) (g.E.Engine.attempts k.new.tx)) (Grows (g.G.Gate.told c.args.gate.now) (g.G.Gate.told k.new.gate)) (g.E.Engine.stands c.args.tx.now) (g.E.Engine.stands k.new.tx)
+    (g.E.Engine.awaits c.args.tx.now) (g.E.Engine.awaits c.turn.new.engine) h n t.2.conflicts (Saw g.E.Engine.is_shared g.E.Engine.begins g.E.Engine.allows h kc c.args.limits.room.used) k.result (meter c.turn.new.self) t.0 (o.events ++ (u.events ++ t.3.2.0))
     (λ k used a. c.in_ok-turn.ensures.awaits k used (c.loop.invariant.2 k used a)) t.2.later (rw e at t.2.tries)
     (λ j a. k.ensures.attempts _ (c.in_ok-turn.ensures.attempts j (c.loop.invariant.4 j a)))
     (grows_trans _ _ _ (o.events ++ (u.events ++ t.3.2.0)) _ (grows_trans _ _ _ o.events (u.events ++ t.3.2.0) o.told t.3.2.3) k.ensures.told) k.ensures.used
-    (rw k.ensures.answer (way_turned c.args.program.now (bounds_of c.args.limits) (at c.args.self.now [] []) (at c.loop.self o.writes o.reads) o.events t.3.2.0 _ _ _ _ _ t.3.0 o.comes u t.3.1 t.3.2.1))
+    (rw k.ensures.answer (seen_refused c.args.program.now (bounds_of c.args.limits) (Saw g.E.Engine.is_shared g.E.Engine.begins g.E.Engine.allows h kc c.args.limits.room.used) (saw_fewer g.E.Engine.is_shared g.E.Engine.begins g.E.Engine.allows h kc c.args.limits.room.used) (at c.args.self.now [] []) c.loop.self o.writes o.reads o.events t.3.2.0 _ _ c.turn.new.self _ _ t.0 t.3.0 o.comes o.knows u t.3.1 t.3.2.1 (λ q. cc) e c.in_ok-turn.ensures.moves t.2.knew))
     (rw k.ensures.answer (k.ensures.run h t.2.conflicts t.0 t.1 t.2.stands)))
 
 pub returns-in-Heap-clause-ticks : goal.returns-in-Heap-clause-ticks
@@ -198,13 +202,17 @@ returns-in-Spent-clause-run g c = λ h n kc s aw.
     let i = rw e at t.2.idle in
     let k = rw e at t.2.tries in
     let q : t.2.conflicts ≡ n + c.turn.new.self.tried = omega arith in
+    let x = seen_spent c.args.program.now (bounds_of c.args.limits) (Saw g.E.Engine.is_shared g.E.Engine.begins g.E.Engine.allows h kc c.args.limits.room.used) (saw_fewer g.E.Engine.is_shared g.E.Engine.begins g.E.Engine.allows h kc c.args.limits.room.used) (at c.args.self.now [] []) c.loop.self o.writes o.reads o.events t.3.2.0 _ _ c.turn.new.self _ t.3.0 o.comes o.knows u t.3.1 t.3.2.1 e c.in_ok-turn.ensures.moves in
     rw c.unplaced.ensures (record {
       meter_then = meter c.turn.new.self;
-      comes = comes_turned c.args.program.now (bounds_of c.args.limits) (at c.args.self.now [] []) (at c.loop.self o.writes o.reads) o.events _ _ _ _ _ t.3.0 o.comes u t.3.1;
+      steps = o.events ++ (u.events ++ t.3.2.0);
+      no_entry = open_append o.events (u.events ++ t.3.2.0) o.no_entry (open_append u.events t.3.2.0 u.no_entry t.3.2.2);
+      comes = x.0;
+      knows = x.1;
       begun = λ j a. c.in_ok-turn.ensures.attempts j (c.loop.invariant.4 j a);
       stands = rw (i.0, i.1, q) at t.2.stands;
       unplaced = record { unstamped = refl; unused = refl };
-      tells = told_turn (Grows (g.G.Gate.told c.loop.gate) (g.G.Gate.told c.turn.new.gate)) _ o.events u.events o.no_entry u.no_entry (λ es t. grows_trans _ _ _ o.events es o.told t) (none_told _ _ t.3.2);
+      told = grows_trans _ _ _ o.events (u.events ++ t.3.2.0) o.told t.3.2.3;
     })
 
 pub returns-in-Spent-clause-ticks : goal.returns-in-Spent-clause-ticks
@@ -219,7 +227,7 @@ loop-preserved g c =
         λ k used a. c.in_ok-turn.ensures.awaits k used (c.loop.invariant.2 k used a),
         λ h n kc s aw.
             let o = c.loop.invariant.3 h n kc s aw in
-            way_on _ _ _ _ (Grows (g.G.Gate.told c.loop.gate) (g.G.Gate.told c.turn.new.gate)) _ (g.E.Engine.stands c.loop.tx h) _ (Saw g.E.Engine.is_shared g.E.Engine.begins g.E.Engine.allows h kc c.args.limits.room.used) n c.loop.self _ o (λ es t. grows_trans _ _ _ o.events es o.told t) ((rw w.in-Go.is at c.in_ok-turn.ensures.run) h n o.reads o.writes kc c.args.limits.room.used (c.loop.invariant.2 kc c.args.limits.room.used aw) o.holds),
+            way_on _ _ _ _ (Grows (g.G.Gate.told c.loop.gate) (g.G.Gate.told c.turn.new.gate)) _ (g.E.Engine.stands c.loop.tx h) _ (Saw g.E.Engine.is_shared g.E.Engine.begins g.E.Engine.allows h kc c.args.limits.room.used) n c.loop.self _ (saw_fewer g.E.Engine.is_shared g.E.Engine.begins g.E.Engine.allows h kc c.args.limits.room.used) c.in_ok-turn.ensures.moves o (λ es t. grows_trans _ _ _ o.events es o.told t) ((rw w.in-Go.is at c.in_ok-turn.ensures.run) h n o.reads o.writes kc c.args.limits.room.used (c.loop.invariant.2 kc c.args.limits.room.used aw) o.holds),
         λ j a. c.in_ok-turn.ensures.attempts j (c.loop.invariant.4 j a),
       )
       | in-Commit+in_ok-end-in-Commit+in_default w ↦
@@ -233,13 +241,15 @@ loop-preserved g c =
                 let u = (rw w.in-Commit.is at c.in_ok-turn.ensures.run) h n o.reads o.writes kc c.args.limits.room.used (c.loop.invariant.2 kc c.args.limits.room.used aw) o.holds in
                 let t = u.turn in
                 let k = (rw w.in_default.is at w.in_ok-end-in-Commit.ensures.run) h n t.0 t.1 kc c.args.limits.room.used (rw e at t.2) in
+                let x = seen_again c.args.program.now (bounds_of c.args.limits) (Saw g.E.Engine.is_shared g.E.Engine.begins g.E.Engine.allows h kc c.args.limits.room.used) (saw_fewer g.E.Engine.is_shared g.E.Engine.begins g.E.Engine.allows h kc c.args.limits.room.used) (at c.args.self.now [] []) c.loop.self o.writes o.reads o.events [] _ _ c.turn.new.self _ w.commit.new.self t.1 t.0 o.comes o.knows u t.3 (t.3 Refuses ∙ k.0) (t.4.0 Refuses) w.in_ok-end-in-Commit.ensures.closed e c.in_ok-turn.ensures.moves t.2.knew in
                 record {
                   reads = [];
                   writes = [];
                   holds = k.1;
                   events = o.events ++ (u.events ++ []);
                   no_entry = open_append o.events (u.events ++ []) o.no_entry (open_append u.events [] u.no_entry tt);
-                  comes = way_turned c.args.program.now (bounds_of c.args.limits) (at c.args.self.now [] []) (at c.loop.self o.writes o.reads) o.events [] _ _ _ _ _ Refuses o.comes u (t.3 Refuses ∙ k.0) (t.4.0 Refuses);
+                  comes = x.0;
+                  knows = x.1;
                   told = rw (← append-nil (o.events ++ (u.events ++ []))) (grows_trans _ _ _ (o.events ++ (u.events ++ [])) [] (grows_trans _ _ _ o.events (u.events ++ []) o.told t.4.1) (rw w.in_default.is at w.in_ok-end-in-Commit.ensures.told));
                 },
             λ j a. rw w.in_ok-end-in-Commit.ensures.tried (w.in_ok-end-in-Commit.ensures.attempts _ (c.in_ok-turn.ensures.attempts j (c.loop.invariant.4 j a))),
@@ -248,3 +258,12 @@ loop-preserved g c =
 
 pub returns-clause-run : goal.returns-clause-run
 returns-clause-run g c = λ h n kc s aw. let o = c.loop.invariant.3 h n kc s aw in (leaves_of _ _ _ _ _ _ _ o.holds, record { events = o.events; no_entry = o.no_entry; told = o.told })
+
+pub loop-init : goal.loop-init
+loop-init g c = (
+  rw (c.requires.stage, c.requires.tried) (record { clock_below = omega arith; tried_below = omega arith }),
+  λ e. let no : Ready ≡ Open = sym c.requires.stage ∙ e in let bad : ⊥ = cc in absurd bad,
+  λ k used a. a,
+  λ h n kc s aw. way_start c.args.program.now (bounds_of c.args.limits) (Grows (g.G.Gate.told c.args.gate.now) (g.G.Gate.told c.args.gate.now)) (g.E.Engine.stands c.args.tx.now h) (Saw g.E.Engine.is_shared g.E.Engine.begins g.E.Engine.allows h kc c.args.limits.room.used) n c.args.self.now (grows_same (g.G.Gate.told c.args.gate.now)) c.requires.stage c.requires.tried s,
+  λ j a. let t = c.requires.tried in let e : j ≡ j + c.args.self.now.tried = omega (arith, t) in subst (λ (i : ℕ). g.E.Engine.attempts c.args.tx.now i) e a,
+)

@@ -1,4 +1,4 @@
-use Rattle.std.proofs.Common.{◌≡◌, Some, sym, refl, ◌∙◌, rules}
+use Rattle.std.proofs.Common.{◌≡◌, Some, rules}
 use Rattle.objects.specs.semantics.Program.{row_at}
 use Rattle.machine.proofs.running.Running.throw_known.Goals as goal
 

@@ -2,10 +2,11 @@ use Rattle.std.proofs.Common.{[], ◌∷◌}
 use Rattle.std.proofs.lemmas.Result.{err_from_is_err_and}
 use Rattle.objects.specs.rewriting.Attempt.{On}
 use Rattle.machine.specs.Machine.{bounds_of}
-use Rattle.machine.specs.Running.{at, phase_of, frames, meter}
+use Rattle.machine.specs.Running.{at, phase_of, meter}
 use Rattle.objects.specs.rewriting.Events.{Grows}
 use Rattle.machine.proofs.Ways.{grows_same}
 use Rattle.machine.proofs.Turning.{plain_fails, settle_fails, turned_from, waits_step, step_is}
+use Rattle.machine.proofs.Moving.{moves_if}
 use Rattle.machine.proofs.running.Running.turn.Goals as goal
 
 pub returns-in_err-doing-clause-run : goal.returns-in_err-doing-clause-run
@@ -32,3 +33,6 @@ returns-clause-run g c = λ h n r w k used a s.
 
 pub returns-clause-ticks : goal.returns-clause-ticks
 returns-clause-ticks g c = λ t i. c.follow.ensures.ticks t (rw (c.in_ok-doing.ensures.stage, c.in_ok-doing.ensures.tried) i)
+
+pub returns-clause-moves : goal.returns-clause-moves
+returns-clause-moves g c = moves_if c.follow.result _ _ _ _ _ _ c.in_ok-doing.ensures.stage c.in_ok-doing.ensures.tried c.follow.ensures.moves
