@@ -1,5 +1,5 @@
 -- A run's journal, phase by phase.
-use Rattle.std.proofs.Common.{◌≡◌, ℕ, List, ◌++◌, map, All, AllPairs, true, sym, ◌∙◌, ap, subst}
+use Rattle.std.proofs.Common.{◌≡◌, ◌<◌, ℕ, List, ◌++◌, map, length, get_or, All, AllPairs, true, sym, ◌∙◌, ap, subst}
 use Rattle.std.specs.Prelude.{IsPermutation}
 use Rattle.std.specs.Global.{Global}
 use Rattle.std.specs.declared.vec.Vec.{Vec}
@@ -58,8 +58,9 @@ made_calls ts = map-map call_of made_of ts
 -- all phases
 pub run_all : (P : Program) (size budget : ℕ) (phases : List ScriptPhase) (memory : Memory) (used : ℕ → ℕ) (records : Records) (journal : Journal)
     → journal.placed ≡ records.placed → journal.unplaced ≡ records.unplaced
+    → length journal.used.items ≡ 17 → ((region : ℕ) → region < 17 → get_or journal.used.items region 0 ≡ used region)
     → HasRunTo P size budget phases memory journal.words.items used records → HasRun P size budget phases memory journal
-run_all P size budget phases memory used records journal same_placed same_unplaced h =
+run_all P size budget phases memory used records journal same_placed same_unplaced len each h =
     record {
       placed = h.placed;
       unplaced = h.unplaced;
@@ -69,6 +70,7 @@ run_all P size budget phases memory used records journal same_placed same_unplac
       behind = h.behind;
       is_journal = λ σ stands. journal_of σ (h.stretch σ stands);
       leaves = λ σ stands. (h.stretch σ stands).stands.represents;
+      used = λ σ stands. record { len = len; each = λ region low. each region low ∙ sym ((h.stretch σ stands).stands.used_are region) };
     }
   where
     accepted : IsAccepted phases (map made_of h.placed) (map made_of h.unplaced)

@@ -1,7 +1,7 @@
 -- Lists in order, and lists that hold the same.
-use Rattle.std.proofs.Common.{◌≡◌, ℕ, zero, suc, ◌<◌, List, [], ◌∷◌, ◌++◌, length, get_or, drop, map, All, AllPairs, Result, Ok, Err, sym, ◌∙◌, ap, subst, arith}
+use Rattle.std.proofs.Common.{◌≡◌, ℕ, zero, suc, ◌<◌, List, [], ◌∷◌, ◌++◌, length, get_or, set, drop, map, All, AllPairs, Result, Ok, Err, refl, sym, ◌∙◌, ap, subst, arith}
 use Rattle.std.specs.Prelude.{IfOk, IsErrAnd, MatchResult, IsPermutation}
-use Rattle.std.specs.List.{AllByRecursion, AllZip}
+use Rattle.std.specs.List.{AllByRecursion, AllZip, insert, remove}
 use Rattle.std.proofs.Math.ListN.{get_or-map}
 use Rattle.std.proofs.lemmas.List.{append_assoc, length-map}
 use Rattle.std.proofs.lemmas.List.Elements.{All-nil, All-cons, All-head, All-tail, All-append, All-weaker}
@@ -95,3 +95,14 @@ sorted_out xs ys p q u v h k =
 
     behind : (p ++ q) ++ (u ++ v) ≡ p ++ ((q ++ u) ++ v)
     behind = append_assoc p q (u ++ v) ∙ ap (λ l. p ++ l) (sym (append_assoc q u v))
+
+-- an element is taken out of a list, and another put in its place
+pub insert_removed : {X : Type 0} (xs : List X) (n : ℕ) (x : X) → n < length xs → insert (remove xs n) n x ≡ set xs n x
+insert_removed [] n x low = absurd (omega (arith, low))
+insert_removed (y ∷ xs) zero x low = refl
+insert_removed (y ∷ xs) (suc n) x low = ap (λ l. y ∷ l) (insert_removed xs n x (omega (arith, low)))
+
+-- what holds of a result for each of two reasons
+pub if_both : {A E : Type 0} (P Q R : A → Type 0) (x : Result A E) → ((a : A) → P a → Q a → R a) → IfOk x P → IfOk x Q → IfOk x R
+if_both P Q R (Ok a) both p q = both a p q
+if_both P Q R (Err e) both p q = tt

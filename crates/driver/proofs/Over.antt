@@ -1,11 +1,11 @@
 -- Phases over one table, one behind the other, and what its history tells of them at the close.
-use Rattle.std.proofs.Common.{◌≡◌, ◌≤◌, ◌<◌, ◌+◌, ◌==◌, ℕ, zero, suc, List, [], ◌∷◌, ◌++◌, length, get_or, map, All, AllPairs, Bool, true, false, cond, not, ◌&&◌, ◌||◌, nat_eq, nat_lt, refl, sym, ◌∙◌, ap, subst, inl, inr, arith}
+use Rattle.std.proofs.Common.{◌≡◌, ◌≢◌, ◌≤◌, ◌<◌, ◌+◌, ◌==◌, ℕ, zero, suc, List, [], ◌∷◌, ◌++◌, length, get_or, map, All, AllPairs, Bool, true, false, cond, not, ◌&&◌, ◌||◌, nat_eq, nat_lt, refl, sym, ◌∙◌, ap, subst, inl, inr, arith}
 use Rattle.std.specs.Prelude.{IsPermutation, if◌then◌else◌}
 use Rattle.std.specs.List.{AllByRecursion}
 use Rattle.std.specs.List.Sorted.{IsSortedBy}
 use Rattle.std.proofs.lemmas.Bool.Decides.{nat_tests}
 use Rattle.std.proofs.lemmas.List.{map-append}
-use Rattle.std.proofs.lemmas.List.Elements.{All-nil, All-append, All-weaker, All-from_recursion, recursion_from_All}
+use Rattle.std.proofs.lemmas.List.Elements.{All-nil, All-head, All-tail, All-append, All-weaker, All-from_recursion, recursion_from_All}
 use Rattle.std.proofs.lemmas.List.Sorted.{IsPermutation-refl, IsPermutation-trans, IsPermutation-map, IsPermutation-append}
 use mathlib.Core.Option.{some}
 use Rattle.objects.specs.semantics.Serial.{Serial}
@@ -28,9 +28,10 @@ use Rattle.driver.specs.declared.memory.Memory.{Memory}
 use Rattle.driver.specs.Memory.{used_at_first, Holds}
 use Rattle.driver.specs.Stories.{story_of, lane_regions, first_regions}
 use Rattle.driver.specs.Runs.{HasRun}
+use Rattle.driver.specs.Passing.{first_of, AreUsed, MayGoOn}
 use Rattle.driver.specs.Over.{Shown, as_shown, made_in, shown_in, KeepsLane, IsOfRegion, StandsBehind, IsPhaseOver, AddsPhase}
 use Rattle.driver.proofs.Ordered.{order_shown, behind_first}
-use Rattle.driver.proofs.Lists.{all_from_map, pairs_nil, pairs_append, pairs_map, pairs_from_map, sorted_out}
+use Rattle.driver.proofs.Lists.{all_map, all_from_map, pairs_nil, pairs_append, pairs_map, pairs_from_map, sorted_out}
 use Rattle.driver.proofs.Places.{IsOfPhase, IsBefore, all_dealt, all_script, script_append, ascends_phase}
 use Rattle.driver.proofs.Stretching.{stretch_of}
 use Rattle.driver.proofs.Journals.{HasRunTo, calls_append, of_both, run_all}
@@ -241,6 +242,15 @@ opens_with used zero = refl
 opens_with used (suc region) =
     ap or_zero (ne_cond 0 (suc region) (some used) (lookup (lane_regions 16) (suc region)) (λ e. omega (arith, e))) ∙ none_at_first 16 (suc region)
 
+-- entries of other regions leave a region's used words
+used_still : (h : List Entry) (region u : ℕ) → All (λ (t : Told). t.call.region ≢ region) (map told h) → used_after h region u ≡ u
+used_still [] region u others = refl
+used_still (e ∷ h) region u others =
+    let Other : Told → Type 0 = λ t. t.call.region ≢ region in
+    let here : e.call.region ≢ region = All-head Other (told e) (map told h) others in
+    let rest : All Other (map told h) = All-tail Other (told e) (map told h) others in
+    ap (used_after h region) (ne_cond e.call.region region e.used_after u here) ∙ used_still h region u rest
+
 module _ (P Q : Program) (size budget attempts : ℕ) (memory : Memory) (after : List ℕ) (rule : Entry → Type 0) (ruled : (e : Entry) → rule e → IsRuled P Q size budget attempts e) (b : Book)
     (phases : List ScriptPhase) (records : Records) (h : HasRunOver phases b records) (ends : Ends (story_of rule memory.words.items memory.used) b after) where
   -- the used words of a region as the table opened, and as it closed
@@ -304,12 +314,25 @@ module _ (P Q : Program) (size budget attempts : ℕ) (memory : Memory) (after :
       (λ i j d l inside. behind_first (told (get_or ends.history i d)) (told (get_or ends.history j d)) (ends.legal.stamps i j d l inside) (ends.legal.ordered i j d l inside)) in
       pairs_map as_shown Behind h.placed (pairs_from_map (λ (s : Shown). s.made) Behind h.placed (subst (AllPairs Behind) told_is all))
 
+  -- no call takes words of region 0
+  of_others : All (λ (t : Told). t.call.region ≢ 0) (map told ends.history)
+  of_others =
+      let Other : Told → Type 0 = λ t. t.call.region ≢ 0 in
+      subst (All Other) (sym told_is) (all_map (λ (s : Shown). s.made) Other h.placed (λ i d l same. let region = h.of_lanes i d l in omega (arith, region, same)))
+
+  -- the words that are used in each region at the end
+  used_are : (kept : List ℕ) (phase : ℕ) → AreUsed kept b → ((lane : ℕ) → lane < 16 → MayGoOn (first_of phase lane) b) → (region : ℕ) → region < 17 → get_or (memory.used ∷ kept) region 0 ≡ last region
+  used_are kept phase used goes zero low = sym (used_still ends.history 0 memory.used of_others)
+  used_are kept phase used goes (suc lane) low = let l : lane < 16 = omega (arith, low) in used lane l ∙ sym (ends.used (suc lane) _ (goes lane l).region)
+
   -- so the journal is that of a run
-  pub run_over : (journal : Journal) → journal.placed ≡ records.placed → journal.unplaced ≡ records.unplaced → journal.words.items ≡ after
+  pub run_over : (kept : List ℕ) (phase : ℕ) → AreUsed kept b → ((lane : ℕ) → lane < 16 → MayGoOn (first_of phase lane) b) → (journal : Journal)
+      → journal.placed ≡ records.placed → journal.unplaced ≡ records.unplaced → journal.words.items ≡ after → journal.used.items ≡ memory.used ∷ kept → length journal.used.items ≡ 17
       → HasRun P size budget phases memory journal
-  run_over journal placed unplaced words =
+  run_over kept phase used goes journal placed unplaced words used_is long =
       let Left : List ℕ → Type 0 = λ ws. HasRunTo P size budget phases memory ws last records in
-      run_all P size budget phases memory last records journal placed unplaced
+      run_all P size budget phases memory last records journal placed unplaced long
+      (λ region low. ap (λ (us : List ℕ). get_or us region 0) used_is ∙ used_are kept phase used goes region low)
       (subst Left (sym words) (record {
         placed = shown_in h.placed;
         unplaced = h.unplaced;

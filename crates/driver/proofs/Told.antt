@@ -21,7 +21,7 @@ use Rattle.session.specs.Passes.{behind}
 use Rattle.session.proofs.Telling.{each_weaker, told_weaker, told_first, told_append}
 use Rattle.driver.specs.declared.memory.Limits.{Limits}
 use Rattle.driver.specs.Passing.{first_of}
-use Rattle.driver.specs.Telling.{lane_bounds, is_of_lane, IsCallAt, HaveTold, AreTold, TellsPhase}
+use Rattle.driver.specs.Telling.{lane_bounds, lane_limits, is_of_lane, IsCallAt, HaveTold, AreTold, TellsPhase}
 
 -- the used words of bounds say nothing of what is told of several calls
 pub told_bounds : (Q : Program) (B : Bounds) (used : ℕ) (C : Record → Known → Type 0) (placed : List Record) (T : List Event → Type 0) → HasTold Q (record B { used = used }) C placed T → HasTold Q B C placed T
@@ -223,6 +223,13 @@ filtered lane (r ∷ rs) = by (filtered lane rs) (is_of_lane lane r) refl
     by : All (OfLane lane) (filter (is_of_lane lane) rs) → (b : Bool) → is_of_lane lane r ≡ b → All (OfLane lane) (filter (is_of_lane lane) (r ∷ rs))
     by rest true is = rw is (All-cons (OfLane lane) r (filter (is_of_lane lane) rs) (let e : r.lane ≡ lane = grind (arith, nat_tests) in e) rest)
     by rest false is = rw is rest
+
+-- the limits of a lane's calls
+pub limits_are : (limits : Limits) (l : CallLimits) (region lane used : ℕ) → l ≡ record { budget = limits.budget; attempts = limits.attempts; room = record { region = region; size = limits.size; used = used } }
+    → region ≡ suc lane → l ≡ lane_limits limits lane used
+limits_are limits l region lane used is number =
+    let within : ℕ → CallLimits = λ r. record { budget = limits.budget; attempts = limits.attempts; room = record { region = r; size = limits.size; used = used } } in
+    is ∙ ap within number
 
 -- what the calls of a lane told, whatever words of its region were used before the first
 pub lane_told : (Q : Program) (limits : Limits) (l : CallLimits) (region lane used : ℕ) (C : Record → Known → Type 0) (placed : List Record) (T : List Event → Type 0)

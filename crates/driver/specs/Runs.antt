@@ -1,5 +1,5 @@
 -- What a run of a script's calls leaves.
-use Rattle.std.specs.Prelude.{◌≡◌, ◌≤◌, ℕ, List, length, map, true, AllPairs}
+use Rattle.std.specs.Prelude.{◌≡◌, ◌≤◌, ◌<◌, ℕ, List, length, map, true, AllPairs, slice_index}
 use Rattle.std.specs.List.{AllByRecursion}
 use Rattle.objects.specs.semantics.Program.{Program}
 use Rattle.objects.specs.semantics.State.{State}
@@ -30,9 +30,14 @@ pub record AreScripted (P : Program) (phases : List ScriptPhase) : Type 0 where
   pub few_phases : length phases ≤ 10000
   pub few_calls : length (script_calls 0 (map lists_in phases)) ≤ 100000
 
+-- so many words of region 0, and of each of sixteen lanes' regions, are used in a state
+pub record AreUsedIn (used : List ℕ) (σ : State) : Type 0 where
+  pub len : length used ≡ 17
+  pub each : (region : ℕ) → region < 17 → slice_index used region ≡ σ.used region
+
 -- The journal of the calls of a script, from memory on. The placed ones stand in the order of history: by stamp, an update before readers of the same stamp,
 -- then by phase, lane and index. The stamp of each isn't below that of any before it, and is over it where it is an update. The words stand for
--- the state that the calls left.
+-- the state that the calls left, in which so many words of each region are used.
 pub record HasRun (P : Program) (size budget : ℕ) (phases : List ScriptPhase) (memory : Memory) (journal : Journal) : Type 0 where
   pub placed : List Told
   pub unplaced : List Told
@@ -42,3 +47,4 @@ pub record HasRun (P : Program) (size budget : ℕ) (phases : List ScriptPhase) 
   pub behind : AllPairs (λ (s t : Told). StandsBehind s.stamp.at t) placed
   pub is_journal : (σ : State) → Holds P size memory σ → IsJournal P size budget σ phases (map made_of placed) (map made_of unplaced)
   pub leaves : (σ : State) (holds : Holds P size memory σ) → Represents P size (word_in journal.words.items) (is_journal σ holds).after
+  pub used : (σ : State) (holds : Holds P size memory σ) → AreUsedIn journal.used.items (is_journal σ holds).after

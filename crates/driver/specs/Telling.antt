@@ -8,6 +8,7 @@ use Rattle.objects.specs.declared.event.Event.{Event}
 use Rattle.objects.specs.semantics.Program.{Program}
 use Rattle.objects.specs.rewriting.Attempt.{Bounds}
 use Rattle.objects.specs.rewriting.Events.{Grows}
+use Rattle.machine.specs.declared.machine.Limits.{Limits as CallLimits}
 use Rattle.claims.specs.declared.bag.BagPass.{BagPass}
 use Rattle.session.specs.declared.record.Record.{Record}
 use Rattle.session.specs.declared.record.Lane.{Lane}
@@ -27,6 +28,10 @@ use Rattle.atomic_table.specs.Seated.{TableId}
 -- the bounds of a lane's calls; the words that are used before a call vary
 abbrev pub lane_bounds : Limits → ℕ → Bounds
 lane_bounds limits lane = record { budget = limits.budget; attempts = limits.attempts; region = record { number = suc lane; size = limits.size }; used = 0 }
+
+-- the limits of a lane's calls, before which so many words of its region are used
+abbrev pub lane_limits : Limits → ℕ → ℕ → CallLimits
+lane_limits limits lane used = record { budget = limits.budget; attempts = limits.attempts; room = record { region = suc lane; size = limits.size; used = used } }
 
 abbrev pub is_of_lane : ℕ → Record → Bool
 is_of_lane lane r = nat_eq r.lane lane

@@ -15,6 +15,8 @@ pub struct Journal {
     pub unplaced: Vec<Record>,
     /// The words of memory after all of them.
     pub words: Vec<u64>,
+    /// How many words of each region are used then: of region 0, and of each lane's.
+    pub used: Vec<u64>,
 }
 
 /// What is kept of the calls of a run, phase by phase.

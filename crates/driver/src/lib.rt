@@ -18,7 +18,8 @@ mod threads;
 mod workers;
 
 pub use journal::Journal;
-pub use memory::{Limits, Memory};
+pub use memory::{LANES, Limits, Memory};
 pub use run::Runner;
 pub use session::Gate;
 pub use setting_up::{SetUpEnd, set_up};
+pub use table::{Keeping, Opening, Start, open_table, start_lanes};

@@ -4,7 +4,7 @@ ghost use Rattle.std.specs.Prelude.{◌≡◌};
 use session::{Limits as CallLimits, Room};
 
 /// How many lanes a phase has at most.
-pub(crate) const LANES: usize = 16;
+pub const LANES: usize = 16;
 
 /// The words of memory, and how many of them are used in region 0. None is used in any other.
 #[derive(Drop)]
@@ -23,7 +23,7 @@ pub struct Limits {
 
 impl Limits {
     /// The same for calls that take words of a region, of which so many are used.
-    pub(crate) fn in_region(self, region: u64, used: u64) -> CallLimits
+    pub fn in_region(self, region: u64, used: u64) -> CallLimits
         ensures { result ≡ record { budget = self.budget; attempts = self.attempts; room = record { region = region; size = self.size; used = used } } }
     {
         CallLimits {

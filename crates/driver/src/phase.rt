@@ -188,7 +188,7 @@ impl<'a> Runner<'a> {
     }
 
     /// Makes what is left of a phase, one lane after another, and adds all of its calls to the journal.
-    fn add_rest<K: Keeping, G: Gate>(
+    fn add_rest<K: Keeping, G: Gate + Drop>(
         &self,
         shared: &Shared<Opening<K>>,
         pass: Pass,

@@ -27,7 +27,7 @@ use tx_table::{Pass, Shared};
 impl<'a> Runner<'a> {
     /// Makes the calls of a phase that are left, one lane after another. `firsts` has for each lane how many of its calls were made before. The pass
     /// holds every number, so that no call meets a conflict, and each of them is made. Gives what is kept of them, and the pass.
-    pub(crate) fn one_after_another<K: Keeping, G: Gate>(
+    pub(crate) fn one_after_another<K: Keeping, G: Gate + Drop>(
         &self,
         shared: &Shared<Opening<K>>,
         pass: Pass,
@@ -67,14 +67,16 @@ impl<'a> Runner<'a> {
                 lane: number as u8,
                 first: first as u32,
             };
-            let (made, left) = self.make_rest(
+            let gate = kept.gates.remove(number);
+            let ((made, left), gate) = self.make_rest(
                 shared,
                 pass,
                 self.limits.in_region(number as u64 + 1, kept.used[number]),
                 at,
                 &lane.calls,
-                &mut kept.gates[number],
+                gate,
             )?;
+            kept.gates.insert(number, gate)?;
             let Lane {
                 placed: mut more,
                 unplaced,
@@ -95,16 +97,16 @@ impl<'a> Runner<'a> {
 }
 
 impl<'a> Runner<'a> {
-    /// Makes the calls of a lane from a place on. Gives what is kept of them, and the pass.
-    fn make_rest<K: Keeping, G: Gate>(
+    /// Makes the calls of a lane from a place on. Gives what is kept of them, the pass, and the gate.
+    fn make_rest<K: Keeping, G: Gate + Drop>(
         &self,
         shared: &Shared<Opening<K>>,
         pass: Pass,
         limits: CallLimits,
         at: Place,
         calls: &[Known],
-        gate: &mut G,
-    ) -> Result<(Lane, Pass), AllocError>
+        gate: G,
+    ) -> Result<((Lane, Pass), G), AllocError>
         requires ready { IsReady self.now.original.now self.now.rewritten.now }
         requires calls { AllByRecursion (IsCallOf self.now.original.now) calls.now }
         requires few { length calls.now ≤ 100000 }
@@ -116,9 +118,9 @@ impl<'a> Runner<'a> {
         requires within { at.first ≤ length calls.now }
         requires pass { IsStarting shared.now.table.shared.table_id at limits.room.used (length (drop at.first calls.now)) pass }
         ensures made { IfOk result (λ r. let rest = drop at.first calls.now in
-            (h : List Entry) × IsEnding shared.now.table.shared.table_id (book pass) at (length rest) r.0.made r.0.used h r.1 × HasMade at limits.room.used rest h r.0) }
-        ensures all { (book pass).numbers ≡ 2 ^ 20 → IfOk result (λ r. r.0.made ≡ length (drop at.first calls.now)) }
-        ensures told { IfOk result (λ r. HasTold self.now.rewritten.now (bounds_of limits) (IsRecordOf at (drop at.first calls.now)) r.0.placed.items (Grows (G.told gate.old) (G.told gate.new))) }
+            (h : List Entry) × IsEnding shared.now.table.shared.table_id (book pass) at (length rest) r.0.0.made r.0.0.used h r.0.1 × HasMade at limits.room.used rest h r.0.0) }
+        ensures all { (book pass).numbers ≡ 2 ^ 20 → IfOk result (λ r. r.0.0.made ≡ length (drop at.first calls.now)) }
+        ensures told { IfOk result (λ r. HasTold self.now.rewritten.now (bounds_of limits) (IsRecordOf at (drop at.first calls.now)) r.0.0.placed.items (Grows (G.told gate) (G.told r.1))) }
     {
         let rest = &calls[at.first as usize..];
         let making = Making {

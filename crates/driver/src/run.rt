@@ -9,7 +9,7 @@ ghost use Rattle.driver.specs.Telling.{TellsScript};
 
 use crate::journal::{Journal, Records};
 use crate::memory::{LANES, Limits, Memory};
-use crate::side::Kept;
+use crate::side::{Kept, used_in_all};
 use crate::table::{Keeping, open_table};
 use hierarchy::Program;
 use script::{EngineKind, PhaseCalls};
@@ -34,7 +34,7 @@ impl<'a> Runner<'a> {
     /// The phases come one after another. The lanes of a phase run side by side, where more than one has calls; what a lane leaves, of which a call used up
     /// its attempts, is made behind them, one lane after another. Each call may take the turns and the attempts of `limits`, and those of a lane together
     /// the words of its region. Lane k's calls tell gate k, whichever phase they are of; after an `Ok` as many gates stand there, in their order.
-    pub fn run_phases<R: Threads + Sync, G: Gate + Send + Drop>(
+    pub fn run_gated<R: Threads + Sync, G: Gate + Send + Drop>(
         &self,
         rt: &R,
         memory: Memory,
@@ -77,6 +77,7 @@ impl<'a> Runner<'a> {
         // Where a gate tells its events, they are those before, and then the events of its lane's placed calls, each call's in one piece, in their order.
         ensures told { IfOk result (λ journal. TellsScript self.now.rewritten.now self.now.limits phases.now journal.placed.items (map G.told gates.old.items) (map G.told gates.new.items)) }
     {
+        let first = memory.used;
         let (shared, mut pass) = open_table::<K>(self.alloc, memory)?;
         let mut kept = Kept {
             used: [0; LANES],
@@ -97,12 +98,14 @@ impl<'a> Runner<'a> {
         let Ok(words) = shared.close(self.alloc, pass) else {
             return Err(AllocError);
         };
+        let used = used_in_all(self.alloc, first, &kept.used)?;
         *gates = kept.gates;
         let Records { placed, unplaced } = records;
         Ok(Journal {
             placed,
             unplaced,
             words,
+            used,
         })
     }
 }

@@ -1,9 +1,10 @@
 //! What a part of a phase's calls leaves.
-ghost use Rattle.std.specs.Prelude.{◌≡◌, ◌<◌, ◌≤◌, ℕ, length, slice_index, slice_index_or};
+ghost use Rattle.std.specs.Prelude.{◌≡◌, ◌<◌, ◌≤◌, ℕ, ◌∷◌, IfOk, length, slice_index, slice_index_or};
 ghost use Rattle.driver.specs.declared.side.Part.{Part as Left};
 
 use crate::memory::LANES;
 use session::Record;
+use std::alloc::{AllocError, Global};
 
 /// The calls of a lane that were made.
 #[derive(Drop)]
@@ -43,4 +44,18 @@ pub(crate) fn keep_used(used: &mut [u64; LANES], parts: &[Part])
     for (lane, part) in parts.iter().enumerate() {
         used[lane] = part.used;
     }
+}
+
+/// How many words of each region are used: so many of region 0, and these of each lane's.
+pub(crate) fn used_in_all(
+    alloc: Global,
+    first: u64,
+    lanes: &[u64; LANES],
+) -> Result<Vec<u64>, AllocError>
+    ensures used { IfOk result (λ used. used.items ≡ first ∷ lanes.now) }
+    ensures len { IfOk result (λ used. length used.items ≡ 17) }
+{
+    let mut used = vec![in alloc; first]?;
+    used.extend_from_slice(lanes)?;
+    Ok(used)
 }

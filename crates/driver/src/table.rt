@@ -11,7 +11,7 @@ use std::snapshot::Snapshot;
 use tx_table::{Pass, Ruled, Shared, Story};
 
 /// What a table is opened with, and what its entries keep to. A caller picks all of it for its proof.
-pub(crate) trait Keeping {
+pub trait Keeping {
     ghost use Rattle.std.specs.Prelude.{ℕ, List};
 
     /// The words that a table is opened with.
@@ -35,7 +35,7 @@ impl Keeping for Brand {
 
 /// The story of a table that is opened so.
 #[derive(Drop)]
-pub(crate) struct Opening<K> {
+pub struct Opening<K> {
     of: PhantomData<K>,
 }
 
@@ -55,14 +55,14 @@ impl<K: Keeping> Ruled for Opening<K> {
 
 /// A lane that is to run: its number, how many words of its region are used, and the pass that it starts with.
 #[derive(Drop)]
-pub(crate) struct Start {
+pub struct Start {
     pub lane: u8,
     pub used: u64,
     pub pass: Pass,
 }
 
 /// Opens a table over the words of memory.
-pub(crate) fn open_table<K: Keeping>(
+pub fn open_table<K: Keeping>(
     alloc: Global,
     memory: Memory,
 ) -> Result<(Shared<Opening<K>>, Pass), AllocError>
@@ -77,7 +77,7 @@ pub(crate) fn open_table<K: Keeping>(
 }
 
 /// Splits off a pass for each of so many lanes of a phase.
-pub(crate) fn start_lanes<K: Keeping>(
+pub fn start_lanes<K: Keeping>(
     alloc: Global,
     shared: &Shared<Opening<K>>,
     pass: &mut Pass,

@@ -1,5 +1,5 @@
 //! The lanes of a phase on threads, over one table.
-ghost use Rattle.std.specs.Prelude.{◌≡◌, ◌≤◌, ◌<◌, ℕ, List, [], length, map, slice_index_or, IfOk};
+ghost use Rattle.std.specs.Prelude.{◌≡◌, ◌≢◌, ◌≤◌, ◌<◌, ℕ, List, [], length, map, slice_index_or, IfOk};
 ghost use Rattle.std.specs.List.{AllByRecursion, flat_map};
 ghost use Rattle.jmodel.specs.history.History.{Entry};
 ghost use Rattle.tx_table.specs.Book.{Book};
@@ -8,7 +8,8 @@ ghost use Rattle.tx_table.specs.Passes.{book};
 ghost use Rattle.driver.specs.Memory.{AreOfStates};
 ghost use Rattle.session.specs.Rule.{IsRuled, IsReady, IsCallOf};
 ghost use Rattle.driver.specs.Passing.{used_of, first_of, call_count, IsOfOne, AreStarting, HasEnded, HaveEnded, AreEnding, IsJoining};
-ghost use Rattle.driver.specs.Telling.{kept_of, AreBegun, HasRunLane, HaveRunLanes, HaveTold};
+ghost use Rattle.session.specs.Passes.{HasSpent};
+ghost use Rattle.driver.specs.Telling.{kept_of, lane_limits, AreBegun, HasRunLane, HaveRunLanes, HaveTold};
 
 use crate::gates::{give_gates, take_gates};
 use crate::run::Runner;
@@ -43,9 +44,12 @@ impl<'a> Runner<'a> {
         requires few_lanes { length lanes.now ≤ 16 }
         requires used { begun.0.used ≡ used_of (book begun.0.pass) begun.0.lane }
         requires pass { IsOfOne shared.now.table.shared.table_id (book begun.0.pass).seen (first_of phase begun.0.lane) begun.0.pass }
-        ensures { IfOk result (HasRunLane G.told self.now.rewritten.now self.now.limits shared.now.table.shared.table_id (book begun.0.pass).seen phase begun.0.lane (slice_index_or lanes.now begun.0.lane []) (G.told begun.1)) }
+        ensures ran { IfOk result (HasRunLane G.told self.now.rewritten.now self.now.limits shared.now.table.shared.table_id (book begun.0.pass).seen phase begun.0.lane (slice_index_or lanes.now begun.0.lane []) (G.told begun.1)) }
+        // It stops at a call that made as many attempts as it may, each of which met a conflict, and at no other.
+        ensures stopped { IfOk result (λ r. r.0.0.made ≢ length (slice_index_or lanes.now begun.0.lane [])
+            → HasSpent self.now.original.now self.now.rewritten.now (lane_limits self.now.limits begun.0.lane begun.0.used) (slice_index_or lanes.now begun.0.lane []) r.0.0.made r.0.0.used (book begun.0.pass) r.0.1) }
     {
-        let (start, mut gate) = begun;
+        let (start, gate) = begun;
         let Start { lane, used, pass } = start;
         let at = Place {
             phase,
@@ -59,15 +63,7 @@ impl<'a> Runner<'a> {
             rewritten: self.rewritten,
             limits: self.limits.in_region(u64::from(lane) + 1, used),
         };
-        let end = making.make_shared(
-            self.engine,
-            shared,
-            pass,
-            at,
-            calls.calls.as_slice(),
-            &mut gate,
-        )?;
-        Ok((end, gate))
+        making.make_shared(self.engine, shared, pass, at, calls.calls.as_slice(), gate)
     }
 }
 

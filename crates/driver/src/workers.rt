@@ -1,5 +1,5 @@
 //! The workers of a bag on threads, over one table and one bag's claims.
-ghost use Rattle.std.specs.Prelude.{◌≡◌, ◌≤◌, ◌<◌, ◌+◌, ◌*◌, ◌^◌, ℕ, List, [], All, length, map, slice_index_or, IfOk, OnOk};
+ghost use Rattle.std.specs.Prelude.{◌≡◌, ◌≢◌, ◌≤◌, ◌<◌, ◌+◌, ◌*◌, ◌^◌, ℕ, List, [], All, length, map, slice_index_or, IfOk, OnOk};
 ghost use Rattle.std.specs.List.{AllByRecursion};
 ghost use Rattle.atomic_table.specs.Seated.{TableId};
 ghost use Rattle.jmodel.specs.history.History.{Entry};
@@ -12,7 +12,9 @@ ghost use Rattle.tx_table.specs.Passes.{book};
 ghost use Rattle.driver.specs.Passing.{used_of, first_of, IsOfOne, AreStarting, HaveEnded};
 ghost use Rattle.driver.specs.Bags.{lists, as_lanes, AreTaken, IsRest};
 ghost use Rattle.driver.specs.Workers.{MayClaim, AreWorkers, HasWorked, HaveWorked, AreCollected};
-ghost use Rattle.driver.specs.Telling.{kept_of, AreWorkersBegun, HasRunWorker, HaveRunWorkers, HaveTold, HaveToldClaimed, AreSorted};
+ghost use Rattle.session.specs.Claimed.{calls_at, HasEmptied};
+ghost use Rattle.session.specs.Passes.{HasSpent};
+ghost use Rattle.driver.specs.Telling.{kept_of, lane_limits, AreWorkersBegun, HasRunWorker, HaveRunWorkers, HaveTold, HaveToldClaimed, AreSorted};
 
 use crate::gates::{give_gates, take_gates};
 use crate::run::Runner;
@@ -77,9 +79,13 @@ impl<'a> Runner<'a> {
         requires used { begun.0.start.used ≡ used_of (book begun.0.start.pass) begun.0.start.lane }
         requires pass { IsOfOne shared.now.table.shared.table_id (book begun.0.start.pass).seen (first_of phase begun.0.start.lane) begun.0.start.pass }
         requires claims { MayClaim bag.now (length calls.now) begun.0.claims }
-        ensures { IfOk result (HasRunWorker G.told self.now.rewritten.now self.now.limits shared.now.table.shared.table_id (book begun.0.start.pass).seen bag.now phase begun.0.start.lane calls.now (G.told begun.1)) }
+        ensures ran { IfOk result (HasRunWorker G.told self.now.rewritten.now self.now.limits shared.now.table.shared.table_id (book begun.0.start.pass).seen bag.now phase begun.0.start.lane calls.now (G.told begun.1)) }
+        // It stops where all calls are claimed, or at a call that made as many attempts as it may, each of which met a conflict.
+        ensures stopped { IfOk result (λ r. r.0.0.lane.made ≢ length r.0.0.indexes.items
+            → HasSpent self.now.original.now self.now.rewritten.now (lane_limits self.now.limits begun.0.start.lane begun.0.start.used) (calls_at calls.now r.0.0.indexes.items) r.0.0.lane.made r.0.0.lane.used (book begun.0.start.pass) r.0.0.pass) }
+        ensures emptied { IfOk result (λ r. r.0.0.lane.made ≡ length r.0.0.indexes.items → HasEmptied (length calls.now) (claims_of r.0.1) r.0.0.indexes.items) }
     {
-        let (worker, mut gate) = begun;
+        let (worker, gate) = begun;
         let Worker { start, mut claims } = worker;
         let Start { lane, used, pass } = start;
         let at = Place {
@@ -93,7 +99,7 @@ impl<'a> Runner<'a> {
             rewritten: self.rewritten,
             limits: self.limits.in_region(u64::from(lane) + 1, used),
         };
-        let taken = making.make_claimed(
+        let (taken, gate) = making.make_claimed(
             self.engine,
             shared,
             pass,
@@ -101,7 +107,7 @@ impl<'a> Runner<'a> {
             bag,
             &mut claims,
             calls,
-            &mut gate,
+            gate,
         )?;
         Ok(((taken, claims), gate))
     }

@@ -8,6 +8,7 @@ mod preparing;
 mod running;
 mod text;
 
+pub use opening::opened;
 pub use outcome::RunEnd;
 pub use preparing::{Instrumented, Prepared, instrument_files, link_files, prepare};
 pub use running::{Counts, count_calls, run_files};

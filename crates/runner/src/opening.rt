@@ -41,7 +41,7 @@ fn first_memory(
 
 /// Runs the static initialisers of a program by its rewriting, alone, superclasses first, over the memory that a run of
 /// so many lanes begins with, and gives the memory that they left.
-pub(crate) fn opened(
+pub fn opened(
     alloc: Global,
     classes: &[&ClassFile],
     original: &Program,

@@ -180,5 +180,5 @@ fn run_script<R: Threads + Sync, G: Gate + Send + Drop>(
         engine: engine.unwrap_or(wanted.engine),
         limits,
     };
-    Ok(runner.run_phases(rt, memory, wanted.phases.as_slice(), gates)?)
+    Ok(runner.run_gated(rt, memory, wanted.phases.as_slice(), gates)?)
 }

@@ -10,3 +10,4 @@ pub mod Claiming
 pub mod Longer
 pub mod Either
 pub mod Telling
+pub mod Tried

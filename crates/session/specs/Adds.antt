@@ -1,5 +1,5 @@
 -- What one call adds to the history, and to what is kept of its lane.
-use Rattle.std.specs.Prelude.{◌≡◌, ◌<◌, ◌≤◌, ◌+◌, ℕ, List, [], ◌∷◌, ◌++◌, map, filter, Bool, true, false, not, ℤ, Option, Some, None, min}
+use Rattle.std.specs.Prelude.{◌≡◌, ◌<◌, ◌≤◌, ◌+◌, ℕ, List, [], ◌∷◌, ◌++◌, length, map, filter, Bool, true, false, not, ℤ, Option, Some, None, min}
 use Rattle.std.specs.Bool.{MatchBool}
 use Rattle.std.specs.List.{AllByRecursion}
 use Rattle.jmodel.specs.declared.value.Answer.{Answer}
@@ -10,7 +10,7 @@ use Rattle.objects.specs.rewriting.Attempt.{Log, Bounds, Meter, Ended, Comes, ru
 use Rattle.jmodel.specs.history.History.{Call, Entry, Told, told}
 use Rattle.jmodel.specs.history.Schedule.{Known, is_memory}
 use Rattle.machine.specs.declared.room.Room.{Room}
-use Rattle.machine.specs.Machine.{AddsNone}
+use Rattle.machine.specs.Machine.{AddsNone, HasTried}
 use Rattle.session.specs.declared.record.Record.{Record}
 use Rattle.session.specs.declared.record.Lane.{Lane}
 use Rattle.session.specs.declared.record.Place.{Place}
@@ -89,6 +89,11 @@ pub record AddsRecord (old new : Lane) (r : Record) (used : ℕ) : Type 0 where
   pub placed : new.placed.items ≡ old.placed.items ++ filter has_place (r ∷ [])
   pub unplaced : new.unplaced.items ≡ old.unplaced.items ++ filter has_none (r ∷ [])
 
+-- a call of a lane was made, and this record stands last, behind which so many words are used; or its attempts are used up
+abbrev pub KeepsRecord : Bool → Lane → Lane → Record → ℕ → Type 0
+KeepsRecord true old new r used = AddsRecord old new r used
+KeepsRecord false old new r used = is_spent r.answer ≡ true
+
 -- A call of a lane was made: it added its entry, unless it ran out of memory, and its record.
 pub record AddsMade (c : Call) (S : List Entry → ℕ → Log → Log → Type 0) (h : List Entry) (n : ℕ) (old new : Lane) : Type 0 where
   pub told_of : Told
@@ -107,6 +112,11 @@ pub record AddsMade (c : Call) (S : List Entry → ℕ → Log → Log → Type 
 abbrev pub AddsOne : Bool → Program → Program → Bounds → Call → (List Entry → ℕ → Log → Log → Type 0) → List Entry → ℕ → Lane → Lane → Type 0
 AddsOne true P Q B c S h n old new = AddsMade c S h n old new
 AddsOne false P Q B c S h n old new = (new ≡ old) × AddsSpent P Q B c (S h) n old.used
+
+-- The attempts that a call of a lane began after k: those that met a conflict since n, and one more where its record is among the placed ones.
+abbrev pub TriesOne : Bool → (List Entry → ℕ → Log → Log → Type 0) → (ℕ → Type 0) → ℕ → ℕ → Lane → Lane → Type 0
+TriesOne true S A n k old new = length new.placed.items ≡ length old.placed.items + 1 → HasTried S A n k 1
+TriesOne false S A n k old new = HasTried S A n k 0
 
 -- no call of the lane was made yet, and so many words are used
 pub record IsEmpty (lane : Lane) (used : ℕ) : Type 0 where

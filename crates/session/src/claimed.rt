@@ -18,6 +18,7 @@ ghost use Rattle.session.specs.Telling.{IsRecordOf, HasTold};
 
 use crate::call::Making;
 use crate::record::{Lane, Place};
+use crate::session::Session;
 use crate::shared::{Beginning, Named, engine_of};
 use claims::{Bag, BagPass};
 use machine::Gate;
@@ -42,7 +43,7 @@ impl<'a> Making<'a> {
     /// whose attempts are used up by conflicts. Each call may take the turns and the attempts of `limits`, and the calls together the words of its room,
     /// which is that of the lane. The rewritten program is what runs, and what the table's history may begin with is of states. The calls are numbered from
     /// the place on. Gives the pass back; the entries that it got stand behind all that it knew. The gate is told the events of the calls' attempts.
-    pub fn make_claimed<T: Ruled, G: Gate>(
+    pub fn make_claimed<T: Ruled, G: Gate + Drop>(
         &self,
         kind: EngineKind,
         shared: &Shared<T>,
@@ -51,8 +52,8 @@ impl<'a> Making<'a> {
         bag: &Bag,
         claims: &mut BagPass,
         calls: &[Known],
-        gate: &mut G,
-    ) -> Result<Taken, AllocError>
+        gate: G,
+    ) -> Result<(Taken, G), AllocError>
         requires ready { IsReady self.now.original.now self.now.rewritten.now }
         requires calls { AllByRecursion (IsCallOf self.now.original.now) calls.now }
         requires few { at.first + length calls.now ≤ 100000 }
@@ -64,18 +65,18 @@ impl<'a> Making<'a> {
         requires pass { IsStarting shared.now.table.shared.table_id at self.now.limits.room.used (length calls.now) pass }
         requires bag { IsOf bag.now claims.old × (bag.now.length ≡ length calls.now) }
         requires claims { claims_of claims.old ≡ goes (length calls.now + 1) }
-        ensures made { IfOk result (λ r. (h : List Entry) × IsEnding shared.now.table.shared.table_id (book pass) at (length r.indexes.items) r.lane.made r.lane.used h r.pass × HasMade at self.now.limits.room.used (calls_at calls.now r.indexes.items) h r.lane) }
-        ensures stopped { IfOk result (λ r. r.lane.made ≢ length r.indexes.items → HasSpent self.now.original.now self.now.rewritten.now self.now.limits (calls_at calls.now r.indexes.items) r.lane.made r.lane.used (book pass) r.pass) }
-        ensures emptied { IfOk result (λ r. r.lane.made ≡ length r.indexes.items → HasEmptied (length calls.now) (claims_of claims.new) r.indexes.items) }
+        ensures made { IfOk result (λ r. (h : List Entry) × IsEnding shared.now.table.shared.table_id (book pass) at (length r.0.indexes.items) r.0.lane.made r.0.lane.used h r.0.pass × HasMade at self.now.limits.room.used (calls_at calls.now r.0.indexes.items) h r.0.lane) }
+        ensures stopped { IfOk result (λ r. r.0.lane.made ≢ length r.0.indexes.items → HasSpent self.now.original.now self.now.rewritten.now self.now.limits (calls_at calls.now r.0.indexes.items) r.0.lane.made r.0.lane.used (book pass) r.0.pass) }
+        ensures emptied { IfOk result (λ r. r.0.lane.made ≡ length r.0.indexes.items → HasEmptied (length calls.now) (claims_of claims.new) r.0.indexes.items) }
         ensures bag { IsOf bag.now claims.new }
-        ensures claims { IfOk result (λ r. HasTaken (length calls.now) (claims_of claims.new) r.indexes.items) }
+        ensures claims { IfOk result (λ r. HasTaken (length calls.now) (claims_of claims.new) r.0.indexes.items) }
         // Where the gate tells its events, they are those before, and then the events of the placed calls' runs, each in one piece, in their order.
-        ensures told { IfOk result (λ r. HasTold self.now.rewritten.now (bounds_of self.now.limits) (IsRecordOf at (calls_at calls.now r.indexes.items)) r.lane.placed.items (Grows (G.told gate.old) (G.told gate.new))) }
+        ensures told { IfOk result (λ r. HasTold self.now.rewritten.now (bounds_of self.now.limits) (IsRecordOf at (calls_at calls.now r.0.indexes.items)) r.0.lane.placed.items (Grows (G.told gate) (G.told r.1))) }
     {
         self.claim_over::<Brand, T, G>(kind, shared, pass, at, bag, claims, calls, gate)
     }
 
-    fn claim_over<K: Beginning, T: Ruled, G: Gate>(
+    fn claim_over<K: Beginning, T: Ruled, G: Gate + Drop>(
         &self,
         kind: EngineKind,
         shared: &Shared<T>,
@@ -84,8 +85,8 @@ impl<'a> Making<'a> {
         bag: &Bag,
         claims: &mut BagPass,
         calls: &[Known],
-        gate: &mut G,
-    ) -> Result<Taken, AllocError>
+        gate: G,
+    ) -> Result<(Taken, G), AllocError>
         requires ready { IsReady self.now.original.now self.now.rewritten.now }
         requires calls { AllByRecursion (IsCallOf self.now.original.now) calls.now }
         requires few { at.first + length calls.now ≤ 100000 }
@@ -99,30 +100,34 @@ impl<'a> Making<'a> {
         requires only { (t : TableId) (b : Book) → K.began t b → (t ≡ shared.now.table.shared.table_id) × (b ≡ book pass) }
         requires bag { IsOf bag.now claims.old × (bag.now.length ≡ length calls.now) }
         requires claims { claims_of claims.old ≡ goes (length calls.now + 1) }
-        ensures made { IfOk result (λ r. (h : List Entry) × IsEnding shared.now.table.shared.table_id (book pass) at (length r.indexes.items) r.lane.made r.lane.used h r.pass × HasMade at self.now.limits.room.used (calls_at calls.now r.indexes.items) h r.lane) }
-        ensures stopped { IfOk result (λ r. r.lane.made ≢ length r.indexes.items → HasSpent self.now.original.now self.now.rewritten.now self.now.limits (calls_at calls.now r.indexes.items) r.lane.made r.lane.used (book pass) r.pass) }
-        ensures emptied { IfOk result (λ r. r.lane.made ≡ length r.indexes.items → HasEmptied (length calls.now) (claims_of claims.new) r.indexes.items) }
+        ensures made { IfOk result (λ r. (h : List Entry) × IsEnding shared.now.table.shared.table_id (book pass) at (length r.0.indexes.items) r.0.lane.made r.0.lane.used h r.0.pass × HasMade at self.now.limits.room.used (calls_at calls.now r.0.indexes.items) h r.0.lane) }
+        ensures stopped { IfOk result (λ r. r.0.lane.made ≢ length r.0.indexes.items → HasSpent self.now.original.now self.now.rewritten.now self.now.limits (calls_at calls.now r.0.indexes.items) r.0.lane.made r.0.lane.used (book pass) r.0.pass) }
+        ensures emptied { IfOk result (λ r. r.0.lane.made ≡ length r.0.indexes.items → HasEmptied (length calls.now) (claims_of claims.new) r.0.indexes.items) }
         ensures bag { IsOf bag.now claims.new }
-        ensures claims { IfOk result (λ r. HasTaken (length calls.now) (claims_of claims.new) r.indexes.items) }
+        ensures claims { IfOk result (λ r. HasTaken (length calls.now) (claims_of claims.new) r.0.indexes.items) }
         // Where the gate tells its events, they are those before, and then the events of the placed calls' runs, each in one piece, in their order.
-        ensures told { IfOk result (λ r. HasTold self.now.rewritten.now (bounds_of self.now.limits) (IsRecordOf at (calls_at calls.now r.indexes.items)) r.lane.placed.items (Grows (G.told gate.old) (G.told gate.new))) }
+        ensures told { IfOk result (λ r. HasTold self.now.rewritten.now (bounds_of self.now.limits) (IsRecordOf at (calls_at calls.now r.0.indexes.items)) r.0.lane.placed.items (Grows (G.told gate) (G.told r.1))) }
     {
-        let mut lane = Lane::new(self.alloc, self.limits.room.used);
         let mut indexes = Vec::new(self.alloc);
         let Some(first) = calls.first() else {
-            return Ok(Taken {
-                lane,
-                indexes,
-                pass,
-            });
+            let lane = Lane::new(self.alloc, self.limits.room.used);
+            return Ok((
+                Taken {
+                    lane,
+                    indexes,
+                    pass,
+                },
+                gate,
+            ));
         };
-        let mut engine = engine_of(
+        let engine = engine_of(
             kind,
             self.alloc,
             shared,
             pass,
             Named::<K>::of(self.limits.room, at, first),
         );
+        let mut session = Session::open(*self, engine, gate);
         for count in 0..calls.len() {
             let Some(index) = claims.claim(bag) else {
                 break;
@@ -130,17 +135,23 @@ impl<'a> Making<'a> {
             indexes.push(index)?;
             let call = &calls[index as usize];
             let here = at.onward(count);
-            engine.set_call(Named::of(self.limits.room, here, call));
-            let is_made = self.make_one(&mut engine, gate, here, &mut lane, call)?;
+            session
+                .engine
+                .set_call(Named::of(self.limits.room, here, call));
+            let is_made = session.call(here, call)?;
             if !is_made {
                 break;
             }
         }
+        let (engine, gate, lane) = session.into_parts();
         let pass = engine.into_pass();
-        Ok(Taken {
-            lane,
-            indexes,
-            pass,
-        })
+        Ok((
+            Taken {
+                lane,
+                indexes,
+                pass,
+            },
+            gate,
+        ))
     }
 }

@@ -9,7 +9,8 @@ use Rattle.machine.specs.declared.machine.Limits.{Limits as CallLimits}
 use Rattle.driver.specs.declared.side.Part.{Part}
 use Rattle.driver.specs.Sides.{AreWhole}
 use Rattle.driver.specs.Passing.{IsResting}
-use Rattle.driver.proofs.Lists.{all_here, zip_here}
+use Rattle.driver.proofs.Lists.{all_here, insert_removed, zip_here}
+use Rattle.std.specs.List.{insert}
 use Rattle.driver.proofs.Midway.{may_go_on, goes_on, whole_on}
 use Rattle.driver.proofs.Passing.{used_on}
 use Rattle.driver.proofs.Places.{IsFew}
@@ -116,16 +117,18 @@ loop-number-preserved g c =
       told =
           let T = g.G.Gate.told in
           let gs = c.loop-number.kept.gates.items in
-          let gate = c.make_rest.new.gate in
-          let old = c.index_mut.result.now in
+          let gate = c.in_ok-made.gate in
+          let old = c.remove-gate.result in
           let low : n < length gs = omega (arith, inside, c.requires.lanes, c.requires.gates, i.told.len, length-map gs T, length-map c.args.kept.now.gates.items T) in
           let more = c.in_ok-made.made.placed.items in
           let has = rw is at c.in_ok-made.ensures.told in
-          let before = told_got T gs n old low c.index_mut.ensures.value in
+          let before = told_got T gs n old low c.remove-gate.ensures.value in
           let after = told_set_here T gs n gate low in
+          let back : c.insert.new.self.items ≡ set gs n gate = c.in_ok-insert.ensures.items ∙ ap (λ l. insert l n gate) c.remove-gate.ensures.items ∙ insert_removed gs n gate low in
+          rw back (
           told_turn c.args.self.now.rewritten.now c.args.self.now.limits c.args.phase n first lanes cs c.in_region.result (n + 1) (get_or c.loop-number.kept.used n 0) c.loop-number.placed.items more c.append.new.self.items
           (map T c.args.kept.now.gates.items) (map T gs) (map T (set gs n gate)) inside here c.in_region.ensures (omega arith)
           (subst (λ a. HasTold c.args.self.now.rewritten.now (bounds_of c.in_region.result) (IsRecordOf (record { phase = c.args.phase; lane = n; first = first }) (drop first cs)) more (Grows a (get_or (map T (set gs n gate)) n None))) (sym before)
           (subst (λ b. HasTold c.args.self.now.rewritten.now (bounds_of c.in_region.result) (IsRecordOf (record { phase = c.args.phase; lane = n; first = first }) (drop first cs)) more (Grows (T old) b)) (sym after) has))
-          (told_set_long T gs n gate) (told_set_other T gs n gate) i.told placed_is;
+          (told_set_long T gs n gate) (told_set_other T gs n gate) i.told placed_is);
     }

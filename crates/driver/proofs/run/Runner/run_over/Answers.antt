@@ -132,7 +132,7 @@ returns-clause-run g c =
     let ends = subst Used (sym c.requires.used) (subst Words (sym c.requires.words) c.in-Ok.ensures.ok) in
     run_over c.args.self.now.original.now c.args.self.now.rewritten.now c.args.self.now.limits.size c.args.self.now.limits.budget c.args.self.now.limits.attempts memory after rule c.requires.ruled b phases c.loop-number.records
     (subst (λ (ps : List ScriptPhase). HasRunOver ps b c.loop-number.records) all c.loop-number.invariant.over) ends
-    _ refl refl refl
+    c.loop-number.kept.used n c.loop-number.invariant.used c.loop-number.invariant.whole.begins _ refl refl refl c.in_ok-used.ensures.used c.in_ok-used.ensures.len
 
 pub run_phase-requires-clause-gates : goal.run_phase-requires-clause-gates
 run_phase-requires-clause-gates g c = λ κs lives.

@@ -1,8 +1,9 @@
-use Rattle.std.proofs.Common.{◌≡◌, ℕ, suc, ◌+◌, length, arith, sym, ap, subst, ◌∙◌}
+use Rattle.std.proofs.Common.{◌≡◌, ◌≢◌, ℕ, suc, ◌+◌, length, arith, sym, ap, subst, ◌∙◌}
 use Rattle.tx_table.specs.Passes.{book}
 use Rattle.session.specs.Claimed.{calls_at}
 use Rattle.machine.specs.declared.machine.Limits.{Limits as CallLimits}
-use Rattle.session.specs.Passes.{IsStarting}
+use Rattle.session.specs.Passes.{IsStarting, HasSpent}
+use Rattle.driver.specs.Telling.{lane_limits}
 use Rattle.driver.specs.Passing.{first_of}
 use Rattle.driver.proofs.Passing.{may_start, is_done}
 use Rattle.driver.proofs.States.{over_lane}
@@ -10,7 +11,7 @@ use Rattle.driver.proofs.Rooms.{room_fits}
 use Rattle.driver.proofs.Working.{done_as}
 use Rattle.objects.specs.rewriting.Events.{Grows}
 use Rattle.session.specs.Telling.{IsRecordOf}
-use Rattle.driver.proofs.Told.{lane_told}
+use Rattle.driver.proofs.Told.{lane_told, limits_are}
 use Rattle.driver.proofs.run.Runner.work.Goals as goal
 
 pub make_claimed-requires-clause-region : goal.make_claimed-requires-clause-region
@@ -39,8 +40,8 @@ make_claimed-requires-clause-pass g c =
     let used = ap (λ (l : CallLimits). l.room.used) c.in_region.ensures ∙ c.requires.used in
     subst (λ (n : ℕ). IsStarting t at n count start.pass) (sym used) (may_start t (book start.pass).seen at count start.pass c.requires.few c.requires.pass)
 
-pub returns : goal.returns
-returns g c =
+pub returns-clause-ran : goal.returns-clause-ran
+returns-clause-ran g c =
     let t = c.args.shared.now.table.shared.table_id in
     let start = c.args.begun.0.start in
     let Q = c.args.self.now.rewritten.now in
@@ -54,7 +55,7 @@ returns g c =
     let before = c.in_region.result.room.used in
     let done = is_done t seen at before (length indexes) taken.lane.made taken.lane.used calls taken.lane made.0 start.pass taken.pass c.requires.pass made.1 made.2 in
     let region : c.from.result + 1 ≡ suc start.lane = omega (arith, c.from.ensures) in
-    let T = Grows (g.G.Gate.told c.args.begun.1) (g.G.Gate.told c.make_claimed.new.gate) in (
+    let T = Grows (g.G.Gate.told c.args.begun.1) (g.G.Gate.told c.in_ok-taken.gate) in (
       record {
         ended = record {
           history = made.0;
@@ -68,3 +69,16 @@ returns g c =
       },
       lane_told Q limits c.in_region.result (c.from.result + 1) start.lane start.used (IsRecordOf at calls) taken.lane.placed.items T c.in_region.ensures region c.in_ok-taken.ensures.told,
     )
+
+pub returns-clause-stopped : goal.returns-clause-stopped
+returns-clause-stopped g c =
+    let start = c.args.begun.0.start in
+    let limits = c.args.self.now.limits in
+    let taken = c.in_ok-taken.taken in
+    let region : c.from.result + 1 ≡ suc start.lane = omega (arith, c.from.ensures) in
+    let own : c.in_region.result ≡ lane_limits limits start.lane start.used = limits_are limits c.in_region.result (c.from.result + 1) start.lane start.used c.in_region.ensures region in
+    subst (λ (l : CallLimits). taken.lane.made ≢ length taken.indexes.items → HasSpent c.args.self.now.original.now c.args.self.now.rewritten.now l (calls_at c.args.calls.now taken.indexes.items) taken.lane.made taken.lane.used (book start.pass) taken.pass) own
+    c.in_ok-taken.ensures.stopped
+
+pub returns-clause-emptied : goal.returns-clause-emptied
+returns-clause-emptied g c = c.in_ok-taken.ensures.emptied

@@ -44,38 +44,39 @@ loop-count-init g c =
     let first = reverse (book p).entries in
     let keeps = keeps_first g.K.Beginning.began c.args.shared.now.table.shared.table_id p c.requires.only c.requires.pass.seated in
     record {
-      stood = stood_first (StandsIn g.K.Beginning.began e) first c.args.at c.args.self.now.limits.room.used
-          (calls_at c.args.calls.now c.new-indexes.result.items) c.new-lane.result (length (book p).lost) c.new-lane.ensures
-          (c.engine_of-engine.ensures.stands first (sym (reverse-reverse (book p).entries)) keeps);
-      count = c.new-lane.ensures.made;
-      ticks = let same = ap (λ (x : Pass). (book x).ticks) c.engine_of-engine.ensures.pass in omega (arith, same);
+      making = c.open-session.ensures.making;
+      stood = rw c.open-session.ensures.engine (stood_first (StandsIn g.K.Beginning.began e) first c.args.at c.args.self.now.limits.room.used
+          (calls_at c.args.calls.now c.new-indexes.result.items) c.open-session.result.lane (length (book p).lost) c.open-session.ensures.lane
+          (c.engine_of-engine.ensures.stands first (sym (reverse-reverse (book p).entries)) keeps));
+      count = c.open-session.ensures.lane.made;
+      ticks = let same = ap (λ (x : Pass). (book x).ticks) c.engine_of-engine.ensures.pass in rw c.open-session.ensures.engine (omega (arith, same));
       bag = c.requires.bag.0;
       claiming = claiming_first (length c.args.calls.now) (claims_of c.args.claims.now) c.new-indexes.result.items c.requires.claims c.new-indexes.ensures.items;
-      told = told_first c.args.self.now.rewritten.now (bounds_of c.args.self.now.limits) (IsRecordOf c.args.at (calls_at c.args.calls.now c.new-indexes.result.items)) c.new-lane.result.placed.items
-          (g.G.Gate.told c.args.gate.now) c.new-lane.ensures.placed;
+      told = rw c.open-session.ensures.gate (told_first c.args.self.now.rewritten.now (bounds_of c.args.self.now.limits) (IsRecordOf c.args.at (calls_at c.args.calls.now c.new-indexes.result.items)) c.open-session.result.lane.placed.items
+          (g.G.Gate.told c.args.gate) c.open-session.ensures.lane.placed);
     }
 
-pub make_one-requires-clause-call : goal.make_one-requires-clause-call
-make_one-requires-clause-call g c =
+pub call-requires-clause-call : goal.call-requires-clause-call
+call-requires-clause-call g c = rw c.loop-count.invariant.making (
     let calls = c.args.calls.now in
     let i = c.in-Some-claim.index in
     let call = c.index-calls-index.result in
     let claim = subst (λ (n : ℕ). HasClaimed n (claims_of c.loop-count.claims) (claims_of c.claim.new.self) (Some i)) c.requires.bag.1 c.in-Some-claim.ensures.claims in
     let within : i < length calls = index_under (length calls) i (claims_of c.loop-count.claims) (claims_of c.claim.new.self) claim in
-    all_here (IsCallOf c.args.self.now.original.now) calls i call c.requires.calls within c.index-calls-index.is
+    all_here (IsCallOf c.args.self.now.original.now) calls i call c.requires.calls within c.index-calls-index.is)
 
-pub make_one-requires-clause-stands : goal.make_one-requires-clause-stands
-make_one-requires-clause-stands g c =
+pub call-requires-clause-stands : goal.call-requires-clause-stands
+call-requires-clause-stands g c =
     let so = c.loop-count.invariant.stood in
     let first = reverse (book c.args.pass).entries in
     (first ++ so.history, so.conflicts, c.set_call.ensures.stands (first ++ so.history) so.conflicts [] [] so.stands, inl tt)
 
-pub make_one-requires-clause-states : goal.make_one-requires-clause-states
-make_one-requires-clause-states g c =
-    over_more c.args.self.now.original.now c.args.self.now.limits _ _ c.loop-count.lane.used c.loop-count.invariant.stood.made.grows c.requires.states
+pub call-requires-clause-states : goal.call-requires-clause-states
+call-requires-clause-states g c = rw c.loop-count.invariant.making (
+    over_more c.args.self.now.original.now c.args.self.now.limits _ _ c.loop-count.session.lane.used c.loop-count.invariant.stood.made.grows c.requires.states)
 
-pub make_one-requires-clause-awaits : goal.make_one-requires-clause-awaits
-make_one-requires-clause-awaits g c =
+pub call-requires-clause-awaits : goal.call-requires-clause-awaits
+call-requires-clause-awaits g c = rw c.loop-count.invariant.making (
     let so = c.loop-count.invariant.stood in
     let here = c.onward-here.result in
     let call = c.index-calls-index.result in
@@ -85,15 +86,15 @@ make_one-requires-clause-awaits g c =
     let b = book c.args.pass in
     let told : call_of room here call ≡ call_of named.room named.at named.call.now =
     cc (c.set_call.ensures.call, c.of-in-loop-count.ensures.room, c.of-in-loop-count.ensures.at, c.of-in-loop-count.ensures.call) in
-    awaits_next g.K.Beginning.began c.args.shared.now.table.shared.table_id b room c.args.at here room.used c.loop-count.lane.made c.loop-count.count c.loop-count.lane.used (pass_of e) so.history so.conflicts call (call_of named.room named.at named.call.now) c.requires.began
+    awaits_next g.K.Beginning.began c.args.shared.now.table.shared.table_id b room c.args.at here room.used c.loop-count.session.lane.made c.loop-count.count c.loop-count.session.lane.used (pass_of e) so.history so.conflicts call (call_of named.room named.at named.call.now) c.requires.began
     (rests g.K.Beginning.began e (reverse b.entries ++ so.history) so.conflicts [] []
     (c.set_call.ensures.stands (reverse b.entries ++ so.history) so.conflicts [] [] so.stands)) c.requires.pass.begins so.made.takes c.requires.region c.onward-here.ensures
-    c.loop-count.invariant.count told so.earlier
+    c.loop-count.invariant.count told so.earlier)
 
 pub loop-count-preserved : goal.loop-count-preserved
 loop-count-preserved g c =
     let so = c.loop-count.invariant.stood in
-    let e = c.make_one.new.engine in
+    let e = c.call.new.self.engine in
     let first = reverse (book c.args.pass).entries in
     let calls = c.args.calls.now in
     let i = c.in-Some-claim.index in
@@ -111,79 +112,80 @@ loop-count-preserved g c =
     ∙ ap (λ (k : ℕ). get_or (calls_at calls new) k call) c.loop-count.invariant.claiming.long in
     let room : c.loop-count.count < length (calls_at calls new) = omega (arith, length_calls calls new, claiming.long) in
     let S = StandsIn g.K.Beginning.began e in
-    let adds = was_made c.in_ok-is_made.is_made c.args.self.now.original.now c.args.self.now.rewritten.now (bounds_with c.args.self.now.limits c.loop-count.lane.used) (call_of c.args.self.now.limits.room c.onward-here.result call) S
-    (first ++ so.history) so.conflicts c.loop-count.lane c.make_one.new.lane c.if-not-is_made.false
-    (c.in_ok-is_made.ensures.adds (first ++ so.history) so.conflicts (c.set_call.ensures.stands (first ++ so.history) so.conflicts [] [] so.stands)) in
+    let adds = was_made c.in_ok-is_made.is_made c.args.self.now.original.now c.args.self.now.rewritten.now (bounds_with c.args.self.now.limits c.loop-count.session.lane.used) (call_of c.args.self.now.limits.room c.onward-here.result call) S
+    (first ++ so.history) so.conflicts c.loop-count.session.lane c.call.new.self.lane c.if-not-is_made.false
+    ((rw c.loop-count.invariant.making at c.in_ok-is_made.ensures.adds) (first ++ so.history) so.conflicts (c.set_call.ensures.stands (first ++ so.history) so.conflicts [] [] so.stands)) in
     record {
-      stood = stood_more S c.args.self.now.limits.room c.args.at c.onward-here.result c.args.self.now.limits.room.used (calls_at calls new) c.loop-count.count c.loop-count.lane c.make_one.new.lane call
+      making = c.call.ensures.making ∙ c.loop-count.invariant.making;
+      stood = stood_more S c.args.self.now.limits.room c.args.at c.onward-here.result c.args.self.now.limits.room.used (calls_at calls new) c.loop-count.count c.loop-count.session.lane c.call.new.self.lane call
           c.requires.region c.onward-here.ensures c.loop-count.invariant.count room last
-          first so.history (length (book c.args.pass).lost) so.conflicts so.later (made_next c.args.at c.args.self.now.limits.room.used calls old new i so.history c.loop-count.lane pushed so.made)
+          first so.history (length (book c.args.pass).lost) so.conflicts so.later (made_next c.args.at c.args.self.now.limits.room.used calls old new i so.history c.loop-count.session.lane pushed so.made)
           so.earlier adds;
       count = omega (arith, adds.record_is.made, c.loop-count.invariant.count);
-      ticks = let same = ap (λ (p : Pass). (book p).ticks) c.set_call.ensures.pass in omega (arith, same, c.make_one.ensures.clock, c.requires.attempts.1, c.loop-count.invariant.ticks);
+      ticks = let same = ap (λ (p : Pass). (book p).ticks) c.set_call.ensures.pass in omega (arith, same, (rw c.loop-count.invariant.making at c.call.ensures.clock), c.requires.attempts.1, c.loop-count.invariant.ticks);
       bag = c.claim.ensures.bag;
       claiming = claiming;
       told =
           let Q = c.args.self.now.rewritten.now in
           let B = bounds_of c.args.self.now.limits in
-          let made = was_told c.in_ok-is_made.is_made Q (bounds_with c.args.self.now.limits c.loop-count.lane.used) c.onward-here.result call c.loop-count.lane c.make_one.new.lane _
-          c.if-not-is_made.false c.in_ok-is_made.ensures.told in
-          told_more Q B (IsRecordOf c.args.at (calls_at calls new)) c.loop-count.lane.used c.onward-here.result call c.loop-count.lane c.make_one.new.lane
-          (g.G.Gate.told c.args.gate.now) (g.G.Gate.told c.loop-count.gate) (g.G.Gate.told c.make_one.new.gate)
+          let made = was_told c.in_ok-is_made.is_made Q (bounds_with c.args.self.now.limits c.loop-count.session.lane.used) c.onward-here.result call c.loop-count.session.lane c.call.new.self.lane _
+          c.if-not-is_made.false (rw c.loop-count.invariant.making at c.in_ok-is_made.ensures.told) in
+          told_more Q B (IsRecordOf c.args.at (calls_at calls new)) c.loop-count.session.lane.used c.onward-here.result call c.loop-count.session.lane c.call.new.self.lane
+          (g.G.Gate.told c.args.gate) (g.G.Gate.told c.loop-count.session.gate) (g.G.Gate.told c.call.new.self.gate)
           (told_weaker Q B (IsRecordOf c.args.at (calls_at calls old)) (IsRecordOf c.args.at (calls_at calls new))
-          (record_longer c.args.at (calls_at calls old) (calls_at calls (i ∷ [])) (calls_at calls new) (calls_push calls old new i pushed)) c.loop-count.lane.placed.items _ c.loop-count.invariant.told) made
+          (record_longer c.args.at (calls_at calls old) (calls_at calls (i ∷ [])) (calls_at calls new) (calls_push calls old new i pushed)) c.loop-count.session.lane.placed.items _ c.loop-count.invariant.told) made
           (record_here c.args.at c.onward-here.result (calls_at calls new) c.loop-count.count call made.one c.onward-here.ensures room last made.phase made.lane made.index);
     }
 
 pub returns-clause-made : goal.returns-clause-made
-returns-clause-made g c =
+returns-clause-made g c = rw c.into_parts-engine.ensures (
     let so = c.loop-count.invariant.stood in
     let t = c.args.shared.now.table.shared.table_id in
     let b = book c.args.pass in
     let first = reverse b.entries in
     let calls = c.args.calls.now in
     let long = c.loop-count.invariant.claiming.long in
-    let Made : List ℕ → Type 0 = λ l. HasMade c.args.at c.args.self.now.limits.room.used (calls_at calls l) so.history c.loop-count.lane in
+    let Made : List ℕ → Type 0 = λ l. HasMade c.args.at c.args.self.now.limits.room.used (calls_at calls l) so.history c.loop-count.session.lane in
     let Left : Lane → Type 0 = λ l. IsEnding t b c.args.at (length c.loop-count-test.indexes.items) l.made l.used so.history c.into_pass-pass.result
     × HasMade c.args.at c.args.self.now.limits.room.used (calls_at calls c.loop-count-test.indexes.items) so.history l in
     elim c.loop-count-test.branch [
       | else-loop-count-test w ↦
-          let e = c.loop-count.engine in
-          let engine : c.loop-count-test.engine ≡ e = cc in
+          let e = c.loop-count.session.engine in
+          let engine : c.into_parts-engine.result.0 ≡ e = ap (λ p. p.0) c.into_parts-engine.ensures ∙ cc in
           let rest = subst (λ x. IsRest [] 0 (book (pass_of x)) (book c.into_pass-pass.result)) engine c.into_pass-pass.ensures.rest in
           let keeps = subst (λ x. Keeps g.K.Beginning.began (pass_of x) → Keeps g.K.Beginning.began c.into_pass-pass.result) engine c.into_pass-pass.ensures.keeps in
           let indexes : c.loop-count.indexes.items ≡ c.loop-count-test.indexes.items = cc in
           let same_long = ap length indexes in
           let n = length c.loop-count-test.indexes.items in
           let within : (book (pass_of e)).ticks ≤ b.ticks + n * 1000000 = omega (arith, same_long, long, c.loop-count.invariant.ticks) in
-          let lane : c.loop-count.lane ≡ c.loop-count-test.lane = cc in
+          let lane : c.loop-count.session.lane ≡ c.loop-count-test.session.lane = cc in
           let left = subst Left lane (
-            ending g.K.Beginning.began t b c.args.at c.args.self.now.limits.room.used n c.loop-count.lane.made c.loop-count.lane.used c.into_pass-pass.result so.history so.conflicts
+            ending g.K.Beginning.began t b c.args.at c.args.self.now.limits.room.used n c.loop-count.session.lane.made c.loop-count.session.lane.used c.into_pass-pass.result so.history so.conflicts
                 c.requires.began (rests_after g.K.Beginning.began (pass_of e) c.into_pass-pass.result (first ++ so.history) so.conflicts rest keeps (rests g.K.Beginning.began e (first ++ so.history) so.conflicts [] [] so.stands))
                 c.into_pass-pass.ensures.free c.requires.pass.begins so.made.takes so.earlier (ticks_after (pass_of e) c.into_pass-pass.result _ rest within),
             subst Made indexes so.made,
           ) in
           (so.history, left.0, left.1)
       | then-loop-count-test+in_default-claim w ↦
-          let e = c.loop-count.engine in
-          let engine : c.loop-count-test.engine ≡ e = cc in
+          let e = c.loop-count.session.engine in
+          let engine : c.into_parts-engine.result.0 ≡ e = ap (λ p. p.0) c.into_parts-engine.ensures ∙ cc in
           let rest = subst (λ x. IsRest [] 0 (book (pass_of x)) (book c.into_pass-pass.result)) engine c.into_pass-pass.ensures.rest in
           let keeps = subst (λ x. Keeps g.K.Beginning.began (pass_of x) → Keeps g.K.Beginning.began c.into_pass-pass.result) engine c.into_pass-pass.ensures.keeps in
           let indexes : c.loop-count.indexes.items ≡ c.loop-count-test.indexes.items = cc in
           let same_long = ap length indexes in
           let n = length c.loop-count-test.indexes.items in
           let within : (book (pass_of e)).ticks ≤ b.ticks + n * 1000000 = omega (arith, same_long, long, c.loop-count.invariant.ticks) in
-          let lane : c.loop-count.lane ≡ c.loop-count-test.lane = cc in
+          let lane : c.loop-count.session.lane ≡ c.loop-count-test.session.lane = cc in
           let left = subst Left lane (
-            ending g.K.Beginning.began t b c.args.at c.args.self.now.limits.room.used n c.loop-count.lane.made c.loop-count.lane.used c.into_pass-pass.result so.history so.conflicts
+            ending g.K.Beginning.began t b c.args.at c.args.self.now.limits.room.used n c.loop-count.session.lane.made c.loop-count.session.lane.used c.into_pass-pass.result so.history so.conflicts
                 c.requires.began (rests_after g.K.Beginning.began (pass_of e) c.into_pass-pass.result (first ++ so.history) so.conflicts rest keeps (rests g.K.Beginning.began e (first ++ so.history) so.conflicts [] [] so.stands))
                 c.into_pass-pass.ensures.free c.requires.pass.begins so.made.takes so.earlier (ticks_after (pass_of e) c.into_pass-pass.result _ rest within),
             subst Made indexes so.made,
           ) in
           (so.history, left.0, left.1)
       | then-loop-count-test+in-Some-claim+in_ok-push+in_ok-is_made+then-not-is_made w ↦
-          let e = w.make_one.new.engine in
-          let engine : c.loop-count-test.engine ≡ e = cc in
+          let e = w.call.new.self.engine in
+          let engine : c.into_parts-engine.result.0 ≡ e = ap (λ p. p.0) c.into_parts-engine.ensures ∙ cc in
           let rest = subst (λ x. IsRest [] 0 (book (pass_of x)) (book c.into_pass-pass.result)) engine c.into_pass-pass.ensures.rest in
           let keeps = subst (λ x. Keeps g.K.Beginning.began (pass_of x) → Keeps g.K.Beginning.began c.into_pass-pass.result) engine c.into_pass-pass.ensures.keeps in
           let indexes : w.push.new.self.items ≡ c.loop-count-test.indexes.items = cc in
@@ -192,41 +194,41 @@ returns-clause-made g c =
           let pushed = ap length w.in_ok-push.ensures.items ∙ length_push c.loop-count.indexes.items w.in-Some-claim.index in
           let n = length c.loop-count-test.indexes.items in
           let within : (book (pass_of e)).ticks ≤ b.ticks + n * 1000000 =
-          omega (arith, same_long, pushed, long, before, w.make_one.ensures.clock, c.requires.attempts.1, c.loop-count.invariant.ticks) in
+          omega (arith, same_long, pushed, long, before, (rw c.loop-count.invariant.making at w.call.ensures.clock), c.requires.attempts.1, c.loop-count.invariant.ticks) in
           let S = StandsIn g.K.Beginning.began e in
-          let still = was_left w.in_ok-is_made.is_made c.args.self.now.original.now c.args.self.now.rewritten.now (bounds_with c.args.self.now.limits c.loop-count.lane.used) (call_of c.args.self.now.limits.room w.onward-here.result w.index-calls-index.result) S
-          (first ++ so.history) so.conflicts c.loop-count.lane w.make_one.new.lane w.if-not-is_made.true
-          (w.in_ok-is_made.ensures.adds (first ++ so.history) so.conflicts (w.set_call.ensures.stands (first ++ so.history) so.conflicts [] [] so.stands)) in
-          let made = made_next c.args.at c.args.self.now.limits.room.used calls c.loop-count.indexes.items w.push.new.self.items w.in-Some-claim.index so.history c.loop-count.lane
+          let still = was_left w.in_ok-is_made.is_made c.args.self.now.original.now c.args.self.now.rewritten.now (bounds_with c.args.self.now.limits c.loop-count.session.lane.used) (call_of c.args.self.now.limits.room w.onward-here.result w.index-calls-index.result) S
+          (first ++ so.history) so.conflicts c.loop-count.session.lane w.call.new.self.lane w.if-not-is_made.true
+          ((rw c.loop-count.invariant.making at w.in_ok-is_made.ensures.adds) (first ++ so.history) so.conflicts (w.set_call.ensures.stands (first ++ so.history) so.conflicts [] [] so.stands)) in
+          let made = made_next c.args.at c.args.self.now.limits.room.used calls c.loop-count.indexes.items w.push.new.self.items w.in-Some-claim.index so.history c.loop-count.session.lane
           w.in_ok-push.ensures.items so.made in
-          let last : w.make_one.new.lane ≡ c.loop-count-test.lane = cc in
+          let last : w.call.new.self.lane ≡ c.loop-count-test.session.lane = cc in
           let left = subst Left (sym still.0 ∙ last) (
-            ending g.K.Beginning.began t b c.args.at c.args.self.now.limits.room.used n c.loop-count.lane.made c.loop-count.lane.used c.into_pass-pass.result so.history (so.conflicts + still.1.tried)
+            ending g.K.Beginning.began t b c.args.at c.args.self.now.limits.room.used n c.loop-count.session.lane.made c.loop-count.session.lane.used c.into_pass-pass.result so.history (so.conflicts + still.1.tried)
                 c.requires.began (rests_after g.K.Beginning.began (pass_of e) c.into_pass-pass.result (first ++ so.history) (so.conflicts + still.1.tried) rest keeps
                 (rests g.K.Beginning.began e (first ++ so.history) (so.conflicts + still.1.tried) [] [] still.1.stands))
                 c.into_pass-pass.ensures.free c.requires.pass.begins so.made.takes so.earlier (ticks_after (pass_of e) c.into_pass-pass.result _ rest within),
             subst Made indexes made,
           ) in
           (so.history, left.0, left.1)
-    ]
+    ])
 
 pub returns-clause-stopped : goal.returns-clause-stopped
-returns-clause-stopped g c = λ some_left.
+returns-clause-stopped g c = rw c.into_parts-engine.ensures (λ some_left.
     let so = c.loop-count.invariant.stood in
     let first = reverse (book c.args.pass).entries in
-    let made : c.loop-count.lane.made ≡ length c.loop-count.indexes.items = c.loop-count.invariant.count ∙ sym c.loop-count.invariant.claiming.long in
+    let made : c.loop-count.session.lane.made ≡ length c.loop-count.indexes.items = c.loop-count.invariant.count ∙ sym c.loop-count.invariant.claiming.long in
     elim c.loop-count-test.branch [
       | else-loop-count-test w ↦
           let indexes : c.loop-count.indexes.items ≡ c.loop-count-test.indexes.items = cc in
-          let lane : c.loop-count.lane ≡ c.loop-count-test.lane = cc in
+          let lane : c.loop-count.session.lane ≡ c.loop-count-test.session.lane = cc in
           absurd (some_left (ap (λ (l : Lane). l.made) (sym lane) ∙ made ∙ ap length indexes))
       | then-loop-count-test+in_default-claim w ↦
           let indexes : c.loop-count.indexes.items ≡ c.loop-count-test.indexes.items = cc in
-          let lane : c.loop-count.lane ≡ c.loop-count-test.lane = cc in
+          let lane : c.loop-count.session.lane ≡ c.loop-count-test.session.lane = cc in
           absurd (some_left (ap (λ (l : Lane). l.made) (sym lane) ∙ made ∙ ap length indexes))
       | then-loop-count-test+in-Some-claim+in_ok-push+in_ok-is_made+then-not-is_made w ↦
-          let e = w.make_one.new.engine in
-          let engine : c.loop-count-test.engine ≡ e = cc in
+          let e = w.call.new.self.engine in
+          let engine : c.into_parts-engine.result.0 ≡ e = ap (λ p. p.0) c.into_parts-engine.ensures ∙ cc in
           let rest = subst (λ x. IsRest [] 0 (book (pass_of x)) (book c.into_pass-pass.result)) engine c.into_pass-pass.ensures.rest in
           let keeps = subst (λ x. Keeps g.K.Beginning.began (pass_of x) → Keeps g.K.Beginning.began c.into_pass-pass.result) engine c.into_pass-pass.ensures.keeps in
           let calls = c.args.calls.now in
@@ -237,28 +239,28 @@ returns-clause-stopped g c = λ some_left.
           let pushed = w.in_ok-push.ensures.items in
           let call = w.index-calls-index.result in
           let S = StandsIn g.K.Beginning.began e in
-          let still = was_left w.in_ok-is_made.is_made c.args.self.now.original.now c.args.self.now.rewritten.now (bounds_with c.args.self.now.limits c.loop-count.lane.used) (call_of c.args.self.now.limits.room w.onward-here.result call) S
-          (first ++ so.history) so.conflicts c.loop-count.lane w.make_one.new.lane w.if-not-is_made.true
-          (w.in_ok-is_made.ensures.adds (first ++ so.history) so.conflicts (w.set_call.ensures.stands (first ++ so.history) so.conflicts [] [] so.stands)) in
+          let still = was_left w.in_ok-is_made.is_made c.args.self.now.original.now c.args.self.now.rewritten.now (bounds_with c.args.self.now.limits c.loop-count.session.lane.used) (call_of c.args.self.now.limits.room w.onward-here.result call) S
+          (first ++ so.history) so.conflicts c.loop-count.session.lane w.call.new.self.lane w.if-not-is_made.true
+          ((rw c.loop-count.invariant.making at w.in_ok-is_made.ensures.adds) (first ++ so.history) so.conflicts (w.set_call.ensures.stands (first ++ so.history) so.conflicts [] [] so.stands)) in
           let claim = subst (λ (n : ℕ). HasClaimed n (claims_of c.loop-count.claims) (claims_of w.claim.new.self) (Some i)) c.requires.bag.1 w.in-Some-claim.ensures.claims in
           let within : i < length calls = index_under (length calls) i (claims_of c.loop-count.claims) (claims_of w.claim.new.self) claim in
           let nothing : Known = record { method = 0; args = [] } in
-          let next : call ≡ get_or (calls_at calls new) c.loop-count.lane.made call =
+          let next : call ≡ get_or (calls_at calls new) c.loop-count.session.lane.made call =
           call_last calls old new i call pushed (w.index-calls-index.is ∙ get_or_default calls i call nothing within) ∙ ap (λ (n : ℕ). get_or (calls_at calls new) n call) (sym made) in
           let longer = ap length pushed ∙ length_push old i in
-          let left : c.loop-count.lane.made < length (calls_at calls new) = omega (arith, length_calls calls new, longer, made) in
+          let left : c.loop-count.session.lane.made < length (calls_at calls new) = omega (arith, length_calls calls new, longer, made) in
           let Spent : List ℕ → Lane → Type 0 =
           λ l n. HasSpent c.args.self.now.original.now c.args.self.now.rewritten.now c.args.self.now.limits (calls_at calls l) n.made n.used (book c.args.pass) c.into_pass-pass.result in
-          let last : w.make_one.new.lane ≡ c.loop-count-test.lane = cc in
-          subst (Spent c.loop-count-test.indexes.items) (sym still.0 ∙ last) (subst (λ (l : List ℕ). Spent l c.loop-count.lane) indexes
-          (has_spent c.args.self.now.original.now c.args.self.now.rewritten.now c.args.self.now.limits (calls_at calls new) c.loop-count.lane.made c.loop-count.lane.used call
+          let last : w.call.new.self.lane ≡ c.loop-count-test.session.lane = cc in
+          subst (Spent c.loop-count-test.indexes.items) (sym still.0 ∙ last) (subst (λ (l : List ℕ). Spent l c.loop-count.session.lane) indexes
+          (has_spent c.args.self.now.original.now c.args.self.now.rewritten.now c.args.self.now.limits (calls_at calls new) c.loop-count.session.lane.made c.loop-count.session.lane.used call
           g.K.Beginning.began (book c.args.pass) c.into_pass-pass.result (first ++ so.history) so.conflicts still.1.tried left next so.later still.1.used_up
           (rests_after g.K.Beginning.began (pass_of e) c.into_pass-pass.result (first ++ so.history) (so.conflicts + still.1.tried) rest keeps
           (rests g.K.Beginning.began e (first ++ so.history) (so.conflicts + still.1.tried) [] [] still.1.stands))))
-    ]
+    ])
 
 pub returns-clause-emptied : goal.returns-clause-emptied
-returns-clause-emptied g c = λ all.
+returns-clause-emptied g c = rw c.into_parts-engine.ensures (λ all.
     let calls = c.args.calls.now in
     let n = length calls in
     let v = claims_of c.loop-count.claims in
@@ -283,15 +285,15 @@ returns-clause-emptied g c = λ all.
           let more = claiming_more n count i v (claims_of w.claim.new.self) old new w.loop-count-test.true claim w.in_ok-push.ensures.items claiming in
           let long : length c.loop-count-test.indexes.items ≡ count + 1 = ap length (sym indexes) ∙ more.long in
           let so = c.loop-count.invariant.stood in
-          let e = w.make_one.new.engine in
+          let e = w.call.new.self.engine in
           let first = reverse (book c.args.pass).entries in
-          let still = was_left w.in_ok-is_made.is_made c.args.self.now.original.now c.args.self.now.rewritten.now (bounds_with c.args.self.now.limits c.loop-count.lane.used) (call_of c.args.self.now.limits.room w.onward-here.result w.index-calls-index.result)
-          (StandsIn g.K.Beginning.began e) (first ++ so.history) so.conflicts c.loop-count.lane w.make_one.new.lane w.if-not-is_made.true
-          (w.in_ok-is_made.ensures.adds (first ++ so.history) so.conflicts (w.set_call.ensures.stands (first ++ so.history) so.conflicts [] [] so.stands)) in
-          let last : w.make_one.new.lane ≡ c.loop-count-test.lane = cc in
+          let still = was_left w.in_ok-is_made.is_made c.args.self.now.original.now c.args.self.now.rewritten.now (bounds_with c.args.self.now.limits c.loop-count.session.lane.used) (call_of c.args.self.now.limits.room w.onward-here.result w.index-calls-index.result)
+          (StandsIn g.K.Beginning.began e) (first ++ so.history) so.conflicts c.loop-count.session.lane w.call.new.self.lane w.if-not-is_made.true
+          ((rw c.loop-count.invariant.making at w.in_ok-is_made.ensures.adds) (first ++ so.history) so.conflicts (w.set_call.ensures.stands (first ++ so.history) so.conflicts [] [] so.stands)) in
+          let last : w.call.new.self.lane ≡ c.loop-count-test.session.lane = cc in
           let kept = ap (λ (l : Lane). l.made) (sym last ∙ still.0) in
           absurd (omega (arith, all, long, kept, c.loop-count.invariant.count))
-    ]
+    ])
 
 pub returns-clause-claims : goal.returns-clause-claims
 returns-clause-claims g c =
@@ -324,36 +326,36 @@ returns-clause-claims g c =
           (claiming_more n count i v (claims_of w.claim.new.self) old new w.loop-count-test.true claim w.in_ok-push.ensures.items claiming))
     ]
 
-pub make_one-requires-clause-region : goal.make_one-requires-clause-region
-make_one-requires-clause-region g c = inr (c.requires.region ∙ ap (λ (p : Place). suc p.lane) (sym c.onward-here.ensures))
+pub call-requires-clause-region : goal.call-requires-clause-region
+call-requires-clause-region g c = rw c.loop-count.invariant.making (inr (c.requires.region ∙ ap (λ (p : Place). suc p.lane) (sym c.onward-here.ensures)))
 
 pub returns-in_default-clause-told : goal.returns-in_default-clause-told
 returns-in_default-clause-told g c =
     told_first c.args.self.now.rewritten.now (bounds_of c.args.self.now.limits) (IsRecordOf c.args.at (calls_at c.args.calls.now c.new-indexes.result.items)) c.new-lane.result.placed.items
-    (g.G.Gate.told c.args.gate.now) c.new-lane.ensures.placed
+    (g.G.Gate.told c.args.gate) c.new-lane.ensures.placed
 
 pub returns-clause-told : goal.returns-clause-told
-returns-clause-told g c =
+returns-clause-told g c = rw c.into_parts-engine.ensures (
     let Q = c.args.self.now.rewritten.now in
     let B = bounds_of c.args.self.now.limits in
     let calls = c.args.calls.now in
     let C : List ℕ → Record → Known → Type 0 = λ l. IsRecordOf c.args.at (calls_at calls l) in
-    let first = g.G.Gate.told c.args.gate.now in
+    let first = g.G.Gate.told c.args.gate in
     let Told : List ℕ → Lane → g.row.G.Denot → Type 0 = λ is l d. HasTold Q B (C is) l.placed.items (Grows first (g.G.Gate.told d)) in
     let all = c.loop-count-test.indexes.items in
     elim c.loop-count-test.branch [
       | else-loop-count-test w ↦
           let indexes : c.loop-count.indexes.items ≡ all = cc in
-          let lane : c.loop-count.lane ≡ c.loop-count-test.lane = cc in
-          let gate : c.loop-count.gate ≡ c.loop-count-test.gate = cc in
-          subst (λ (is : List ℕ). Told is c.loop-count-test.lane c.loop-count-test.gate) indexes
-          (subst (λ (l : Lane). Told c.loop-count.indexes.items l c.loop-count-test.gate) lane (subst (Told c.loop-count.indexes.items c.loop-count.lane) gate c.loop-count.invariant.told))
+          let lane : c.loop-count.session.lane ≡ c.loop-count-test.session.lane = cc in
+          let gate : c.loop-count.session.gate ≡ c.loop-count-test.session.gate = cc in
+          subst (λ (is : List ℕ). Told is c.loop-count-test.session.lane c.loop-count-test.session.gate) indexes
+          (subst (λ (l : Lane). Told c.loop-count.indexes.items l c.loop-count-test.session.gate) lane (subst (Told c.loop-count.indexes.items c.loop-count.session.lane) gate c.loop-count.invariant.told))
       | then-loop-count-test+in_default-claim w ↦
           let indexes : c.loop-count.indexes.items ≡ all = cc in
-          let lane : c.loop-count.lane ≡ c.loop-count-test.lane = cc in
-          let gate : c.loop-count.gate ≡ c.loop-count-test.gate = cc in
-          subst (λ (is : List ℕ). Told is c.loop-count-test.lane c.loop-count-test.gate) indexes
-          (subst (λ (l : Lane). Told c.loop-count.indexes.items l c.loop-count-test.gate) lane (subst (Told c.loop-count.indexes.items c.loop-count.lane) gate c.loop-count.invariant.told))
+          let lane : c.loop-count.session.lane ≡ c.loop-count-test.session.lane = cc in
+          let gate : c.loop-count.session.gate ≡ c.loop-count-test.session.gate = cc in
+          subst (λ (is : List ℕ). Told is c.loop-count-test.session.lane c.loop-count-test.session.gate) indexes
+          (subst (λ (l : Lane). Told c.loop-count.indexes.items l c.loop-count-test.session.gate) lane (subst (Told c.loop-count.indexes.items c.loop-count.session.lane) gate c.loop-count.invariant.told))
       | then-loop-count-test+in-Some-claim+in_ok-push+in_ok-is_made+then-not-is_made w ↦
           let i = w.in-Some-claim.index in
           let old = c.loop-count.indexes.items in
@@ -362,18 +364,21 @@ returns-clause-told g c =
           let pushed = w.in_ok-push.ensures.items in
           let so = c.loop-count.invariant.stood in
           let entries = reverse (book c.args.pass).entries in
-          let S = StandsIn g.K.Beginning.began w.make_one.new.engine in
-          let still = was_left w.in_ok-is_made.is_made c.args.self.now.original.now Q (bounds_with c.args.self.now.limits c.loop-count.lane.used) (call_of c.args.self.now.limits.room w.onward-here.result w.index-calls-index.result) S
-          (entries ++ so.history) so.conflicts c.loop-count.lane w.make_one.new.lane w.if-not-is_made.true
-          (w.in_ok-is_made.ensures.adds (entries ++ so.history) so.conflicts (w.set_call.ensures.stands (entries ++ so.history) so.conflicts [] [] so.stands)) in
-          let last : w.make_one.new.lane ≡ c.loop-count-test.lane = cc in
-          let lane : c.loop-count.lane ≡ c.loop-count-test.lane = sym still.0 ∙ last in
-          let gate : w.make_one.new.gate ≡ c.loop-count-test.gate = cc in
-          let lost = was_lost w.in_ok-is_made.is_made Q (bounds_with c.args.self.now.limits c.loop-count.lane.used) w.onward-here.result w.index-calls-index.result c.loop-count.lane w.make_one.new.lane _
-          w.if-not-is_made.true w.in_ok-is_made.ensures.told in
-          let longer = told_weaker Q B (C old) (C new) (record_longer c.args.at (calls_at calls old) (calls_at calls (i ∷ [])) (calls_at calls new) (calls_push calls old new i pushed)) c.loop-count.lane.placed.items _
+          let S = StandsIn g.K.Beginning.began w.call.new.self.engine in
+          let still = was_left w.in_ok-is_made.is_made c.args.self.now.original.now Q (bounds_with c.args.self.now.limits c.loop-count.session.lane.used) (call_of c.args.self.now.limits.room w.onward-here.result w.index-calls-index.result) S
+          (entries ++ so.history) so.conflicts c.loop-count.session.lane w.call.new.self.lane w.if-not-is_made.true
+          ((rw c.loop-count.invariant.making at w.in_ok-is_made.ensures.adds) (entries ++ so.history) so.conflicts (w.set_call.ensures.stands (entries ++ so.history) so.conflicts [] [] so.stands)) in
+          let last : w.call.new.self.lane ≡ c.loop-count-test.session.lane = cc in
+          let lane : c.loop-count.session.lane ≡ c.loop-count-test.session.lane = sym still.0 ∙ last in
+          let gate : w.call.new.self.gate ≡ c.loop-count-test.session.gate = cc in
+          let lost = was_lost w.in_ok-is_made.is_made Q (bounds_with c.args.self.now.limits c.loop-count.session.lane.used) w.onward-here.result w.index-calls-index.result c.loop-count.session.lane w.call.new.self.lane _
+          w.if-not-is_made.true (rw c.loop-count.invariant.making at w.in_ok-is_made.ensures.told) in
+          let longer = told_weaker Q B (C old) (C new) (record_longer c.args.at (calls_at calls old) (calls_at calls (i ∷ [])) (calls_at calls new) (calls_push calls old new i pushed)) c.loop-count.session.lane.placed.items _
           c.loop-count.invariant.told in
-          subst (λ (is : List ℕ). Told is c.loop-count-test.lane c.loop-count-test.gate) indexes
-          (subst (λ (l : Lane). Told new l c.loop-count-test.gate) lane (subst (Told new c.loop-count.lane) gate
-          (told_lost Q B (C new) c.loop-count.lane.placed.items first (g.G.Gate.told c.loop-count.gate) (g.G.Gate.told w.make_one.new.gate) longer lost)))
-    ]
+          subst (λ (is : List ℕ). Told is c.loop-count-test.session.lane c.loop-count-test.session.gate) indexes
+          (subst (λ (l : Lane). Told new l c.loop-count-test.session.gate) lane (subst (Told new c.loop-count.session.lane) gate
+          (told_lost Q B (C new) c.loop-count.session.lane.placed.items first (g.G.Gate.told c.loop-count.session.gate) (g.G.Gate.told w.call.new.self.gate) longer lost)))
+    ])
+
+pub call-requires-clause-rule : goal.call-requires-clause-rule
+call-requires-clause-rule g c = rw c.loop-count.invariant.making c.requires.rule

@@ -12,11 +12,12 @@ use Rattle.session.proofs.call.Making.claim_over.Given as goal
 
 abbrev pub invariant-loop-count : goal.invariant-loop-count
 invariant-loop-count g l = record {
-  stood : Stood (StandsIn g.K.Beginning.began l.engine) (reverse (book l.fn.pass).entries)
-      (length (book l.fn.pass).lost) l.at l.self.limits.room.used (calls_at l.calls l.indexes.items) l.lane;
-  count : l.lane.made ≡ l.count;
-  ticks : (book (pass_of l.engine)).ticks ≤ (book l.fn.pass).ticks + l.count * 1000000;
+  making : l.session.making ≡ l.self;
+  stood : Stood (StandsIn g.K.Beginning.began l.session.engine) (reverse (book l.fn.pass).entries)
+      (length (book l.fn.pass).lost) l.at l.self.limits.room.used (calls_at l.calls l.indexes.items) l.session.lane;
+  count : l.session.lane.made ≡ l.count;
+  ticks : (book (pass_of l.session.engine)).ticks ≤ (book l.fn.pass).ticks + l.count * 1000000;
   bag : IsOf l.bag l.claims;
   claiming : Claiming (length l.calls) l.count (claims_of l.claims) l.indexes.items;
-  told : HasTold l.self.rewritten.now (bounds_of l.self.limits) (IsRecordOf l.at (calls_at l.calls l.indexes.items)) l.lane.placed.items (Grows (g.G.Gate.told l.fn.gate) (g.G.Gate.told l.gate));
+  told : HasTold l.self.rewritten.now (bounds_of l.self.limits) (IsRecordOf l.at (calls_at l.calls l.indexes.items)) l.session.lane.placed.items (Grows (g.G.Gate.told l.fn.gate) (g.G.Gate.told l.session.gate));
 }

@@ -52,3 +52,27 @@ returns-clause-told g c =
     let n = c.requires.stands.1 in
     call_told Q (bounds_of c.args.self.now.limits) (call_of c.args.self.now.limits.room at k) (g.E.Engine.stands c.call-2.new.tx) h n _ c.in-Ok.field-0
     (c.in-Ok.ensures.told h n (call_of c.args.self.now.limits.room at k) c.requires.stands.2 c.requires.awaits method args may)
+
+pub returns-clause-attempts : goal.returns-clause-attempts
+returns-clause-attempts g c = λ h n begun stands begins.
+    let P = c.args.self.now.original.now in
+    let Q = c.args.self.now.rewritten.now in
+    let k = c.args.call.now in
+    let at = c.args.at in
+    let method : k.method ≡ c.call.inside.method = ap (λ (x : Known). x.method) (sym c.call.view_is) in
+    let args : k.args ≡ c.as_slice.result.now = ap (λ (x : Known). x.args) (sym c.call.view_is) ∙ sym c.as_slice.ensures.value in
+    let may = may_run P Q c.requires.ready c.args.self.now.limits at k c.requires.call c.requires.region g.E.Engine.allows c.requires.rule in
+    c.in-Ok.ensures.attempts h n begun (call_of c.args.self.now.limits.room at k) stands c.requires.awaits method args may begins
+
+pub returns-clause-prefixes : goal.returns-clause-prefixes
+returns-clause-prefixes g c = λ h n stands leads.
+    let P = c.args.self.now.original.now in
+    let Q = c.args.self.now.rewritten.now in
+    let k = c.args.call.now in
+    let at = c.args.at in
+    let ready = c.requires.ready in
+    let method : k.method ≡ c.call.inside.method = ap (λ (x : Known). x.method) (sym c.call.view_is) in
+    let args : k.args ≡ c.as_slice.result.now = ap (λ (x : Known). x.args) (sym c.call.view_is) ∙ sym c.as_slice.ensures.value in
+    let may = may_run P Q ready c.args.self.now.limits at k c.requires.call c.requires.region g.E.Engine.allows c.requires.rule in
+    let typed = typed_call P Q ready c.args.self.now.limits at k c.requires.call c.requires.region c.call.inside.method c.as_slice.result.now method args in
+    c.in-Ok.ensures.prefixes P ready.tables h n (call_of c.args.self.now.limits.room at k) typed stands c.requires.awaits method args refl may leads c.requires.states

@@ -35,25 +35,26 @@ loop-index-init g c =
     let first = reverse (book p).entries in
     let keeps = keeps_first g.K.Beginning.began c.args.shared.now.table.shared.table_id p c.requires.only c.requires.pass.seated in
     record {
-      stood = stood_first (StandsIn g.K.Beginning.began e) first c.args.at c.args.self.now.limits.room.used c.args.calls.now c.new-lane.result
-          (length (book p).lost) c.new-lane.ensures (c.engine_of-engine.ensures.stands first (sym (reverse-reverse (book p).entries)) keeps);
-      count = c.new-lane.ensures.made;
-      ticks = let same = ap (λ (x : Pass). (book x).ticks) c.engine_of-engine.ensures.pass in omega (arith, same);
-      told = told_first c.args.self.now.rewritten.now (bounds_of c.args.self.now.limits) (IsRecordOf c.args.at c.args.calls.now) c.new-lane.result.placed.items (g.G.Gate.told c.args.gate.now) c.new-lane.ensures.placed;
+      making = c.open-session.ensures.making;
+      stood = rw c.open-session.ensures.engine (stood_first (StandsIn g.K.Beginning.began e) first c.args.at c.args.self.now.limits.room.used c.args.calls.now c.open-session.result.lane
+          (length (book p).lost) c.open-session.ensures.lane (c.engine_of-engine.ensures.stands first (sym (reverse-reverse (book p).entries)) keeps));
+      count = c.open-session.ensures.lane.made;
+      ticks = let same = ap (λ (x : Pass). (book x).ticks) c.engine_of-engine.ensures.pass in rw c.open-session.ensures.engine (omega (arith, same));
+      told = rw c.open-session.ensures.gate (told_first c.args.self.now.rewritten.now (bounds_of c.args.self.now.limits) (IsRecordOf c.args.at c.args.calls.now) c.open-session.result.lane.placed.items (g.G.Gate.told c.args.gate) c.open-session.ensures.lane.placed);
     }
 
-pub make_one-requires-clause-stands : goal.make_one-requires-clause-stands
-make_one-requires-clause-stands g c =
+pub call-requires-clause-stands : goal.call-requires-clause-stands
+call-requires-clause-stands g c =
     let so = c.loop-index.invariant.stood in
     let first = reverse (book c.args.pass).entries in
     (first ++ so.history, so.conflicts, c.set_call.ensures.stands (first ++ so.history) so.conflicts [] [] so.stands, inl tt)
 
-pub make_one-requires-clause-states : goal.make_one-requires-clause-states
-make_one-requires-clause-states g c =
-    over_more c.args.self.now.original.now c.args.self.now.limits _ _ c.loop-index.lane.used c.loop-index.invariant.stood.made.grows c.requires.states
+pub call-requires-clause-states : goal.call-requires-clause-states
+call-requires-clause-states g c = rw c.loop-index.invariant.making (
+    over_more c.args.self.now.original.now c.args.self.now.limits _ _ c.loop-index.session.lane.used c.loop-index.invariant.stood.made.grows c.requires.states)
 
-pub make_one-requires-clause-awaits : goal.make_one-requires-clause-awaits
-make_one-requires-clause-awaits g c =
+pub call-requires-clause-awaits : goal.call-requires-clause-awaits
+call-requires-clause-awaits g c = rw c.loop-index.invariant.making (
     let so = c.loop-index.invariant.stood in
     let here = c.onward-here.result in
     let call = c.index-calls-index.result in
@@ -63,38 +64,39 @@ make_one-requires-clause-awaits g c =
     let b = book c.args.pass in
     let told : call_of room here call ≡ call_of named.room named.at named.call.now =
     cc (c.set_call.ensures.call, c.of-in-loop-index.ensures.room, c.of-in-loop-index.ensures.at, c.of-in-loop-index.ensures.call) in
-    awaits_next g.K.Beginning.began c.args.shared.now.table.shared.table_id b room c.args.at here room.used c.loop-index.lane.made c.loop-index.index c.loop-index.lane.used (pass_of e) so.history so.conflicts call (call_of named.room named.at named.call.now) c.requires.began
+    awaits_next g.K.Beginning.began c.args.shared.now.table.shared.table_id b room c.args.at here room.used c.loop-index.session.lane.made c.loop-index.index c.loop-index.session.lane.used (pass_of e) so.history so.conflicts call (call_of named.room named.at named.call.now) c.requires.began
     (rests g.K.Beginning.began e (reverse b.entries ++ so.history) so.conflicts [] []
     (c.set_call.ensures.stands (reverse b.entries ++ so.history) so.conflicts [] [] so.stands)) c.requires.pass.begins so.made.takes c.requires.region c.onward-here.ensures
-    c.loop-index.invariant.count told so.earlier
+    c.loop-index.invariant.count told so.earlier)
 
 pub loop-index-preserved : goal.loop-index-preserved
 loop-index-preserved g c =
     let so = c.loop-index.invariant.stood in
-    let e = c.make_one.new.engine in
+    let e = c.call.new.self.engine in
     let first = reverse (book c.args.pass).entries in
     let S = StandsIn g.K.Beginning.began e in
     let room = c.args.self.now.limits.room in
     let call = c.index-calls-index.result in
-    let adds = was_made c.in_ok-is_made.is_made c.args.self.now.original.now c.args.self.now.rewritten.now (bounds_with c.args.self.now.limits c.loop-index.lane.used) (call_of room c.onward-here.result call) S
-    (first ++ so.history) so.conflicts c.loop-index.lane c.make_one.new.lane c.if-not-is_made.false
-    (c.in_ok-is_made.ensures.adds (first ++ so.history) so.conflicts (c.set_call.ensures.stands (first ++ so.history) so.conflicts [] [] so.stands)) in
+    let adds = was_made c.in_ok-is_made.is_made c.args.self.now.original.now c.args.self.now.rewritten.now (bounds_with c.args.self.now.limits c.loop-index.session.lane.used) (call_of room c.onward-here.result call) S
+    (first ++ so.history) so.conflicts c.loop-index.session.lane c.call.new.self.lane c.if-not-is_made.false
+    ((rw c.loop-index.invariant.making at c.in_ok-is_made.ensures.adds) (first ++ so.history) so.conflicts (c.set_call.ensures.stands (first ++ so.history) so.conflicts [] [] so.stands)) in
     record {
-      stood = stood_more S room c.args.at c.onward-here.result room.used c.args.calls.now c.loop-index.index c.loop-index.lane c.make_one.new.lane call
+      making = c.call.ensures.making ∙ c.loop-index.invariant.making;
+      stood = stood_more S room c.args.at c.onward-here.result room.used c.args.calls.now c.loop-index.index c.loop-index.session.lane c.call.new.self.lane call
           c.requires.region c.onward-here.ensures c.loop-index.invariant.count c.loop-index-test.true c.index-calls-index.is
           first so.history (length (book c.args.pass).lost) so.conflicts so.later so.made so.earlier adds;
       count = omega (arith, adds.record_is.made, c.loop-index.invariant.count);
-      ticks = let same = ap (λ (p : Pass). (book p).ticks) c.set_call.ensures.pass in omega (arith, same, c.make_one.ensures.clock, c.requires.attempts.1, c.loop-index.invariant.ticks);
+      ticks = let same = ap (λ (p : Pass). (book p).ticks) c.set_call.ensures.pass in omega (arith, same, (rw c.loop-index.invariant.making at c.call.ensures.clock), c.requires.attempts.1, c.loop-index.invariant.ticks);
       told =
-          let made = was_told c.in_ok-is_made.is_made c.args.self.now.rewritten.now (bounds_with c.args.self.now.limits c.loop-index.lane.used) c.onward-here.result call c.loop-index.lane c.make_one.new.lane _
-          c.if-not-is_made.false c.in_ok-is_made.ensures.told in
-          told_more c.args.self.now.rewritten.now (bounds_of c.args.self.now.limits) (IsRecordOf c.args.at c.args.calls.now) c.loop-index.lane.used c.onward-here.result call c.loop-index.lane c.make_one.new.lane
-          (g.G.Gate.told c.args.gate.now) (g.G.Gate.told c.loop-index.gate) (g.G.Gate.told c.make_one.new.gate) c.loop-index.invariant.told made
+          let made = was_told c.in_ok-is_made.is_made c.args.self.now.rewritten.now (bounds_with c.args.self.now.limits c.loop-index.session.lane.used) c.onward-here.result call c.loop-index.session.lane c.call.new.self.lane _
+          c.if-not-is_made.false (rw c.loop-index.invariant.making at c.in_ok-is_made.ensures.told) in
+          told_more c.args.self.now.rewritten.now (bounds_of c.args.self.now.limits) (IsRecordOf c.args.at c.args.calls.now) c.loop-index.session.lane.used c.onward-here.result call c.loop-index.session.lane c.call.new.self.lane
+          (g.G.Gate.told c.args.gate) (g.G.Gate.told c.loop-index.session.gate) (g.G.Gate.told c.call.new.self.gate) c.loop-index.invariant.told made
           (record_here c.args.at c.onward-here.result c.args.calls.now c.loop-index.index call made.one c.onward-here.ensures c.loop-index-test.true c.index-calls-index.is made.phase made.lane made.index);
     }
 
 pub returns-clause-made : goal.returns-clause-made
-returns-clause-made g c =
+returns-clause-made g c = rw c.into_parts-engine.ensures (
     let so = c.loop-index.invariant.stood in
     let t = c.args.shared.now.table.shared.table_id in
     let b = book c.args.pass in
@@ -103,127 +105,127 @@ returns-clause-made g c =
     let Left : Lane → Type 0 = λ l. IsEnding t b c.args.at count l.made l.used so.history c.into_pass.result × HasMade c.args.at c.args.self.now.limits.room.used c.args.calls.now so.history l in
     elim c.loop-index-test.branch [
       | else-loop-index-test w ↦
-          let e = c.loop-index.engine in
-          let engine : c.loop-index-test.engine ≡ e = cc in
+          let e = c.loop-index.session.engine in
+          let engine : c.into_parts-engine.result.0 ≡ e = ap (λ p. p.0) c.into_parts-engine.ensures ∙ cc in
           let rest = subst (λ x. IsRest [] 0 (book (pass_of x)) (book c.into_pass.result)) engine c.into_pass.ensures.rest in
           let keeps = subst (λ x. Keeps g.K.Beginning.began (pass_of x) → Keeps g.K.Beginning.began c.into_pass.result) engine c.into_pass.ensures.keeps in
-          let lane : c.loop-index.lane ≡ c.loop-index-test.lane = cc in
+          let lane : c.loop-index.session.lane ≡ c.loop-index-test.session.lane = cc in
           let within : (book (pass_of e)).ticks ≤ b.ticks + count * 1000000 = omega (arith, c.loop-index.invariant.ticks) in
           let left = subst Left lane (
-            ending g.K.Beginning.began t b c.args.at c.args.self.now.limits.room.used count c.loop-index.lane.made c.loop-index.lane.used c.into_pass.result so.history so.conflicts
+            ending g.K.Beginning.began t b c.args.at c.args.self.now.limits.room.used count c.loop-index.session.lane.made c.loop-index.session.lane.used c.into_pass.result so.history so.conflicts
                 c.requires.began (rests_after g.K.Beginning.began (pass_of e) c.into_pass.result (first ++ so.history) so.conflicts rest keeps (rests g.K.Beginning.began e (first ++ so.history) so.conflicts [] [] so.stands))
                 c.into_pass.ensures.free c.requires.pass.begins so.made.takes so.earlier (ticks_after (pass_of e) c.into_pass.result _ rest within),
             so.made,
           ) in
           (so.history, left.0, left.1)
       | then-loop-index-test+in_ok-is_made+then-not-is_made w ↦
-          let e = w.make_one.new.engine in
-          let engine : c.loop-index-test.engine ≡ e = cc in
+          let e = w.call.new.self.engine in
+          let engine : c.into_parts-engine.result.0 ≡ e = ap (λ p. p.0) c.into_parts-engine.ensures ∙ cc in
           let rest = subst (λ x. IsRest [] 0 (book (pass_of x)) (book c.into_pass.result)) engine c.into_pass.ensures.rest in
           let keeps = subst (λ x. Keeps g.K.Beginning.began (pass_of x) → Keeps g.K.Beginning.began c.into_pass.result) engine c.into_pass.ensures.keeps in
           let before = ap (λ (p : Pass). (book p).ticks) w.set_call.ensures.pass in
           let within : (book (pass_of e)).ticks ≤ b.ticks + count * 1000000 =
-          omega (arith, before, w.make_one.ensures.clock, c.requires.attempts.1, c.loop-index.invariant.ticks) in
+          omega (arith, before, (rw c.loop-index.invariant.making at w.call.ensures.clock), c.requires.attempts.1, c.loop-index.invariant.ticks) in
           let S = StandsIn g.K.Beginning.began e in
-          let still = was_left w.in_ok-is_made.is_made c.args.self.now.original.now c.args.self.now.rewritten.now (bounds_with c.args.self.now.limits c.loop-index.lane.used) (call_of c.args.self.now.limits.room w.onward-here.result w.index-calls-index.result) S
-          (first ++ so.history) so.conflicts c.loop-index.lane w.make_one.new.lane w.if-not-is_made.true
-          (w.in_ok-is_made.ensures.adds (first ++ so.history) so.conflicts (w.set_call.ensures.stands (first ++ so.history) so.conflicts [] [] so.stands)) in
-          let last : w.make_one.new.lane ≡ c.loop-index-test.lane = cc in
-          let lane : c.loop-index.lane ≡ c.loop-index-test.lane = sym still.0 ∙ last in
+          let still = was_left w.in_ok-is_made.is_made c.args.self.now.original.now c.args.self.now.rewritten.now (bounds_with c.args.self.now.limits c.loop-index.session.lane.used) (call_of c.args.self.now.limits.room w.onward-here.result w.index-calls-index.result) S
+          (first ++ so.history) so.conflicts c.loop-index.session.lane w.call.new.self.lane w.if-not-is_made.true
+          ((rw c.loop-index.invariant.making at w.in_ok-is_made.ensures.adds) (first ++ so.history) so.conflicts (w.set_call.ensures.stands (first ++ so.history) so.conflicts [] [] so.stands)) in
+          let last : w.call.new.self.lane ≡ c.loop-index-test.session.lane = cc in
+          let lane : c.loop-index.session.lane ≡ c.loop-index-test.session.lane = sym still.0 ∙ last in
           let left = subst Left lane (
-            ending g.K.Beginning.began t b c.args.at c.args.self.now.limits.room.used count c.loop-index.lane.made c.loop-index.lane.used c.into_pass.result so.history (so.conflicts + still.1.tried)
+            ending g.K.Beginning.began t b c.args.at c.args.self.now.limits.room.used count c.loop-index.session.lane.made c.loop-index.session.lane.used c.into_pass.result so.history (so.conflicts + still.1.tried)
                 c.requires.began (rests_after g.K.Beginning.began (pass_of e) c.into_pass.result (first ++ so.history) (so.conflicts + still.1.tried) rest keeps
                 (rests g.K.Beginning.began e (first ++ so.history) (so.conflicts + still.1.tried) [] [] still.1.stands))
                 c.into_pass.ensures.free c.requires.pass.begins so.made.takes so.earlier (ticks_after (pass_of e) c.into_pass.result _ rest within),
             so.made,
           ) in
           (so.history, left.0, left.1)
-    ]
+    ])
 
 pub returns-clause-stopped : goal.returns-clause-stopped
-returns-clause-stopped g c = λ some_left.
+returns-clause-stopped g c = rw c.into_parts-engine.ensures (λ some_left.
     let so = c.loop-index.invariant.stood in
     let first = reverse (book c.args.pass).entries in
     elim c.loop-index-test.branch [
       | else-loop-index-test w ↦
-          let lane : c.loop-index.lane ≡ c.loop-index-test.lane = cc in
+          let lane : c.loop-index.session.lane ≡ c.loop-index-test.session.lane = cc in
           let made = ap (λ (l : Lane). l.made) lane in
           absurd (some_left (omega (arith, w.loop-index-test.false, made, c.loop-index.invariant.count)))
       | then-loop-index-test+in_ok-is_made+then-not-is_made w ↦
-          let e = w.make_one.new.engine in
-          let engine : c.loop-index-test.engine ≡ e = cc in
+          let e = w.call.new.self.engine in
+          let engine : c.into_parts-engine.result.0 ≡ e = ap (λ p. p.0) c.into_parts-engine.ensures ∙ cc in
           let rest = subst (λ x. IsRest [] 0 (book (pass_of x)) (book c.into_pass.result)) engine c.into_pass.ensures.rest in
           let keeps = subst (λ x. Keeps g.K.Beginning.began (pass_of x) → Keeps g.K.Beginning.began c.into_pass.result) engine c.into_pass.ensures.keeps in
           let call = w.index-calls-index.result in
           let S = StandsIn g.K.Beginning.began e in
-          let still = was_left w.in_ok-is_made.is_made c.args.self.now.original.now c.args.self.now.rewritten.now (bounds_with c.args.self.now.limits c.loop-index.lane.used) (call_of c.args.self.now.limits.room w.onward-here.result call) S
-          (first ++ so.history) so.conflicts c.loop-index.lane w.make_one.new.lane w.if-not-is_made.true
-          (w.in_ok-is_made.ensures.adds (first ++ so.history) so.conflicts (w.set_call.ensures.stands (first ++ so.history) so.conflicts [] [] so.stands)) in
+          let still = was_left w.in_ok-is_made.is_made c.args.self.now.original.now c.args.self.now.rewritten.now (bounds_with c.args.self.now.limits c.loop-index.session.lane.used) (call_of c.args.self.now.limits.room w.onward-here.result call) S
+          (first ++ so.history) so.conflicts c.loop-index.session.lane w.call.new.self.lane w.if-not-is_made.true
+          ((rw c.loop-index.invariant.making at w.in_ok-is_made.ensures.adds) (first ++ so.history) so.conflicts (w.set_call.ensures.stands (first ++ so.history) so.conflicts [] [] so.stands)) in
           let count = c.loop-index.invariant.count in
-          let left : c.loop-index.lane.made < length c.args.calls.now = omega (arith, w.loop-index-test.true, count) in
-          let next : call ≡ get_or c.args.calls.now c.loop-index.lane.made call = w.index-calls-index.is ∙ ap (λ (n : ℕ). get_or c.args.calls.now n call) (sym count) in
+          let left : c.loop-index.session.lane.made < length c.args.calls.now = omega (arith, w.loop-index-test.true, count) in
+          let next : call ≡ get_or c.args.calls.now c.loop-index.session.lane.made call = w.index-calls-index.is ∙ ap (λ (n : ℕ). get_or c.args.calls.now n call) (sym count) in
           let Spent : Lane → Type 0 = λ l. HasSpent c.args.self.now.original.now c.args.self.now.rewritten.now c.args.self.now.limits c.args.calls.now l.made l.used (book c.args.pass) c.into_pass.result in
-          let last : w.make_one.new.lane ≡ c.loop-index-test.lane = cc in
+          let last : w.call.new.self.lane ≡ c.loop-index-test.session.lane = cc in
           subst Spent (sym still.0 ∙ last)
-          (has_spent c.args.self.now.original.now c.args.self.now.rewritten.now c.args.self.now.limits c.args.calls.now c.loop-index.lane.made c.loop-index.lane.used call
+          (has_spent c.args.self.now.original.now c.args.self.now.rewritten.now c.args.self.now.limits c.args.calls.now c.loop-index.session.lane.made c.loop-index.session.lane.used call
           g.K.Beginning.began (book c.args.pass) c.into_pass.result (first ++ so.history) so.conflicts still.1.tried left next so.later still.1.used_up
           (rests_after g.K.Beginning.began (pass_of e) c.into_pass.result (first ++ so.history) (so.conflicts + still.1.tried) rest keeps
           (rests g.K.Beginning.began e (first ++ so.history) (so.conflicts + still.1.tried) [] [] still.1.stands)))
-    ]
+    ])
 
 pub returns-clause-all : goal.returns-clause-all
-returns-clause-all g c = λ whole.
+returns-clause-all g c = rw c.into_parts-engine.ensures (λ whole.
     let so = c.loop-index.invariant.stood in
     let first = reverse (book c.args.pass).entries in
     elim c.loop-index-test.branch [
       | else-loop-index-test w ↦
-          let lane : c.loop-index.lane ≡ c.loop-index-test.lane = cc in
+          let lane : c.loop-index.session.lane ≡ c.loop-index-test.session.lane = cc in
           let made = ap (λ (l : Lane). l.made) lane in
           omega (arith, w.loop-index-test.false, made, c.loop-index.invariant.count)
       | then-loop-index-test+in_ok-is_made+then-not-is_made w ↦
-          let e = w.make_one.new.engine in
+          let e = w.call.new.self.engine in
           let S = StandsIn g.K.Beginning.began e in
-          let still = was_left w.in_ok-is_made.is_made c.args.self.now.original.now c.args.self.now.rewritten.now (bounds_with c.args.self.now.limits c.loop-index.lane.used) (call_of c.args.self.now.limits.room w.onward-here.result w.index-calls-index.result) S
-          (first ++ so.history) so.conflicts c.loop-index.lane w.make_one.new.lane w.if-not-is_made.true
-          (w.in_ok-is_made.ensures.adds (first ++ so.history) so.conflicts (w.set_call.ensures.stands (first ++ so.history) so.conflicts [] [] so.stands)) in
+          let still = was_left w.in_ok-is_made.is_made c.args.self.now.original.now c.args.self.now.rewritten.now (bounds_with c.args.self.now.limits c.loop-index.session.lane.used) (call_of c.args.self.now.limits.room w.onward-here.result w.index-calls-index.result) S
+          (first ++ so.history) so.conflicts c.loop-index.session.lane w.call.new.self.lane w.if-not-is_made.true
+          ((rw c.loop-index.invariant.making at w.in_ok-is_made.ensures.adds) (first ++ so.history) so.conflicts (w.set_call.ensures.stands (first ++ so.history) so.conflicts [] [] so.stands)) in
           let none = meets_none g.K.Beginning.began c.args.shared.now.table.shared.table_id (book c.args.pass) (pass_of e) (first ++ so.history) (so.conflicts + still.1.tried) c.requires.began whole
           (rests g.K.Beginning.began e (first ++ so.history) (so.conflicts + still.1.tried) [] [] still.1.stands) in
           let more = still.1.used_up.some in
           let least = so.later in
           absurd (omega arith)
-    ]
+    ])
 
-pub make_one-requires-clause-region : goal.make_one-requires-clause-region
-make_one-requires-clause-region g c = inr (c.requires.region ∙ ap (λ (p : Place). suc p.lane) (sym c.onward-here.ensures))
+pub call-requires-clause-region : goal.call-requires-clause-region
+call-requires-clause-region g c = rw c.loop-index.invariant.making (inr (c.requires.region ∙ ap (λ (p : Place). suc p.lane) (sym c.onward-here.ensures)))
 
 pub returns-in_default-clause-told : goal.returns-in_default-clause-told
 returns-in_default-clause-told g c =
-    told_first c.args.self.now.rewritten.now (bounds_of c.args.self.now.limits) (IsRecordOf c.args.at c.args.calls.now) c.new-lane.result.placed.items (g.G.Gate.told c.args.gate.now) c.new-lane.ensures.placed
+    told_first c.args.self.now.rewritten.now (bounds_of c.args.self.now.limits) (IsRecordOf c.args.at c.args.calls.now) c.new-lane.result.placed.items (g.G.Gate.told c.args.gate) c.new-lane.ensures.placed
 
 pub returns-clause-told : goal.returns-clause-told
-returns-clause-told g c =
+returns-clause-told g c = rw c.into_parts-engine.ensures (
     let Q = c.args.self.now.rewritten.now in
     let B = bounds_of c.args.self.now.limits in
     let C = IsRecordOf c.args.at c.args.calls.now in
-    let first = g.G.Gate.told c.args.gate.now in
+    let first = g.G.Gate.told c.args.gate in
     let Told : Lane → g.row.G.Denot → Type 0 = λ l d. HasTold Q B C l.placed.items (Grows first (g.G.Gate.told d)) in
     elim c.loop-index-test.branch [
       | else-loop-index-test w ↦
-          let lane : c.loop-index.lane ≡ c.loop-index-test.lane = cc in
-          let gate : c.loop-index.gate ≡ c.loop-index-test.gate = cc in
-          subst (λ (l : Lane). Told l c.loop-index-test.gate) lane (subst (Told c.loop-index.lane) gate c.loop-index.invariant.told)
+          let lane : c.loop-index.session.lane ≡ c.loop-index-test.session.lane = cc in
+          let gate : c.loop-index.session.gate ≡ c.loop-index-test.session.gate = cc in
+          subst (λ (l : Lane). Told l c.loop-index-test.session.gate) lane (subst (Told c.loop-index.session.lane) gate c.loop-index.invariant.told)
       | then-loop-index-test+in_ok-is_made+then-not-is_made w ↦
           let so = c.loop-index.invariant.stood in
           let first_entries = reverse (book c.args.pass).entries in
-          let S = StandsIn g.K.Beginning.began w.make_one.new.engine in
-          let still = was_left w.in_ok-is_made.is_made c.args.self.now.original.now Q (bounds_with c.args.self.now.limits c.loop-index.lane.used) (call_of c.args.self.now.limits.room w.onward-here.result w.index-calls-index.result) S
-          (first_entries ++ so.history) so.conflicts c.loop-index.lane w.make_one.new.lane w.if-not-is_made.true
-          (w.in_ok-is_made.ensures.adds (first_entries ++ so.history) so.conflicts (w.set_call.ensures.stands (first_entries ++ so.history) so.conflicts [] [] so.stands)) in
-          let last : w.make_one.new.lane ≡ c.loop-index-test.lane = cc in
-          let lane : c.loop-index.lane ≡ c.loop-index-test.lane = sym still.0 ∙ last in
-          let gate : w.make_one.new.gate ≡ c.loop-index-test.gate = cc in
-          let lost = was_lost w.in_ok-is_made.is_made Q (bounds_with c.args.self.now.limits c.loop-index.lane.used) w.onward-here.result w.index-calls-index.result c.loop-index.lane w.make_one.new.lane _
-          w.if-not-is_made.true w.in_ok-is_made.ensures.told in
-          subst (λ (l : Lane). Told l c.loop-index-test.gate) lane (subst (Told c.loop-index.lane) gate
-          (told_lost Q B C c.loop-index.lane.placed.items first (g.G.Gate.told c.loop-index.gate) (g.G.Gate.told w.make_one.new.gate) c.loop-index.invariant.told lost))
-    ]
+          let S = StandsIn g.K.Beginning.began w.call.new.self.engine in
+          let still = was_left w.in_ok-is_made.is_made c.args.self.now.original.now Q (bounds_with c.args.self.now.limits c.loop-index.session.lane.used) (call_of c.args.self.now.limits.room w.onward-here.result w.index-calls-index.result) S
+          (first_entries ++ so.history) so.conflicts c.loop-index.session.lane w.call.new.self.lane w.if-not-is_made.true
+          ((rw c.loop-index.invariant.making at w.in_ok-is_made.ensures.adds) (first_entries ++ so.history) so.conflicts (w.set_call.ensures.stands (first_entries ++ so.history) so.conflicts [] [] so.stands)) in
+          let last : w.call.new.self.lane ≡ c.loop-index-test.session.lane = cc in
+          let lane : c.loop-index.session.lane ≡ c.loop-index-test.session.lane = sym still.0 ∙ last in
+          let gate : w.call.new.self.gate ≡ c.loop-index-test.session.gate = cc in
+          let lost = was_lost w.in_ok-is_made.is_made Q (bounds_with c.args.self.now.limits c.loop-index.session.lane.used) w.onward-here.result w.index-calls-index.result c.loop-index.session.lane w.call.new.self.lane _
+          w.if-not-is_made.true (rw c.loop-index.invariant.making at w.in_ok-is_made.ensures.told) in
+          subst (λ (l : Lane). Told l c.loop-index-test.session.gate) lane (subst (Told c.loop-index.session.lane) gate
+          (told_lost Q B C c.loop-index.session.lane.placed.items first (g.G.Gate.told c.loop-index.session.gate) (g.G.Gate.told w.call.new.self.gate) c.loop-index.invariant.told lost))
+    ])

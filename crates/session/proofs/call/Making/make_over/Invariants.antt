@@ -9,9 +9,10 @@ use Rattle.session.proofs.call.Making.make_over.Given as goal
 
 abbrev pub invariant-loop-index : goal.invariant-loop-index
 invariant-loop-index g l = record {
-  stood : Stood (StandsIn g.K.Beginning.began l.engine) (reverse (book l.fn.pass).entries)
-      (length (book l.fn.pass).lost) l.at l.self.limits.room.used l.calls l.lane;
-  count : l.lane.made ≡ l.index;
-  ticks : (book (pass_of l.engine)).ticks ≤ (book l.fn.pass).ticks + l.index * 1000000;
-  told : HasTold l.self.rewritten.now (bounds_of l.self.limits) (IsRecordOf l.at l.calls) l.lane.placed.items (Grows (g.G.Gate.told l.fn.gate) (g.G.Gate.told l.gate));
+  making : l.session.making ≡ l.self;
+  stood : Stood (StandsIn g.K.Beginning.began l.session.engine) (reverse (book l.fn.pass).entries)
+      (length (book l.fn.pass).lost) l.at l.self.limits.room.used l.calls l.session.lane;
+  count : l.session.lane.made ≡ l.index;
+  ticks : (book (pass_of l.session.engine)).ticks ≤ (book l.fn.pass).ticks + l.index * 1000000;
+  told : HasTold l.self.rewritten.now (bounds_of l.self.limits) (IsRecordOf l.at l.calls) l.session.lane.placed.items (Grows (g.G.Gate.told l.fn.gate) (g.G.Gate.told l.session.gate));
 }
