@@ -4,7 +4,8 @@ use Rattle.std.specs.Prelude.{IfOk, string_bytes, String, Vec, codes, pos}
 use Rattle.std.specs.declared.alloc.Global.{Global}
 use Rattle.std.specs.List.{AllByRecursion}
 use Rattle.std.proofs.lemmas.List.{length-map, get_or-map, map-append, take_more}
-use Rattle.deuce_io.specs.Fault.{Call, HasFailed, rose_since}
+use Rattle.deuce_io.specs.Fault.{Call, HasFailed}
+use Rattle.deuce_io.proofs.Rising.{rose_since}
 use Rattle.deuce_io.specs.Files.{Files}
 use Rattle.deuce_io.specs.Seen.{Seen}
 use Rattle.deuce_io.specs.declared.end.IoEnd.{IoEnd}

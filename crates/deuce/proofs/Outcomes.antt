@@ -2,7 +2,8 @@
 use Rattle.std.proofs.Common.{◌≡◌, ◌≤◌, ℕ, List, Option, Some, None, inl, inr, subst}
 use Rattle.std.specs.Prelude.{String, string_bytes}
 use Rattle.std.specs.declared.alloc.Global.{Global}
-use Rattle.deuce_io.specs.Fault.{Call, rose_since}
+use Rattle.deuce_io.specs.Fault.{Call}
+use Rattle.deuce_io.proofs.Rising.{rose_since}
 use Rattle.deuce_io.specs.Files.{Files}
 use Rattle.deuce_io.specs.Seen.{Seen}
 use Rattle.jmodel.specs.declared.refusal.Refusal.{Refusal}

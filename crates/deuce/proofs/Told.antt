@@ -32,18 +32,33 @@ module _ (words : List (String Global)) (files : Option Files) (x y : List (Opti
   told_refused (run_ends.Unopened class z) o is = rw is tt
   told_refused run_ends.NoMemory o is = absurd is
 
-  pub told_rewriting : (dir to : List ℕ) (old new : Seen) → seen_words words ≡ rewrite_words dir to → (o : Outcome) → Says words old new o → TellsOutcome words files x y o
-  told_rewriting dir to old new w (Journal text) h = absurd (apart words h.0 h.1 dir to h.2 w)
-  told_rewriting dir to old new w (Summary text) h = absurd (no_bank words dir (to, inr w) h.0 h.1)
-  told_rewriting dir to old new w (Rewritten n t m) h = tt
-  told_rewriting dir to old new w Usage h = tt
-  told_rewriting dir to old new w (BadClass path r) h = tt
-  told_rewriting dir to old new w (BadProgram r) h = tt
-  told_rewriting dir to old new w (Untyped r) h = tt
-  told_rewriting dir to old new w (BadScript r) h = tt
-  told_rewriting dir to old new w (Unopened class z) h = tt
-  told_rewriting dir to old new w (Outside path) h = tt
-  told_rewriting dir to old new w (NotPut path) h = tt
+  pub told_rewriting : (dir to : List ℕ) (old new : Seen) → seen_words words ≡ rewrite_words dir to → y ≡ x → (o : Outcome) → Says words old new o → TellsOutcome words files x y o
+  told_rewriting dir to old new w same (Journal text) h = absurd (apart words h.0 h.1 dir to h.2 w)
+  told_rewriting dir to old new w same (Summary text) h = absurd (no_bank words dir (to, inr w) h.0 h.1)
+  told_rewriting dir to old new w same (Rewritten n t m) h = same
+  told_rewriting dir to old new w same Usage h = tt
+  told_rewriting dir to old new w same (BadClass path r) h = tt
+  told_rewriting dir to old new w same (BadProgram r) h = tt
+  told_rewriting dir to old new w same (Untyped r) h = tt
+  told_rewriting dir to old new w same (BadScript r) h = tt
+  told_rewriting dir to old new w same (Unopened class z) h = tt
+  told_rewriting dir to old new w same (Outside path) h = tt
+  told_rewriting dir to old new w same (NotPut path) h = tt
+
+  -- of a rewriting, where one was asked for
+  pub told_nothing : (old new : Seen) (status : ℕ) (o : Outcome) → Says words old new o → TellsOutcome words files x y o → status ≡ status_of o → status ≡ 0
+      → (dir to : List ℕ) → seen_words words ≡ rewrite_words dir to → y ≡ x
+  told_nothing old new status (Journal text) h k s z = λ dir to w. absurd (apart words h.0 h.1 dir to h.2 w)
+  told_nothing old new status (Summary text) h k s z = λ dir to w. absurd (no_bank words dir (to, inr w) h.0 h.1)
+  told_nothing old new status (Rewritten n t m) h k s z = λ dir to w. k
+  told_nothing old new status Usage h k s z = absurd (omega (arith, s, z))
+  told_nothing old new status (BadClass path r) h k s z = absurd (omega (arith, s, z))
+  told_nothing old new status (BadProgram r) h k s z = absurd (omega (arith, s, z))
+  told_nothing old new status (Untyped r) h k s z = absurd (omega (arith, s, z))
+  told_nothing old new status (BadScript r) h k s z = absurd (omega (arith, s, z))
+  told_nothing old new status (Unopened class u) h k s z = absurd (omega (arith, s, z))
+  told_nothing old new status (Outside path) h k s z = absurd (omega (arith, s, z))
+  told_nothing old new status (NotPut path) h k s z = absurd (omega (arith, s, z))
 
   module _ (old new : Seen) (printed : List ℕ) (before now : Option (List ℕ)) (status : ℕ) where
     -- of a run, where one was asked for

@@ -13,7 +13,7 @@ use Rattle.deuce.specs.Bank.{IsWorkload, engine_of}
 use Rattle.deuce.specs.Folder.{IsFileOf, Holds, HoldsContents}
 use Rattle.deuce.specs.declared.words.BankWords.{BankWords}
 use Rattle.deuce.specs.declared.outcome.Outcome.{Outcome}
-use Rattle.deuce.specs.declared.outcome.Outcome.TheVariants.{Journal, Summary}
+use Rattle.deuce.specs.declared.outcome.Outcome.TheVariants.{Journal, Summary, Rewritten}
 
 -- what each gate tells
 abbrev pub told_by : {G : Type 0} → (G → Option (List Event)) → List G → List (Option (List Event))
@@ -45,4 +45,5 @@ pub record TellsBankOf (b : BankWords) (text : List ℕ) (before after : List (O
 abbrev pub TellsOutcome : List (String Global) → Option Files → List (Option (List Event)) → List (Option (List Event)) → Outcome → Type 0
 TellsOutcome words files before after (Journal text) = (dir : List ℕ) × (script : List ℕ) × (seen_words words ≡ run_words dir script) × TellsJournalOf files dir script text before after
 TellsOutcome words files before after (Summary text) = (b : BankWords) × AsksBank words b × TellsBankOf b text before after
+TellsOutcome words files before after (Rewritten classes taken marked) = after ≡ before
 TellsOutcome words files before after o = Unit {0}

@@ -80,6 +80,10 @@ pub fn deuce<R: Threads + Sync, F: Folder, O: Sink, G: Gate + Send + Drop>(
         → (text : List ℕ)
         × TellsBankOf b text (told_by G.told gates.old.items) (told_by G.told gates.new.items)
         × Appends (O.written out.old) (O.written out.new) text }
+    // A rewriting tells no gate anything.
+    ensures told_nothing { result ≡ 0
+        → (dir to : List ℕ) → seen_words words.now ≡ rewrite_words dir to
+        → told_by G.told gates.new.items ≡ told_by G.told gates.old.items }
 
     // `rewrite DIR OUT`: what was put, where the folder tells its files, and the counts that were
     // written.

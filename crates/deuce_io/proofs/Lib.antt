@@ -2,3 +2,4 @@ pub mod Contents
 pub mod Items
 pub mod Listed
 pub mod Shows
+pub mod Rising

@@ -1,6 +1,5 @@
 -- When a call may answer that the outside failed.
 use Rattle.std.specs.Prelude.{◌≡◌, ◌+◌, min, ◌<◌, ◌≤◌, ◌⊎◌, ◌-◌, ◌^◌, ℕ, List, Option, Some, string_bytes}
-use Rattle.std.proofs.Common.{inl, inr, arith}
 use Rattle.deuce_io.specs.declared.failed_call.FailedCall.{FailedCall}
 use Rattle.deuce_io.specs.declared.failed_call.CallKind.{CallKind}
 use Rattle.deuce_io.specs.declared.failed_call.CallKind.TheVariants.{List as Listed, Read, Put}
@@ -42,8 +41,3 @@ Rose before now = (before < now) ⊎ (now ≡ 2 ^ 64 - 1)
 pub record HasFailed (before now : ℕ) (last : Option Call) (call : Call) : Type 0 where
   pub rose : Rose before now
   pub is_last : last ≡ Some call
-
--- what rose since a later moment rose since an earlier one
-pub rose_since : (first before now : ℕ) → first ≤ before → Rose before now → Rose first now
-rose_since first before now le (inl less) = inl (omega arith)
-rose_since first before now le (inr last) = inr last

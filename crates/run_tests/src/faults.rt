@@ -101,6 +101,37 @@ fn renamed() -> [u8; 201] {
     class
 }
 
+/// A folder with two class files, another file, and a script.
+fn two_classes(alloc: Global) -> Result<MemFolder, IoEnd> {
+    let mut folder = folder_of(alloc, COUNTER.as_slice(), THREE_CALLS)?;
+    folder.put("d/Bounter.class", renamed().as_slice())?;
+    folder.put("d/Aounter.text", b"".as_slice())?;
+    Ok(folder)
+}
+
+#[test]
+fn class_files_are_read_in_the_order_of_their_paths_and_then_the_script(
+    rt: HostRuntime,
+) -> Result<(), Fail> {
+    let alloc = rt.alloc();
+    for (number, path) in [(1, "d/Bounter.class"), (2, "d/Counter.class"), (3, "s")] {
+        let mut folder = two_classes(alloc)?;
+        folder.fail_reads.push(number)?;
+        let line = format!(in alloc; "error 8 {path}\n")?;
+        assert!(rt; gives(&rt, alloc, RUN, folder, 8, line.as_str())?, "{path}");
+    }
+    Ok(())
+}
+
+#[test]
+fn each_file_is_read_once(rt: HostRuntime) -> Result<(), Fail> {
+    let alloc = rt.alloc();
+    let mut folder = two_classes(alloc)?;
+    let (status, _) = call(&rt, alloc, RUN, &mut folder, MemSink::new(alloc, 64))?;
+    assert_eq!(rt; (status, folder.reads), (0, 3));
+    Ok(())
+}
+
 #[test]
 fn a_put_that_fails_leaves_those_before_it(rt: HostRuntime) -> Result<(), Fail> {
     let alloc = rt.alloc();

@@ -3,7 +3,7 @@ use Rattle.std.specs.Prelude.{option_map, string_bytes}
 use Rattle.std.proofs.lemmas.List.{length_push, length-map, take_all}
 use Rattle.std.proofs.lemmas.Iterator.Adapters.{YieldsList-from_vec}
 use Rattle.std.proofs.lemmas.Iterator.Consumers.{YieldsList-turn, YieldsList-end}
-use Rattle.deuce_io.specs.Fault.{rose_since}
+use Rattle.deuce_io.proofs.Rising.{rose_since}
 use Rattle.deuce.specs.Folder.{with_files}
 use Rattle.deuce.specs.Ending.{seen_files}
 use Rattle.deuce.proofs.PutFiles.{seen_file, put_none, put_more, put_up_to}

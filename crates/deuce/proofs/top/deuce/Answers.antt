@@ -2,7 +2,7 @@ use Rattle.std.proofs.Common.{Err, ap, inr}
 use Rattle.deuce.proofs.Printed.{journal_printed, summary_printed, rewriting_printed, fault_printed, program_printed, untyped_printed, script_printed, unopened_printed, put_printed, refusal_keeps}
 use Rattle.deuce.proofs.Complete.{complete, complete_rewriting, helper_refused}
 use Rattle.deuce.proofs.Banks.{complete_bank, outside_limits}
-use Rattle.deuce.proofs.Told.{told_printed, told_of_bank}
+use Rattle.deuce.proofs.Told.{told_printed, told_of_bank, told_nothing}
 use Rattle.deuce.proofs.top.deuce.Goals as goal
 
 pub returns-in-Ok-print-clause-journal : goal.returns-in-Ok-print-clause-journal
@@ -97,3 +97,8 @@ pub returns-in-Ok-print-clause-told_bank : goal.returns-in-Ok-print-clause-told_
 returns-in-Ok-print-clause-told_bank g c = λ zero.
     told_of_bank c.args.words.now (g.F.Folder.seen c.args.folder.now).files _ _ (g.F.Folder.seen c.args.folder.now) (g.F.Folder.seen c.outcome_of.new.folder) c.in-Ok-text_of.text _ _ c.status-status.result c.in-Ok.outcome
     c.in-Ok.ensures.outcome.1 c.in-Ok.ensures.told c.status-status.ensures c.in-Ok-text_of.ensures (rw c.as_slice.ensures at c.in-Ok-print.ensures.written) zero
+
+pub returns-in-Ok-print-clause-told_nothing : goal.returns-in-Ok-print-clause-told_nothing
+returns-in-Ok-print-clause-told_nothing g c = λ zero.
+    told_nothing c.args.words.now (g.F.Folder.seen c.args.folder.now).files _ _ (g.F.Folder.seen c.args.folder.now) (g.F.Folder.seen c.outcome_of.new.folder) c.status-status.result c.in-Ok.outcome
+    c.in-Ok.ensures.outcome.1 c.in-Ok.ensures.told c.status-status.ensures zero
