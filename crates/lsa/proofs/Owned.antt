@@ -1,5 +1,5 @@
 -- The stripes that an attempt holds, one more or none.
-use Rattle.std.proofs.Common.{◌≡◌, ◌≢◌, ◌⊎◌, ◌<◌, ◌≤◌, ◌-◌, ◌+◌, ◌*◌, ◌%◌, ◌==◌, ◌&&◌, ◌||◌, ℕ, Bool, true, false, not, cond, List, [], ◌∷◌, ◌++◌, All, filter, length, take, reverse, slice_index_or, slice_set, refl, sym, ap, ◌∙◌, inl, inr, ⊎_elim, subst, eq-eqb, ne_eqb, arith}
+use Rattle.std.proofs.Common.{◌≡◌, ◌≢◌, ◌⊎◌, ◌≤◌, ◌*◌, ◌%◌, ◌==◌, ◌&&◌, ◌||◌, ℕ, Bool, true, false, not, cond, List, [], ◌∷◌, ◌++◌, All, filter, length, take, reverse, slice_index_or, slice_set, refl, sym, ap, ◌∙◌, inl, inr, ⊎_elim, subst, eq-eqb, ne_eqb, arith}
 use mathlib.Core.Logic.{dite}
 use native.Mathlib.Decide.{ℕ_discrete}
 use mathlib.Core.Option.{Option, none, some}
@@ -7,13 +7,11 @@ use Rattle.std.specs.Ordering.{nat_cmp}
 use Rattle.std.specs.BTreeMap.{is_at}
 use Rattle.std.specs.BTreeSet.{BTreeSet, contains}
 use Rattle.std.proofs.lemmas.List.{reverse-append, reverse-reverse}
-use Rattle.std.proofs.lemmas.List.Folds.{list_any-append}
 use Rattle.std.proofs.lemmas.List.Elements.{All-nil, All-push, All-weaker, filter_agree}
-use Rattle.std.proofs.lemmas.Bool.{not-true, not-false}
 use Rattle.jmodel.specs.declared.access.Access.{Access}
 use Rattle.jmodel.specs.history.Log.{Log, access}
 use Rattle.tx_table.specs.Book.{Book, Face, Map, Has, lookup, pairs}
-use Rattle.tx_table.specs.Plays.{keys, took}
+use Rattle.tx_table.specs.Plays.{keys}
 use Rattle.tx_table.proofs.MapLaws.{lookup_put, lookup_here}
 use Rattle.tl2.specs.declared.plan.Stripe.{Stripe}
 use Rattle.tl2.specs.Commits.{Holds}
@@ -21,7 +19,7 @@ use Rattle.tl2.specs.Plans.{addresses_of, number_of, touches, words_of, AreApart
 use Rattle.tl2.proofs.Keys.{at_same, at_here, by_bool}
 use Rattle.tl2.proofs.Listed.{has_more, listed_first}
 use Rattle.tl2.proofs.Stripes.{touched, untouched}
-use Rattle.lsa.specs.Owning.{apart, found, is_own, HasTaken, IsOn, IsOwning, IsTaken, Tells}
+use Rattle.lsa.specs.Owning.{apart, found, is_own, HasTaken, IsOwning, IsTaken, Tells}
 
 found_when : (m : Map ℕ) (a : ℕ) (z : Option ℕ) → lookup m a ≡ z → found z ≡ true → Has m a
 found_when m a none e f = absurd (let no : false ≡ true = f in cc no)
@@ -241,13 +239,12 @@ pub take_last : (xs : List Stripe) (p : Stripe) → take (length xs) (xs ++ p �
 take_last [] p = refl
 take_last (x ∷ xs) p = ap (λ (ys : List Stripe). x ∷ ys) (take_last xs p)
 
--- what a commit looks at once more and stores
-pub holding_of : (ss : List Stripe) (own : BTreeSet ℕ) (log : List Access) (v : Book) (reads : List ℕ) (m : Map ℕ) (elsewhere : List ℕ) (newest : Log) → IsOwning ss own log v → reverse reads ≡ keys m
-    → elsewhere ≡ filter (λ a. not (contains nat_cmp own (a % 4096))) reads → IsListed (pairs (reverse log)) newest → IsHolding (pairs (reverse log)) (reverse (keys m)) ss elsewhere newest
-holding_of ss own log v reads m elsewhere newest o same is listed = record {
+-- what a commit looks at once more
+pub holding_of : (ss : List Stripe) (own : BTreeSet ℕ) (log : List Access) (v : Book) (reads : List ℕ) (m : Map ℕ) (elsewhere : List ℕ) → IsOwning ss own log v → reverse reads ≡ keys m
+    → elsewhere ≡ filter (λ a. not (contains nat_cmp own (a % 4096))) reads → IsHolding (pairs (reverse log)) (reverse (keys m)) ss elsewhere
+holding_of ss own log v reads m elsewhere o same is = record {
   each = o.each;
   only = only_written ss own log v o;
   elsewhere = is ∙ filter_agree (λ a. not (contains nat_cmp own (a % 4096))) (λ a. not (touches (addresses_of ss) (a % 4096))) (λ a. ap not (o.numbers (a % 4096))) reads
       ∙ ap (filter (λ a. not (touches (addresses_of ss) (a % 4096)))) (sym (ap (λ (xs : List ℕ). reverse xs) (sym same) ∙ reverse-reverse reads));
-  left = listed;
 }

@@ -1,29 +1,24 @@
 //! How an attempt ends.
-ghost use Rattle.std.specs.Prelude.{◌≡◌, ◌≢◌, ◌⊎◌, ◌<◌, ◌≤◌, ◌+◌, ◌%◌, ◌^◌, ◌∷◌, [], ℕ, List, true, not, filter, reverse, MatchResult, IfOk, IfErr};
+ghost use Rattle.std.specs.Prelude.{◌≡◌, ◌≢◌, ◌⊎◌, ◌<◌, ◌≤◌, ◌+◌, ◌^◌, ◌∷◌, [], ℕ, List, true, reverse, MatchResult, IfOk, IfErr};
 ghost use mathlib.Core.Option.{some as Found};
-ghost use Rattle.std.specs.Ordering.{nat_cmp};
-ghost use Rattle.std.specs.BTreeSet.{contains};
 ghost use Rattle.jmodel.specs.history.Log.{Log};
 ghost use Rattle.jmodel.specs.history.History.{Call, Entry};
 ghost use Rattle.tx_core.specs.Engine.{raised, Adds, MayEnd, IsOfWrites};
 ghost use Rattle.tx_table.specs.Book.{Has, In, Unticked, pairs};
 ghost use Rattle.tx_table.specs.Passes.{book, IsOf, IsSame, IsSettled};
 ghost use Rattle.tl2.specs.Commits.{Holds, IsRest, MeansOnly};
-ghost use Rattle.tl2.specs.Plans.{IsListed};
 ghost use Rattle.tl2.specs.Standing.{IsOpen, Awaits};
 ghost use Rattle.lsa.specs.Conflicts.{Meets};
 ghost use Rattle.lsa.specs.Standing.{StandsFor};
 
 use crate::attempt::Lsa;
 use crate::update::{elsewhere_of, update};
-use jmodel::NoMemory;
-use jmodel::access::Access;
 use jmodel::value::{Answer, Stamp};
 use std::mem;
 use std::snapshot::Snapshot;
 use tl2::attempt::At;
 use tl2::commit::give_back;
-use tl2::plan::{Plan, Stripe, newest_of};
+use tl2::plan::{Plan, Stripe};
 use tl2::reading::finish_with;
 use tx_core::{Conflict, TxEnd};
 use tx_table::{Calling, Pass, Ruled, Shared, Story};
@@ -74,20 +69,19 @@ impl<'a, T: Ruled, C: Calling> Lsa<'a, T, C> {
         if self.writes.is_empty() {
             return Ok(self.finish_refused(answer));
         }
-        let Ok((read_elsewhere, newest)) = self.rest() else {
+        let Ok(read_elsewhere) = elsewhere_of(self.alloc, &self.own, &self.reads) else {
             self.rollback();
             return Err(TxEnd::NoMemory);
         };
         let plan = Plan {
             stripes: mem::replace(&mut self.stripes, Vec::new(self.alloc)),
             read_elsewhere,
-            newest,
         };
         let done = update(
             &mut self.pass,
             self.shared,
             &plan,
-            self.writes.as_slice(),
+            &self.writes,
             answer,
             used,
         );
@@ -98,18 +92,6 @@ impl<'a, T: Ruled, C: Calling> Lsa<'a, T, C> {
             Ok(stamp) => Ok(stamp),
             Err(conflict) => Err(TxEnd::Conflict(conflict)),
         }
-    }
-
-    /// The addresses that were read and lie on no stripe that is held, and the last write of each address.
-    fn rest(&self) -> Result<(Vec<u64>, Vec<Access>), NoMemory>
-        ensures elsewhere { IfOk result (λ p. p.0.items ≡ filter (λ a. not (contains nat_cmp self.now.own (a % 4096))) self.now.reads.items) }
-        ensures newest { IfOk result (λ p. IsListed (pairs (reverse self.now.writes.items)) p.1.items) }
-    {
-        let read_elsewhere = elsewhere_of(self.alloc, &self.own, &self.reads)?;
-        Ok((
-            read_elsewhere,
-            newest_of(self.alloc, self.writes.as_slice())?,
-        ))
     }
 
     /// Ends the attempt as an entry with this answer that wrote nothing and leaves the used words of its region as they were. Its stripes are given back with

@@ -12,7 +12,6 @@ ghost use Rattle.tl2.specs.Plans.{IsHolding};
 
 use crate::attempt::STRIPES;
 use jmodel::NoMemory;
-use jmodel::access::Access;
 use jmodel::value::{Answer, Stamp};
 use std::alloc::Global;
 use std::collections::BTreeSet;
@@ -20,7 +19,7 @@ use std::snapshot::Snapshot;
 use tl2::commit::{give_back, release_all};
 use tl2::plan::Plan;
 use tl2::update::{store_all, tick_checked};
-use tx_core::Conflict;
+use tx_core::{Conflict, WriteLog};
 use tx_table::{Pass, Shared, Story};
 
 /// Of these addresses those that lie on no stripe with one of these numbers.
@@ -40,37 +39,37 @@ pub(crate) fn elsewhere_of(
     Ok(read_elsewhere)
 }
 
-/// Ends an attempt that wrote this, the oldest first, and holds the stripes of it, as an entry with this answer, which leaves so many words of its region
+/// Ends an attempt that wrote this and holds the stripes of it, as an entry with this answer, which leaves so many words of its region
 /// used. The clock is moved, and what it read elsewhere is looked at once more; then its words are stored, and the stripes get the clock's value as
 /// their version. After a conflict they get back the words that they had.
 pub(crate) fn update<T: Story>(
     pass: &mut Pass,
     shared: &Shared<T>,
     plan: &Plan,
-    writes: &[Access],
+    writes: &WriteLog,
     answer: Snapshot<Answer>,
     used: Snapshot<u64>,
 ) -> Result<Stamp, Conflict>
     requires table { IsOf shared.now.table.shared.table_id pass.old }
     requires ready { ((book pass.old).face.stage ≡ Unticked) × ((book pass.old).live ≡ true) × ((book pass.old).ticks < 2 ^ 40) }
-    requires any { reverse writes.now ≢ [] }
-    requires heap { All (λ l. l.address < shared.now.words) (reverse writes.now) × All (λ a. a < shared.now.words) (keys (book pass.old).reads) }
+    requires any { reverse writes.now.items ≢ [] }
+    requires heap { All (λ l. l.address < shared.now.words) (reverse writes.now.items) × All (λ a. a < shared.now.words) (keys (book pass.old).reads) }
     requires holds { Holds plan.now.stripes.items (book pass.old) }
-    requires plan { IsHolding (pairs (reverse writes.now)) (reverse (keys (book pass.old).reads)) plan.now.stripes.items plan.now.read_elsewhere.items plan.now.newest.items }
+    requires plan { IsHolding (pairs (reverse writes.now.items)) (reverse (keys (book pass.old).reads)) plan.now.stripes.items plan.now.read_elsewhere.items }
     requires settled { IsSettled pass.old }
-    requires entry { (t : ℕ) → Fits (T.story shared.now.table.shared.key.story.value) (book pass.old) (update_of (book pass.old) t (reverse writes.now) answer.value used.value) }
+    requires entry { (t : ℕ) → Fits (T.story shared.now.table.shared.key.story.value) (book pass.old) (update_of (book pass.old) t (reverse writes.now.items) answer.value used.value) }
     ensures same { IsSame pass.old pass.new }
     ensures free { ((book pass.new).face.held ≡ []) × ((book pass.new).face.stage ≡ Unticked) }
-    ensures ok { IfOk result (λ stamp. (stamp.update ≡ true) × ((book pass.old).seen < stamp.at) × IsAdded (update_of (book pass.old) stamp.at (reverse writes.now) answer.value used.value) (book pass.old) (book pass.new)) }
+    ensures ok { IfOk result (λ stamp. (stamp.update ≡ true) × ((book pass.old).seen < stamp.at) × IsAdded (update_of (book pass.old) stamp.at (reverse writes.now.items) answer.value used.value) (book pass.old) (book pass.new)) }
     ensures conflict { IfErr result (λ e. (e.upto ≡ (book pass.old).bound) × IsPast (book pass.old).bound e.word × In e.address (keys (book pass.old).reads)) }
     ensures err { IfErr result (λ e. IsRest (lost_to (book pass.old) e ∷ []) 1 (book pass.old) (book pass.new)) }
-    ensures means { MeansOnly (Has (pairs (reverse writes.now))) (book pass.old) (book pass.new) }
+    ensures means { MeansOnly (Has (pairs (reverse writes.now.items))) (book pass.old) (book pass.new) }
     ensures other { IfErr result (λ e. e.word ≢ 2 * (book pass.old).face.number + 1) }
     ensures sole { (book pass.old).numbers ≡ 2 ^ 20 → IsOk result }
 {
     match tick_checked(pass, shared, writes, &plan.read_elsewhere) {
         Ok(at) => {
-            store_all(pass, shared, &plan.newest, answer, used);
+            store_all(pass, shared, writes, answer, used);
             release_all(pass, shared, &plan.stripes);
             Ok(Stamp { at, update: true })
         }

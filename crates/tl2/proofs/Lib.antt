@@ -7,7 +7,7 @@ pub mod Listed
 pub mod Stripes
 pub mod Rests
 pub mod Plans
-pub mod Newest
+pub mod Latest
 pub mod Updating
 pub mod Trials
 pub mod Waiting

@@ -1,6 +1,7 @@
 -- A plan's parts, one write or read more.
-use Rattle.std.proofs.Common.{◌≡◌, ◌≢◌, ◌<◌, ◌+◌, ◌%◌, ◌==◌, ◌||◌, ℕ, Bool, true, false, not, cond, Option, Some, None, List, [], ◌∷◌, ◌++◌, All, length, map, filter, reverse, slice_index, take, option_map, is_some, is_none, refl, sym, ap, ◌∙◌, ⊎_elim, subst, eq-eqb, ne_eqb}
+use Rattle.std.proofs.Common.{◌≡◌, ◌≢◌, ◌⊎◌, inl, inr, ◌<◌, ◌+◌, ◌%◌, ◌==◌, ◌||◌, ℕ, Bool, true, false, not, cond, Option, Some, None, List, [], ◌∷◌, ◌++◌, All, length, map, filter, nat_eq, slice_index, take, option_map, is_some, is_none, refl, sym, ap, ◌∙◌, ⊎_elim, subst, eq-eqb, ne_eqb}
 use Rattle.std.specs.Cmp.{nat_cmp_total}
+use Rattle.std.specs.Option.{IsSome}
 use Rattle.std.specs.List.Sorted.{IsStrictlyIncreasing}
 use Rattle.std.specs.Map.{lookup, keys_of, values_of}
 use Rattle.std.specs.Ordering.{nat_cmp}
@@ -8,38 +9,46 @@ use Rattle.std.specs.BTreeMap.{BTreeMap, IsOrdered, get, is_at}
 use mathlib.Core.Logic.{dite}
 use native.Mathlib.Decide.{ℕ_discrete}
 use Rattle.std.proofs.Math.Bool.{or-true, or-false}
-use Rattle.std.proofs.lemmas.List.{append-nil, reverse-append, take_more}
+use Rattle.std.proofs.lemmas.List.{append-nil, take_more}
 use Rattle.std.proofs.lemmas.List.Folds.{list_any-append}
 use Rattle.std.proofs.lemmas.List.Elements.{All-head, All-tail, All-map, All-weaker, filter_agree, filter_more}
 use Rattle.std.proofs.lemmas.Map.Keys.{IsStrictlyIncreasing-from_sorted}
 use Rattle.std.proofs.lemmas.Map.Views.{All-found}
-use Rattle.jmodel.specs.declared.access.Access.{Access}
-use Rattle.jmodel.specs.history.Log.{Log}
+use Rattle.jmodel.specs.history.Log.{Log, written}
 use Rattle.tx_table.specs.Book.{Map, Has, pairs}
 use Rattle.tx_table.proofs.MapLaws.{lookup_here}
 use Rattle.tl2.specs.declared.plan.Stripe.{Stripe}
-use Rattle.tl2.specs.Plans.{addresses_of, marked, number_of, touches, IsListed, IsPlan, IsWritten}
+use Rattle.tl2.specs.Plans.{addresses_of, marked, number_of, touches, IsPlan, IsWritten}
 use Rattle.tl2.proofs.Keys.{at_same, at_here, by_bool}
+use Rattle.tl2.proofs.Latest.{entries_same}
 use Rattle.tl2.proofs.Listed.{has_cases, has_more}
 
--- one write more
-pub due_more : (ws : Log) (l : Access) → pairs (reverse (ws ++ l ∷ [])) ≡ (l.address, l.word) ∷ pairs (reverse ws)
-due_more ws l = ap pairs (reverse-append ws (l ∷ []))
+-- The stripes of the words due that are no longer left, by their numbers.
+pub record IsWriting (due left : Map ℕ) (stripes : BTreeMap ℕ Stripe) : Type 0 where
+  pub only : (n : ℕ) (s : Stripe) → get nat_cmp stripes n ≡ Some s → (number_of s ≡ n) × Has due s.address × (s.was_read ≡ false)
+  pub each : (a : ℕ) → Has due a → Has left a ⊎ IsSome (get nat_cmp stripes (a % 4096))
+  pub inside : (a : ℕ) → Has left a → Has due a
 
-pub written_more : (due : Map ℕ) (m n : BTreeMap ℕ Stripe) (s : Stripe) (x : ℕ) → s.was_read ≡ false → ((q : ℕ) → get nat_cmp n q ≡ cond (is_at (nat_cmp (number_of s)) q) (Some s) (get nat_cmp m q)) → IsWritten due m
-    → IsWritten ((s.address, x) ∷ due) n
-written_more due m n s x unread up o = record {
+-- all are left
+pub writing_first : (w : Log) (es : Map ℕ) → ((a : ℕ) → lookup (nat_eq a) es ≡ written w a) → (m : BTreeMap ℕ Stripe) → m.entries ≡ [] → IsWriting (pairs w) es m
+writing_first w es words m empty = record {
+  only = λ n s e. let gone : get nat_cmp m n ≡ None = ap (lookup (is_at (nat_cmp n))) empty in let no : ⊥ = cc (sym gone ∙ e) in absurd no;
+  each = λ a h. inl (h.0, sym (entries_same w es words a) ∙ h.1);
+  inside = λ a h. (h.0, entries_same w es words a ∙ h.1);
+}
+
+-- one address more
+pub writing_more : (due left : Map ℕ) (m n : BTreeMap ℕ Stripe) (s : Stripe) (x : ℕ) → s.was_read ≡ false → ((q : ℕ) → get nat_cmp n q ≡ cond (is_at (nat_cmp (number_of s)) q) (Some s) (get nat_cmp m q))
+    → IsWriting due ((s.address, x) ∷ left) m → IsWriting due left n
+writing_more due left m n s x unread up o = record {
   only = λ q t e. by_bool (is_at (nat_cmp (number_of s)) q)
       (λ y. let here : Some s ≡ Some t = sym (up q ∙ at q y) ∙ e in
       let same : s ≡ t = cc in
-      subst (λ (u : Stripe). (number_of u ≡ q) × Has ((s.address, x) ∷ due) u.address × (u.was_read ≡ false)) same (at_same (number_of s) q y, (x, lookup_here due s.address x), unread))
-      (λ f. let old = o.only q t (sym (up q ∙ off q f) ∙ e) in (old.0, has_more due s.address x t.address old.1, old.2));
-  each = λ a h. by_bool (is_at (nat_cmp (number_of s)) (a % 4096))
-      (λ y. ap is_some (up (a % 4096) ∙ at (a % 4096) y))
-      (λ f. ⊎_elim
-      (λ (e : s.address ≡ a). let q : true ≡ false = sym (ap (λ (b : ℕ). is_at (nat_cmp (number_of s)) (b % 4096)) (sym e) ∙ at_here (number_of s)) ∙ f in let no : ⊥ = cc q in absurd no)
-      (λ (k : Has due a). ap is_some (up (a % 4096) ∙ off (a % 4096) f) ∙ o.each a k)
-      (has_cases due s.address x a h));
+      subst (λ (u : Stripe). (number_of u ≡ q) × Has due u.address × (u.was_read ≡ false)) same (at_same (number_of s) q y, o.inside s.address (x, lookup_here left s.address x), unread))
+      (λ f. o.only q t (sym (up q ∙ off q f) ∙ e));
+  each = λ a h. ⊎_elim (λ (k : Has ((s.address, x) ∷ left) a). ⊎_elim (λ (e : s.address ≡ a). inr (here a e)) (λ (j : Has left a). inl j) (has_cases left s.address x a k))
+      (λ (k : IsSome (get nat_cmp m (a % 4096))). inr (still a k)) (o.each a h);
+  inside = λ a h. o.inside a (has_more left s.address x a h);
 }
   where
     at : (q : ℕ) → is_at (nat_cmp (number_of s)) q ≡ true → cond (is_at (nat_cmp (number_of s)) q) (Some s) (get nat_cmp m q) ≡ Some s
@@ -47,6 +56,21 @@ written_more due m n s x unread up o = record {
 
     off : (q : ℕ) → is_at (nat_cmp (number_of s)) q ≡ false → cond (is_at (nat_cmp (number_of s)) q) (Some s) (get nat_cmp m q) ≡ get nat_cmp m q
     off q f = ap (λ (b : Bool). cond b (Some s) (get nat_cmp m q)) f
+
+    here : (a : ℕ) → s.address ≡ a → IsSome (get nat_cmp n (a % 4096))
+    here a e = ap is_some (up (a % 4096) ∙ at (a % 4096) (ap (λ (b : ℕ). is_at (nat_cmp (number_of s)) (b % 4096)) (sym e) ∙ at_here (number_of s)))
+
+    still : (a : ℕ) → IsSome (get nat_cmp m (a % 4096)) → IsSome (get nat_cmp n (a % 4096))
+    still a k = by_bool (is_at (nat_cmp (number_of s)) (a % 4096))
+        (λ y. ap is_some (up (a % 4096) ∙ at (a % 4096) y))
+        (λ f. ap is_some (up (a % 4096) ∙ off (a % 4096) f) ∙ k)
+
+-- none is left
+pub writing_done : (due : Map ℕ) (m : BTreeMap ℕ Stripe) → IsWriting due [] m → IsWritten due m
+writing_done due m o = record {
+  only = o.only;
+  each = λ a h. ⊎_elim (λ (k : Has [] a). let no : ⊥ = cc k.1 in absurd no) (λ (k : IsSome (get nat_cmp m (a % 4096))). k) (o.each a h);
+}
 
 -- An entry of the map of a plan's stripes.
 record Suits (due : Map ℕ) (reads : List ℕ) (e : ℕ × Stripe) : Type 0 where
@@ -141,10 +165,10 @@ touched_keys due reads n (e ∷ es) all =
     ap (λ (b : Bool). b || touches (addresses_of (values_of es)) n) (ne_eqb (number_of e.1) n apart) ∙ rest
     ∙ sym (ap (λ (b : Bool). is_some (cond b (Some e.1) (lookup (is_at (nat_cmp n)) es))) f))
 
-pub planned : (due : Map ℕ) (reads : List ℕ) (m n : BTreeMap ℕ Stripe) (stripes : List Stripe) (elsewhere : List ℕ) (newest : Log) → IsWritten due m
+pub planned : (due : Map ℕ) (reads : List ℕ) (m n : BTreeMap ℕ Stripe) (stripes : List Stripe) (elsewhere : List ℕ) → IsWritten due m
     → ((q : ℕ) → get nat_cmp n q ≡ option_map (marked reads q) (get nat_cmp m q)) → elsewhere ≡ filter (λ a. is_none (get nat_cmp m (a % 4096))) reads
-    → IsOrdered nat_cmp n → stripes ≡ values_of n.entries → IsListed due newest → IsPlan due reads stripes elsewhere newest
-planned due reads m n stripes elsewhere newest written marks others ordered values listed = subst (λ (ss : List Stripe). IsPlan due reads ss elsewhere newest) (sym values) (record {
+    → IsOrdered nat_cmp n → stripes ≡ values_of n.entries → IsPlan due reads stripes elsewhere
+planned due reads m n stripes elsewhere written marks others ordered values = subst (λ (ss : List Stripe). IsPlan due reads ss elsewhere) (sym values) (record {
   ascending = subst IsStrictlyIncreasing (sym (numbers due reads n.entries suits)) (IsStrictlyIncreasing-from_sorted (keys_of n.entries) ordered);
   each = λ a h. touched_keys due reads (a % 4096) n.entries suits ∙ there (a % 4096) ∙ written.each a h;
   only = All-map (Has due) (λ (s : Stripe). s.address) (values_of n.entries) (All-map (λ (s : Stripe). Has due s.address) (λ (e : ℕ × Stripe). e.1) n.entries
@@ -153,7 +177,6 @@ planned due reads m n stripes elsewhere newest written marks others ordered valu
       (All-weaker (Suits due reads) (λ e. e.1.was_read ≡ touches reads (number_of e.1)) (λ e h. h.read ∙ ap (touches reads) (sym h.number)) n.entries suits);
   elsewhere = others ∙ filter_agree (λ a. is_none (get nat_cmp m (a % 4096))) (λ a. not (touches (addresses_of (values_of n.entries)) (a % 4096)))
       (λ a. ap not (sym (touched_keys due reads (a % 4096) n.entries suits ∙ there (a % 4096)))) reads;
-  left = listed;
 })
   where
     suit : (e : ℕ × Stripe) → get nat_cmp n e.0 ≡ Some e.1 → Suits due reads e

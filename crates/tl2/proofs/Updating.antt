@@ -15,37 +15,29 @@ use Rattle.tx_table.proofs.MapLaws.{lookup_here}
 use Rattle.tl2.specs.declared.plan.Stripe.{Stripe}
 use Rattle.tl2.specs.Commits.{Holds, IsChecked, IsRest, IsTaking, IsAdded, MeansOnly, stored, update_of}
 use Rattle.tl2.specs.Conflicts.{lost_to}
-use Rattle.tl2.specs.Plans.{addresses_of, number_of, touches, IsHolding, IsListed, IsPlan}
+use Rattle.tl2.specs.Plans.{addresses_of, number_of, touches, IsHolding, IsPlan}
 use Rattle.tl2.proofs.Keys.{by_bool}
 pub use Rattle.tl2.proofs.Members.{all_in, all_reversed}
 use Rattle.tl2.proofs.Members.{all_from, in_reversed, in_turned, in_keys, in_filter, filter_in, in_touches}
 use Rattle.tl2.proofs.Stripes.{touched, untouched, touching}
-use Rattle.tl2.proofs.Listed.{has_in, in_has, nothing_listed}
+use Rattle.tl2.proofs.Listed.{has_in}
 use Rattle.tl2.proofs.Rests.{lost_is}
 use Rattle.tl2.proofs.Entries.{accesses_pairs, pairs_accesses}
 
 pub bounded : (words : ℕ) (w : Log) → All (λ (l : Access). l.address < words) w → (a : ℕ) → Has (pairs w) a → a < words
 bounded words w all a h = let t = has_in w a h in subst (λ (k : ℕ). k < words) t.2 (all_in (λ (l : Access). l.address < words) w t.0 all t.1)
 
--- The last writes of what is due.
-pub newest_some : (w newest : Log) → w ≢ [] → IsListed (pairs w) newest → newest ≢ []
-newest_some [] newest some_writes l = absurd (some_writes refl)
-newest_some (p ∷ w) newest some_writes l = λ e. nothing_listed (pairs (p ∷ w)) (subst (IsListed (pairs (p ∷ w))) e l) p.address p.word (lookup_here (pairs w) p.address p.word)
+pub holding : {due : Map ℕ} {reads : List ℕ} {stripes : List Stripe} {elsewhere : List ℕ} → IsPlan due reads stripes elsewhere → IsHolding due reads stripes elsewhere
+holding p = record { each = p.each; only = p.only; elsewhere = p.elsewhere }
 
-pub newest_fits : (words : ℕ) (w newest : Log) → All (λ (l : Access). l.address < words) w → IsListed (pairs w) newest → All (λ (l : Access). l.address < words) newest
-newest_fits words w newest all l = all_from (λ (p : Access). p.address < words) newest (λ p i. let h = in_has newest p i in bounded words w all p.address (h.0, l.same p.address ∙ h.1))
-
-pub holding : {due : Map ℕ} {reads : List ℕ} {stripes : List Stripe} {elsewhere : List ℕ} {newest : Log} → IsPlan due reads stripes elsewhere newest → IsHolding due reads stripes elsewhere newest
-holding p = record { each = p.each; only = p.only; elsewhere = p.elsewhere; left = p.left }
-
-module _ {due : Map ℕ} (m : Map ℕ) {stripes : List Stripe} {elsewhere : List ℕ} {newest : Log} (p : IsPlan due (reverse (keys m)) stripes elsewhere newest) where
+module _ {due : Map ℕ} (m : Map ℕ) {stripes : List Stripe} {elsewhere : List ℕ} (p : IsPlan due (reverse (keys m)) stripes elsewhere) where
   -- a stripe of which an address was read tells so
   pub read_tells : (b x : ℕ) → In (b, x) m → All (λ s. b % 4096 ≡ number_of s → s.was_read ≡ true) stripes
   read_tells b x i = All-weaker (λ (s : Stripe). s.was_read ≡ touches (reverse (keys m)) (number_of s)) (λ (s : Stripe). b % 4096 ≡ number_of s → s.was_read ≡ true)
       (λ s r e. r ∙ ap (touches (reverse (keys m))) (sym e) ∙ in_touches (reverse (keys m)) b (in_turned (keys m) b (in_keys m b x i))) stripes p.read
 
 -- What a plan says of the stripes that are held, once they are taken, and of what the book has as read.
-module _ {due : Map ℕ} (m : Map ℕ) {stripes : List Stripe} {elsewhere : List ℕ} {newest : Log} (p : IsHolding due (reverse (keys m)) stripes elsewhere newest) where
+module _ {due : Map ℕ} (m : Map ℕ) {stripes : List Stripe} {elsewhere : List ℕ} (p : IsHolding due (reverse (keys m)) stripes elsewhere) where
   pub elsewhere_read : (b : ℕ) → In b elsewhere → In b (keys m) × (touches (addresses_of stripes) (b % 4096) ≡ false)
   elsewhere_read b i =
       let t = in_filter (λ a. not (touches (addresses_of stripes) (a % 4096))) (reverse (keys m)) b (subst (In b) p.elsewhere i) in
@@ -93,7 +85,7 @@ in_parts (x ∷ xs) ys a (inl e) = inl (inl e)
 in_parts (x ∷ xs) ys a (inr i) = ⊎_elim (λ (j : In a xs). inl (inr j)) (λ (j : In a ys). inr j) (in_parts xs ys a i)
 
 -- An attempt that took the stripes of a plan and ticked means to write what it wrote.
-module _ {due : Map ℕ} (m : Map ℕ) {stripes : List Stripe} {elsewhere : List ℕ} {newest : Log} (p : IsHolding due (reverse (keys m)) stripes elsewhere newest)
+module _ {due : Map ℕ} (m : Map ℕ) {stripes : List Stripe} {elsewhere : List ℕ} (p : IsHolding due (reverse (keys m)) stripes elsewhere)
     (v v1 : Book) (means : MeansOnly (λ a. In a (addresses_of stripes)) v v1) where
   means_ticked : (u : Book) → u.wants ≡ keys due ++ v1.wants → MeansOnly (Has due) v u
   means_ticked u e a i =

@@ -1,4 +1,4 @@
--- What a commit takes, looks at once more and stores.
+-- What a commit takes and looks at once more.
 use Rattle.std.specs.Prelude.{◌≡◌, ◌%◌, ◌==◌, ◌||◌, ℕ, Bool, true, false, not, Some, List, [], ◌∷◌, All, map, filter, IsSome}
 use Rattle.std.specs.List.{list_any}
 use Rattle.std.specs.List.Sorted.{IsStrictlyIncreasing}
@@ -44,18 +44,16 @@ pub record IsWritten (due : Map ℕ) (stripes : BTreeMap ℕ Stripe) : Type 0 wh
 abbrev pub marked : List ℕ → ℕ → Stripe → Stripe
 marked reads n s = record s { was_read = s.was_read || touches reads n }
 
--- What an attempt looks at once more and stores, which holds these stripes for these words to be written at the last and read these addresses.
-pub record IsHolding (due : Map ℕ) (reads : List ℕ) (stripes : List Stripe) (read_elsewhere : List ℕ) (newest : Log) : Type 0 where
+-- What an attempt looks at once more, which holds these stripes for these words to be written at the last and read these addresses.
+pub record IsHolding (due : Map ℕ) (reads : List ℕ) (stripes : List Stripe) (read_elsewhere : List ℕ) : Type 0 where
   pub each : (a : ℕ) → Has due a → touches (addresses_of stripes) (a % 4096) ≡ true
   pub only : All (Has due) (addresses_of stripes)
   pub elsewhere : read_elsewhere ≡ filter (λ a. not (touches (addresses_of stripes) (a % 4096))) reads
-  pub left : IsListed due newest
 
 -- A commit's plan, for these words to be written at the last and these addresses that were read.
-pub record IsPlan (due : Map ℕ) (reads : List ℕ) (stripes : List Stripe) (read_elsewhere : List ℕ) (newest : Log) : Type 0 where
+pub record IsPlan (due : Map ℕ) (reads : List ℕ) (stripes : List Stripe) (read_elsewhere : List ℕ) : Type 0 where
   pub ascending : IsStrictlyIncreasing (map (λ a. a % 4096) (addresses_of stripes))
   pub each : (a : ℕ) → Has due a → touches (addresses_of stripes) (a % 4096) ≡ true
   pub only : All (Has due) (addresses_of stripes)
   pub read : All (λ s. s.was_read ≡ touches reads (number_of s)) stripes
   pub elsewhere : read_elsewhere ≡ filter (λ a. not (touches (addresses_of stripes) (a % 4096))) reads
-  pub left : IsListed due newest

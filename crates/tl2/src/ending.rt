@@ -44,7 +44,7 @@ impl<'a, T: Ruled, C: Calling> Tl2<'a, T, C> {
         if self.writes.is_empty() {
             return Ok(self.finish_refused(answer));
         }
-        let Ok(plan) = Plan::of(self.alloc, self.writes.as_slice(), &self.reads) else {
+        let Ok(plan) = Plan::of(self.alloc, &self.writes, &self.reads) else {
             self.rollback();
             return Err(TxEnd::NoMemory);
         };
@@ -52,7 +52,7 @@ impl<'a, T: Ruled, C: Calling> Tl2<'a, T, C> {
             &mut self.pass,
             self.shared,
             plan,
-            self.writes.as_slice(),
+            &self.writes,
             answer,
             used,
         );

@@ -1,14 +1,14 @@
-//! What a commit takes, looks at once more and stores. It is found out, with all memory that this takes, before the first step.
+//! What a commit takes and looks at once more. It is found out, with all memory that this takes, before the first step.
 ghost use Rattle.std.specs.Prelude.{◌≡◌, ◌%◌, ℕ, filter, is_none, option_map, reverse, IfOk, OnOk};
 ghost use Rattle.std.specs.Ordering.{nat_cmp};
 ghost use Rattle.std.specs.BTreeMap.{get};
 ghost use Rattle.tx_table.specs.Book.{pairs};
-ghost use Rattle.tl2.specs.Plans.{marked, number_of, IsListed, IsPlan, IsWritten};
+ghost use Rattle.tl2.specs.Plans.{marked, number_of, IsPlan, IsWritten};
 
 use jmodel::NoMemory;
-use jmodel::access::Access;
 use std::alloc::Global;
-use std::collections::{BTreeMap, BTreeSet};
+use std::collections::BTreeMap;
+use tx_core::WriteLog;
 
 /// How many stripes there are.
 const STRIPES: u64 = 4096;
@@ -33,40 +33,37 @@ impl Stripe {
     }
 }
 
-/// The stripes and words of one commit.
+/// The stripes of one commit.
 #[derive(Drop)]
 pub struct Plan {
     /// The stripes that are written, ascending.
     pub stripes: Vec<Stripe>,
     /// The addresses that were read and lie on none of these.
     pub read_elsewhere: Vec<u64>,
-    /// The last write of each address.
-    pub newest: Vec<Access>,
 }
 
 impl Plan {
-    /// The plan for an attempt that wrote this, the oldest first, and read these addresses.
-    pub fn of(alloc: Global, writes: &[Access], reads: &[u64]) -> Result<Plan, NoMemory>
-        ensures { IfOk result (λ p. IsPlan (pairs (reverse writes.now)) reads.now p.stripes.items p.read_elsewhere.items p.newest.items) }
+    /// The plan for an attempt that wrote this and read these addresses.
+    pub fn of(alloc: Global, writes: &WriteLog, reads: &[u64]) -> Result<Plan, NoMemory>
+        ensures { IfOk result (λ p. IsPlan (pairs (reverse writes.now.items)) reads.now p.stripes.items p.read_elsewhere.items) }
     {
         let mut stripes = written_stripes(alloc, writes)?;
         let read_elsewhere = mark_read(alloc, &mut stripes, reads)?;
         Ok(Plan {
             stripes: stripes.values().copied().collect(alloc)?,
             read_elsewhere,
-            newest: newest_of(alloc, writes)?,
         })
     }
 }
 
 /// The stripes that are written, by their numbers.
-fn written_stripes(alloc: Global, writes: &[Access]) -> Result<BTreeMap<u64, Stripe>, NoMemory>
-    ensures { IfOk result (λ m. IsWritten (pairs (reverse writes.now)) m) }
+fn written_stripes(alloc: Global, writes: &WriteLog) -> Result<BTreeMap<u64, Stripe>, NoMemory>
+    ensures { IfOk result (λ m. IsWritten (pairs (reverse writes.now.items)) m) }
 {
     let mut stripes = BTreeMap::new(alloc);
-    for l in writes {
+    for (address, _word) in writes.iter() {
         let stripe = Stripe {
-            address: l.address,
+            address: *address,
             was_read: false,
             word: 0,
         };
@@ -92,18 +89,4 @@ fn mark_read(
         }
     }
     Ok(read_elsewhere)
-}
-
-/// The last write of each address.
-pub fn newest_of(alloc: Global, writes: &[Access]) -> Result<Vec<Access>, NoMemory>
-    ensures { IfOk result (λ v. IsListed (pairs (reverse writes.now)) v.items) }
-{
-    let mut seen = BTreeSet::new(alloc);
-    let mut newest = Vec::new(alloc);
-    for l in writes.iter().rev() {
-        if seen.insert(l.address)? {
-            newest.push(*l)?;
-        }
-    }
-    Ok(newest)
 }

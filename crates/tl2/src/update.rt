@@ -8,26 +8,25 @@ ghost use Rattle.tx_table.specs.Passes.{book, IsOf, IsSame, IsSettled};
 ghost use Rattle.tx_table.specs.Steps.{IsPast};
 ghost use Rattle.tl2.specs.Conflicts.{lost_to};
 ghost use Rattle.tl2.specs.Commits.{IsAdded, IsChecked, IsRest, MeansOnly, stored, update_of};
-ghost use Rattle.tl2.specs.Plans.{IsListed, IsPlan};
+ghost use Rattle.tl2.specs.Plans.{IsPlan};
 
 use crate::commit::{give_back, release_all, take_all, validate_all};
 use crate::plan::Plan;
-use jmodel::access::Access;
 use jmodel::value::{Answer, Stamp};
 use std::snapshot::Snapshot;
-use tx_core::Conflict;
+use tx_core::{Conflict, WriteLog};
 use tx_table::{Pass, Shared, Story};
 
-/// Moves the clock for an attempt that wrote this, the oldest first, and then looks once more at the stripes of these addresses that were
+/// Moves the clock for an attempt that wrote this, and then looks once more at the stripes of these addresses that were
 /// read. Answers the clock's new value.
 pub fn tick_checked<T: Story>(
     pass: &mut Pass,
     shared: &Shared<T>,
-    _writes: &[Access],
+    _writes: &WriteLog,
     read_elsewhere: &[u64],
 ) -> Result<u64, Conflict>
     ghost due: { Map ℕ }
-    requires told { due ≡ pairs (reverse _writes.now) }
+    requires told { due ≡ pairs (reverse _writes.now.items) }
     requires table { IsOf shared.now.table.shared.table_id pass.old }
     requires heap { All (λ a. a < shared.now.words) read_elsewhere.now }
     requires ready { ((book pass.old).face.stage ≡ Unticked) × ((book pass.old).live ≡ true) × ((book pass.old).ticks < 2 ^ 40) }
@@ -46,34 +45,36 @@ pub fn tick_checked<T: Story>(
     Ok(at)
 }
 
-/// Stores the last write of each address. The first of these stores decides the attempt and adds its entry.
+/// Stores the last word that was written to each address, in the order of the first writes. The first of these stores decides the attempt and
+/// adds its entry.
 pub fn store_all<T: Story>(
     pass: &mut Pass,
     shared: &Shared<T>,
-    newest: &[Access],
+    writes: &WriteLog,
     _answer: Snapshot<Answer>,
     _used: Snapshot<u64>,
 )
     ghost entry: { Entry }
     requires table { IsOf shared.now.table.shared.table_id pass.old }
-    requires heap { All (λ l. l.address < shared.now.words) newest.now }
-    requires any { newest.now ≢ [] }
-    requires ready { ((book pass.old).face.stage ≡ Ticked) × ((book pass.old).live ≡ true) × IsListed (book pass.old).face.due newest.now }
+    requires heap { All (λ l. l.address < shared.now.words) (reverse writes.now.items) }
+    requires any { reverse writes.now.items ≢ [] }
+    requires ready { ((book pass.old).face.stage ≡ Ticked) × ((book pass.old).live ≡ true) × ((book pass.old).face.due ≡ pairs (reverse writes.now.items)) }
     requires safe { (b y : ℕ) → In (b, y) (book pass.old).reads → In (b % 4096) (book pass.old).checked ⊎ Has (book pass.old).face.held (b % 4096) }
     requires entry { Updates (T.story shared.now.table.shared.key.story.value) (book pass.old) entry }
     ensures same { IsSame pass.old pass.new }
     ensures book { (left : Map ℕ) × ((b x : ℕ) → lookup left b ≡ Found x → ⊥) × (book pass.new ≡ stored (book pass.old) entry left) }
 {
-    let Some((first, rest)) = newest.split_first() else {
+    let mut words = writes.iter();
+    let Some((first, word)) = words.next() else {
         return;
     };
-    pass.decide(shared, first.address, first.word);
-    for l in rest {
-        pass.write_back(shared, l.address, l.word);
+    pass.decide(shared, *first, *word);
+    for (address, word) in words {
+        pass.write_back(shared, *address, *word);
     }
 }
 
-/// Ends an attempt that wrote this, the oldest first, as an entry with this answer, which leaves so many words of its region used. The stripes of
+/// Ends an attempt that wrote this as an entry with this answer, which leaves so many words of its region used. The stripes of
 /// what it wrote are taken, the clock is moved, and what it read elsewhere is looked at once more; then its words are stored, and the
 /// stripes get the clock's value as their version. After a conflict they get back the words that they had. No stripe is taken for an address
 /// that wasn't written.
@@ -81,35 +82,34 @@ pub(crate) fn update<T: Story>(
     pass: &mut Pass,
     shared: &Shared<T>,
     plan: Plan,
-    writes: &[Access],
+    writes: &WriteLog,
     answer: Snapshot<Answer>,
     used: Snapshot<u64>,
 ) -> Result<Stamp, Conflict>
     requires table { IsOf shared.now.table.shared.table_id pass.old }
     requires ready { ((book pass.old).face.held ≡ []) × ((book pass.old).face.stage ≡ Unticked) × ((book pass.old).live ≡ true) × ((book pass.old).ticks < 2 ^ 40) }
-    requires any { reverse writes.now ≢ [] }
-    requires heap { All (λ l. l.address < shared.now.words) (reverse writes.now) × All (λ a. a < shared.now.words) (keys (book pass.old).reads) }
-    requires plan { IsPlan (pairs (reverse writes.now)) (reverse (keys (book pass.old).reads)) plan.stripes.items plan.read_elsewhere.items plan.newest.items }
+    requires any { reverse writes.now.items ≢ [] }
+    requires heap { All (λ l. l.address < shared.now.words) (reverse writes.now.items) × All (λ a. a < shared.now.words) (keys (book pass.old).reads) }
+    requires plan { IsPlan (pairs (reverse writes.now.items)) (reverse (keys (book pass.old).reads)) plan.stripes.items plan.read_elsewhere.items }
     requires settled { IsSettled pass.old }
-    requires entry { (t : ℕ) → Fits (T.story shared.now.table.shared.key.story.value) (book pass.old) (update_of (book pass.old) t (reverse writes.now) answer.value used.value) }
+    requires entry { (t : ℕ) → Fits (T.story shared.now.table.shared.key.story.value) (book pass.old) (update_of (book pass.old) t (reverse writes.now.items) answer.value used.value) }
     ensures same { IsSame pass.old pass.new }
     ensures free { ((book pass.new).face.held ≡ []) × ((book pass.new).face.stage ≡ Unticked) }
-    ensures ok { IfOk result (λ stamp. (stamp.update ≡ true) × ((book pass.old).seen < stamp.at) × IsAdded (update_of (book pass.old) stamp.at (reverse writes.now) answer.value used.value) (book pass.old) (book pass.new)) }
-    ensures conflict { IfErr result (λ e. (e.upto ≡ (book pass.old).bound) × IsPast (book pass.old).bound e.word × (Has (pairs (reverse writes.now)) e.address ⊎ In e.address (keys (book pass.old).reads))) }
+    ensures ok { IfOk result (λ stamp. (stamp.update ≡ true) × ((book pass.old).seen < stamp.at) × IsAdded (update_of (book pass.old) stamp.at (reverse writes.now.items) answer.value used.value) (book pass.old) (book pass.new)) }
+    ensures conflict { IfErr result (λ e. (e.upto ≡ (book pass.old).bound) × IsPast (book pass.old).bound e.word × (Has (pairs (reverse writes.now.items)) e.address ⊎ In e.address (keys (book pass.old).reads))) }
     ensures err { IfErr result (λ e. (moved : ℕ) × (moved ≤ 1) × IsRest (lost_to (book pass.old) e ∷ []) moved (book pass.old) (book pass.new)) }
-    ensures means { MeansOnly (Has (pairs (reverse writes.now))) (book pass.old) (book pass.new) }
+    ensures means { MeansOnly (Has (pairs (reverse writes.now.items))) (book pass.old) (book pass.new) }
     ensures other { IfErr result (λ e. e.word ≢ 2 * (book pass.old).face.number + 1) }
     ensures sole { (book pass.old).numbers ≡ 2 ^ 20 → IsOk result }
 {
     let Plan {
         mut stripes,
         read_elsewhere,
-        newest,
     } = plan;
     take_all(pass, shared, &mut stripes)?;
     match tick_checked(pass, shared, writes, &read_elsewhere) {
         Ok(at) => {
-            store_all(pass, shared, &newest, answer, used);
+            store_all(pass, shared, writes, answer, used);
             release_all(pass, shared, &stripes);
             Ok(Stamp { at, update: true })
         }

@@ -1,5 +1,5 @@
 -- Histories of attempts that came one after the other.
-use Rattle.std.specs.Prelude.{◌≡◌, ◌⊎◌, ℕ, ◌+◌, ◌<◌, List, [], ◌∷◌, Bool, true, false, All, length, reverse, slice_index, slice_set}
+use Rattle.std.specs.Prelude.{◌≡◌, ◌⊎◌, ℕ, ◌+◌, ◌<◌, List, [], ◌∷◌, Bool, true, false, All, length, reverse, slice_index}
 use Rattle.std.specs.List.{AllByRecursion}
 use Rattle.jmodel.specs.declared.access.Access.{Access}
 use Rattle.jmodel.specs.history.Log.{Log}
@@ -9,11 +9,6 @@ use Rattle.tx_core.specs.Engine.{IsOfWrites}
 -- the words of memory; there is 0 beyond their end
 abbrev pub word_in : List ℕ → Words
 word_in words = λ a. slice_index words a
-
--- the words after writes, the last first
-abbrev pub applied : Log → List ℕ → List ℕ
-applied [] words = words
-applied (l ∷ w) words = slice_set (applied w words) l.address l.word
 
 -- an update is stamped with the number of updates up to it
 abbrev pub stamped : ℕ → Bool → ℕ

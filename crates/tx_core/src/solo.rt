@@ -98,7 +98,7 @@ impl<K: Origin> Engine for Solo<K> {
                 update: false,
             });
         }
-        write_all(&mut self.words, self.writes.as_slice());
+        write_all(&mut self.words, &self.writes);
         self.writes.clear();
         self.clock += 1;
         Ok(Stamp {
@@ -162,18 +162,18 @@ impl<K: Origin> Solo<K> {
     }
 }
 
-ghost use Rattle.std.specs.Prelude.{reverse, All, ◌<◌, length};
-ghost use Rattle.jmodel.specs.declared.access.Access.{Access as JAccess};
-ghost use Rattle.tx_core.specs.Serial.{applied};
+ghost use Rattle.std.specs.Prelude.{reverse, ◌<◌, length, slice_index};
+ghost use Rattle.jmodel.specs.history.Log.{answered};
 
-/// Writes these words in turn.
-fn write_all(words: &mut Vec<u64>, writes: &[Access])
-    ensures { words.new.items ≡ applied (reverse writes.now) words.old.items }
+/// Writes to each address the last word of the log.
+fn write_all(words: &mut Vec<u64>, writes: &WriteLog)
+    ensures size { length words.new.items ≡ length words.old.items }
+    ensures words { (a : ℕ) → a < length words.old.items → slice_index words.new.items a ≡ answered (reverse writes.now.items) a (slice_index words.old.items a) }
 {
-    for l in writes {
-        let at = l.address as usize;
+    for (address, word) in writes.iter() {
+        let at = *address as usize;
         if at < words.len() {
-            words[at] = l.word;
+            words[at] = *word;
         }
     }
 }

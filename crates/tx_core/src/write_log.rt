@@ -1,29 +1,34 @@
 //! The writes of an attempt, and at hand the last of each address.
-ghost use Rattle.std.specs.Prelude.{◌≡◌, ◌==◌, ◌++◌, [], ◌∷◌, reverse, length, is_ok, if◌then◌else◌};
+ghost use Rattle.std.specs.Prelude.{◌≡◌, ◌==◌, ◌++◌, [], ◌∷◌, ℕ, nat_eq, reverse, length, is_ok, if◌then◌else◌};
+ghost use Rattle.std.specs.List.{IsDistinct};
+ghost use Rattle.std.specs.Map.{lookup, keys_of};
 ghost use Rattle.jmodel.specs.history.Log.{written};
+ghost use Rattle.tx_core.specs.Kept.{first_written};
 
+use indexmap::IndexMap;
+use indexmap::map::Iter;
 use jmodel::access::Access;
 use std::alloc::{AllocError, Global};
-use std::collections::BTreeMap;
 use std::marker::Model;
+use std::snapshot::Snapshot;
 
-/// The writes of an attempt, the oldest first. A clause sees their list as `items`. A look-up takes time logarithmic in
-/// the number of addresses written.
+/// The last word that an attempt wrote to each address, in the order of the first writes. A clause sees the list of all
+/// writes, the oldest first, as `items`. A look-up takes constant time.
 #[derive(Drop)]
 pub struct WriteLog {
-    accesses: Vec<Access>,
-    /// For each address that was written its last word.
-    words: BTreeMap<u64, u64>,
+    words: IndexMap<u64, u64>,
+    /// All writes, the oldest first, for contracts alone. A snapshot has no bytes.
+    accesses: Vec<Snapshot<Access>>,
 }
 
 impl Model for WriteLog {
-    ghost use Rattle.tx_core.specs.Kept.{Kept, IsIndexed};
+    ghost use Rattle.tx_core.specs.Kept.{Kept, IsIndexed, accesses_of};
 
     ghost Value = { Kept };
 
-    ghost view = { λ l. record { items = l.accesses.items } };
+    ghost view = { λ l. record { items = accesses_of l.accesses.items } };
 
-    ghost invariant = { λ l. IsIndexed l.accesses.items l.words };
+    ghost invariant = { λ l. IsIndexed (accesses_of l.accesses.items) l.words.entries };
 }
 
 impl WriteLog {
@@ -32,8 +37,8 @@ impl WriteLog {
         ensures { result.items ≡ [] }
     {
         WriteLog {
+            words: IndexMap::new(alloc),
             accesses: Vec::new(alloc),
-            words: BTreeMap::new(alloc),
         }
     }
 
@@ -41,7 +46,7 @@ impl WriteLog {
     pub fn push(&mut self, access: Access) -> Result<(), AllocError>
         ensures items { self.new.items ≡ (if is_ok result then self.old.items ++ access ∷ [] else self.old.items) }
     {
-        self.accesses.push(access)?;
+        self.accesses.push(Snapshot::of(&access))?;
         if self.words.insert(access.address, access.word).is_err() {
             self.accesses.pop();
             return Err(AllocError);
@@ -61,6 +66,10 @@ impl WriteLog {
     pub fn written(&self, address: u64) -> Option<u64>
         ensures { result ≡ written (reverse self.now.items) address }
     {
+        // Most reads of an attempt come before its first write, and need no hash.
+        if self.words.is_empty() {
+            return None;
+        }
         self.words.get(&address).copied()
     }
 
@@ -71,10 +80,12 @@ impl WriteLog {
         self.accesses.is_empty()
     }
 
-    /// The writes, the oldest first.
-    pub fn as_slice(&self) -> &[Access]
-        ensures value { result.now ≡ self.now.items }
+    /// Each address that was written, with its last word, in the order of the first writes.
+    pub fn iter(&self) -> Iter<'_, u64, u64>
+        ensures words { (a : ℕ) → lookup (nat_eq a) result ≡ written (reverse self.now.items) a }
+        ensures order { keys_of result ≡ first_written (reverse self.now.items) }
+        ensures once { IsDistinct nat_eq (keys_of result) }
     {
-        self.accesses.as_slice()
+        self.words.iter()
     }
 }

@@ -1,13 +1,11 @@
-use Rattle.std.proofs.Common.{◌≡◌, ◌<◌, ◌%◌, ℕ, true, All, reverse, refl, sym, ap, ◌∙◌, inl, inr, subst, arith}
+use Rattle.std.proofs.Common.{◌≡◌, ◌<◌, ◌%◌, ℕ, All, reverse, refl, sym, ap, ◌∙◌, inl, subst}
 use mathlib.Core.Option.{none}
-use Rattle.tx_table.specs.Book.{Book, Map, In, lookup, pairs}
+use Rattle.tx_table.specs.Book.{Book, Map, lookup, pairs}
 use Rattle.tx_table.specs.Plays.{ticked_up, update_entry}
 use Rattle.tx_table.specs.Passes.{book}
-use Rattle.tx_table.specs.Steps.{IsPast}
-use Rattle.tl2.specs.declared.plan.Stripe.{Stripe}
 use Rattle.tl2.specs.Commits.{Holds}
-use Rattle.tl2.specs.Plans.{addresses_of, words_of, IsListed}
-use Rattle.tl2.proofs.Updating.{elsewhere_read, elsewhere_fits, due_held, held_due, elsewhere_free, all_safe, some_held, means_stored, means_lost, newest_some, newest_fits, ticked_then, ticked_lost, updates, added}
+use Rattle.tl2.specs.Plans.{words_of, IsListed}
+use Rattle.tl2.proofs.Updating.{elsewhere_read, elsewhere_fits, due_held, held_due, elsewhere_free, all_safe, some_held, means_stored, means_lost, ticked_then, ticked_lost, updates, added}
 use Rattle.tl2.proofs.Rests.{taking_here}
 use Rattle.lsa.proofs.update.update.Goals as goal
 
@@ -22,7 +20,7 @@ tick_checked-requires g c κs within =
 
 pub store_all-requires : goal.store_all-requires
 store_all-requires g c κs within =
-    let w = reverse c.args.writes.now in
+    let w = reverse c.args.writes.now.items in
     let v = book c.args.pass.now in
     let v3 = book c.tick_checked.new.pass in
     let t = c.in-Ok.at in
@@ -30,17 +28,16 @@ store_all-requires g c κs within =
     let stripes = c.args.plan.now.stripes.items in
     let checked = c.in-Ok.ensures.ok in
     let k = ticked_then t (pairs w) checked.1.0 v v v3 checked.0 (taking_here v c.requires.ready.0 c.requires.ready.1) checked.1.1 in
-    let holds : Holds stripes v3 = subst (λ (h : Map ℕ). IsListed h (words_of stripes)) (sym (ap (λ (b : Book). b.face.held) checked.1.1)) c.requires.holds in
-    let newest : IsListed (pairs w) c.deref-in-Ok.result.now = rw c.deref-in-Ok.ensures.value c.requires.plan.left in (
+    let holds : Holds stripes v3 = subst (λ (h : Map ℕ). IsListed h (words_of stripes)) (sym (ap (λ (b : Book). b.face.held) checked.1.1)) c.requires.holds in (
       within,
       (
         c.tick_checked.ensures.same.0 ∙ c.requires.table,
         (
-          newest_fits c.args.shared.now.words w c.deref-in-Ok.result.now c.requires.heap.0 newest,
+          c.requires.heap.0,
           (
-            newest_some w c.deref-in-Ok.result.now c.requires.any newest,
+            c.requires.any,
             (
-              (k.stage, k.live, rw k.due newest),
+              (k.stage, k.live, k.due),
               (
                 rw k.reads (all_safe v.reads c.requires.plan stripes refl v3 holds (ticked_up v t (pairs w)) (rw c.deref.ensures.value at checked.1)),
                 updates t w v v3 c.args.answer.value c.args.used.value k story (c.requires.entry t),
@@ -57,12 +54,12 @@ release_all-requires-clause-any g c =
     let stripes = c.args.plan.now.stripes.items in
     let is : (book c.store_all.new.pass).face.held ≡ v.face.held =
     ap (λ (b : Book). b.face.held) c.store_all.ensures.book.2 ∙ ap (λ (b : Book). b.face.held) c.in-Ok.ensures.ok.1.1 in
-    let some = some_held (reverse c.args.writes.now) v.face.held c.requires.any (due_held v.reads c.requires.plan stripes refl v c.requires.holds) in
+    let some = some_held (reverse c.args.writes.now.items) v.face.held c.requires.any (due_held v.reads c.requires.plan stripes refl v c.requires.holds) in
     λ e. some (sym is ∙ e)
 
 pub returns-in-Ok-clause-ok : goal.returns-in-Ok-clause-ok
 returns-in-Ok-clause-ok g c =
-    let w = reverse c.args.writes.now in
+    let w = reverse c.args.writes.now.items in
     let v = book c.args.pass.now in
     let v3 = book c.tick_checked.new.pass in
     let t = c.in-Ok.at in
@@ -84,7 +81,7 @@ returns-in-Err-clause-free g c =
     let v = book c.args.pass.now in
     let stripes = c.args.plan.now.stripes.items in
     let is : (book c.tick_checked.new.pass).face.held ≡ v.face.held = ap (λ (b : Book). b.face.held) c.in-Err.ensures.err.2.1 in
-    let some = some_held (reverse c.args.writes.now) v.face.held c.requires.any (due_held v.reads c.requires.plan stripes refl v c.requires.holds) in
+    let some = some_held (reverse c.args.writes.now.items) v.face.held c.requires.any (due_held v.reads c.requires.plan stripes refl v c.requires.holds) in
     (c.give_back.ensures.free, c.give_back.ensures.over (λ e. some (sym is ∙ e)))
 
 pub returns-in-Err-clause-conflict : goal.returns-in-Err-clause-conflict
@@ -96,7 +93,7 @@ returns-in-Err-clause-conflict g c =
 pub returns-in-Err-clause-err : goal.returns-in-Err-clause-err
 returns-in-Err-clause-err g c =
     let v = book c.args.pass.now in
-    let w = reverse c.args.writes.now in
+    let w = reverse c.args.writes.now.items in
     let stripes = c.args.plan.now.stripes.items in
     let lost = c.in-Err.ensures.err in
     let held : (book c.tick_checked.new.pass).face.held ≡ v.face.held = ap (λ (b : Book). b.face.held) lost.2.1 in

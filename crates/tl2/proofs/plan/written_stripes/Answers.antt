@@ -1,17 +1,22 @@
-use Rattle.std.proofs.Common.{◌≡◌, ◌+◌, ◌∷◌, false, reverse, slice_index_or, take, refl, ap, ◌∙◌}
-use Rattle.std.proofs.lemmas.List.{take_more}
-use Rattle.jmodel.specs.declared.access.Access.{Access}
+use Rattle.std.proofs.Common.{◌≡◌, ◌∷◌, ℕ, false, reverse, refl}
 use Rattle.jmodel.specs.history.Log.{Log}
 use Rattle.tx_table.specs.Book.{pairs}
-use Rattle.tl2.proofs.Plans.{due_more, written_more}
+use Rattle.tl2.proofs.Plans.{writing_first, writing_more, writing_done}
 use Rattle.tl2.proofs.plan.written_stripes.Goals as goal
 
-pub loop-l-preserved : goal.loop-l-preserved
-loop-l-preserved c =
-    let ws : Log = c.args.writes.now in
-    let n = c.loop-l.l-index in
-    let l : Access = slice_index_or ws n (record { address = 0; word = 0 }) in
-    let next : pairs (reverse (take (n + 1) ws)) ≡ (l.address, l.word) ∷ pairs (reverse (take n ws)) =
-    ap (λ (k : Log). pairs (reverse k)) (take_more ws n (record { address = 0; word = 0 }) c.loop-l-test.true) ∙ due_more (take n ws) l in
+pub loop-address-init : goal.loop-address-init
+loop-address-init c =
+    let w : Log = reverse c.args.writes.now.items in
+    rw c.into_iter-address-iterator.ensures.into_iter_gives (writing_first w c.iter-address-items.result c.iter-address-items.ensures.words c.new-stripes.result c.new-stripes.ensures.empty)
+
+pub loop-address-preserved : goal.loop-address-preserved
+loop-address-preserved c =
+    let due = pairs (reverse c.args.writes.now.items) in
+    let rest = c.next.new.self in
+    let a : ℕ = c.in-Some.address.now in
+    let first : c.loop-address.address-iterator ≡ (a, c.in-Some._word.now) ∷ rest = c.in-Some.ensures.steps in
     let updates = c.in_ok-insert.ensures.updates.0 in
-    rw next (written_more (pairs (reverse (take n ws))) c.loop-l.stripes c.insert.new.self (record { address = l.address; was_read = false; word = 0 }) l.word refl (rw c.number.ensures at updates) c.loop-l.invariant)
+    writing_more due rest c.loop-address.stripes c.insert.new.self (record { address = a; was_read = false; word = 0 }) c.in-Some._word.now refl (rw c.number.ensures at updates) (rw first at c.loop-address.invariant)
+
+pub returns : goal.returns
+returns c = writing_done (pairs (reverse c.args.writes.now.items)) c.loop-address.stripes (rw c.in-None.ensures.steps.0 at c.loop-address.invariant)

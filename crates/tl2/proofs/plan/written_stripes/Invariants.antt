@@ -1,7 +1,7 @@
-use Rattle.std.proofs.Common.{reverse, take}
+use Rattle.std.proofs.Common.{reverse}
 use Rattle.tx_table.specs.Book.{pairs}
-use Rattle.tl2.specs.Plans.{IsWritten}
+use Rattle.tl2.proofs.Plans.{IsWriting}
 use Rattle.tl2.proofs.plan.written_stripes.Given as goal
 
-abbrev pub invariant-loop-l : goal.invariant-loop-l
-invariant-loop-l l = IsWritten (pairs (reverse (take l.l-index l.writes))) l.stripes
+abbrev pub invariant-loop-address : goal.invariant-loop-address
+invariant-loop-address l = IsWriting (pairs (reverse l.writes.items)) l.address-iterator l.stripes

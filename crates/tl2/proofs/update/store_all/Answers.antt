@@ -1,47 +1,76 @@
-use Rattle.std.proofs.Common.{◌≡◌, ◌<◌, [], ◌∷◌, ◌+◌, All, drop, ap, ◌∙◌, slice_index_or}
-use Rattle.std.proofs.lemmas.List.{drop_more, drop_all}
-use Rattle.std.proofs.lemmas.List.Elements.{All-tail}
-use Rattle.jmodel.specs.declared.access.Access.{Access}
-use Rattle.jmodel.specs.history.Log.{Log}
-use Rattle.tx_table.specs.Book.{Book, without}
+use Rattle.std.proofs.Common.{◌≡◌, ℕ, [], ◌∷◌, reverse, ap, ◌∙◌}
+use Rattle.jmodel.specs.history.Log.{Log, access}
+use Rattle.tx_table.specs.Book.{Book, Map, without, pairs}
 use Rattle.tx_table.specs.Plays.{wrote_back}
 use Rattle.tx_table.specs.Passes.{book}
+use Rattle.tx_table.proofs.MapLaws.{lookup_here}
 use Rattle.tl2.specs.Plans.{IsListed}
-use Rattle.tl2.proofs.Listed.{listed_less, nothing_listed}
+use Rattle.tl2.proofs.Latest.{logged, entries_listed, entries_some, entries_fit}
+use Rattle.tl2.proofs.Listed.{has_more, listed_here, listed_less, nothing_listed}
 use Rattle.tl2.proofs.update.store_all.Goals as goal
 
-pub loop-l-init : goal.loop-l-init
-loop-l-init g c =
+pub returns-in_default-clause-book : goal.returns-in_default-clause-book
+returns-in_default-clause-book g c =
+    let w : Log = reverse c.args.writes.now.items in
+    let all = c.iter-words.ensures in
+    absurd (entries_some w c.iter-words.result all.words c.requires.1.1.1.0 c.in_default.ensures.steps.0)
+
+pub decide-requires : goal.decide-requires
+decide-requires g c κs within =
+    let w : Log = reverse c.args.writes.now.items in
+    let words = c.args.shared.now.words in
+    let all = c.iter-words.ensures in
+    let e : ℕ × ℕ = (c.in-Some.first.now, c.in-Some.word.now) in
+    let first : c.iter-words.result ≡ e ∷ c.next.new.self = c.in-Some.ensures.steps in
+    let listed : IsListed (pairs w) (access e.0 e.1 ∷ logged c.next.new.self) = rw first at (entries_listed w c.iter-words.result all.words all.once) in
+    let ready = c.requires.1.1.1.1.0 in (
+      within,
+      (
+        c.requires.1.0,
+        (
+          entries_fit w c.iter-words.result all.words words c.requires.1.1.0 e.0 (e.1, rw first (lookup_here c.next.new.self e.0 e.1)),
+          ((ready.0, ready.1, rw ready.2 (listed_here (pairs w) (access e.0 e.1) (logged c.next.new.self) listed)), c.requires.1.1.1.1.1),
+        ),
+      ),
+    )
+
+pub loop-address-init : goal.loop-address-init
+loop-address-init g c =
+    let w : Log = reverse c.args.writes.now.items in
     let v = book c.args.pass.now in
-    let cut = c.in-Some.ensures.cases in
-    let all : IsListed v.face.due (c.in-Some.first.now ∷ c.in-Some.rest.now) = rw cut.0 at c.requires.1.1.1.1.0.2 in
-    record {
+    let all = c.iter-words.ensures in
+    let e : ℕ × ℕ = (c.in-Some.first.now, c.in-Some.word.now) in
+    let first : c.iter-words.result ≡ e ∷ c.next.new.self = c.in-Some.ensures.steps in
+    let listed : IsListed (pairs w) (access e.0 e.1 ∷ logged c.next.new.self) = rw first at (entries_listed w c.iter-words.result all.words all.once) in
+    let due : IsListed v.face.due (access e.0 e.1 ∷ logged c.next.new.self) = rw c.requires.1.1.1.1.0.2 listed in
+    rw c.into_iter-address-iterator.ensures.into_iter_gives (record {
       same = c.decide.ensures.same;
-      stored = (without v.face.due c.in-Some.first.now.address, listed_less v.face.due c.in-Some.first.now c.in-Some.rest.now all, c.decide.ensures.book);
-    }
+      stored = (without v.face.due e.0, listed_less v.face.due (access e.0 e.1) (logged c.next.new.self) due, c.decide.ensures.book);
+      fits = λ a h. entries_fit w c.iter-words.result all.words c.args.shared.now.words c.requires.1.1.0 a (rw first (has_more c.next.new.self e.0 e.1 a h));
+    })
 
 pub write_back-requires-clause-heap : goal.write_back-requires-clause-heap
 write_back-requires-clause-heap g c =
-    let below : Access → Type 0 = λ l. l.address < c.args.shared.now.words in
-    let all : All below (c.in-Some.first.now ∷ c.in-Some.rest.now) = rw c.in-Some.ensures.cases.0 at c.requires.1.1.0 in
-    All-tail below c.in-Some.first.now c.in-Some.rest.now all c.loop-l.l-index (record { address = 0; word = 0 }) c.loop-l-test.true
+    let e : ℕ × ℕ = (c.in-Some-2.address.now, c.in-Some-2.word.now) in
+    let first : c.loop-address.address-iterator ≡ e ∷ c.next-in-loop-address.new.self = c.in-Some-2.ensures.steps in
+    c.loop-address.invariant.fits e.0 (e.1, rw first (lookup_here c.next-in-loop-address.new.self e.0 e.1))
 
-pub loop-l-preserved : goal.loop-l-preserved
-loop-l-preserved g c =
-    let i = c.loop-l.invariant in
-    let rest : Log = c.in-Some.rest.now in
-    let n = c.loop-l.l-index in
-    let l : Access = slice_index_or rest n (record { address = 0; word = 0 }) in
-    let now : IsListed i.stored.0 (l ∷ drop (n + 1) rest) = rw (drop_more rest n (record { address = 0; word = 0 }) c.loop-l-test.true) at i.stored.1 in
+pub loop-address-preserved : goal.loop-address-preserved
+loop-address-preserved g c =
+    let i = c.loop-address.invariant in
+    let rest : Map ℕ = c.next-in-loop-address.new.self in
+    let e : ℕ × ℕ = (c.in-Some-2.address.now, c.in-Some-2.word.now) in
+    let first : c.loop-address.address-iterator ≡ e ∷ rest = c.in-Some-2.ensures.steps in
+    let now : IsListed i.stored.0 (access e.0 e.1 ∷ logged rest) = rw first at i.stored.1 in
     record {
       same = (c.write_back.ensures.same.0 ∙ i.same.0, c.write_back.ensures.same.1 ∙ i.same.1);
-      stored = (without i.stored.0 l.address, listed_less i.stored.0 l (drop (n + 1) rest) now, c.write_back.ensures.book ∙ ap (λ (b : Book). wrote_back b l.address) i.stored.2);
+      stored = (without i.stored.0 e.0, listed_less i.stored.0 (access e.0 e.1) (logged rest) now, c.write_back.ensures.book ∙ ap (λ (b : Book). wrote_back b e.0) i.stored.2);
+      fits = λ a h. i.fits a (rw first (has_more rest e.0 e.1 a h));
     }
 
 pub returns-clause-book : goal.returns-clause-book
 returns-clause-book g c =
-    let i = c.loop-l.invariant in
-    let rest : Log = c.in-Some.rest.now in
-    let over : drop c.loop-l.l-index rest ≡ [] = drop_all c.loop-l.l-index rest c.loop-l-test.false in
+    let i = c.loop-address.invariant in
+    let over : c.loop-address.address-iterator ≡ [] = c.in-None.ensures.steps.0 in
     let none : IsListed i.stored.0 [] = rw over at i.stored.1 in
     (i.stored.0, nothing_listed i.stored.0 none, i.stored.2)

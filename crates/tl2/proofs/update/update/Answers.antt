@@ -8,14 +8,14 @@ use Rattle.tl2.specs.declared.plan.Stripe.{Stripe}
 use Rattle.tl2.specs.Commits.{Holds}
 use Rattle.tl2.specs.Plans.{addresses_of, words_of, IsListed}
 use Rattle.tl2.proofs.Members.{all_in}
-use Rattle.tl2.proofs.Updating.{bounded, holding, read_tells, elsewhere_read, elsewhere_fits, stripes_fit, due_held, held_due, elsewhere_free, all_safe, some_held, means_stored, means_lost, newest_some, newest_fits, ticked_then, ticked_lost, updates, added}
+use Rattle.tl2.proofs.Updating.{bounded, holding, read_tells, elsewhere_read, elsewhere_fits, stripes_fit, due_held, held_due, elsewhere_free, all_safe, some_held, means_stored, means_lost, ticked_then, ticked_lost, updates, added}
 use Rattle.tl2.proofs.Rests.{err_says}
 use Rattle.tl2.proofs.update.update.Goals as goal
 
 pub take_all-requires-clause-heap : goal.take_all-requires-clause-heap
 take_all-requires-clause-heap g c =
     let words = c.args.shared.now.words in
-    rw c.deref_mut.ensures.value (stripes_fit (book c.args.pass.now).reads (holding c.requires.plan) words (bounded words (reverse c.args.writes.now) c.requires.heap.0))
+    rw c.deref_mut.ensures.value (stripes_fit (book c.args.pass.now).reads (holding c.requires.plan) words (bounded words (reverse c.args.writes.now.items) c.requires.heap.0))
 
 pub take_all-requires-clause-read : goal.take_all-requires-clause-read
 take_all-requires-clause-read g c = rw c.deref_mut.ensures.value (read_tells (book c.args.pass.now).reads c.requires.plan)
@@ -24,13 +24,13 @@ pub returns-in_err-take_all-clause-conflict : goal.returns-in_err-take_all-claus
 returns-in_err-take_all-clause-conflict g c =
     let k = c.in_err-take_all.ensures.conflict in
     let back = c.from_residual.ensures in
-    let due = all_in (Has (pairs (reverse c.args.writes.now))) (addresses_of c.args.plan.stripes.items) c.in_err-take_all.field-0.0.address c.requires.plan.only (rw c.deref_mut.ensures.value at k.2) in
+    let due = all_in (Has (pairs (reverse c.args.writes.now.items))) (addresses_of c.args.plan.stripes.items) c.in_err-take_all.field-0.0.address c.requires.plan.only (rw c.deref_mut.ensures.value at k.2) in
     err_says c.from_residual.result back.1 (λ e q. rw q (k.0, k.1, inl due))
 
 pub returns-in_err-take_all-clause-means : goal.returns-in_err-take_all-clause-means
 returns-in_err-take_all-clause-means g c = λ a i.
     ⊎_elim (λ (w : In a (book c.args.pass.now).wants). inl w)
-    (λ (j : In a (addresses_of c.deref_mut.result.now)). inr (all_in (Has (pairs (reverse c.args.writes.now))) (addresses_of c.args.plan.stripes.items) a c.requires.plan.only (rw c.deref_mut.ensures.value at j)))
+    (λ (j : In a (addresses_of c.deref_mut.result.now)). inr (all_in (Has (pairs (reverse c.args.writes.now.items))) (addresses_of c.args.plan.stripes.items) a c.requires.plan.only (rw c.deref_mut.ensures.value at j)))
     (c.take_all.ensures.means a i)
 
 pub tick_checked-requires : goal.tick_checked-requires
@@ -48,7 +48,7 @@ tick_checked-requires g c κs within =
 
 pub store_all-requires : goal.store_all-requires
 store_all-requires g c κs within =
-    let w = reverse c.args.writes.now in
+    let w = reverse c.args.writes.now.items in
     let v = book c.args.pass.now in
     let v1 = book c.take_all.new.pass in
     let v3 = book c.tick_checked.new.pass in
@@ -59,17 +59,16 @@ store_all-requires g c κs within =
     let same : addresses_of taken ≡ addresses_of c.args.plan.stripes.items = ok.2 ∙ ap addresses_of c.deref_mut.ensures.value in
     let checked = c.in-Ok.ensures.ok in
     let k = ticked_then t (pairs w) checked.1.0 v v1 v3 checked.0 ok.0 checked.1.1 in
-    let holds : Holds taken v3 = subst (λ (h : Map ℕ). IsListed h (words_of taken)) (sym (ap (λ (b : Book). b.face.held) checked.1.1)) ok.1 in
-    let newest : IsListed (pairs w) c.deref-in-Ok.result.now = rw c.deref-in-Ok.ensures.value c.requires.plan.left in (
+    let holds : Holds taken v3 = subst (λ (h : Map ℕ). IsListed h (words_of taken)) (sym (ap (λ (b : Book). b.face.held) checked.1.1)) ok.1 in (
       within,
       (
         c.tick_checked.ensures.same.0 ∙ c.take_all.ensures.same.0 ∙ c.requires.table,
         (
-          newest_fits c.args.shared.now.words w c.deref-in-Ok.result.now c.requires.heap.0 newest,
+          c.requires.heap.0,
           (
-            newest_some w c.deref-in-Ok.result.now c.requires.any newest,
+            c.requires.any,
             (
-              (k.stage, k.live, rw k.due newest),
+              (k.stage, k.live, k.due),
               (
                 rw k.reads (all_safe v.reads (holding c.requires.plan) taken same v3 holds (ticked_up v1 t (pairs w)) (rw c.deref.ensures.value at checked.1)),
                 updates t w v v3 c.args.answer.value c.args.used.value k story (c.requires.entry t),
@@ -88,12 +87,12 @@ release_all-requires-clause-any g c =
     let same : addresses_of taken ≡ addresses_of c.args.plan.stripes.items = ok.2 ∙ ap addresses_of c.deref_mut.ensures.value in
     let is : (book c.store_all.new.pass).face.held ≡ v1.face.held =
     ap (λ (b : Book). b.face.held) c.store_all.ensures.book.2 ∙ ap (λ (b : Book). b.face.held) c.in-Ok.ensures.ok.1.1 in
-    let some = some_held (reverse c.args.writes.now) v1.face.held c.requires.any (due_held (book c.args.pass.now).reads (holding c.requires.plan) taken same v1 ok.1) in
+    let some = some_held (reverse c.args.writes.now.items) v1.face.held c.requires.any (due_held (book c.args.pass.now).reads (holding c.requires.plan) taken same v1 ok.1) in
     λ e. some (sym is ∙ e)
 
 pub returns-in-Ok-clause-ok : goal.returns-in-Ok-clause-ok
 returns-in-Ok-clause-ok g c =
-    let w = reverse c.args.writes.now in
+    let w = reverse c.args.writes.now.items in
     let v = book c.args.pass.now in
     let v1 = book c.take_all.new.pass in
     let v3 = book c.tick_checked.new.pass in
@@ -119,7 +118,7 @@ returns-in-Err-clause-free g c =
     let taken : List Stripe = c.take_all.new.stripes in
     let same : addresses_of taken ≡ addresses_of c.args.plan.stripes.items = ok.2 ∙ ap addresses_of c.deref_mut.ensures.value in
     let is : (book c.tick_checked.new.pass).face.held ≡ v1.face.held = ap (λ (b : Book). b.face.held) c.in-Err.ensures.err.2.1 in
-    let some = some_held (reverse c.args.writes.now) v1.face.held c.requires.any (due_held (book c.args.pass.now).reads (holding c.requires.plan) taken same v1 ok.1) in
+    let some = some_held (reverse c.args.writes.now.items) v1.face.held c.requires.any (due_held (book c.args.pass.now).reads (holding c.requires.plan) taken same v1 ok.1) in
     (c.give_back.ensures.free, c.give_back.ensures.over (λ e. some (sym is ∙ e)))
 
 pub returns-in-Err-clause-conflict : goal.returns-in-Err-clause-conflict
@@ -131,7 +130,7 @@ returns-in-Err-clause-conflict g c =
 
 pub returns-in-Err-clause-err : goal.returns-in-Err-clause-err
 returns-in-Err-clause-err g c =
-    let w = reverse c.args.writes.now in
+    let w = reverse c.args.writes.now.items in
     let v1 = book c.take_all.new.pass in
     let ok = c.in_ok-take_all.ensures.ok in
     let taken : List Stripe = c.take_all.new.stripes in

@@ -1,14 +1,13 @@
-use Rattle.std.proofs.Common.{◌≡◌, ◌≢◌, ◌<◌, ◌≤◌, inl, true, false, ℕ, List, [], All, reverse, length, sym, ap, ◌∙◌, subst, arith}
-use Rattle.std.proofs.lemmas.List.{length-reverse, reverse-reverse}
+use Rattle.std.proofs.Common.{◌≡◌, ◌≢◌, ◌<◌, inl, true, false, ℕ, List, [], All, reverse, length, sym, ap, ◌∙◌, subst, arith}
+use Rattle.std.proofs.lemmas.List.{length-reverse}
 use Rattle.std.proofs.lemmas.Grind.{common_steps}
 use Rattle.jmodel.specs.declared.access.Access.{Access}
 use Rattle.jmodel.specs.history.Log.{Log}
 use Rattle.tx_core.specs.declared.engine.Conflict.{Conflict}
-use Rattle.tx_table.specs.Book.{Book, Has, In, pairs}
-use Rattle.tx_table.specs.Plays.{keys}
+use Rattle.tx_table.specs.Book.{In}
 use Rattle.tx_table.specs.Steps.{IsPast}
 use Rattle.tx_table.specs.Passes.{book}
-use Rattle.tl2.specs.Commits.{IsAdded, MeansOnly, update_of}
+use Rattle.tl2.specs.Commits.{IsAdded, update_of}
 use Rattle.tl2.specs.Standing.{Awaits}
 use Rattle.tl2.proofs.Entries.{inside, awaits_used, adds_nothing, update_fits, adds_update, lost_stands}
 use Rattle.tl2.proofs.Members.{all_turned, in_reversed}
@@ -46,7 +45,7 @@ update-done-requires-clause-heap g c =
     let m = inside_stands here c.requires.allowed.stands in
     let written : All (λ (l : Access). l.address < words) (reverse c.args.self.now.writes.items) = subst (λ (k : Log). All (λ (l : Access). l.address < words) k) (sym m.writes) m.within in
     let read = c.args.self.now.logged here in
-    (rw c.as_slice.ensures.value written, subst (λ (k : List ℕ). All (λ a. a < words) k) read.0 (all_turned (λ a. a < words) c.args.self.now.reads.items read.1))
+    (written, subst (λ (k : List ℕ). All (λ a. a < words) k) read.0 (all_turned (λ a. a < words) c.args.self.now.reads.items read.1))
 
 pub update-done-requires-clause-holds : goal.update-done-requires-clause-holds
 update-done-requires-clause-holds g c = rw c.replace.ensures.value (holds_from c.args.self.now.stripes.items (book c.args.self.now.pass) c.args.self.now.sits.2)
@@ -55,8 +54,8 @@ pub update-done-requires-clause-plan : goal.update-done-requires-clause-plan
 update-done-requires-clause-plan g c =
     let e = c.args.self.now in
     let here = inside _ _ _ c.requires.open.2 in
-    rw (c.as_slice.ensures.value, c.replace.ensures.value)
-    (holding_of e.stripes.items e.own e.writes.items (book e.pass) e.reads.items (book e.pass).reads c.in-Ok.read_elsewhere.items c.in-Ok.newest.items (e.owns here) (e.logged here).0 c.in-Ok.ensures.elsewhere c.in-Ok.ensures.newest)
+    rw c.replace.ensures.value
+    (holding_of e.stripes.items e.own e.writes.items (book e.pass) e.reads.items (book e.pass).reads c.in-Ok.read_elsewhere.items (e.owns here) (e.logged here).0 (rw c.deref.ensures.value at c.in-Ok.ensures))
 
 pub update-done-requires-clause-entry : goal.update-done-requires-clause-entry
 update-done-requires-clause-entry g c = λ t.
@@ -67,7 +66,7 @@ update-done-requires-clause-entry g c = λ t.
     let o = c.requires.open in
     let value = c.args.self.now.shared.now.table.shared.key.story.value in
     let runs = g.met.T.Ruled.keeps value _ (m.allowed.anywhere (record { at = t; update = true })) in
-    rw (c.as_slice.ensures.value, s.writes) (update_fits (g.T.Story.story value) (g.C.Calling.call c.args.self.now.call.value) v m.call m.used c.args.used.value m.reads m.writes c.args.answer.value t o.1 m.awaits (s.reads here) runs m.allowed.stays)
+    rw s.writes (update_fits (g.T.Story.story value) (g.C.Calling.call c.args.self.now.call.value) v m.call m.used c.args.used.value m.reads m.writes c.args.answer.value t o.1 m.awaits (s.reads here) runs m.allowed.stays)
 
 pub returns-in-Ok-done-clause-run : goal.returns-in-Ok-done-clause-run
 returns-in-Ok-done-clause-run g c = λ h n r w s.
@@ -81,16 +80,13 @@ returns-in-Ok-done-clause-run g c = λ h n r w s.
     let z : length (reverse c.args.self.now.writes.items) ≡ 0 = ap length (st.writes ∙ q) in
     let y : length c.args.self.now.writes.items ≡ 0 = rw length-reverse at z in
     grind (arith, common_steps) in
-    let e : reverse c.as_slice.result.now ≡ w = ap reverse c.as_slice.ensures.value ∙ st.writes in
+    let e : reverse c.args.self.now.writes.items ≡ w = st.writes in
     let a = subst (λ (k : Log). IsAdded (update_of v stamp.at k c.args.answer.value c.args.used.value) v (book c.update-done.new.pass)) e ok.2 in (
       ((λ t. wrote), (λ t. ok.0)),
       λ k used aw may.
           outside_stands (adds_update g.C.Calling.began c.args.self.now.shared.now.words (g.C.Calling.call c.args.self.now.call.value) g.T.Ruled.rule c.args.self.now.at c.args.self.now.writes.items c.args.self.now.pass
           c.update-done.new.pass h n r w c.args.answer.value c.args.used.value stamp o.1 here ok.0 ok.1 c.in-Ok-done.ensures.same a st k used aw may),
     )
-
-pub returns-in-Ok-done-clause-means : goal.returns-in-Ok-done-clause-means
-returns-in-Ok-done-clause-means g c = subst (λ (ws : Log). MeansOnly (Has (pairs (reverse ws))) (book c.args.self.now.pass) (book c.update-done.new.pass)) c.as_slice.ensures.value c.update-done.ensures.means
 
 pub returns-clause-run : goal.returns-clause-run
 returns-clause-run g c = λ h n r w s.
@@ -116,6 +112,3 @@ returns-clause-seen g c = λ e q.
       },
       in_reversed c.args.self.now.reads.items c.in-Err.conflict.address (subst (In c.in-Err.conflict.address) (sym read.0) k.2),
     )
-
-pub returns-clause-means : goal.returns-clause-means
-returns-clause-means g c = subst (λ (ws : Log). MeansOnly (Has (pairs (reverse ws))) (book c.args.self.now.pass) (book c.update-done.new.pass)) c.as_slice.ensures.value c.update-done.ensures.means

@@ -3,11 +3,11 @@ use Rattle.std.proofs.lemmas.List.{length-reverse, reverse-reverse}
 use Rattle.std.proofs.lemmas.Grind.{common_steps}
 use Rattle.jmodel.specs.declared.access.Access.{Access}
 use Rattle.jmodel.specs.history.Log.{Log}
-use Rattle.tx_table.specs.Book.{Map, Has, In, pairs}
+use Rattle.tx_table.specs.Book.{Has, In, pairs}
 use Rattle.tx_table.specs.Plays.{keys}
 use Rattle.tx_core.specs.declared.engine.Conflict.{Conflict}
 use Rattle.tx_table.specs.Passes.{book}
-use Rattle.tl2.specs.Commits.{IsAdded, MeansOnly, update_of}
+use Rattle.tl2.specs.Commits.{IsAdded, update_of}
 use Rattle.tl2.specs.Conflicts.{Meets}
 use Rattle.tl2.specs.Standing.{Awaits, Stands}
 use Rattle.tl2.proofs.Entries.{inside, awaits_used, adds_nothing, update_fits, adds_update, lost_stands}
@@ -59,13 +59,13 @@ update-done-requires-clause-heap g c =
     let m = c.requires.allowed.stands in
     let written : All (λ (l : Access). l.address < words) (reverse c.args.self.now.writes.items) = subst (λ (k : Log). All (λ (l : Access). l.address < words) k) (sym m.writes) m.within in
     let read = c.args.self.now.logged (inside _ _ _ c.requires.open.2) in
-    (rw c.as_slice-2.ensures.value written, subst (λ (k : List ℕ). All (λ a. a < words) k) read.0 (all_turned (λ a. a < words) c.args.self.now.reads.items read.1))
+    (written, subst (λ (k : List ℕ). All (λ a. a < words) k) read.0 (all_turned (λ a. a < words) c.args.self.now.reads.items read.1))
 
 pub update-done-requires-clause-plan : goal.update-done-requires-clause-plan
 update-done-requires-clause-plan g c =
     let read = c.args.self.now.logged (inside _ _ _ c.requires.open.2) in
     let turned : reverse (keys (book c.args.self.now.pass).reads) ≡ c.deref.result.now = ap (λ (k : List ℕ). reverse k) (sym read.0) ∙ reverse-reverse c.args.self.now.reads.items ∙ sym c.deref.ensures.value in
-    rw (turned, c.as_slice-2.ensures.value, ← c.as_slice.ensures.value) c.in-Ok.ensures
+    rw turned c.in-Ok.ensures
 
 pub update-done-requires-clause-entry : goal.update-done-requires-clause-entry
 update-done-requires-clause-entry g c = λ t.
@@ -74,7 +74,7 @@ update-done-requires-clause-entry g c = λ t.
     let o = c.requires.open in
     let value = c.args.self.now.shared.now.table.shared.key.story.value in
     let runs = g.met.T.Ruled.keeps value _ (m.allowed.anywhere (record { at = t; update = true })) in
-    rw (c.as_slice-2.ensures.value, m.stands.writes) (update_fits (g.T.Story.story value) (g.C.Calling.call c.args.self.now.call.value) v m.call m.used c.args.used.value m.reads m.writes c.args.answer.value t o.1 m.awaits (m.stands.reads (inside _ _ _ o.2)) runs m.allowed.stays)
+    rw m.stands.writes (update_fits (g.T.Story.story value) (g.C.Calling.call c.args.self.now.call.value) v m.call m.used c.args.used.value m.reads m.writes c.args.answer.value t o.1 m.awaits (m.stands.reads (inside _ _ _ o.2)) runs m.allowed.stays)
 
 pub returns-in-Ok-done-clause-run : goal.returns-in-Ok-done-clause-run
 returns-in-Ok-done-clause-run g c = λ h n r w s.
@@ -86,7 +86,7 @@ returns-in-Ok-done-clause-run g c = λ h n r w s.
     let z : length (reverse c.args.self.now.writes.items) ≡ 0 = ap length (s.writes ∙ q) in
     let y : length c.args.self.now.writes.items ≡ 0 = rw length-reverse at z in
     grind (arith, common_steps) in
-    let e : reverse c.as_slice-2.result.now ≡ w = ap reverse c.as_slice-2.ensures.value ∙ s.writes in
+    let e : reverse c.args.self.now.writes.items ≡ w = s.writes in
     let a = subst (λ (k : Log). IsAdded (update_of v stamp.at k c.args.answer.value c.args.used.value) v (book c.update-done.new.pass)) e ok.2 in (
       ((λ t. wrote), (λ t. ok.0)),
       rw c.clear.ensures.items (adds_update g.C.Calling.began c.args.self.now.shared.now.words (g.C.Calling.call c.args.self.now.call.value) g.T.Ruled.rule c.args.self.now.at c.args.self.now.writes.items c.args.self.now.pass c.update-done.new.pass h n r w c.args.answer.value c.args.used.value stamp o.1 (inside _ _ _ o.2) ok.0 ok.1 c.in-Ok-done.ensures.same a s),
@@ -97,11 +97,10 @@ returns-in-Err-clause-seen g c = λ e q.
     let k = c.in-Err.ensures.conflict in
     let rest = c.in-Err.ensures.err in
     let same : c.in-Err.conflict ≡ e = cc in
-    let at = ap (λ (ws : Log). pairs (reverse ws)) c.as_slice-2.ensures.value in
     let read = c.args.self.now.logged (inside _ _ _ c.requires.open.2) in
     subst (λ (d : Conflict). Meets (book c.args.self.now.pass) (book c.update-done.new.pass) d × (Has (pairs (reverse c.args.self.now.writes.items)) d.address ⊎ In d.address c.args.self.now.reads.items)) same (
       record { upto = k.0; past = k.1; other = c.in-Err.ensures.other; kept = rest.2.lost; bound = rest.2.bound; reads = rest.2.reads },
-      ⊎_elim (λ (h : Has (pairs (reverse c.as_slice-2.result.now)) c.in-Err.conflict.address). inl (subst (λ (m : Map ℕ). Has m c.in-Err.conflict.address) at h))
+      ⊎_elim (λ (h : Has (pairs (reverse c.args.self.now.writes.items)) c.in-Err.conflict.address). inl h)
           (λ (i : In c.in-Err.conflict.address (keys (book c.args.self.now.pass).reads)). inr (in_reversed c.args.self.now.reads.items c.in-Err.conflict.address (subst (In c.in-Err.conflict.address) (sym read.0) i))) k.2,
     )
 
@@ -111,9 +110,3 @@ returns-in-Err-clause-run g c = λ h n r w s.
     let rest = c.in-Err.ensures.err in
     rw c.clear.ensures.items (lost_stands g.C.Calling.began e.shared.now.words rest.0 n e.at e.writes.items e.pass c.update-done.new.pass h r w _
     c.in-Err.ensures.same (λ whole. let no : false ≡ true = c.in-Err.ensures.sole whole in cc no) rest.2 s)
-
-pub returns-in-Ok-done-clause-means : goal.returns-in-Ok-done-clause-means
-returns-in-Ok-done-clause-means g c = subst (λ (ws : Log). MeansOnly (Has (pairs (reverse ws))) (book c.args.self.now.pass) (book c.update-done.new.pass)) c.as_slice-2.ensures.value c.update-done.ensures.means
-
-pub returns-in-Err-clause-means : goal.returns-in-Err-clause-means
-returns-in-Err-clause-means g c = subst (λ (ws : Log). MeansOnly (Has (pairs (reverse ws))) (book c.args.self.now.pass) (book c.update-done.new.pass)) c.as_slice-2.ensures.value c.update-done.ensures.means

@@ -18,5 +18,5 @@ returns-clause-run g c = λ h n r w s.
     grind (arith, common_steps) in (
       ((λ t. wrote), (λ t. refl)),
       λ k used a may. rw c.clear.ensures.items
-          (adds_update g.K.Origin.rule g.K.Origin.first c.args.self.now.words.items c.write_all.new.words.items c.args.self.now.clock c.args.self.now.writes.items h n r w s (rw c.as_slice.ensures.value at c.write_all.ensures) wrote c.args._answer.value (λ _. c.args._used.value) k used a may),
+          (adds_update g.K.Origin.rule g.K.Origin.first c.args.self.now.words.items c.write_all.new.words.items c.args.self.now.clock c.args.self.now.writes.items h n r w s c.write_all.ensures.size c.write_all.ensures.words wrote c.args._answer.value (λ _. c.args._used.value) k used a may),
     )
