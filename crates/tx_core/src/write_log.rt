@@ -13,7 +13,7 @@ use std::marker::Model;
 use std::snapshot::Snapshot;
 
 /// The last word that an attempt wrote to each address, in the order of the first writes. A clause sees the list of all
-/// writes, the oldest first, as `items`. A look-up takes constant time.
+/// writes, the oldest first, as `items`. A look-up takes constant time where hashes differ.
 #[derive(Drop)]
 pub struct WriteLog {
     words: IndexMap<u64, u64>,
