@@ -15,7 +15,9 @@ use Rattle.machine.specs.declared.plain.Flow.{Flow}
 use Rattle.machine.specs.declared.plain.Flow.TheVariants as flow
 use Rattle.machine.specs.declared.plain.Outcome.{Outcome}
 use Rattle.machine.specs.declared.plain.Outcome.TheVariants as outcome
-use Rattle.machine.specs.Meets.{Meets, IsDone, Flows, IsFlow, FlowsOn, IsOutcome, with_int}
+use Rattle.machine.specs.declared.plain.Over.{Over}
+use Rattle.machine.specs.declared.plain.Over.TheVariants as over
+use Rattle.machine.specs.Meets.{Meets, IsDone, Flows, IsFlow, FlowsOn, IsOutcome, FlowsOver, IsOver, FlowsOverTwo, IsOverTwo, HasOps, with_int}
 use Rattle.machine.specs.Running.{at, meter, phase_of, Way, Reaches, HasDone, IsStraight, IsGone, IsPlain}
 use Rattle.machine.proofs.Ways.{way_here, way_trans, way_quiet, step_tells, jump_quiet}
 
@@ -58,6 +60,9 @@ done_none P f fs e q h = rw q (step_none P f fs h)
 pub missing_fails : (P : Program) (f g : Frame) (fs : Frames) (e : Failure) → e ≡ failure.Wrong → op_at P f.method f.pc ≡ None → IsDone P (Err e) g fs (step P (f ∷ fs))
 missing_fails P f g fs e q h = rw q (step_none P f fs h)
 
+pub has_ops : (P : Program) (m : ℕ) (k : Method) → method_at P m ≡ Some k → HasOps P m k.ops
+has_ops P m k e = λ pc. ap (λ (x : Option Method). option_and_then (λ (y : Method). slice_get y.ops pc) x) e
+
 -- a run after a step whose frames are these
 pub runs_step : (P : Program) (B : Bounds) (fs : Frames) (x : Asked) (p : Phase) (m : Meter) (w r : Log) → step P fs ≡ x
     → next_run P B (Gives 0) (On p fs m w r) ≡ on_asked P B x p (Gives 0) m w r
@@ -93,6 +98,19 @@ pub outcome_of : (P : Program) (f g : Frame) (fs : Frames) (o : Op) (x : Result 
 outcome_of P f g fs o (Ok (outcome.Int i)) e h = step_does P f (with_int i g) fs o Next e h
 outcome_of P f g fs o (Ok (outcome.Flow w)) e h = flow_of P f g fs o (Ok w) e h
 outcome_of P f g fs o (Err x) e h = done_of P f g fs o (Err x) e h
+
+-- the same before which an int is held
+pub over_of : (P : Program) (f g : Frame) (fs : Frames) (o : Op) (x : Result Over Failure) (top : ℤ) → op_at P f.method f.pc ≡ Some o → FlowsOver x top g f (does P o f) → IsOver P x top g f fs (step P (f ∷ fs))
+over_of P f g fs o (Ok (over.Int i)) top e h = step_does P f (with_int i g) fs o Next e h
+over_of P f g fs o (Ok (over.Pair i)) top e h = step_does P f (with_int i (with_int top g)) fs o Next e h
+over_of P f g fs o (Ok (over.Flow w)) top e h = flow_of P f g fs o (Ok w) e h
+over_of P f g fs o (Err x) top e h = done_of P f g fs o (Err x) e h
+
+-- the same before which two ints are held
+pub over_two_of : (P : Program) (f g : Frame) (fs : Frames) (o : Op) (x : Result (Option Outcome) Failure) (y : ℤ) → op_at P f.method f.pc ≡ Some o → FlowsOverTwo x y g f (does P o f) → IsOverTwo P x y g f fs (step P (f ∷ fs))
+over_two_of P f g fs o (Ok (Some w)) y e h = outcome_of P f g fs o (Ok w) e h
+over_two_of P f g fs o (Ok None) y e h = h
+over_two_of P f g fs o (Err x) y e h = done_of P f g fs o (Err x) e h
 
 module _ (P : Program) (f g f' : Frame) where
   -- one more instruction of a frame that goes on to the next

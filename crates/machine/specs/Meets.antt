@@ -1,5 +1,5 @@
 -- What functions of the machine say of an instruction's meaning.
-use Rattle.std.specs.Prelude.{◌≡◌, ℕ, ℤ, ◌+◌, ◌<◌, ◌^◌, List, [], ◌∷◌, ◌++◌, replicate, Bool, true, false, Result, Ok, Err}
+use Rattle.std.specs.Prelude.{◌≡◌, ℕ, ℤ, ◌+◌, ◌<◌, ◌^◌, List, [], ◌∷◌, ◌++◌, replicate, Bool, true, false, Result, Ok, Err, Option, Some, None, slice_get}
 use Rattle.objects.specs.declared.op.Slot.{Slot}
 use Rattle.objects.specs.declared.op.Slot.TheVariants.{Empty, Int}
 use Rattle.objects.specs.declared.op.Op.{Op}
@@ -13,7 +13,7 @@ use Rattle.objects.specs.declared.op.Request.{Request}
 use Rattle.objects.specs.declared.op.Request.TheVariants.{Look, Read, Write}
 use Rattle.objects.specs.declared.op.Asking.{Asking}
 use Rattle.objects.specs.declared.op.Asking.TheVariants.{Return, Throw, Make, Head, Ask}
-use Rattle.objects.specs.semantics.Program.{Program}
+use Rattle.objects.specs.semantics.Program.{Program, op_at}
 use Rattle.objects.specs.semantics.Step.{Did, Does, Wrong, Frame, Frames, Asked, Asks, Fails, Took, TooFew, take_args, on_doing}
 use Rattle.machine.specs.declared.failure.Failure.{Failure}
 use Rattle.machine.specs.declared.failure.Failure.TheVariants as failure
@@ -21,6 +21,8 @@ use Rattle.machine.specs.declared.plain.Flow.{Flow}
 use Rattle.machine.specs.declared.plain.Flow.TheVariants as flow
 use Rattle.machine.specs.declared.plain.Outcome.{Outcome}
 use Rattle.machine.specs.declared.plain.Outcome.TheVariants as outcome
+use Rattle.machine.specs.declared.plain.Over.{Over}
+use Rattle.machine.specs.declared.plain.Over.TheVariants as over
 
 -- memory may be short at any instruction
 abbrev pub Meets : Result Doing Failure → Frame → Did → Type 0
@@ -45,6 +47,23 @@ abbrev pub FlowsOn : Result Outcome Failure → Frame → Frame → Did → Type
 FlowsOn (Ok (outcome.Int x)) f g d = d ≡ Does doing.Next (with_int x f)
 FlowsOn (Ok (outcome.Flow w)) f g d = Flows (Ok w) f g d
 FlowsOn (Err e) f g d = Meets (Err e) f d
+
+-- the same of an instruction before which this int is held
+abbrev pub FlowsOver : Result Over Failure → ℤ → Frame → Frame → Did → Type 0
+FlowsOver (Ok (over.Int x)) top f g d = d ≡ Does doing.Next (with_int x f)
+FlowsOver (Ok (over.Pair x)) top f g d = d ≡ Does doing.Next (with_int x (with_int top f))
+FlowsOver (Ok (over.Flow w)) top f g d = Flows (Ok w) f g d
+FlowsOver (Err e) top f g d = Meets (Err e) f d
+
+-- the same of an instruction before which two ints are held, of which this one is topmost: where nothing was done, it still is
+abbrev pub FlowsOverTwo : Result (Option Outcome) Failure → ℤ → Frame → Frame → Did → Type 0
+FlowsOverTwo (Ok (Some o)) y f g d = FlowsOn (Ok o) f g d
+FlowsOverTwo (Ok None) y f g d = with_int y f ≡ g
+FlowsOverTwo (Err e) y f g d = Meets (Err e) f d
+
+-- the instructions of a method of the program
+abbrev pub HasOps : Program → ℕ → List Op → Type 0
+HasOps P m ops = (pc : ℕ) → op_at P m pc ≡ slice_get ops pc
 
 -- what is looked for isn't there, whatever would be done with it
 abbrev pub Lacks : {K : Type 0} → Failure → (K → Did) → Type 0
@@ -116,6 +135,19 @@ abbrev pub IsOutcome : Program → Result Outcome Failure → Frame → Frame �
 IsOutcome P (Ok (outcome.Int i)) f g fs x = x ≡ on_doing P doing.Next (with_int i f) fs
 IsOutcome P (Ok (outcome.Flow w)) f g fs x = IsFlow P (Ok w) f g fs x
 IsOutcome P (Err e) f g fs x = IsDone P (Err e) f fs x
+
+-- the same of an instruction before which this int is held
+abbrev pub IsOver : Program → Result Over Failure → ℤ → Frame → Frame → Frames → Asked → Type 0
+IsOver P (Ok (over.Int i)) top f g fs x = x ≡ on_doing P doing.Next (with_int i f) fs
+IsOver P (Ok (over.Pair i)) top f g fs x = x ≡ on_doing P doing.Next (with_int i (with_int top f)) fs
+IsOver P (Ok (over.Flow w)) top f g fs x = IsFlow P (Ok w) f g fs x
+IsOver P (Err e) top f g fs x = IsDone P (Err e) f fs x
+
+-- the same of an instruction before which two ints are held, of which this one is topmost
+abbrev pub IsOverTwo : Program → Result (Option Outcome) Failure → ℤ → Frame → Frame → Frames → Asked → Type 0
+IsOverTwo P (Ok (Some o)) y f g fs x = IsOutcome P (Ok o) f g fs x
+IsOverTwo P (Ok None) y f g fs x = with_int y f ≡ g
+IsOverTwo P (Err e) y f g fs x = IsDone P (Err e) f fs x
 
 -- a frame at the start of a method, whose arguments were taken from the slots s and left s'
 abbrev pub IsEntered : ℕ → ℕ → ℕ → List Slot → List Slot → Frame → Result (Unit {0}) Failure → Type 0

@@ -16,14 +16,14 @@ use std::alloc::Global;
 /// The most slots that a plain instruction puts on the stack beyond those that it takes.
 const MOST_PUT: usize = 2;
 
-/// The instruction at a place of a method, or `Wrong` where it has none.
+/// The instruction at a place, or `Wrong` where there is none.
 #[inline(always)]
-pub(crate) fn op_of(method: &Method, pc: usize) -> Result<&Op, Failure>
-    ensures op { MatchResult result (λ o. slice_get method.now.ops pc ≡ Some o.now) (λ e. (e ≡ failure.Wrong) × (slice_get method.now.ops pc ≡ None)) }
+pub(crate) fn op_in(ops: &[Op], pc: usize) -> Result<&Op, Failure>
+    ensures op { MatchResult result (λ o. slice_get ops.now pc ≡ Some o.now) (λ e. (e ≡ failure.Wrong) × (slice_get ops.now pc ≡ None)) }
     ensures next { IfOk result (λ _. pc + 1 < 2 ^ 64) }
-    ensures within { IfOk result (λ _. pc < length method.now.ops) }
+    ensures within { IfOk result (λ _. pc < length ops.now) }
 {
-    match method.ops().get(pc) {
+    match ops.get(pc) {
         Some(op) => Ok(op),
         None => Err(Failure::Wrong),
     }
@@ -44,7 +44,7 @@ impl Frame {
         ensures place { (self.new.method ≡ self.old.method) × (self.new.pc ≡ self.old.pc) }
         ensures next { IfOk result (λ _. self.new.pc + 1 < 2 ^ 64) }
     {
-        let op = op_of(method, self.pc)?;
+        let op = op_in(method.ops(), self.pc)?;
         self.act(alloc, program, op)
     }
 

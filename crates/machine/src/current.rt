@@ -43,8 +43,9 @@ impl Running {
         ensures next { IfOk result (λ _. frame.new.pc + 1 < 2 ^ 64) }
     {
         let counts = method.is_counted();
+        let ops = method.ops();
         for _ in 0..u64::MAX {
-            match frame.straight(method)? {
+            match frame.straight(ops)? {
                 Flow::Jump(to) => {
                     if !self.jump(frame, to, counts) {
                         return Ok(Flow::Jump(to));

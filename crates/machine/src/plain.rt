@@ -1,22 +1,22 @@
 //! Instructions that neither leave their frame nor ask anything of what lies outside it (JVM Specification, Java SE 7, chapter 6). They are small, so
 //! that they may all be inlined where they go on one after another. An int that one of them puts on the stack is
-//! held beside it until an instruction needs it there. So an int that the next one takes needn't go through memory.
+//! held beside it until an instruction needs it there, and a second one above it until the next instruction. So ints that the next one takes needn't
+//! go through memory.
 ghost use Rattle.std.specs.Prelude.{◌≡◌, ◌∷◌, ◌+◌, ◌<◌, ◌≤◌, ◌^◌, IfOk, Ok, length};
-ghost use Rattle.objects.specs.semantics.Program.{Program as JProgram, method_at};
+ghost use Rattle.objects.specs.semantics.Program.{Program as JProgram};
 ghost use Rattle.objects.specs.semantics.Step.{Frames, does, leaves, loads, stores, step};
 ghost use Rattle.objects.specs.declared.op.Op.TheVariants as op;
 ghost use Rattle.objects.specs.declared.op.Slot.TheVariants as slot;
 ghost use Rattle.objects.specs.declared.op.Sort.TheVariants as sort_of;
 ghost use Rattle.objects.specs.declared.op.Width.TheVariants as width;
-ghost use Rattle.machine.specs.Meets.{Flows, IsOutcome, FlowsOn, with_int};
+ghost use Rattle.machine.specs.Meets.{Flows, IsOutcome, FlowsOn, FlowsOver, FlowsOverTwo, IsOver, IsOverTwo, HasOps, with_int};
 ghost use Rattle.machine.specs.Running.{IsStraight};
 
-use crate::act::op_of;
+use crate::act::op_in;
 use crate::arithmetic::{binary_ints, divided_ints, holds};
 use crate::branches::branched;
 use crate::failure::Failure;
 use crate::frame::Frame;
-use hierarchy::program::Method;
 use jmodel::value::Value;
 use objects::op::{Binary, Division, Op, Slot, Sort, Trap, Width};
 
@@ -38,6 +38,16 @@ pub enum Flow {
 pub enum Outcome {
     /// The next instruction, with this int topmost: it is held, and the stack has room for it.
     Int(i32),
+    Flow(Flow),
+}
+
+/// The same of an instruction before which an int is held.
+#[derive(Clone, Copy, Debug)]
+pub enum Over {
+    /// The next instruction, with this int topmost in place of the held one.
+    Int(i32),
+    /// The next instruction, with this int above the held one: the stack has room for both.
+    Pair(i32),
     Flow(Flow),
 }
 
@@ -181,24 +191,24 @@ impl Frame {
 }
 
 impl Frame {
-    /// Puts the held int on the stack, and holds another one above it, if there is room for both.
+    /// Holds an int above the held one, if the stack has room for both. Else it puts that one on the stack.
     #[inline(always)]
-    fn hold_over(&mut self, top: i32, x: i32) -> Result<Outcome, Failure>
-        ensures does { FlowsOn result self.new (with_int top self.old) (leaves self.old (slot.Int x ∷ slot.Int top ∷ self.old.stack)) }
+    fn hold_over(&mut self, top: i32, x: i32) -> Result<Over, Failure>
+        ensures does { FlowsOver result top self.new (with_int top self.old) (leaves self.old (slot.Int x ∷ slot.Int top ∷ self.old.stack)) }
         ensures place { (self.new.method ≡ self.old.method) × (self.new.pc ≡ self.old.pc) }
     {
-        if self.stack.put_below(Slot::Int(top)) {
-            return Ok(Outcome::Int(x));
+        if self.stack.has_room_for_two() {
+            return Ok(Over::Pair(x));
         }
         self.stack.put(Slot::Int(top))?;
-        Ok(Outcome::Flow(Flow::Other))
+        Ok(Over::Flow(Flow::Other))
     }
 
     /// Does one instruction while the topmost int is held, if it is one of those that mostly stand behind an int. Else it puts the int on the stack,
     /// and does nothing.
     #[inline(always)]
-    fn plain_over(&mut self, top: i32, op: &Op) -> Result<Outcome, Failure>
-        ensures does { (P : JProgram) → FlowsOn result self.new (with_int top self.old) (does P op.now (with_int top self.old)) }
+    fn plain_over(&mut self, top: i32, op: &Op) -> Result<Over, Failure>
+        ensures does { (P : JProgram) → FlowsOver result top self.new (with_int top self.old) (does P op.now (with_int top self.old)) }
         ensures place { (self.new.method ≡ self.old.method) × (self.new.pc ≡ self.old.pc) }
     {
         match op {
@@ -209,23 +219,40 @@ impl Frame {
             },
             Op::Store(Sort::Int, i) => {
                 if self.locals.set(*i, Slot::Int(top)) {
-                    Ok(Outcome::Flow(Flow::Next))
+                    Ok(Over::Flow(Flow::Next))
                 } else {
                     Err(Failure::Wrong)
                 }
             }
             Op::Binary(Width::Int, b) => {
                 let x = self.stack.take_int()?;
-                Ok(Outcome::Int(binary_ints(*b, x, top)))
+                Ok(Over::Int(binary_ints(*b, x, top)))
             }
-            Op::Branch(test, to) => Ok(Outcome::Flow(branched(holds(*test, top, 0), *to))),
+            Op::Branch(test, to) => Ok(Over::Flow(branched(holds(*test, top, 0), *to))),
             Op::BranchInts(test, to) => {
                 let x = self.stack.take_int()?;
-                Ok(Outcome::Flow(branched(holds(*test, x, top), *to)))
+                Ok(Over::Flow(branched(holds(*test, x, top), *to)))
             }
             _ => {
                 self.stack.put(Slot::Int(top))?;
-                Ok(Outcome::Flow(Flow::Other))
+                Ok(Over::Flow(Flow::Other))
+            }
+        }
+    }
+
+    /// Does one instruction while the two topmost ints are held, if it is one of those that mostly take both. Else it puts the
+    /// lower one on the stack, and does nothing: the other one is still held.
+    #[inline(always)]
+    fn plain_over_two(&mut self, x: i32, y: i32, op: &Op) -> Result<Option<Outcome>, Failure>
+        ensures does { (P : JProgram) → FlowsOverTwo result y self.new (with_int y (with_int x self.old)) (does P op.now (with_int y (with_int x self.old))) }
+        ensures place { (self.new.method ≡ self.old.method) × (self.new.pc ≡ self.old.pc) }
+    {
+        match op {
+            Op::Binary(Width::Int, b) => Ok(Some(Outcome::Int(binary_ints(*b, x, y)))),
+            Op::BranchInts(test, to) => Ok(Some(Outcome::Flow(branched(holds(*test, x, y), *to)))),
+            _ => {
+                self.stack.put(Slot::Int(x))?;
+                Ok(None)
             }
         }
     }
@@ -259,66 +286,94 @@ impl Frame {
         Ok(Outcome::Flow(flow))
     }
 
-    /// Does the instruction that the frame stands at. `Wrong` where there is none.
+    /// Does the instruction that the frame stands at, of these of its method. `Wrong` where there is none.
     #[inline(always)]
-    fn plain_in(&mut self, method: &Method) -> Result<Outcome, Failure>
-        ensures does { (P : JProgram) (fs : Frames) → method_at P self.old.method ≡ Some method.now
+    fn plain_in(&mut self, ops: &[Op]) -> Result<Outcome, Failure>
+        ensures does { (P : JProgram) (fs : Frames) → HasOps P self.old.method ops.now
             → IsOutcome P result self.new self.old fs (step P (self.old ∷ fs)) }
         ensures place { (self.new.method ≡ self.old.method) × (self.new.pc ≡ self.old.pc) }
         ensures next { IfOk result (λ _. self.new.pc + 1 < 2 ^ 64) }
-        ensures within { IfOk result (λ _. self.new.pc < length method.now.ops) }
+        ensures within { IfOk result (λ _. self.new.pc < length ops.now) }
     {
-        let op = op_of(method, self.pc)?;
+        let op = op_in(ops, self.pc)?;
         self.plain(op)
     }
 
     /// The same while the topmost int is held.
     #[inline(always)]
-    fn plain_over_in(&mut self, top: i32, method: &Method) -> Result<Outcome, Failure>
-        ensures does { (P : JProgram) (fs : Frames) → method_at P self.old.method ≡ Some method.now
-            → IsOutcome P result self.new (with_int top self.old) fs (step P (with_int top self.old ∷ fs)) }
+    fn plain_over_in(&mut self, top: i32, ops: &[Op]) -> Result<Over, Failure>
+        ensures does { (P : JProgram) (fs : Frames) → HasOps P self.old.method ops.now
+            → IsOver P result top self.new (with_int top self.old) fs (step P (with_int top self.old ∷ fs)) }
         ensures place { (self.new.method ≡ self.old.method) × (self.new.pc ≡ self.old.pc) }
         ensures next { IfOk result (λ _. self.new.pc + 1 < 2 ^ 64) }
-        ensures within { IfOk result (λ _. self.new.pc < length method.now.ops) }
+        ensures within { IfOk result (λ _. self.new.pc < length ops.now) }
     {
-        let op = op_of(method, self.pc)?;
+        let op = op_in(ops, self.pc)?;
         self.plain_over(top, op)
+    }
+
+    /// The same while the two topmost ints are held.
+    #[inline(always)]
+    fn plain_over_two_in(
+        &mut self,
+        x: i32,
+        y: i32,
+        ops: &[Op],
+    ) -> Result<Option<Outcome>, Failure>
+        ensures does { (P : JProgram) (fs : Frames) → HasOps P self.old.method ops.now
+            → IsOverTwo P result y self.new (with_int y (with_int x self.old)) fs (step P (with_int y (with_int x self.old) ∷ fs)) }
+        ensures place { (self.new.method ≡ self.old.method) × (self.new.pc ≡ self.old.pc) }
+        ensures next { IfOk result (λ _. self.new.pc + 1 < 2 ^ 64) }
+    {
+        let op = op_in(ops, self.pc)?;
+        self.plain_over_two(x, y, op)
     }
 
     /// Does instructions of its method while the topmost int is held, up to the first behind which none is.
     #[inline(always)]
-    fn straight_over(&mut self, held: i32, method: &Method) -> Result<Flow, Failure>
-        ensures run { (P : JProgram) → method_at P self.old.method ≡ Some method.now → IsStraight P (with_int held self.old) self.new result }
+    fn straight_over(&mut self, held: i32, ops: &[Op]) -> Result<Flow, Failure>
+        ensures run { (P : JProgram) → HasOps P self.old.method ops.now → IsStraight P (with_int held self.old) self.new result }
         ensures method { self.new.method ≡ self.old.method }
         ensures onward { self.old.pc ≤ self.new.pc }
         ensures next { IfOk result (λ _. self.new.pc + 1 < 2 ^ 64) }
     {
         let mut top = held;
         loop {
-            match self.plain_over_in(top, method)? {
-                Outcome::Int(x) => {
+            match self.plain_over_in(top, ops)? {
+                Over::Int(x) => {
                     top = x;
                     self.advance();
                 }
-                Outcome::Flow(flow) => return Ok(flow),
+                Over::Pair(y) => {
+                    self.advance();
+                    match self.plain_over_two_in(top, y, ops)? {
+                        Some(Outcome::Int(x)) => {
+                            top = x;
+                            self.advance();
+                        }
+                        Some(Outcome::Flow(flow)) => return Ok(flow),
+                        None => top = y,
+                    }
+                }
+                Over::Flow(flow) => return Ok(flow),
             }
         }
     }
 
     /// Does instructions of its method up to the first that doesn't go on to the next one.
     #[inline(always)]
-    pub(crate) fn straight(&mut self, method: &Method) -> Result<Flow, Failure>
-        ensures run { (P : JProgram) → method_at P self.old.method ≡ Some method.now → IsStraight P self.old self.new result }
+    pub(crate) fn straight(&mut self, ops: &[Op]) -> Result<Flow, Failure>
+        ensures run { (P : JProgram) → HasOps P self.old.method ops.now → IsStraight P self.old self.new result }
         ensures method { self.new.method ≡ self.old.method }
         ensures next { IfOk result (λ _. self.new.pc + 1 < 2 ^ 64) }
     {
         loop {
-            match self.plain_in(method)? {
+            match self.plain_in(ops)? {
                 Outcome::Flow(Flow::Next) => self.advance(),
                 Outcome::Flow(flow) => return Ok(flow),
                 Outcome::Int(x) => {
                     self.advance();
-                    match self.straight_over(x, method)? {
+                    match self.straight_over(x, ops)? {
                         Flow::Next => self.advance(),
                         Flow::Other => {}
                         flow => return Ok(flow),

@@ -71,16 +71,10 @@ impl Stack {
         }
     }
 
-    /// Puts a slot on top, where there is room for it and for one more.
+    /// Whether there is room for two slots more.
     #[inline(always)]
-    pub(crate) fn put_below(&mut self, slot: Slot) -> bool
-        ensures { MatchBool result (self.new ≡ slot ∷ self.old) (self.new ≡ self.old) }
-    {
-        if self.items.capacity().saturating_sub(self.items.len()) < 2 {
-            return false;
-        }
-        self.items.push_reserved(slot);
-        true
+    pub(crate) fn has_room_for_two(&self) -> bool {
+        self.items.len() + 1 < self.items.capacity()
     }
 
     /// Puts a slot on top.

@@ -1,10 +1,9 @@
-use Rattle.std.proofs.Common.{◌≡◌, ℤ, w32, rules, subst, Ok, Err, Some, ◌∙◌}
+use Rattle.std.proofs.Common.{◌≡◌, ℤ, w32, rules, subst, Ok, Err, ◌∙◌}
 use mir.Val.{SFits}
 use Rattle.std.proofs.lemmas.Int.{to_z-of_z}
 use Rattle.std.proofs.lemmas.Result.{err_from_is_err_and}
-use Rattle.objects.specs.semantics.Program.{method_at}
 use Rattle.machine.specs.declared.plain.Flow.TheVariants as flow
-use Rattle.machine.specs.Meets.{with_int}
+use Rattle.machine.specs.Meets.{HasOps, with_int}
 use Rattle.machine.specs.Running.{Reaches, IsStraight}
 use Rattle.machine.proofs.Going.{reaches_next, reaches_held, reaches_trans, straight_ends, straight_behind}
 use Rattle.machine.proofs.frame.Frame.straight.Goals as goal
@@ -13,7 +12,7 @@ pub loop-self-preserved-in-Flow-Next : goal.loop-self-preserved-in-Flow-Next
 loop-self-preserved-in-Flow-Next c = record {
   method = rw c.advance.ensures (c.in_ok-plain_in.ensures.place.0 ∙ c.loop-self.invariant.method);
   reaches = λ P k.
-      let here : method_at P c.loop-self.self.method ≡ Some c.args.method.now = rw c.loop-self.invariant.method k in
+      let here : HasOps P c.loop-self.self.method c.args.ops.now = rw c.loop-self.invariant.method k in
       let next : c.in-Flow-Next.field-0 ≡ flow.Next = c.in-Flow-Next.field-0-is in
       reaches_next P c.args.self.now c.loop-self.self c.plain_in.new.self c.advance.new.self (c.loop-self.invariant.reaches P k)
       (λ fs. rw next at (rw c.in-Flow-Next.is at (c.in_ok-plain_in.ensures.does P fs here))) c.advance.ensures;
@@ -22,7 +21,7 @@ loop-self-preserved-in-Flow-Next c = record {
 pub returns-in-Flow : goal.returns-in-Flow
 returns-in-Flow c = record {
   run = λ P k.
-      let here : method_at P c.loop-self.self.method ≡ Some c.args.method.now = rw c.loop-self.invariant.method k in
+      let here : HasOps P c.loop-self.self.method c.args.ops.now = rw c.loop-self.invariant.method k in
       straight_ends P c.args.self.now c.loop-self.self c.plain_in.new.self (Ok c.in-Flow.flow) (c.loop-self.invariant.reaches P k)
       (λ fs. rw c.in-Flow.is at (c.in_ok-plain_in.ensures.does P fs here));
   method = c.in_ok-plain_in.ensures.place.0 ∙ c.loop-self.invariant.method;
@@ -32,12 +31,12 @@ returns-in-Flow c = record {
 pub returns-in_err-flow-in-Int-clause-run : goal.returns-in_err-flow-in-Int-clause-run
 returns-in_err-flow-in-Int-clause-run c = λ P k.
     let p = err_from_is_err_and c.from_residual-in_err-flow-in-Int.result c.from_residual-in_err-flow-in-Int.ensures.1 in
-    let here : method_at P c.loop-self.self.method ≡ Some c.args.method.now = rw c.loop-self.invariant.method k in
+    let here : HasOps P c.loop-self.self.method c.args.ops.now = rw c.loop-self.invariant.method k in
     let held : Reaches P c.args.self.now (with_int c.in-Int.x c.advance-in-Int.new.self) =
     reaches_held P c.args.self.now c.loop-self.self c.plain_in.new.self c.in-Int.x c.advance-in-Int.new.self (c.loop-self.invariant.reaches P k)
     (λ fs. rw c.in-Int.is at (c.in_ok-plain_in.ensures.does P fs here)) c.advance-in-Int.ensures in
     let fits : SFits w32 c.in-Int.x = search rules in
-    let there : method_at P c.advance-in-Int.new.self.method ≡ Some c.args.method.now = rw (c.advance-in-Int.ensures, c.in_ok-plain_in.ensures.place.0) here in
+    let there : HasOps P c.advance-in-Int.new.self.method c.args.ops.now = rw (c.advance-in-Int.ensures, c.in_ok-plain_in.ensures.place.0) here in
     let run = subst (λ (z : ℤ). IsStraight P (with_int z c.advance-in-Int.new.self) c.straight_over.new.self (Err c.in_err-flow-in-Int.field-0.0))
     (to_z-of_z w32 c.in-Int.x fits) (c.in_err-flow-in-Int.ensures.run P there) in
     rw (p.1, p.2) (straight_behind P c.args.self.now (with_int c.in-Int.x c.advance-in-Int.new.self) c.straight_over.new.self held (Err c.in_err-flow-in-Int.field-0.0) run)
@@ -45,12 +44,12 @@ returns-in_err-flow-in-Int-clause-run c = λ P k.
 pub returns-in_default : goal.returns-in_default
 returns-in_default c = record {
   run = λ P k.
-      let here : method_at P c.loop-self.self.method ≡ Some c.args.method.now = rw c.loop-self.invariant.method k in
+      let here : HasOps P c.loop-self.self.method c.args.ops.now = rw c.loop-self.invariant.method k in
       let held : Reaches P c.args.self.now (with_int c.in-Int.x c.advance-in-Int.new.self) =
       reaches_held P c.args.self.now c.loop-self.self c.plain_in.new.self c.in-Int.x c.advance-in-Int.new.self (c.loop-self.invariant.reaches P k)
       (λ fs. rw c.in-Int.is at (c.in_ok-plain_in.ensures.does P fs here)) c.advance-in-Int.ensures in
       let fits : SFits w32 c.in-Int.x = search rules in
-      let there : method_at P c.advance-in-Int.new.self.method ≡ Some c.args.method.now = rw (c.advance-in-Int.ensures, c.in_ok-plain_in.ensures.place.0) here in
+      let there : HasOps P c.advance-in-Int.new.self.method c.args.ops.now = rw (c.advance-in-Int.ensures, c.in_ok-plain_in.ensures.place.0) here in
       let run = subst (λ (z : ℤ). IsStraight P (with_int z c.advance-in-Int.new.self) c.straight_over.new.self (Ok c.in_ok-flow-in-Int.flow))
       (to_z-of_z w32 c.in-Int.x fits) (c.in_ok-flow-in-Int.ensures.run P there) in
       straight_behind P c.args.self.now (with_int c.in-Int.x c.advance-in-Int.new.self) c.straight_over.new.self held (Ok c.in_ok-flow-in-Int.flow) run;
@@ -62,12 +61,12 @@ pub loop-self-preserved : goal.loop-self-preserved
 loop-self-preserved c = record {
   method = c.in_ok-flow-in-Int.ensures.method ∙ rw c.advance-in-Int.ensures (c.in_ok-plain_in.ensures.place.0 ∙ c.loop-self.invariant.method);
   reaches = λ P k.
-      let here : method_at P c.loop-self.self.method ≡ Some c.args.method.now = rw c.loop-self.invariant.method k in
+      let here : HasOps P c.loop-self.self.method c.args.ops.now = rw c.loop-self.invariant.method k in
       let held : Reaches P c.args.self.now (with_int c.in-Int.x c.advance-in-Int.new.self) =
       reaches_held P c.args.self.now c.loop-self.self c.plain_in.new.self c.in-Int.x c.advance-in-Int.new.self (c.loop-self.invariant.reaches P k)
       (λ fs. rw c.in-Int.is at (c.in_ok-plain_in.ensures.does P fs here)) c.advance-in-Int.ensures in
       let fits : SFits w32 c.in-Int.x = search rules in
-      let there : method_at P c.advance-in-Int.new.self.method ≡ Some c.args.method.now = rw (c.advance-in-Int.ensures, c.in_ok-plain_in.ensures.place.0) here in
+      let there : HasOps P c.advance-in-Int.new.self.method c.args.ops.now = rw (c.advance-in-Int.ensures, c.in_ok-plain_in.ensures.place.0) here in
       let run = subst (λ (z : ℤ). IsStraight P (with_int z c.advance-in-Int.new.self) c.straight_over.new.self (Ok flow.Other))
       (to_z-of_z w32 c.in-Int.x fits) (rw c.in-Other.is at (c.in_ok-flow-in-Int.ensures.run P there)) in
       reaches_trans P c.args.self.now (with_int c.in-Int.x c.advance-in-Int.new.self) c.straight_over.new.self held run;
@@ -77,12 +76,12 @@ pub loop-self-preserved-in-Next : goal.loop-self-preserved-in-Next
 loop-self-preserved-in-Next c = record {
   method = rw c.advance-in-Next.ensures (c.in_ok-flow-in-Int.ensures.method ∙ rw c.advance-in-Int.ensures (c.in_ok-plain_in.ensures.place.0 ∙ c.loop-self.invariant.method));
   reaches = λ P k.
-      let here : method_at P c.loop-self.self.method ≡ Some c.args.method.now = rw c.loop-self.invariant.method k in
+      let here : HasOps P c.loop-self.self.method c.args.ops.now = rw c.loop-self.invariant.method k in
       let held : Reaches P c.args.self.now (with_int c.in-Int.x c.advance-in-Int.new.self) =
       reaches_held P c.args.self.now c.loop-self.self c.plain_in.new.self c.in-Int.x c.advance-in-Int.new.self (c.loop-self.invariant.reaches P k)
       (λ fs. rw c.in-Int.is at (c.in_ok-plain_in.ensures.does P fs here)) c.advance-in-Int.ensures in
       let fits : SFits w32 c.in-Int.x = search rules in
-      let there : method_at P c.advance-in-Int.new.self.method ≡ Some c.args.method.now = rw (c.advance-in-Int.ensures, c.in_ok-plain_in.ensures.place.0) here in
+      let there : HasOps P c.advance-in-Int.new.self.method c.args.ops.now = rw (c.advance-in-Int.ensures, c.in_ok-plain_in.ensures.place.0) here in
       let run = subst (λ (z : ℤ). IsStraight P (with_int z c.advance-in-Int.new.self) c.straight_over.new.self (Ok flow.Next))
       (to_z-of_z w32 c.in-Int.x fits) (rw c.in-Next.is at (c.in_ok-flow-in-Int.ensures.run P there)) in
       reaches_next P c.args.self.now run.frame c.straight_over.new.self c.advance-in-Next.new.self

@@ -1,20 +1,21 @@
-use Rattle.std.proofs.Common.{◌≡◌, Ok, Err, Some, sym, ◌∙◌}
+use Rattle.std.proofs.Common.{◌≡◌, Ok, Err, sym, ◌∙◌}
 use Rattle.std.proofs.lemmas.Result.{err_from_is_err_and}
-use Rattle.objects.specs.semantics.Program.{method_at, is_counted}
+use Rattle.objects.specs.semantics.Program.{is_counted}
 use Rattle.machine.specs.declared.plain.Flow.TheVariants as flow
-use Rattle.machine.proofs.Going.{counted_of, gone_ends, goes_jump}
+use Rattle.machine.specs.Meets.{HasOps}
+use Rattle.machine.proofs.Going.{has_ops, counted_of, gone_ends, goes_jump}
 use Rattle.machine.proofs.running.Running.go_in.Goals as goal
 
 pub returns-in_err-flow-clause-run : goal.returns-in_err-flow-clause-run
 returns-in_err-flow-clause-run c = λ P k.
     let p = err_from_is_err_and c.from_residual.result c.from_residual.ensures.1 in
-    let here : method_at P c.loop.frame.method ≡ Some c.args.method.now = rw c.loop.invariant.method k in
+    let here : HasOps P c.loop.frame.method c.ops-ops.result.now = rw (c.loop.invariant.method, c.ops-ops.ensures) (has_ops P c.args.frame.now.method c.args.method.now k) in
     rw (p.1, p.2) (gone_ends P (record c.args.self.now { frame = c.args.frame.now }) (record c.loop.self { frame = c.loop.frame }) (c.loop.invariant.comes P k)
     c.straight.new.self (Err c.in_err-flow.field-0.0) (c.in_err-flow.ensures.run P here))
 
 pub returns-then-not-jump-clause-run : goal.returns-then-not-jump-clause-run
 returns-then-not-jump-clause-run c = λ P k.
-    let here : method_at P c.loop.frame.method ≡ Some c.args.method.now = rw c.loop.invariant.method k in
+    let here : HasOps P c.loop.frame.method c.ops-ops.result.now = rw (c.loop.invariant.method, c.ops-ops.ensures) (has_ops P c.args.frame.now.method c.args.method.now k) in
     let gone = gone_ends P (record c.args.self.now { frame = c.args.frame.now }) (record c.loop.self { frame = c.loop.frame }) (c.loop.invariant.comes P k)
     c.straight.new.self (Ok (flow.Jump c.in-Jump.to)) (rw c.in-Jump.is at (c.in_ok-flow.ensures.run P here)) in
     rw (c.if-not-jump.ensures.0, c.if-not-jump.ensures.1) gone
@@ -22,7 +23,7 @@ returns-then-not-jump-clause-run c = λ P k.
 pub returns-in_default : goal.returns-in_default
 returns-in_default c = record {
   run = λ P k.
-      let here : method_at P c.loop.frame.method ≡ Some c.args.method.now = rw c.loop.invariant.method k in
+      let here : HasOps P c.loop.frame.method c.ops-ops.result.now = rw (c.loop.invariant.method, c.ops-ops.ensures) (has_ops P c.args.frame.now.method c.args.method.now k) in
       gone_ends P (record c.args.self.now { frame = c.args.frame.now }) (record c.loop.self { frame = c.loop.frame }) (c.loop.invariant.comes P k)
       c.straight.new.self (Ok c.in_ok-flow.flow) (c.in_ok-flow.ensures.run P here);
   method = c.in_ok-flow.ensures.method ∙ c.loop.invariant.method;
@@ -40,7 +41,7 @@ loop-preserved c =
       stage = h.stage ∙ c.loop.invariant.stage;
       tried = h.tried ∙ c.loop.invariant.tried;
       comes = λ P k.
-          let here : method_at P c.loop.frame.method ≡ Some c.args.method.now = rw c.loop.invariant.method k in
+          let here : HasOps P c.loop.frame.method c.ops-ops.result.now = rw (c.loop.invariant.method, c.ops-ops.ensures) (has_ops P c.args.frame.now.method c.args.method.now k) in
           let counted : is_counted P c.straight.new.self.method ≡ c.is_counted-counts.result =
           rw same (counted_of P c.args.frame.now.method c.args.method.now k ∙ sym c.is_counted-counts.ensures) in
           goes_jump P (record c.args.self.now { frame = c.args.frame.now }) (record c.loop.self { frame = c.loop.frame }) (c.loop.invariant.comes P k)
