@@ -314,12 +314,7 @@ impl Frame {
 
     /// The same while the two topmost ints are held.
     #[inline(always)]
-    fn plain_over_two_in(
-        &mut self,
-        x: i32,
-        y: i32,
-        ops: &[Op],
-    ) -> Result<Option<Outcome>, Failure>
+    fn plain_over_two_in(&mut self, x: i32, y: i32, ops: &[Op]) -> Result<Option<Outcome>, Failure>
         ensures does { (P : JProgram) (fs : Frames) → HasOps P self.old.method ops.now
             → IsOverTwo P result y self.new (with_int y (with_int x self.old)) fs (step P (with_int y (with_int x self.old) ∷ fs)) }
         ensures place { (self.new.method ≡ self.old.method) × (self.new.pc ≡ self.old.pc) }

@@ -1,8 +1,7 @@
-use Rattle.std.proofs.Common.{◌≡◌, Some, None, ◌∙◌, slice_get, subst, w32, ℤ}
+use Rattle.std.proofs.Common.{◌≡◌, Some, None, ◌∙◌, slice_get, w32}
 use Rattle.std.proofs.lemmas.Int.{to_z-of_z}
 use Rattle.std.proofs.lemmas.Result.{err_from_is_err_and}
-use Rattle.objects.specs.semantics.Step.{does}
-use Rattle.machine.specs.Meets.{FlowsOverTwo, with_int}
+use Rattle.machine.specs.Meets.{with_int}
 use Rattle.machine.proofs.Going.{over_two_of, missing_fails}
 use Rattle.machine.proofs.frame.Frame.plain_over_two_in.Goals as goal
 
