@@ -1,48 +1,36 @@
--- Lanes of which no entry was added.
-use Rattle.std.proofs.Common.{◌≡◌, ◌+◌, ℕ, List, [], Result, Ok, Err, refl, sym, subst, inr, arith}
-use mathlib.Core.Option.{Option, none, some}
-use Rattle.jmodel.specs.declared.access.Access.{Access}
-use Rattle.jmodel.specs.declared.value.Answer.{Answer}
-use Rattle.jmodel.specs.history.Log.{Log}
-use Rattle.jmodel.specs.history.History.{Call, Entry}
-use Rattle.objects.specs.semantics.Program.{Program}
-use Rattle.objects.specs.rewriting.Attempt.{Bounds}
-use Rattle.machine.specs.declared.machine.End.{End}
-use Rattle.machine.specs.declared.machine.Stuck.{Stuck}
-use Rattle.machine.specs.Machine.{AddsBy, AddsRun, IsSpent}
+-- The first call of a lane's session.
+use Rattle.std.proofs.Common.{◌≡◌, ◌<◌, ℕ, suc, List, length, get_or, inr, refl, sym, ◌∙◌, ap, subst, arith}
+use Rattle.atomic_table.specs.Seated.{TableId}
+use Rattle.jmodel.specs.history.History.{Call}
+use Rattle.jmodel.specs.history.Schedule.{Known}
 use Rattle.tx_table.specs.Book.{Book}
-use Rattle.tx_table.specs.Rule.{Succeeds}
-use Rattle.tx_table.specs.Trials.{Before}
-use Rattle.tx_table.specs.declared.shared.Pass.{Pass}
 use Rattle.tx_table.specs.Passes.{book}
-use Rattle.tl2.specs.declared.attempt.At.{At}
-use Rattle.tl2.specs.Standing.{Awaits, Stands}
-use Rattle.tl2.specs.Trials.{IsWaiting}
-use Rattle.lsa.specs.Standing.{StandsFor}
-use Rattle.held_tests.specs.Heard.{AwaitsOne, IsFresh, HasSpent, one_call}
+use Rattle.tl2.specs.Standing.{Awaits}
+use Rattle.machine.specs.declared.room.Room.{Room}
+use Rattle.session.specs.declared.record.Place.{Place}
+use Rattle.session.specs.Adds.{call_of}
+use Rattle.driver.specs.declared.table.Start.{Start}
+use Rattle.driver.specs.Passing.{used_of, first_of, MayGoOn, IsOfOne, AreStarting}
 
--- nothing comes before a lane's first call
-comes_first : (c : Call) (lane : ℕ) (o : Option Call) → Before lane 0 o → Succeeds c o
-comes_first c lane none b = tt
-comes_first c lane (some d) b = let below = b.1 in absurd (let no : ⊥ = omega arith in no)
+-- a call goes by its room's region
+pub call_in : (r s : Room) (at : Place) (c : Known) → r.region ≡ s.region → call_of r at c ≡ call_of s at c
+call_in r s at c e = ap (λ (k : ℕ). let d : Call = record { phase = at.phase; lane = at.lane; index = at.first; method = c.method; args = c.args; region = k } in d) e
 
-awaits_one : (lane m : ℕ) (v : Book) → IsWaiting lane 0 v → AwaitsOne m (λ c used. Awaits (one_call lane m) v c used)
-awaits_one lane m v w = (one_call lane m, refl, refl, (refl, inr refl, (w.0, w.1, w.2, comes_first (one_call lane m) lane w.0.last w.3)))
+-- it is awaited over a pass that its lane may begin with
+pub awaits_first : (named c : Call) (b : Book) (lane used taken size : ℕ) (call : Known) → c ≡ named → c ≡ call_of (record { region = suc lane; size = size; used = taken }) (first_of 0 lane) call
+    → used ≡ used_of b lane → MayGoOn (first_of 0 lane) b → Awaits named b c used
+awaits_first named c b lane used taken size call same is kept goes =
+    (same, rw is (inr refl), (record { used = used_of b lane; last = goes.last }, rw is goes.region, sym kept, rw is (goes.follows 0 0 call (inr (refl, omega arith)))))
 
-awaits_same : (lane m : ℕ) (k : Call) (u v : Book) → IsWaiting lane 0 v → u ≡ v → k ≡ one_call lane m → AwaitsOne m (λ c used. Awaits k u c used)
-awaits_same lane m k u v w e is =
-    subst (λ (x : Book). AwaitsOne m (λ c used. Awaits k x c used)) (sym e) (subst (λ (j : Call). AwaitsOne m (λ c used. Awaits j v c used)) (sym is) (awaits_one lane m v w))
-
--- an engine that was made of a waiting pass
-pub fresh_locking : (lane m words : ℕ) (at : At) (kept : List Access) (p : Pass) (k : Call) (v : Book) (n : ℕ) → IsWaiting lane 0 v → book p ≡ v → k ≡ one_call lane m
-    → Stands (λ _ _. ⊥) words at kept p [] n [] [] → IsFresh m (λ h i r w. Stands (λ _ _. ⊥) words at kept p h i r w) (λ c used. Awaits k (book p) c used)
-fresh_locking lane m words at kept p k v n w e is s = (n, (s, λ first. awaits_same lane m k (book p) v w e is))
-
-pub fresh_lazy : (lane m words : ℕ) (at : At) (kept : List Access) (p : Pass) (k : Call) (v : Book) (n : ℕ) → IsWaiting lane 0 v → book p ≡ v → k ≡ one_call lane m
-    → StandsFor (λ _ _. ⊥) words at kept p [] n [] [] → IsFresh m (λ h i r w. StandsFor (λ _ _. ⊥) words at kept p h i r w) (λ c used. Awaits k (book p) c used)
-fresh_lazy lane m words at kept p k v n w e is s = (n, (s, λ first. awaits_same lane m k (book p) v w e is))
-
--- a call that was spent adds none
-pub spent_run : (P : Program) (B : Bounds) (c : Call) (S : List Entry → ℕ → Log → Log → Type 0) (n : ℕ) (r : Result End Stuck) → AddsRun P B c S [] n r → HasSpent r → (k : ℕ) × S [] k [] []
-spent_run P B c S n (Ok e) adds is = let s : IsSpent P B c (S []) n e = subst (λ (x : Answer). AddsBy x P B c S [] n e) is adds in (n + s.meter.tried, s.stands)
-spent_run P B c S n (Err e) adds spent = absurd spent
+-- what is known of one of the lanes that start
+pub start_of : (t : TableId) (seen i : ℕ) (starts : List Start) (s : Start) → AreStarting t seen 0 starts → i < length starts → s ≡ get_or starts i s
+    → (s.lane ≡ i) × (s.used ≡ used_of (book s.pass) s.lane) × IsOfOne t (book s.pass).seen (first_of 0 s.lane) s.pass
+start_of t seen i starts s are low is =
+    let k = are i s low in
+    let lane : s.lane ≡ i = ap (λ (x : Start). x.lane) is ∙ k.0 in
+    let used : s.used ≡ used_of (book s.pass) i = subst (λ (x : Start). x.used ≡ used_of (book x.pass) i) (sym is) k.1 in
+    let one : IsOfOne t seen (first_of 0 i) s.pass = subst (λ (x : Start). IsOfOne t seen (first_of 0 i) x.pass) (sym is) k.2 in (
+      lane,
+      subst (λ (n : ℕ). s.used ≡ used_of (book s.pass) n) (sym lane) used,
+      subst (λ (n : ℕ). IsOfOne t (book s.pass).seen (first_of 0 n) s.pass) (sym lane) (subst (λ (n : ℕ). IsOfOne t n (first_of 0 i) s.pass) (sym one.seen_is) one),
+    )

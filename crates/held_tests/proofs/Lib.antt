@@ -1,1 +1,1 @@
-mod Fresh
+pub mod Fresh

@@ -1,50 +1,60 @@
 //! An engine whose conflicts are kept.
 use jmodel::value::{Answer, Stamp};
+use std::marker::{Brand, PhantomData};
 use std::snapshot::Snapshot;
 use tx_core::{Conflict, Engine, TxEnd};
 
-/// An engine that does what another does, and keeps the conflicts that it tells. It is for a call of this method without arguments.
+/// Which call an engine awaits, and how many words of its region are used before it. A caller picks both for its proof.
+pub trait Expecting {
+    ghost use Rattle.std.specs.Prelude.{ℕ};
+    ghost use Rattle.jmodel.specs.history.History.{Call};
+
+    ghost call: { Call };
+
+    ghost used: { ℕ };
+}
+
+impl Expecting for Brand {
+    ghost use Rattle.std.specs.Prelude.{[]};
+
+    ghost call = { record { phase = 0; lane = 0; index = 0; method = 0; args = []; region = 0 } };
+
+    ghost used = { 0 };
+}
+
+/// An engine that does what another does, and keeps the conflicts that it tells.
 #[derive(Drop)]
-pub struct Heard<E> {
+pub struct Heard<E, X> {
     pub engine: E,
-    pub method: usize,
     /// How many conflicts were met.
     pub conflicts: u64,
     pub last: Option<Conflict>,
+    expects: PhantomData<X>,
 }
 
-impl<E: Engine> Heard<E> {
+impl<E, X> Heard<E, X> {
     ghost use Rattle.std.specs.Prelude.{◌≡◌};
-    ghost use Rattle.held_tests.specs.Heard.{IsFresh};
 
-    pub fn new(engine: E, method: usize) -> Self
-        requires fresh { IsFresh method (E.stands engine) (E.awaits engine) }
-        ensures fresh { IsFresh result.method (E.stands result.engine) (E.awaits result.engine) }
-        ensures clock { E.clock result.engine ≡ E.clock engine }
+    pub fn new(engine: E) -> Self
+        ensures { result.engine ≡ engine }
     {
         Heard {
             engine,
-            method,
             conflicts: 0,
             last: None,
+            expects: PhantomData,
         }
     }
-}
-
-impl<E> Heard<E> {
-    ghost use Rattle.std.specs.Prelude.{◌≡◌};
 
     fn hear(&mut self, conflict: Conflict)
-        ensures engine { self.new.engine ≡ self.old.engine }
-        ensures method { self.new.method ≡ self.old.method }
+        ensures { self.new.engine ≡ self.old.engine }
     {
         self.conflicts = self.conflicts.wrapping_add(1);
         self.last = Some(conflict);
     }
 
     fn hear_end(&mut self, end: TxEnd)
-        ensures engine { self.new.engine ≡ self.old.engine }
-        ensures method { self.new.method ≡ self.old.method }
+        ensures { self.new.engine ≡ self.old.engine }
     {
         if let TxEnd::Conflict(conflict) = end {
             self.hear(conflict);
@@ -52,11 +62,11 @@ impl<E> Heard<E> {
     }
 }
 
-impl<E: Engine> Engine for Heard<E> {
+impl<E: Engine, X: Expecting> Engine for Heard<E, X> {
     ghost use Rattle.held_tests.specs.Heard.{StandsFor};
 
     // Until an entry is added, the call is awaited.
-    ghost stands = { λ s h n r w. StandsFor s.method (E.stands s.engine) (E.awaits s.engine) h n r w };
+    ghost stands = { λ s h n r w. StandsFor X.call X.used (E.stands s.engine) (E.awaits s.engine) h n r w };
 
     ghost is_open = { λ s. E.is_open s.engine };
 

@@ -27,12 +27,12 @@ impl Signals {
     }
 
     /// Waits for a lane's turn, which is lane 1's once lane 0 is held. Gives whether it came.
-    pub fn turn_comes(&self, lane: u64) -> bool {
+    pub fn turn_comes(&self, lane: u8) -> bool {
         lane == 0 || comes(&self.arrived)
     }
 
     /// Tells that a lane's call has ended.
-    pub fn tell_end(&self, lane: u64) {
+    pub fn tell_end(&self, lane: u8) {
         if lane == 0 {
             self.zero_ended.store(true, Ordering::SeqCst);
         } else {
@@ -41,7 +41,7 @@ impl Signals {
     }
 
     /// Waits until the other lane's call has ended. Gives whether it did.
-    pub fn other_ends(&self, lane: u64) -> bool {
+    pub fn other_ends(&self, lane: u8) -> bool {
         if lane == 0 {
             comes(&self.one_ended)
         } else {

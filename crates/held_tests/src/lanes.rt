@@ -1,126 +1,27 @@
-//! Two lanes on two threads over one table, of which one is held in the middle of an attempt.
-ghost use Rattle.std.specs.Prelude.{◌≡◌, ◌≤◌, ◌<◌, ◌+◌, ◌*◌, ◌^◌, ℕ, Bool, List, [], true, ⊤};
+//! Two sessions on two threads over one table, of which one is held in the middle of an attempt.
+ghost use Rattle.std.specs.Prelude.{◌≡◌, ◌≤◌, ◌<◌, ◌+◌, ◌*◌, ◌^◌, suc, length};
 ghost use Rattle.jmodel.specs.history.History.{Entry};
-ghost use Rattle.tx_table.specs.Plays.{first_book, stays_here, goes_out};
-ghost use Rattle.tx_table.specs.Passes.{book, IsOf, IsSame};
-ghost use Rattle.tl2.specs.Trials.{IsStarting, of_lane, regions_below};
-ghost use Rattle.held_tests.specs.Heard.{IsFresh, HasSpent};
+ghost use Rattle.objects.specs.semantics.State.{State};
+ghost use Rattle.tx_table.specs.Passes.{book};
+ghost use Rattle.machine.specs.Sound.{IsOverStates};
+ghost use Rattle.session.specs.Rule.{IsRuled, IsReady, IsCallOf};
+ghost use Rattle.session.specs.Adds.{call_of, IsEmpty};
+ghost use Rattle.driver.specs.Memory.{Holds, AreOfStates};
+ghost use Rattle.driver.specs.Passing.{used_of, first_of, IsOfOne};
+ghost use Rattle.held_tests.specs.Heard.{IsFresh};
 
-use crate::heard::Heard;
+use crate::heard::{Expecting, Heard};
 use crate::hold::{HoldGate, Signals};
-use crate::program::{classes, memory, rewritten};
-use hierarchy::Program;
-use jmodel::{Answer, NoMemory, Value};
-use lsa::Lsa;
-use machine::{End, Event, Limits, Machine, Room, Stuck};
+use driver::{Keeping, LANES, Memory, Opening, Runner, Start, open_table, start_lanes};
+use jmodel::{Answer, Value};
+use machine::Event;
+use script::Known;
+use session::{Making, Named, Place, Record, Session, engine_of};
 use std::alloc::{AllocError, Global};
-use std::snapshot::Snapshot;
+use std::marker::Brand;
 use std::thread::{Threads, join};
-use tl2::Tl2;
 use tx_core::{Conflict, Engine};
-use tx_table::{Calling, Pass, Ruled, Shared, Story};
-
-/// How many words a region has.
-const SIZE: u64 = 32;
-
-/// A call of a lane.
-#[derive(Drop)]
-pub struct CallAt {
-    lane: u64,
-    method: usize,
-}
-
-impl Calling for CallAt {
-    ghost use Rattle.held_tests.specs.Heard.{one_call};
-
-    ghost call = { λ c. one_call c.lane c.method };
-}
-
-/// A story of these words, two lanes, and any entries.
-#[derive(Drop)]
-pub struct Words {
-    words: Vec<u64>,
-}
-
-impl Story for Words {
-    ghost use Rattle.std.specs.Prelude.{⊤};
-    ghost use Rattle.tl2.specs.Trials.{regions_below};
-
-    ghost story = { λ w. record { words = w.words.items; regions = regions_below 3; runs = λ e. ⊤ } };
-}
-
-impl Ruled for Words {
-    ghost use Rattle.std.specs.Prelude.{⊤};
-
-    ghost rule = { λ e. ⊤ };
-
-    ghost keeps = { λ s e r. r };
-
-    ghost ruled = { λ s e r. r };
-}
-
-/// What two lanes call, and at which event the first attempt of lane 0 is held until lane 1's call has ended.
-#[derive(Clone, Copy)]
-pub struct Scene {
-    pub is_lazy: bool,
-    pub at: Event,
-    pub held: usize,
-    pub other: usize,
-}
-
-/// How a call of a lane ended, and the attempts and conflicts until then.
-#[derive(Drop)]
-pub struct Told {
-    end: Result<End, Stuck>,
-    attempts: u64,
-    conflicts: u64,
-    last: Option<Conflict>,
-    /// Whether it was waited in vain for the other lane.
-    is_late: bool,
-}
-
-/// A lane: whether its engine is LSA, its call, and the pass that it starts with.
-#[derive(Drop)]
-struct Lane {
-    is_lazy: bool,
-    call: CallAt,
-    pass: Pass,
-}
-
-/// Makes the call of a lane, which may take 1000 turns and 10 attempts.
-fn make<E: Engine>(
-    alloc: Global,
-    program: &Program,
-    heard: &mut Heard<E>,
-    gate: &mut HoldGate<'_>,
-    lane: u64,
-) -> Told
-    requires lane { lane < 2 }
-    requires clock { E.clock heard.old.engine + 10 ≤ 2 ^ 40 }
-    requires rule { (e : Entry) → E.allows e }
-    requires fresh { IsFresh heard.old.method (E.stands heard.old.engine) (E.awaits heard.old.engine) }
-    ensures clock { E.clock heard.new.engine ≤ E.clock heard.old.engine + 10 }
-    ensures fresh { HasSpent result.end → (IsFresh heard.new.method (E.stands heard.new.engine) (E.awaits heard.new.engine)) }
-{
-    let limits = Limits {
-        budget: 1000,
-        attempts: 10,
-        room: Room {
-            region: lane + 1,
-            size: SIZE,
-            used: 0,
-        },
-    };
-    let method = heard.method;
-    let end = Machine::call(alloc, program, heard, gate, limits, method, &[]);
-    Told {
-        end,
-        attempts: gate.attempts,
-        conflicts: heard.conflicts,
-        last: heard.last,
-        is_late: gate.is_late,
-    }
-}
+use tx_table::Shared;
 
 /// A conflict as a text: its address, its word or that this is odd, and up to which version the attempt could read.
 fn conflict_text(alloc: Global, conflict: Conflict) -> Result<String, AllocError> {
@@ -140,263 +41,222 @@ fn answer_text(alloc: Global, answer: &Answer) -> Result<String, AllocError> {
     match answer {
         Answer::Returned(Some(Value::Int(number))) => format!(in alloc; "{number}"),
         Answer::Budget => String::from_str(alloc, "refused budget"),
-        Answer::Spent => String::from_str(alloc, "spent"),
         _ => String::from_str(alloc, "another answer"),
     }
 }
 
-/// The answer, the stamp and the region's used words at the end of a call.
-fn end_text(alloc: Global, end: &End) -> Result<String, AllocError> {
-    let answer = answer_text(alloc, &end.answer)?;
-    let kind = if end.stamp.update { "update" } else { "none" };
-    let at = end.stamp.at;
-    let used = end.used;
-    format!(in alloc; "{answer}, {kind} at {at}, used {used}")
+/// The answer and the stamp of a call, or that it was spent.
+fn record_text(alloc: Global, kept: Option<&Record>) -> Result<String, AllocError> {
+    let Some(record) = kept else {
+        return String::from_str(alloc, "spent");
+    };
+    let answer = answer_text(alloc, &record.answer)?;
+    let kind = if record.stamp.update {
+        "update"
+    } else {
+        "none"
+    };
+    let at = record.stamp.at;
+    format!(in alloc; "{answer}, {kind} at {at}")
 }
 
-impl Told {
-    /// Whether the attempts of the call were used up.
-    fn is_spent(&self) -> bool
-        ensures { result ≡ true → HasSpent self.now.end }
-    {
-        match &self.end {
-            Ok(end) => matches!(end.answer, Answer::Spent),
-            Err(_) => false,
-        }
-    }
-
-    /// Adds a line: the end, the numbers of attempts and of conflicts, and the last conflict.
-    fn push_to(&self, alloc: Global, out: &mut String) -> Result<(), AllocError> {
-        if self.is_late {
-            out.push_str("late: ")?;
-        }
-        match &self.end {
-            Ok(end) => out.push_str(end_text(alloc, end)?.as_str())?,
-            Err(_) => out.push_str("stuck")?,
-        }
-        let attempts = self.attempts;
-        let conflicts = self.conflicts;
-        let counts = format!(in alloc; ", attempts {attempts}, conflicts {conflicts}")?;
-        out.push_str(counts.as_str())?;
-        if let Some(last) = self.last {
-            out.push_str(conflict_text(alloc, last)?.as_str())?;
-        }
-        out.push('\n')
-    }
-}
-
-/// Makes the call of a lane in its turn: that of lane 0, whose first attempt is held, or that of lane 1, once it is.
-fn in_turn<E: Engine>(
+/// Adds a line for the last call of a session: its answer and its stamp, or that it was spent; the used words of the region; and the attempts and the
+/// conflicts of the session until then, with the last conflict.
+fn push_line<E: Engine, X: Expecting>(
     alloc: Global,
-    program: &Program,
-    heard: &mut Heard<E>,
-    signals: &Signals,
-    lane: u64,
-) -> Told
-    requires lane { lane < 2 }
-    requires clock { E.clock heard.old.engine + 10 ≤ 2 ^ 40 }
-    requires rule { (e : Entry) → E.allows e }
-    requires fresh { IsFresh heard.old.method (E.stands heard.old.engine) (E.awaits heard.old.engine) }
-    ensures clock { E.clock heard.new.engine ≤ E.clock heard.old.engine + 10 }
-    ensures fresh { HasSpent result.end → (IsFresh heard.new.method (E.stands heard.new.engine) (E.awaits heard.new.engine)) }
-{
-    let came = signals.turn_comes(lane);
-    let mut gate = HoldGate::new(signals, lane == 0);
-    let mut told = make(alloc, program, heard, &mut gate, lane);
-    told.is_late = told.is_late || !came;
-    signals.tell_end(lane);
-    told
+    session: &Session<'_, Heard<E, X>, HoldGate<'_>>,
+    out: &mut String,
+) -> Result<(), AllocError> {
+    let gate = session.gate();
+    let lane = session.journal();
+    if gate.is_late {
+        out.push_str("late: ")?;
+    }
+    let text = record_text(alloc, lane.placed.as_slice().last())?;
+    out.push_str(text.as_str())?;
+    let used = lane.used;
+    let attempts = gate.attempts;
+    let conflicts = session.engine.conflicts;
+    let counts = format!(in alloc; ", used {used}, attempts {attempts}, conflicts {conflicts}")?;
+    out.push_str(counts.as_str())?;
+    if let Some(last) = session.engine.last {
+        out.push_str(conflict_text(alloc, last)?.as_str())?;
+    }
+    out.push('\n')
 }
 
-/// The line of a lane's call. One that was spent is made once more, when the other lane's has ended, which adds another.
-fn lines_of<E: Engine>(
+/// The lines of a lane's call, which is made in its turn: that of lane 0, whose first attempt is held, or that of lane 1, once it is. A call that was spent
+/// is made once more, when the other lane's has ended, which adds another line.
+fn lines_of<E: Engine + Drop, X: Expecting>(
     alloc: Global,
-    program: &Program,
-    heard: &mut Heard<E>,
+    session: Session<'_, Heard<E, X>, HoldGate<'_>>,
     signals: &Signals,
-    lane: u64,
+    at: Place,
+    call: &Known,
 ) -> Result<String, AllocError>
-    requires lane { lane < 2 }
-    requires clock { E.clock heard.old.engine ≡ 0 }
-    requires rule { (e : Entry) → E.allows e }
-    requires fresh { IsFresh heard.old.method (E.stands heard.old.engine) (E.awaits heard.old.engine) }
+    requires ready { IsReady session.making.original.now session.making.rewritten.now }
+    requires call { IsCallOf session.making.original.now call.now }
+    requires region { session.making.limits.room.region ≡ suc at.lane }
+    requires fits { session.making.limits.room.region * session.making.limits.room.size + session.making.limits.room.size < 2 ^ 64 }
+    requires rule { (e : Entry) → IsRuled session.making.original.now session.making.rewritten.now session.making.limits.room.size session.making.limits.budget session.making.limits.attempts e → E.allows e }
+    requires attempts { (1 ≤ session.making.limits.attempts) × (session.making.limits.attempts ≤ 1000000) }
+    requires empty { IsEmpty session.lane session.making.limits.room.used }
+    requires clock { E.clock session.engine.engine ≡ 0 }
+    requires shared { E.is_shared }
+    requires states { IsOverStates session.making.original.now session.making.limits E.begins E.allows }
+    requires expects { (X.call ≡ call_of session.making.limits.room at call.now) × (X.used ≡ session.making.limits.room.used) }
+    requires fresh { IsFresh X.call X.used (E.stands session.engine.engine) (E.awaits session.engine.engine) }
 {
+    let mut session = session;
     let mut out = String::new(alloc);
-    let told = in_turn(alloc, program, heard, signals, lane);
-    told.push_to(alloc, &mut out)?;
-    if told.is_spent() {
-        if !signals.other_ends(lane) {
+    if !signals.turn_comes(at.lane) {
+        out.push_str("late: ")?;
+    }
+    let is_made = session.call(at, call)?;
+    signals.tell_end(at.lane);
+    push_line(alloc, &session, &mut out)?;
+    if !is_made {
+        if !signals.other_ends(at.lane) {
             out.push_str("late: ")?;
         }
-        let mut gate = HoldGate::new(signals, false);
-        let more = make(alloc, program, heard, &mut gate, lane);
-        more.push_to(alloc, &mut out)?;
+        session.call(at, call)?;
+        push_line(alloc, &session, &mut out)?;
     }
     Ok(out)
 }
 
-/// The lines of a lane's calls under TL2.
-fn run_locking(
-    alloc: Global,
-    program: &Program,
-    shared: &Shared<Words>,
+/// The lines of a lane's call over its pass.
+fn run_over<K: Keeping, X: Expecting>(
+    runner: Runner<'_>,
+    shared: &Shared<Opening<K>>,
     signals: &Signals,
-    lane: Lane,
+    start: Start,
+    call: &Known,
 ) -> Result<String, AllocError>
-    requires lane { lane.call.lane < 2 }
-    requires start { IsStarting shared.now.table.shared.table_id lane.call.lane lane.pass × ((book lane.pass).entries ≡ []) }
+    requires ready { IsReady runner.original.now runner.rewritten.now }
+    requires call { IsCallOf runner.original.now call.now }
+    requires attempts { (1 ≤ runner.limits.attempts) × (runner.limits.attempts ≤ 1000000) }
+    requires room_size { runner.limits.size ≤ 1048576 }
+    requires rule { (e : Entry) → IsRuled runner.original.now runner.rewritten.now runner.limits.size runner.limits.budget runner.limits.attempts e → K.rule e }
+    requires states { AreOfStates runner.original.now runner.limits.size runner.limits.budget K.words K.used K.rule }
+    requires lane { start.lane < 16 }
+    requires used { start.used ≡ used_of (book start.pass) start.lane }
+    requires pass { IsOfOne shared.now.table.shared.table_id (book start.pass).seen (first_of 0 start.lane) start.pass }
+    requires expects { (X.call ≡ call_of (record { region = suc start.lane; size = runner.limits.size; used = start.used }) (first_of 0 start.lane) call.now) × (X.used ≡ start.used) }
 {
-    let Lane {
-        is_lazy: _,
-        call,
-        pass,
-    } = lane;
-    let engine = Tl2::new(alloc, shared, pass, Snapshot::of(&call));
-    let mut heard = Heard::new(engine, call.method);
-    lines_of(alloc, program, &mut heard, signals, call.lane)
+    let Start { lane, used, pass } = start;
+    let at = Place {
+        phase: 0,
+        lane,
+        first: 0,
+    };
+    let making = Making {
+        alloc: runner.alloc,
+        original: runner.original,
+        rewritten: runner.rewritten,
+        limits: runner.limits.in_region(u64::from(lane) + 1, used),
+    };
+    let named = Named::<Brand>::of(making.limits.room, at, call);
+    let engine = engine_of(runner.engine, runner.alloc, shared, pass, named);
+    let gate = HoldGate::new(signals, lane == 0);
+    let session = Session::open(making, Heard::<_, X>::new(engine), gate);
+    lines_of(runner.alloc, session, signals, at, call)
 }
 
-/// The lines of a lane's calls under LSA.
-fn run_lazy(
-    alloc: Global,
-    program: &Program,
-    shared: &Shared<Words>,
+/// The same: the engine expects this call.
+fn run_lane<K: Keeping>(
+    runner: Runner<'_>,
+    shared: &Shared<Opening<K>>,
     signals: &Signals,
-    lane: Lane,
+    start: Start,
+    call: &Known,
 ) -> Result<String, AllocError>
-    requires lane { lane.call.lane < 2 }
-    requires start { IsStarting shared.now.table.shared.table_id lane.call.lane lane.pass × ((book lane.pass).entries ≡ []) }
+    requires ready { IsReady runner.original.now runner.rewritten.now }
+    requires call { IsCallOf runner.original.now call.now }
+    requires attempts { (1 ≤ runner.limits.attempts) × (runner.limits.attempts ≤ 1000000) }
+    requires room_size { runner.limits.size ≤ 1048576 }
+    requires rule { (e : Entry) → IsRuled runner.original.now runner.rewritten.now runner.limits.size runner.limits.budget runner.limits.attempts e → K.rule e }
+    requires states { AreOfStates runner.original.now runner.limits.size runner.limits.budget K.words K.used K.rule }
+    requires lane { start.lane < 16 }
+    requires used { start.used ≡ used_of (book start.pass) start.lane }
+    requires pass { IsOfOne shared.now.table.shared.table_id (book start.pass).seen (first_of 0 start.lane) start.pass }
 {
-    let Lane {
-        is_lazy: _,
-        call,
-        pass,
-    } = lane;
-    let engine = Lsa::new(alloc, shared, pass, Snapshot::of(&call));
-    let mut heard = Heard::new(engine, call.method);
-    lines_of(alloc, program, &mut heard, signals, call.lane)
+    run_over::<K, Brand>(runner, shared, signals, start, call)
 }
 
-/// The lines of a lane's calls under the engine that is wanted.
-fn run_by(
-    alloc: Global,
-    program: &Program,
-    shared: &Shared<Words>,
-    signals: &Signals,
-    lane: Lane,
-) -> Result<String, AllocError>
-    requires lane { lane.call.lane < 2 }
-    requires start { IsStarting shared.now.table.shared.table_id lane.call.lane lane.pass × ((book lane.pass).entries ≡ []) }
-{
-    if lane.is_lazy {
-        run_lazy(alloc, program, shared, signals, lane)
-    } else {
-        run_locking(alloc, program, shared, signals, lane)
-    }
-}
-
-/// The lines of both lanes, on a thread each.
-fn both<R: Threads + Sync>(
+/// The lines of both lanes' calls, on a thread each.
+fn both<R: Threads + Sync, K: Keeping + Sync>(
     rt: &R,
-    alloc: Global,
-    program: &Program,
-    shared: &Shared<Words>,
+    runner: Runner<'_>,
+    shared: &Shared<Opening<K>>,
     signals: &Signals,
-    lanes: (Lane, Lane),
+    starts: (Start, Start),
+    calls: (&Known, &Known),
 ) -> (Result<String, AllocError>, Result<String, AllocError>)
-    requires numbers { (lanes.0.call.lane < 2) × (lanes.1.call.lane < 2) }
-    requires one { IsStarting shared.now.table.shared.table_id lanes.0.call.lane lanes.0.pass × ((book lanes.0.pass).entries ≡ []) }
-    requires two { IsStarting shared.now.table.shared.table_id lanes.1.call.lane lanes.1.pass × ((book lanes.1.pass).entries ≡ []) }
+    requires ready { IsReady runner.original.now runner.rewritten.now }
+    requires calls { IsCallOf runner.original.now calls.0.now × IsCallOf runner.original.now calls.1.now }
+    requires attempts { (1 ≤ runner.limits.attempts) × (runner.limits.attempts ≤ 1000000) }
+    requires room_size { runner.limits.size ≤ 1048576 }
+    requires rule { (e : Entry) → IsRuled runner.original.now runner.rewritten.now runner.limits.size runner.limits.budget runner.limits.attempts e → K.rule e }
+    requires states { AreOfStates runner.original.now runner.limits.size runner.limits.budget K.words K.used K.rule }
+    requires lanes { (starts.0.lane < 16) × (starts.1.lane < 16) }
+    requires used { (starts.0.used ≡ used_of (book starts.0.pass) starts.0.lane) × (starts.1.used ≡ used_of (book starts.1.pass) starts.1.lane) }
+    requires one { IsOfOne shared.now.table.shared.table_id (book starts.0.pass).seen (first_of 0 starts.0.lane) starts.0.pass }
+    requires two { IsOfOne shared.now.table.shared.table_id (book starts.1.pass).seen (first_of 0 starts.1.lane) starts.1.pass }
 {
-    let (one, two) = lanes;
+    let (one, two) = starts;
+    let (held, other) = calls;
     join(
         rt,
-        || run_by(alloc, program, shared, signals, one),
-        || run_by(alloc, program, shared, signals, two),
+        || run_lane(runner, shared, signals, one, held),
+        || run_lane(runner, shared, signals, two, other),
     )
 }
 
-/// The lines of both lanes, lane 0's first.
-fn play<R: Threads + Sync>(
+/// The same: the table's entries keep to the rule of the runner's calls.
+fn play_over<R: Threads + Sync, K: Keeping + Sync>(
     rt: &R,
-    alloc: Global,
-    program: &Program,
-    shared: &Shared<Words>,
-    passes: (Pass, Pass),
-    scene: Scene,
+    runner: Runner<'_>,
+    memory: Memory,
+    calls: (&Known, &Known),
+    at: Event,
 ) -> Result<String, AllocError>
-    requires one { IsStarting shared.now.table.shared.table_id 0 passes.0 × ((book passes.0).entries ≡ []) }
-    requires two { IsStarting shared.now.table.shared.table_id 1 passes.1 × ((book passes.1).entries ≡ []) }
+    requires ready { IsReady runner.original.now runner.rewritten.now }
+    requires stands { (σ : State) × Holds runner.original.now runner.limits.size memory σ }
+    requires calls { IsCallOf runner.original.now calls.0.now × IsCallOf runner.original.now calls.1.now }
+    requires attempts { (1 ≤ runner.limits.attempts) × (runner.limits.attempts ≤ 1000000) }
+    requires room_size { runner.limits.size ≤ 1048576 }
+    requires size { length memory.words.items + 4097 < 2 ^ 32 }
+    requires rule { (e : Entry) → IsRuled runner.original.now runner.rewritten.now runner.limits.size runner.limits.budget runner.limits.attempts e → K.rule e }
+    requires ruled { (e : Entry) → K.rule e → IsRuled runner.original.now runner.rewritten.now runner.limits.size runner.limits.budget runner.limits.attempts e }
+    requires words { memory.words.items ≡ K.words }
+    requires used { memory.used ≡ K.used }
 {
-    let held = CallAt {
-        lane: 0,
-        method: scene.held,
-    };
-    let other = CallAt {
-        lane: 1,
-        method: scene.other,
-    };
-    let one = Lane {
-        is_lazy: scene.is_lazy,
-        call: held,
-        pass: passes.0,
-    };
-    let two = Lane {
-        is_lazy: scene.is_lazy,
-        call: other,
-        pass: passes.1,
-    };
-    let signals = Signals::new(scene.at);
-    let (first, second) = both(rt, alloc, program, shared, &signals, (one, two));
+    let (shared, mut pass) = open_table::<K>(runner.alloc, memory)?;
+    let mut starts = start_lanes(runner.alloc, &shared, &mut pass, 2, &[0; LANES])?;
+    let two = starts.remove(1);
+    let one = starts.remove(0);
+    let signals = Signals::new(at);
+    let (first, second) = both(rt, runner, &shared, &signals, (one, two), calls);
     let mut lines = first?;
     lines.push_str(second?.as_str())?;
     Ok(lines)
 }
 
-/// Splits off a pass with the region of a lane.
-fn split_lane(pass: &mut Pass, shared: &Shared<Words>, _lane: u64) -> Pass
-    ghost given: { ℕ → Bool }
-    requires told { given ≡ of_lane _lane }
-    requires table { IsOf shared.now.table.shared.table_id pass.old }
-    requires ready { (0 < (book pass.old).fresh) × (1 < (book pass.old).numbers) × ((book pass.old).fresh < 2 ^ 20) × ((book pass.old).ticks ≤ 2 ^ 40) }
-    ensures same { IsSame pass.old pass.new × IsOf shared.now.table.shared.table_id result }
-    ensures books { (book pass.new ≡ stays_here (of_lane _lane) (book pass.old)) × (book result ≡ goes_out (of_lane _lane) (book pass.old)) }
-{
-    pass.split(shared)
-}
-
-/// The passes of both lanes of a table that was just opened.
-fn lanes_of(shared: &Shared<Words>, pass: &mut Pass) -> (Pass, Pass)
-    requires table { IsOf shared.now.table.shared.table_id pass.old }
-    requires first { (words : List ℕ) × (book pass.old ≡ first_book (record { words = words; regions = regions_below 3; runs = λ _. ⊤ })) }
-    ensures one { IsStarting shared.now.table.shared.table_id 0 result.0 × ((book result.0).entries ≡ []) }
-    ensures two { IsStarting shared.now.table.shared.table_id 1 result.1 × ((book result.1).entries ≡ []) }
-{
-    let one = split_lane(pass, shared, 0);
-    let two = split_lane(pass, shared, 1);
-    (one, two)
-}
-
-/// The lines of two lanes' calls over a table of their own, lane 0's first, each by its answer, its stamp, the used words of its region, its attempts and
-/// its lane's conflicts. A call that was spent is made once more, and has two.
-pub fn played<R: Threads + Sync>(rt: &R, alloc: Global, scene: Scene) -> Result<String, NoMemory> {
-    let classes = classes(alloc)?;
-    let program = rewritten(alloc, classes.as_slice())?;
-    let words = memory(alloc, classes.as_slice(), 3 * SIZE as usize)?;
-    let told = Words {
-        words: words.clone()?,
-    };
-    let (shared, mut pass) = Shared::open(alloc, words, Snapshot::of(&told))?;
-    let passes = lanes_of(&shared, &mut pass);
-    Ok(play(rt, alloc, &program, &shared, passes, scene)?)
-}
-
-/// Whether these are the lines.
-pub fn shows<R: Threads + Sync>(
+/// The lines of two lanes' calls over a table of their own, lane 0's first. Lane 0's first attempt is held at an event until lane 1's call has ended.
+pub fn play<R: Threads + Sync>(
     rt: &R,
-    alloc: Global,
-    scene: Scene,
-    lines: &str,
-) -> Result<bool, NoMemory> {
-    Ok(played(rt, alloc, scene)?.as_str() == lines)
+    runner: Runner<'_>,
+    memory: Memory,
+    calls: (&Known, &Known),
+    at: Event,
+) -> Result<String, AllocError>
+    requires ready { IsReady runner.original.now runner.rewritten.now }
+    requires stands { (σ : State) × Holds runner.original.now runner.limits.size memory σ }
+    requires calls { IsCallOf runner.original.now calls.0.now × IsCallOf runner.original.now calls.1.now }
+    requires attempts { (1 ≤ runner.limits.attempts) × (runner.limits.attempts ≤ 1000000) }
+    requires room_size { runner.limits.size ≤ 1048576 }
+    requires size { length memory.words.items + 4097 < 2 ^ 32 }
+{
+    play_over::<R, Brand>(rt, runner, memory, calls, at)
 }

@@ -1,13 +1,14 @@
 //! The lazy snapshot algorithm.
-use crate::lanes::{Scene, shows};
 use crate::program::{CAUGHT, ENDLESS, INC, ONE};
+use crate::scene::{Scene, shows};
 use jmodel::NoMemory;
 use machine::Event;
+use script::EngineKind;
 
 /// Lane 0's call, held at an event, beside another.
 fn beside(at: Event, held: usize, other: usize) -> Scene {
     Scene {
-        is_lazy: true,
+        engine: EngineKind::Lsa,
         at,
         held,
         other,
@@ -26,8 +27,8 @@ const AGAIN: &str = "2, update at 2, used 0, attempts 2, conflicts 1: 3 2 0
 
 /// The other call, of one attempt, meets the stripe that is held, and is made again.
 const OTHER_SPENT: &str = "1, update at 1, used 0, attempts 1, conflicts 0
-spent, none at 0, used 0, attempts 1, conflicts 1: 3 odd 0
-2, update at 2, used 0, attempts 1, conflicts 1: 3 odd 0
+spent, used 0, attempts 1, conflicts 1: 3 odd 0
+2, update at 2, used 0, attempts 2, conflicts 1: 3 odd 0
 ";
 
 /// A refusal, which leaves neither its write nor its stripe.

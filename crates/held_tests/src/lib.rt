@@ -1,5 +1,5 @@
-//! Tests that hold a call in the middle of its attempt while another commits, on two threads over one table. They stand apart, so that the engines and
-//! the machine are proved once and not a second time with their tests.
+//! Tests that hold a session's call in the middle of its attempt while another session commits, on two threads over one table. They stand apart, so that
+//! the engines, the machine and the sessions are proved once and not a second time with their tests.
 #![tactic(auto)]
 
 #[cfg(test)]
@@ -14,3 +14,5 @@ mod lazy;
 mod locking;
 #[cfg(test)]
 mod program;
+#[cfg(test)]
+mod scene;

@@ -1,13 +1,14 @@
 //! Transactional Locking II.
-use crate::lanes::{Scene, shows};
 use crate::program::{CAUGHT, INC, ONE};
+use crate::scene::{Scene, shows};
 use jmodel::NoMemory;
 use machine::Event;
+use script::EngineKind;
 
 /// Lane 0's call, held at an event, beside a call of `inc`.
 fn beside_inc(at: Event, held: usize) -> Scene {
     Scene {
-        is_lazy: false,
+        engine: EngineKind::Tl2,
         at,
         held,
         other: INC,
@@ -20,8 +21,8 @@ const AGAIN: &str = "2, update at 2, used 0, attempts 2, conflicts 1: 3 2 0
 ";
 
 /// A conflict that uses up the one attempt; the value stays 1, and the next call meets no other.
-const SPENT: &str = "spent, none at 0, used 0, attempts 1, conflicts 1: 3 2 0
-2, update at 2, used 0, attempts 1, conflicts 1: 3 2 0
+const SPENT: &str = "spent, used 0, attempts 1, conflicts 1: 3 2 0
+2, update at 2, used 0, attempts 2, conflicts 1: 3 2 0
 1, update at 1, used 0, attempts 1, conflicts 0
 ";
 

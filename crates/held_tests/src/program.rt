@@ -1,15 +1,16 @@
-//! A class that counts, and its program.
-ghost use Rattle.std.specs.Prelude.{◌≡◌, ◌≤◌, length, IfOk};
+//! A class that counts, and its programs.
+ghost use Rattle.std.specs.Prelude.{◌≡◌, ◌≤◌, length, map, Some, Ok, IfOk};
 ghost use Rattle.std.specs.List.{AllByRecursion};
 ghost use Rattle.jmodel.specs.format.ClassRules.{IsClassFile};
-ghost use Rattle.objects.specs.typing.Source.{IsSource};
+ghost use Rattle.objects.specs.linking.Linking.{linking};
+ghost use Rattle.objects.specs.laws.LinkingLaw.{AreRead};
+ghost use Rattle.session.specs.Rule.{IsReady};
 
 use class_reader::read_class;
 use const_pool::ClassFile;
-use heap_layout::opening::opening_words;
-use hierarchy::Program;
+use hierarchy::{Program, in_order};
 use jmodel::NoMemory;
-use linking::build::build_files;
+use linking::build::build;
 use program_rewriter::rewrite_program;
 use program_typing::type_all;
 use std::alloc::Global;
@@ -73,39 +74,30 @@ pub fn classes(alloc: Global) -> Result<Vec<ClassFile>, NoMemory>
     Ok(classes)
 }
 
-/// The program of class files.
-fn linked(alloc: Global, files: &[ClassFile]) -> Result<Program, NoMemory>
+/// Class files in the order of their names.
+pub fn ordered(alloc: Global, files: &[ClassFile]) -> Result<Vec<&ClassFile>, NoMemory>
     requires few { length files.now ≤ 256 }
     requires form { AllByRecursion IsClassFile files.now }
-    ensures { IfOk result IsSource }
+    ensures { IfOk result (λ v. AreRead (map (λ c. c.now) v.items)) }
 {
-    let Ok(program) = build_files(alloc, files) else {
+    let Ok(classes) = in_order(alloc, files) else {
         return Err(NoMemory);
     };
-    Ok(program)
+    Ok(classes)
 }
 
-/// The rewriting of the program of class files.
-pub fn rewritten(alloc: Global, files: &[ClassFile]) -> Result<Program, NoMemory>
-    requires few { length files.now ≤ 256 }
-    requires form { AllByRecursion IsClassFile files.now }
+/// The program that classes mean, and its rewriting.
+pub fn programs(alloc: Global, classes: &[&ClassFile]) -> Result<(Program, Program), NoMemory>
+    requires read { AreRead (map (λ c. c.now) classes.now) }
+    ensures links { IfOk result (λ p. linking (map (λ c. c.now) classes.now) ≡ Ok (Some p.0)) }
+    ensures ready { IfOk result (λ p. IsReady p.0 p.1) }
 {
-    let original = linked(alloc, files)?;
+    let Ok(original) = build(alloc, classes) else {
+        return Err(NoMemory);
+    };
     let Ok(()) = type_all(alloc, &original) else {
         return Err(NoMemory);
     };
-    rewrite_program(alloc, &original)
-}
-
-/// The words of memory before the first call, and those that follow up to so many in all.
-pub fn memory(alloc: Global, files: &[ClassFile], count: usize) -> Result<Vec<u64>, NoMemory>
-    ensures { IfOk result (λ v. length v.items ≡ count) }
-{
-    let mut classes = Vec::new(alloc);
-    for file in files {
-        classes.push(file)?;
-    }
-    let mut words = opening_words(alloc, classes.as_slice())?;
-    words.resize(count, 0)?;
-    Ok(words)
+    let rewritten = rewrite_program(alloc, &original)?;
+    Ok((original, rewritten))
 }
