@@ -1,7 +1,6 @@
-use Rattle.std.proofs.Common.{◌≡◌, ◌<◌, ℕ, List, get_or, sym, ap, ◌∙◌, subst, arith}
+use Rattle.std.proofs.Common.{ℕ, List, get_or, sym, ap, ◌∙◌, subst, arith}
 use Rattle.std.proofs.lemmas.List.{get_or-replicate}
 use Rattle.std.proofs.lemmas.List.Edits.{get_or-remove_below}
-use Rattle.tx_table.specs.Passes.{book}
 use Rattle.session.specs.Rule.{IsState}
 use Rattle.session.proofs.Marked.{explained}
 use Rattle.driver.specs.Memory.{used_at_first}
