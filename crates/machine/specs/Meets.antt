@@ -42,7 +42,7 @@ Flows (Err e) f g x = Meets (Err e) f x
 abbrev pub with_int : ℤ → Frame → Frame
 with_int x f = record f { stack = Int x ∷ f.stack }
 
--- the same of an instruction behind which an int may be held
+-- What an instruction does, by an outcome: an int, which the frame f holds on its stack, and the next place; or the flow that it gives.
 abbrev pub FlowsOn : Result Outcome Failure → Frame → Frame → Did → Type 0
 FlowsOn (Ok (outcome.Int x)) f g d = d ≡ Does doing.Next (with_int x f)
 FlowsOn (Ok (outcome.Flow w)) f g d = Flows (Ok w) f g d
@@ -130,7 +130,7 @@ IsFlow P (Ok (flow.Trap t)) f g fs x = x ≡ on_doing P (doing.Trap t) f fs
 IsFlow P (Ok flow.Other) f g fs x = f ≡ g
 IsFlow P (Err e) f g fs x = IsDone P (Err e) f fs x
 
--- the same of an instruction behind which an int may be held
+-- What an instruction leaves to be done, by an outcome, seen from the step: the next place, with an int on the stack of the frame f; or its flow.
 abbrev pub IsOutcome : Program → Result Outcome Failure → Frame → Frame → Frames → Asked → Type 0
 IsOutcome P (Ok (outcome.Int i)) f g fs x = x ≡ on_doing P doing.Next (with_int i f) fs
 IsOutcome P (Ok (outcome.Flow w)) f g fs x = IsFlow P (Ok w) f g fs x
