@@ -103,6 +103,13 @@ module _ (P Q : Program) (B : Bounds) (S : List Entry → ℕ → Log → Log �
   spare true is a = cc
   spare false is a = a
 
+  of_spent : (b : Bool) → b ≡ true → MatchBool b (AddsSpent P Q B t.call (S h) n after) Other → AddsSpent P Q B t.call (S h) n after
+  of_spent true is a = a
+  of_spent false is a = cc
+
+  pub spent_one : is_spent r.answer ≡ true → after ≡ old.used
+  spent_one spent = (of_spent (is_spent r.answer) spent adds).unused ∙ same
+
   pub made_one : is_spent r.answer ≡ false → r ≡ record_of t → AddsRecord old new r after → AddsMade t.call S h n old new
   made_one unspent tells keeps = by (is_memory r.answer) refl (spare (is_spent r.answer) unspent adds)
     where

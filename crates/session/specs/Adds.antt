@@ -89,10 +89,11 @@ pub record AddsRecord (old new : Lane) (r : Record) (used : ℕ) : Type 0 where
   pub placed : new.placed.items ≡ old.placed.items ++ filter has_place (r ∷ [])
   pub unplaced : new.unplaced.items ≡ old.unplaced.items ++ filter has_none (r ∷ [])
 
--- a call of a lane was made, and this record stands last, behind which so many words are used; or its attempts are used up
+-- A call of a lane was made, and this record stands last, behind which so many words are used. Or its attempts are used up, as the record says; the lane is as
+-- it was, and no word more is used.
 abbrev pub KeepsRecord : Bool → Lane → Lane → Record → ℕ → Type 0
 KeepsRecord true old new r used = AddsRecord old new r used
-KeepsRecord false old new r used = is_spent r.answer ≡ true
+KeepsRecord false old new r used = (is_spent r.answer ≡ true) × (new ≡ old) × (used ≡ old.used)
 
 -- A call of a lane was made: it added its entry, unless it ran out of memory, and its record.
 pub record AddsMade (c : Call) (S : List Entry → ℕ → Log → Log → Type 0) (h : List Entry) (n : ℕ) (old new : Lane) : Type 0 where

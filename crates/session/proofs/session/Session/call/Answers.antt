@@ -1,16 +1,16 @@
-use Rattle.std.proofs.Common.{◌≡◌, List, refl, sym, ◌∙◌, ap, subst}
+use Rattle.std.proofs.Common.{◌≡◌, List, true, refl, sym, ◌∙◌, ap, subst}
 use Rattle.machine.specs.Machine.{bounds_of}
 use Rattle.session.specs.declared.call.Making.{Making}
 use Rattle.session.specs.Lane.{record_of}
 use Rattle.machine.specs.Opacity.{OpaqueBy}
 use Rattle.session.specs.Rule.{Leads}
-use Rattle.session.specs.Adds.{call_of, told_by, AddsCall}
+use Rattle.session.specs.Adds.{call_of, told_by, is_spent, AddsCall}
 use Rattle.session.specs.Telling.{TellsCall}
 use Rattle.objects.specs.declared.event.Event.{Event}
 use Rattle.objects.specs.rewriting.Events.{Grows}
 use Rattle.session.specs.declared.record.Record.{Record}
 use Rattle.session.specs.Passes.{limits_with, bounds_with}
-use Rattle.session.proofs.Lanes.{made_one}
+use Rattle.session.proofs.Lanes.{made_one, spent_one}
 use Rattle.session.proofs.Telling.{spent_open}
 use Rattle.session.proofs.Tried.{tries_spent, tries_made}
 use Rattle.session.proofs.session.Session.call.Goals as goal
@@ -110,4 +110,10 @@ returns-then-is_spent-clause-prefixes g c = λ h n stands leads.
     let T = Grows (g.G.Gate.told c.args.self.now.gate) (g.G.Gate.told c.make_next-one.new.gate) in
     let Sees : Making → Type 0 = λ m. Leads g.E.Engine.is_shared g.E.Engine.begins h (call_of m.limits.room c.args.at k) m.limits.room.used
     → OpaqueBy one.answer m.original.now m.rewritten.now (bounds_of m.limits) g.E.Engine.begins g.E.Engine.allows (call_of m.limits.room c.args.at k) S h n T (record { answer = one.answer; stamp = one.stamp; used = used }) in
-    (one, used, sym c.is_spent.ensures ∙ c.if-is_spent.true, subst Sees c.with_used-making.ensures (c.make_next-one.ensures.prefixes h n stands) leads)
+    let self = c.args.self.now.making in
+    let old = c.args.self.now.lane in
+    let Adds : Making → Type 0 = λ m. AddsCall m.original.now m.rewritten.now (bounds_of m.limits) S h n (told_by m.limits.room c.args.at k one) used in
+    let adds : Adds (record self { limits = limits_with self.limits old.used }) = subst Adds c.with_used-making.ensures (c.make_next-one.ensures.adds h n stands) in
+    let spent : is_spent one.answer ≡ true = sym c.is_spent.ensures ∙ c.if-is_spent.true in
+    let unused = spent_one self.original.now self.rewritten.now (bounds_with self.limits old.used) S h n self.limits.room c.args.at k one used old old refl adds spent in
+    (one, used, (spent, refl, unused), subst Sees c.with_used-making.ensures (c.make_next-one.ensures.prefixes h n stands) leads)
