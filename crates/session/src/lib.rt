@@ -12,4 +12,4 @@ pub use claimed::Taken;
 pub use machine::{Gate, Limits, Room};
 pub use record::{Lane, Place, Record};
 pub use session::Session;
-pub use shared::{Named, engine_of};
+pub use shared::{Beginning, Named, engine_of};
