@@ -12,6 +12,7 @@ use crate::memory::{LANES, Limits, Memory};
 use crate::side::{Kept, used_in_all};
 use crate::table::{Keeping, open_table};
 use hierarchy::Program;
+use machine::Open;
 use script::{EngineKind, PhaseCalls};
 use session::Gate;
 use std::alloc::{AllocError, Global};
@@ -53,6 +54,25 @@ impl<'a> Runner<'a> {
         ensures told { IfOk result (λ journal. TellsScript self.now.rewritten.now self.now.limits phases.now journal.placed.items (map G.told gates.old.items) (map G.told gates.new.items)) }
     {
         self.run_over::<R, Brand, G>(rt, memory, phases, gates)
+    }
+
+    /// The same with gates that do nothing.
+    pub fn run_script<R: Threads + Sync>(
+        &self,
+        rt: &R,
+        memory: Memory,
+        phases: &[PhaseCalls],
+    ) -> Result<Journal, AllocError>
+        requires ready { IsReady self.now.original.now self.now.rewritten.now }
+        requires stands { (σ : State) × Holds self.now.original.now self.now.limits.size memory σ }
+        requires scripted { AreScripted self.now.original.now phases.now }
+        requires attempts { (1 ≤ self.now.limits.attempts) × (self.now.limits.attempts ≤ 1000000) }
+        requires room_size { self.now.limits.size ≤ 1048576 }
+        requires size { length memory.words.items + 4097 < 2 ^ 32 }
+        ensures run { IfOk result (HasRun self.now.original.now self.now.limits.size self.now.limits.budget phases.now memory) }
+    {
+        let mut gates = vec![in self.alloc; Open; LANES]?;
+        self.run_gated(rt, memory, phases, &mut gates)
     }
 
     fn run_over<R: Threads + Sync, K: Keeping + Sync, G: Gate + Send + Drop>(

@@ -5,6 +5,8 @@ ghost use Rattle.objects.specs.laws.LinkingLaw.{AreRead};
 ghost use Rattle.objects.specs.semantics.State.{State};
 ghost use Rattle.session.specs.Rule.{IsReady, IsCallOf};
 ghost use Rattle.driver.specs.Memory.{Holds};
+ghost use Rattle.driver.specs.Runs.{AreScripted};
+ghost use Rattle.objects.specs.semantics.Program.{Program as JProgram};
 
 use crate::lanes::play;
 use crate::program::{classes, ordered, programs};
@@ -16,8 +18,8 @@ use jmodel::NoMemory;
 use machine::Event;
 use objects::op::Dispatch;
 use runner::opened;
-use script::{EngineKind, Known};
-use std::alloc::Global;
+use script::{Calls, EngineKind, Known, LaneCalls, PhaseCalls};
+use std::alloc::{AllocError, Global};
 use std::thread::Threads;
 
 /// What two lanes call, by which engine, and at which event the first attempt of lane 0 is held until lane 1's call has ended.
@@ -120,4 +122,64 @@ pub fn shows<R: Threads + Sync>(
     lines: &str,
 ) -> Result<bool, NoMemory> {
     Ok(played(rt, alloc, scene)?.as_str() == lines)
+}
+
+/// A script of one phase, in which one lane makes one call.
+fn one_phase(alloc: Global, call: Known) -> Result<Vec<PhaseCalls>, AllocError>
+    ensures { (P : JProgram) → IsCallOf P call → IfOk result (λ v. AreScripted P v.items) }
+{
+    let mut calls = Vec::new(alloc);
+    calls.push(call)?;
+    let mut lanes = Vec::new(alloc);
+    lanes.push(LaneCalls { calls })?;
+    let mut phases = Vec::new(alloc);
+    phases.push(PhaseCalls {
+        calls: Calls::Lanes(lanes),
+    })?;
+    Ok(phases)
+}
+
+/// How many calls have a place in the history of a run in which one lane calls a method once.
+fn placed_over<R: Threads + Sync>(
+    rt: &R,
+    runner: Runner<'_>,
+    memory: Memory,
+    method: usize,
+) -> Result<usize, NoMemory>
+    requires ready { IsReady runner.original.now runner.rewritten.now }
+    requires stands { (σ : State) × Holds runner.original.now runner.limits.size memory σ }
+    requires attempts { (1 ≤ runner.limits.attempts) × (runner.limits.attempts ≤ 1000000) }
+    requires room_size { runner.limits.size ≤ 1048576 }
+    requires size { length memory.words.items + 4097 < 2 ^ 32 }
+{
+    let call = call_of(runner.alloc, runner.original, method)?;
+    let phases = one_phase(runner.alloc, call)?;
+    let journal = runner.run_script(rt, memory, phases.as_slice())?;
+    Ok(journal.placed.len())
+}
+
+/// The same over a memory of its own. The call may take 1000 turns, 10 attempts and 32 words of its region.
+pub fn placed<R: Threads + Sync>(
+    rt: &R,
+    alloc: Global,
+    engine: EngineKind,
+    method: usize,
+) -> Result<usize, NoMemory> {
+    let files = classes(alloc)?;
+    let classes = ordered(alloc, files.as_slice())?;
+    let (original, rewritten) = programs(alloc, classes.as_slice())?;
+    let limits = Limits {
+        budget: 1000,
+        attempts: 10,
+        size: 32,
+    };
+    let memory = memory_of(alloc, classes.as_slice(), &original, &rewritten, limits)?;
+    let runner = Runner {
+        alloc,
+        original: &original,
+        rewritten: &rewritten,
+        engine,
+        limits,
+    };
+    placed_over(rt, runner, memory, method)
 }
