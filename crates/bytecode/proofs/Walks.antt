@@ -9,9 +9,6 @@ use Rattle.jmodel.specs.declared.refusal.Halt.{Halt}
 use Rattle.jmodel.specs.declared.refusal.Halt.TheVariants as halts
 use Rattle.std.proofs.lemmas.Bool.{le-leb, lt-leb}
 use Rattle.std.proofs.lemmas.List.{append-nil, nil_from_length, length-drop}
-use Rattle.std.specs.Prelude.{option_map}
-use Rattle.jmodel.specs.format.Descriptor.{Signature, places_of}
-use Rattle.jmodel.specs.format.DescriptorReading.{signature_or}
 use Rattle.jmodel.specs.format.ClassFile.{Pool as Entries}
 use Rattle.jmodel.specs.declared.instruction.Operands.{Operands}
 use Rattle.std.specs.Int.{w8}
@@ -53,6 +50,12 @@ module _ (all is : List Instr) (k : ℕ) (i : Instr) where
       let here : drop k is ≡ i ∷ drop (suc k) is = drop-cons is k i lt ∙ ap (λ (x : Instr). x ∷ drop (suc k) is) (sym e) in
       let one : targets_fit all (drop k is) ≡ Err (bad_target i.pc) = rw (here, bad) refl in
       sym so_far ∙ one
+
+pub targets_end : (all is : List Instr) (k : ℕ) → length is ≤ k → targets_fit all (drop k is) ≡ targets_fit all is → targets_fit all is ≡ Ok tt
+unfolding targets_fit
+targets_end all is k le so_far =
+    let none : drop k is ≡ [] = nil_from_length (drop k is) (omega (arith, length-drop k is)) in
+    sym so_far ∙ rw none refl
 
 -- ---- the least place
 
@@ -150,21 +153,6 @@ pc_is pool code at i next e =
     let b = bind_ok (operands_as pool at (form_of a.0.0) code a.0.1) (λ o. Ok (record { pc = at; op = a.0.0; operands = o.0 }, o.1)) (i, next) a.2 in
     let same : (made at a.0.0 b.0.0, b.0.1) ≡ (i, next) = ok_is (made at a.0.0 b.0.0, b.0.1) (i, next) b.2 in
     sym (ap (λ (x : Instr × ℕ). x.0.pc) same)
-
--- ---- arguments
-
-abbrev pub nothing : Option ℕ
-nothing = None
-
-pub no_places : (o : Option Signature) (r f : Refusal) → signature_or r o ≡ Err f → nothing ≡ option_map (λ (s : Signature). suc (places_of s.parameters)) o
-no_places None r f e = refl
-no_places (Some s) r f e = absurd cc
-
-pub targets_end : (all is : List Instr) (k : ℕ) → length is ≤ k → targets_fit all (drop k is) ≡ targets_fit all is → targets_fit all is ≡ Ok tt
-unfolding targets_fit
-targets_end all is k le so_far =
-    let none : drop k is ≡ [] = nil_from_length (drop k is) (omega (arith, length-drop k is)) in
-    sym so_far ∙ rw none refl
 
 -- ---- bytes
 

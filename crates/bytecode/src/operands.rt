@@ -5,7 +5,7 @@ ghost use Rattle.jmodel.specs.format.Reading.{Gives};
 ghost use Rattle.jmodel.specs.format.Instruction.{form_of as form_in};
 ghost use Rattle.jmodel.specs.format.InstructionReading.{signed_operand_at, array_type_at as array_type, local_at as local, increment_at as increment, entry_operand_at, interface_at as interface, dimensions_at as dimensions, jump_at, wide_of as wide_form, wide_at as wide, operands_as};
 
-use crate::entries::{argument_places, is_entry};
+use crate::entries::is_entry;
 use crate::forms::form_of;
 use crate::numbers::{bad_instr, far_target_at, near_target_at, s1_at, s2_at, u1_at};
 use crate::switches::{lookup_at, table_at};
@@ -111,7 +111,7 @@ fn interface_at(
     let (index, at) = u2_at(bytes, at)?;
     let (count, at) = u1_at(bytes, at)?;
     let (last, after) = u1_at(bytes, at)?;
-    match argument_places(alloc, pool, index)? {
+    match pool.argument_places(index) {
         Some(places) if places == count as usize && last == 0 => {
             Ok((Operands::Interface { index, count }, after))
         }

@@ -16,3 +16,4 @@ pub mod Grown
 pub mod SameMeaning
 pub mod FirstLemmas
 pub mod TextTests
+pub mod Kept

@@ -3,3 +3,4 @@ pub mod Kinds
 pub mod Results
 pub mod Firsts
 pub mod Indexed
+pub mod Places

@@ -2,6 +2,7 @@
 ghost use Rattle.std.specs.Prelude.{◌≡◌, ℕ, List, ◌+◌, ◌<◌, ◌≤◌, length, IfSome, option_map, option_copied, is_some, position, ◌==◌};
 ghost use Rattle.jmodel.specs.format.Descriptor.{places as places_of_type, is_array_name as array_name};
 ghost use Rattle.jmodel.specs.format.DescriptorReading.{base as base_of, brackets as brackets_of, class_rest as after_class, element_rest as after_element, type_rest as after_type, type_of, closing as after_closing, types_at, with_places, result_of, is_field_descriptor as is_field, is_method_descriptor as is_method};
+ghost use Rattle.const_pool.specs.Places.{text_places};
 
 use jmodel::FieldType;
 
@@ -162,16 +163,27 @@ fn is_result(bytes: &[u8]) -> bool
     }
 }
 
-/// Whether the bytes are a method descriptor, whose parameters take at most 255 places. Takes no memory.
+/// The places that the parameters of a method descriptor take, at most 255, None where the bytes are none. Takes no memory.
 #[tactic(auto, unfolding(jmodel::specs::format::DescriptorReading::signature_of))]
+pub fn parameter_places(bytes: &[u8]) -> Option<u8>
+    ensures { result ≡ text_places bytes.now }
+{
+    match bytes {
+        [b'(', rest @ ..] => {
+            let (total, result_type) = parameters_end(rest)?;
+            if total <= 255 && is_result(result_type) {
+                Some(total as u8)
+            } else {
+                None
+            }
+        }
+        _ => None,
+    }
+}
+
+/// Whether the bytes are a method descriptor, whose parameters take at most 255 places. Takes no memory.
 pub fn is_method_descriptor(bytes: &[u8]) -> bool
     ensures { result ≡ is_method bytes.now }
 {
-    match bytes {
-        [b'(', rest @ ..] => match parameters_end(rest) {
-            Some((total, result_type)) => total <= 255 && is_result(result_type),
-            None => false,
-        },
-        _ => false,
-    }
+    parameter_places(bytes).is_some()
 }

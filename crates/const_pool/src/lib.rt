@@ -14,6 +14,7 @@ mod index;
 mod keys;
 mod meanings;
 mod names;
+mod places;
 mod pool;
 mod references;
 mod signature;

@@ -6,11 +6,13 @@ ghost use Rattle.jmodel.specs.declared.refusal.Refusal.TheVariants.{PoolFull};
 ghost use Rattle.jmodel.specs.format.PoolAdding.{Puts, IsLonger, put as put_entries};
 ghost use Rattle.jmodel.specs.format.Reading.{Gives};
 ghost use Rattle.const_pool.specs.Indexed.{IsIndexed};
+ghost use Rattle.const_pool.specs.Places.{places_at};
 ghost use Rattle.jmodel.specs.format.Pool.{entry, utf8 as text_of, class_name as class_of, member_name, MemberName};
 ghost use Rattle.jmodel.specs.format.PoolReading.{entry_at, utf8_at, class_at, name_and_type_at};
 
 use crate::by_index;
 use crate::index::Index;
+use crate::places::Places;
 use jmodel::{Bytes, Constant, Halt, Refusal};
 use std::alloc::{AllocError, Global};
 use std::marker::Model;
@@ -20,6 +22,7 @@ use std::marker::Model;
 pub struct Pool {
     entries: Vec<Constant>,
     index: Index,
+    places: Places,
 }
 
 impl Model for Pool {
@@ -32,8 +35,9 @@ impl Model for Pool {
 
     ghost use Rattle.std.specs.Prelude.{◌<◌, length};
     ghost use Rattle.const_pool.specs.Indexed.{IsIndexed};
+    ghost use Rattle.const_pool.specs.Places.{IsKept};
 
-    ghost invariant = { λ p. (length p.entries.items < 65535) × IsIndexed p.index p.entries.items };
+    ghost invariant = { λ p. (length p.entries.items < 65535) × IsIndexed p.index p.entries.items × IsKept p.places p.entries.items };
 }
 
 // Refusal of an entry for which there is no room. The caller knows the class.
@@ -51,6 +55,7 @@ impl Pool {
         Pool {
             entries: Vec::new(alloc),
             index: Index::new(alloc),
+            places: Places::new(alloc),
         }
     }
 
@@ -59,8 +64,20 @@ impl Pool {
         requires { length entries.items < 65535 }
         ensures { result ≡ entries.items }
     {
-        let index = Index::new(*entries.allocator());
-        Pool { entries, index }
+        let alloc = *entries.allocator();
+        Pool {
+            entries,
+            index: Index::new(alloc),
+            places: Places::new(alloc),
+        }
+    }
+
+    /// Walks each text once, so that `argument_places` walks none of these again. After an error nothing has changed.
+    pub fn keep_places(&mut self) -> Result<(), AllocError>
+        ensures { self.new ≡ self.old }
+    {
+        self.places = Places::of(self.allocator(), self.entries.as_slice())?;
+        Ok(())
     }
 
     /// Puts an entry at the end, with the next index. After an error nothing has changed.
@@ -120,6 +137,7 @@ impl Pool {
         if len < self.index.count() {
             self.index = Index::new(self.allocator());
         }
+        self.places.truncate(len);
         self.entries.truncate(len);
     }
 
@@ -136,6 +154,13 @@ impl Pool {
     {
         let alloc = self.allocator();
         self.index.extend(alloc, self.entries.as_slice())
+    }
+
+    // The places of the parameters that the text of an index describes.
+    pub(crate) fn parameter_places(&self, i: u16) -> Option<u8>
+        ensures { result ≡ places_at self.now i }
+    {
+        self.places.at(self.entries.as_slice(), i)
     }
 
     /// The entries, that of index 1 first.

@@ -180,8 +180,9 @@ fn read_pool(alloc: Global, bytes: &[u8], at: usize) -> Result<(Pool, usize), Ha
 {
     let (count, start) = u2_at(bytes, at)?;
     let (entries, after) = entries_at(alloc, bytes, count.saturating_sub(1), start)?;
-    let pool = Pool::from_entries(entries);
+    let mut pool = Pool::from_entries(entries);
     all_fit(alloc, &pool)?;
+    pool.keep_places()?;
     Ok((pool, after))
 }
 

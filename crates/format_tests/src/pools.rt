@@ -169,6 +169,18 @@ fn adds(rt: HostRuntime) -> Result<(), Fail> {
     Ok(())
 }
 
+// Entry 10 is no InterfaceMethodref, and entry 13 has no parameters. A text that was added is walked until it is kept.
+#[test]
+fn counts_arguments(rt: HostRuntime) -> Result<(), Fail> {
+    let mut pool = pool(rt.alloc())?;
+    let i = pool.add_interface_method(b"A", b"put", b"(JLa/B;[D)V")?;
+    let walked = pool.argument_places(i);
+    pool.keep_places()?;
+    let counts = [10, 13, i].map(|i| pool.argument_places(i));
+    assert!(rt; walked == Some(5) && counts == [None, Some(1), Some(5)]);
+    Ok(())
+}
+
 #[test]
 fn reads_descriptors(rt: HostRuntime) -> Result<(), Fail> {
     for (bytes, wanted) in DESCRIPTORS {
