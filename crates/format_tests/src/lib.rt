@@ -1,4 +1,4 @@
-//! Tests of parts of class files: `const_pool`, `annotations`, `bytecode` and the bytes of `jmodel`. They stand apart, so that those crates are proved
+//! Tests of parts of class files: `const_pool`, `annotations`, `bytecode`, the bytes of `jmodel` and `type_lists`. They stand apart, so that those crates are proved
 //! once and not a second time with their tests.
 #![tactic(auto)]
 
@@ -12,3 +12,5 @@ mod marks;
 mod names;
 #[cfg(test)]
 mod pools;
+#[cfg(test)]
+mod types;

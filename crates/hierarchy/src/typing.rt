@@ -1,15 +1,16 @@
 //! Tables of the types of the places of frames (JVM Specification, Java SE 7, section 4.10.1.2).
-ghost use Rattle.std.specs.Prelude.{◌≡◌, option_copied};
+ghost use Rattle.std.specs.Prelude.{◌≡◌, IfOk, option_copied};
 ghost use Rattle.objects.specs.typing.Typing.{types_at};
 
-use jmodel::VType;
+use std::alloc::AllocError;
 use std::marker::Model;
+use type_lists::{TypeStack, TypeTree};
 
 /// The types before one instruction.
 #[derive(Drop)]
 pub struct TypeEntry {
-    locals: Vec<VType>,
-    stack: Vec<VType>,
+    locals: TypeTree,
+    stack: TypeStack,
     built: bool,
 }
 
@@ -18,14 +19,14 @@ impl Model for TypeEntry {
 
     ghost Value = { Types };
 
-    ghost view = { λ e. record { locals = e.locals.items; stack = e.stack.items; built = e.built } };
+    ghost view = { λ e. record { locals = e.locals; stack = e.stack; built = e.built } };
 }
 
 impl TypeEntry {
     /// The types of the locals, and of the operand stack, the topmost first. In a constructor `built` says whether another has run over
     /// its object.
-    pub fn new(locals: Vec<VType>, stack: Vec<VType>, built: bool) -> Self
-        ensures { result ≡ record { locals = locals.items; stack = stack.items; built = built } }
+    pub fn new(locals: TypeTree, stack: TypeStack, built: bool) -> Self
+        ensures { result ≡ record { locals = locals; stack = stack; built = built } }
     {
         TypeEntry {
             locals,
@@ -34,18 +35,25 @@ impl TypeEntry {
         }
     }
 
+    /// The types once more, in the same memory.
+    pub fn share(&self) -> Result<Self, AllocError>
+        ensures { IfOk result (λ e. e ≡ self.now) }
+    {
+        Ok(TypeEntry::new(self.locals.share()?, self.stack.share()?, self.built))
+    }
+
     /// The types of the locals.
-    pub fn locals(&self) -> &[VType]
+    pub fn locals(&self) -> &TypeTree
         ensures { result.now ≡ self.now.locals }
     {
-        self.locals.as_slice()
+        &self.locals
     }
 
     /// The types of the operand stack, the topmost first.
-    pub fn stack(&self) -> &[VType]
+    pub fn stack(&self) -> &TypeStack
         ensures { result.now ≡ self.now.stack }
     {
-        self.stack.as_slice()
+        &self.stack
     }
 
     /// Whether the object of a constructor is built.

@@ -1,15 +1,14 @@
 -- What constructors do, as tests and what follows them.
-use Rattle.std.proofs.Common.{◌≡◌, ℕ, suc, List, length, reverse, drop, Option, Some, None, Bool, true, refl, sym, ap, ◌∙◌}
+use Rattle.std.proofs.Common.{◌≡◌, ℕ, List, [], ◌∷◌, length, reverse, drop, Bool, true, refl, sym, ap, ◌∙◌}
 use Rattle.std.proofs.lemmas.List.{length-replicate}
-use Rattle.std.specs.Prelude.{not, is_some, replicate, slice_get, if◌then◌else◌}
+use Rattle.std.specs.Prelude.{not, is_some, replicate, if◌then◌else◌}
 use Rattle.jmodel.specs.declared.typing.VType.{VType}
 use Rattle.jmodel.specs.declared.typing.VType.TheVariants.{Ref, Uninit, UninitThis}
 use Rattle.objects.specs.semantics.Program.{Method, Program}
 use Rattle.objects.specs.typing.TypeOrder.{string_class}
-use Rattle.objects.specs.typing.Typing.{Types, Flow, Leads, Wrong, arguments, constructs, if_so, local_in, on_each, on_top, special}
+use Rattle.objects.specs.typing.Typing.{Types, Flow, Leads, Wrong, arguments, constructs, if_so, on_each, on_top, special}
 use Rattle.verifier.specs.Flows.{constructed, may_construct}
 use Rattle.verifier.specs.Rules.{are_taken, next}
-use Rattle.verifier.proofs.Parts.{top_at}
 use Rattle.verifier.proofs.Ruled.{each_is}
 
 module _ (P : Program) (k : Method) (pc : ℕ) (h : Types) where
@@ -23,12 +22,11 @@ module _ (P : Program) (k : Method) (pc : ℕ) (h : Types) where
   built c t s = if_so (may_construct P k c t) (Leads (next pc) (constructed k c h t s))
 
   -- so over the object under so many places
-  pub constructs_at : (c : List ℕ) (n : ℕ) → on_top (drop n h.stack) (λ t s. constructs P k pc c h t s) ≡ local_in (slice_get h.stack n) (λ t. built c t (drop (suc n) h.stack))
-  constructs_at c n = top_at n h.stack (λ t s. constructs P k pc c h t s) ∙ go (slice_get h.stack n)
-    where
-      go : (o : Option VType) → local_in o (λ t. constructs P k pc c h t (drop (suc n) h.stack)) ≡ local_in o (λ t. built c t (drop (suc n) h.stack))
-      go None = refl
-      go (Some t) = constructs_is c t (drop (suc n) h.stack)
+  pub constructs_over : (c : List ℕ) (r : List VType) (n : ℕ) (t : VType) (s : List VType) → r ≡ drop n h.stack → r ≡ t ∷ s → on_top (drop n h.stack) (λ t s. constructs P k pc c h t s) ≡ built c t s
+  constructs_over c r n t s e f = ap (λ (r : List VType). on_top r (λ t s. constructs P k pc c h t s)) (sym e ∙ f) ∙ constructs_is c t s
+
+  pub constructs_none : (c : List ℕ) (r : List VType) (n : ℕ) → r ≡ drop n h.stack → r ≡ [] → on_top (drop n h.stack) (λ t s. constructs P k pc c h t s) ≡ Wrong
+  constructs_none c r n e f = ap (λ (r : List VType). on_top r (λ t s. constructs P k pc c h t s)) (sym e ∙ f)
 
   -- a call of a constructor
   pub constructor_is : (c : Method) → special true P k pc c h ≡ if_so (not (is_some c.result)) (if are_taken P (reverse (arguments c)) h.stack then on_top (drop (length (reverse (arguments c))) h.stack) (λ t s. constructs P k pc c.name.class h t s) else Wrong)

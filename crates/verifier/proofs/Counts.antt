@@ -1,10 +1,9 @@
 -- How many places wait to be looked at.
-use Rattle.std.proofs.Common.{◌≡◌, ◌≢◌, ℕ, zero, suc, ◌+◌, ◌<◌, ◌≤◌, List, ◌∷◌, Bool, true, false, cond, refl, sym, ap, subst, arith}
-use Rattle.std.specs.Prelude.{All}
+use Rattle.std.proofs.Common.{◌≡◌, ◌≢◌, ℕ, zero, suc, ◌+◌, ◌<◌, ◌≤◌, List, Bool, true, false, cond, refl, sym, ap, subst, arith}
 use Rattle.std.specs.Ordering.{nat_cmp}
 use Rattle.std.specs.BTreeMap.{is_at}
-use Rattle.verifier.specs.Search.{IsInserted, waits}
-use Rattle.verifier.proofs.Numbers.{at_self, at_same, waits_not}
+use Rattle.verifier.specs.Search.{IsInserted, IsTaken, waits}
+use Rattle.verifier.proofs.Numbers.{at_self, at_same}
 use Rattle.verifier.proofs.Weights.{bit}
 
 -- how many places below a number wait
@@ -37,41 +36,33 @@ module _ (to : ℕ) (ws ns : List ℕ) (put : IsInserted to ws ns) where
       by rest true e p = let s = at_same to i e in let l : i ≤ to = omega arith in let r = count_other i l in let a = bit_high (waits ns i) in omega arith
       by rest false e p = let a = ap bit p in omega arith
 
--- the least place is taken
-module _ (pc : ℕ) (ws : List ℕ) (least : All (λ q. pc < q) ws) where
-  -- another waits if it did
-  waits_by : (q : ℕ) (x : Bool) → is_at (nat_cmp q) pc ≡ x → waits (pc ∷ ws) q ≡ cond x true (waits ws q)
-  waits_by q true e = simp e
-  waits_by q false e = simp e
-
+-- a place is taken
+module _ (pc : ℕ) (ws ns : List ℕ) (there : waits ws pc ≡ true) (taken : IsTaken pc ws ns) where
   -- below it as many wait
-  count_above : (i : ℕ) → i ≤ pc → count i (pc ∷ ws) ≡ count i ws
-  count_above zero h = refl
-  count_above (suc i) h = by (let l : i ≤ pc = omega arith in count_above i l) (is_at (nat_cmp i) pc) refl
+  count_below : (i : ℕ) → i ≤ pc → count i ns ≡ count i ws
+  count_below zero h = refl
+  count_below (suc i) h = by (let l : i ≤ pc = omega arith in count_below i l) (is_at (nat_cmp pc) i) refl (taken i)
     where
-      by : count i (pc ∷ ws) ≡ count i ws → (x : Bool) → is_at (nat_cmp i) pc ≡ x → bit (waits (pc ∷ ws) i) + count i (pc ∷ ws) ≡ bit (waits ws i) + count i ws
-      by rest true e = absurd (let s = at_same i pc e in omega arith)
-      by rest false e = let a = ap bit (waits_by i false e) in omega arith
+      by : count i ns ≡ count i ws → (x : Bool) → is_at (nat_cmp pc) i ≡ x → waits ns i ≡ cond x false (waits ws i) → bit (waits ns i) + count i ns ≡ bit (waits ws i) + count i ws
+      by rest true e p = absurd (let s = at_same pc i e in omega arith)
+      by rest false e p = let a = ap bit p in omega arith
 
   -- one less waits
-  pub count_taken : (i : ℕ) → pc < i → count i (pc ∷ ws) ≡ count i ws + 1
+  pub count_taken : (i : ℕ) → pc < i → count i ws ≡ count i ns + 1
   count_taken zero h = absurd (omega arith)
-  count_taken (suc i) h = by (count_taken i) (is_at (nat_cmp i) pc) refl
+  count_taken (suc i) h = by (count_taken i) (is_at (nat_cmp pc) i) refl (taken i)
     where
-      by : (pc < i → count i (pc ∷ ws) ≡ count i ws + 1) → (x : Bool) → is_at (nat_cmp i) pc ≡ x → bit (waits (pc ∷ ws) i) + count i (pc ∷ ws) ≡ bit (waits ws i) + count i ws + 1
-      by rest true e =
-          let s = at_same i pc e in
+      by : (pc < i → count i ws ≡ count i ns + 1) → (x : Bool) → is_at (nat_cmp pc) i ≡ x → waits ns i ≡ cond x false (waits ws i) → bit (waits ws i) + count i ws ≡ bit (waits ns i) + count i ns + 1
+      by rest true e p =
+          let s = at_same pc i e in
           let l : i ≤ pc = omega arith in
-          let a = ap bit (waits_by i true e) in
-          let w = ap bit (waits_not pc ws least i l) in
-          let r = count_above i l in
+          let w : bit (waits ws i) ≡ 1 = ap bit (subst (λ (j : ℕ). waits ws j ≡ true) (sym s) there) in
+          let a : bit (waits ns i) ≡ 0 = ap bit p in
+          let r = count_below i l in
           omega arith
-      by rest false e =
-          let ne : pc ≢ i = λ s. let t = at_self_of s in let no : ⊥ = cc (t, e) in no in
+      by rest false e p =
+          let ne : pc ≢ i = λ s. let t = at_self pc in let u : is_at (nat_cmp pc) pc ≡ false = subst (λ (j : ℕ). is_at (nat_cmp pc) j ≡ false) (sym s) e in let no : ⊥ = cc (t, u) in no in
           let l : pc < i = omega arith in
-          let a = ap bit (waits_by i false e) in
+          let a = ap bit p in
           let r = rest l in
           omega arith
-        where
-          at_self_of : pc ≡ i → is_at (nat_cmp i) pc ≡ true
-          at_self_of s = subst (λ (j : ℕ). is_at (nat_cmp i) j ≡ true) (sym s) (at_self i)

@@ -1,8 +1,8 @@
--- The search finds the narrowest typing, and else the least place from which on there is none.
-use Rattle.std.proofs.Common.{◌≡◌, ◌≢◌, ℕ, zero, suc, ◌-◌, ◌<◌, ◌≤◌, max, ◌⊎◌, inl, inr, List, [], ◌∷◌, ◌++◌, length, replicate, Option, Some, None, Bool, true, false, refl, sym, ap, subst, ◌∙◌, arith}
+-- A search finds the narrowest table that meets the rules up to a place, or there is none.
+use Rattle.std.proofs.Common.{◌≡◌, ◌≢◌, ℕ, zero, suc, ◌-◌, ◌<◌, ◌≤◌, inl, inr, List, [], ◌∷◌, ◌++◌, length, replicate, Option, Some, None, Bool, true, false, cond, refl, sym, ap, subst, ◌∙◌, arith}
 use Rattle.std.proofs.lemmas.Bool.Decides.{nat_tests}
 use Rattle.std.proofs.lemmas.List.{length-replicate}
-use Rattle.std.specs.Prelude.{◌&&◌, slice_get, nat_eq, nat_le, nat_lt, All}
+use Rattle.std.specs.Prelude.{◌&&◌, slice_get, nat_eq, nat_le, is_some}
 use Rattle.std.specs.List.{AllByRecursion}
 use Rattle.std.specs.Ordering.{nat_cmp}
 use Rattle.std.specs.BTreeMap.{is_at}
@@ -14,18 +14,19 @@ use Rattle.objects.specs.semantics.Program.{Method, Program}
 use Rattle.objects.specs.typing.TypeOrder.{AreWithin, IsLocals}
 use Rattle.objects.specs.typing.Typing.{Types, Table, FitsIn, Covers, AreCaught, KeepsAt, KeepsFlow, Flow, Leads, Wrong, flow, IsTypedAt, IsTyping, IsTypingUpTo, IsNarrowest, IsUntypableAt, types_at, first_types, first_locals, is_constructor}
 use Rattle.objects.specs.typing.Source.{AreTypes}
-use Rattle.verifier.specs.Search.{State, Then, Flows, waits, demands, is_ready, is_entered, are_throwable, are_locals_after, Follows, follows_op, follows_at, IsVisit, starting}
+use Rattle.verifier.specs.Bounded.{IsUntypedUpTo, IsTableUpTo, IsFoundUpTo}
+use Rattle.verifier.specs.Search.{State, Then, Flows, IsTaken, waits, demands, is_ready, is_entered, are_throwable, are_locals_after, Follows, follows_op, follows_at, IsVisit, starting}
 use Rattle.verifier.proofs.Lists.{both, and_true}
 use Rattle.verifier.proofs.Locals.{to_locals, of_locals}
 use Rattle.verifier.proofs.Stacks.{to_ready, of_ready}
 use Rattle.verifier.proofs.Under.{AreUnder, within_under, Narrower, IsFramed}
 use Rattle.verifier.proofs.Narrow.{flow_narrow}
-use Rattle.verifier.proofs.Numbers.{same_or_not, waits_not, at_same, at_self, get_within, to_entry}
+use Rattle.verifier.proofs.Numbers.{same_or_not, at_same, at_self, get_within, to_entry}
 use Rattle.verifier.proofs.Demands.{Above, Met, AreFramed, covers_up, to_demands, of_demands, demands_down, demands_framed, to_throwable}
 use Rattle.verifier.proofs.Growth.{Entered, AreEntered, AreCovered}
 use Rattle.verifier.proofs.Pours.{Flowed, flows, blocked}
 
--- What is known of a search: its last place is the greatest looked at so far.
+-- what is known of a search that looks at no place behind a last one
 pub record Known (P : Program) (k : Method) (last : ℕ) (s : State) : Type 0 where
   pub size : length s.table ≡ length k.ops
   pub first : types_at s.table 0 ≡ Some (first_types k)
@@ -33,20 +34,12 @@ pub record Known (P : Program) (k : Method) (last : ℕ) (s : State) : Type 0 wh
   pub keeps : (q : ℕ) (h : Types) → types_at s.table q ≡ Some h → waits s.waiting q ≡ false → IsTypedAt P k s.table q h
   pub there : (q : ℕ) → waits s.waiting q ≡ true → (h : Types) × (types_at s.table q ≡ Some h)
   pub forced : (U : Table) → IsTypingUpTo P k last U → AreCovered P k U s.table
-  pub before : (q : ℕ) → q < last → (U : Table) × IsTypingUpTo P k q U
 
 under_length : (P : Program) (a b : List VType) → AreUnder P a b → length a ≡ length b
 under_length P [] [] u = refl
 under_length P (t ∷ a) (v ∷ b) u = ap suc (under_length P a b u.1)
 under_length P [] (v ∷ b) u = absurd u
 under_length P (t ∷ a) [] u = absurd u
-
-less_or : (a b : ℕ) → (a < b) ⊎ (b ≤ a)
-less_or a b = go (nat_lt a b) refl
-  where
-    go : (t : Bool) → nat_lt a b ≡ t → (a < b) ⊎ (b ≤ a)
-    go true e = inl (grind (arith, nat_tests))
-    go false e = inr (grind (arith, nat_tests))
 
 up_to : (P : Program) (k : Method) (a b : ℕ) (U : Table) → a ≤ b → IsTypingUpTo P k b U → IsTypingUpTo P k a U
 up_to P k a b U le t = record { first = t.first; each = λ q h l e. let l' : q ≤ b = omega arith in t.each q h l' e }
@@ -112,70 +105,43 @@ module _ (P : Program) (C : AreTypes P) (k : Method) where
       subst (λ (z : ℕ). IsFramed P z x) e.framed.places m.2
 
   -- a place is taken from those that wait, and its instruction is looked at
-  module _ (last pc : ℕ) (T : Table) (ws : List ℕ) (known : Known P k last (record { table = T; waiting = pc ∷ ws })) (least : All (λ q. pc < q) ws) (n : State) where
+  module _ (last pc : ℕ) (T : Table) (vs ws : List ℕ) (known : Known P k last (record { table = T; waiting = vs })) (pc_waits : waits vs pc ≡ true) (pc_le : pc ≤ last) (taken : IsTaken pc vs ws) (n : State) where
     abbrev s : State
     s = record { table = T; waiting = ws }
 
-    abbrev now : ℕ
-    now = max last pc
-
-    old_le : last ≤ now
-    old_le = omega arith
-
-    pc_le : pc ≤ now
-    pc_le = omega arith
-
-    pc_waits : waits (pc ∷ ws) pc ≡ true
-    pc_waits = let e = at_self pc in simp e
-
-    -- another place waits now if it did
-    still : (q : ℕ) → q ≢ pc → waits ws q ≡ false → waits (pc ∷ ws) q ≡ false
-    still q ne w = go (is_at (nat_cmp q) pc) refl
+    -- another place waits if it did
+    still : (q : ℕ) → q ≢ pc → waits ws q ≡ false → waits vs q ≡ false
+    still q ne w = go (is_at (nat_cmp pc) q) refl (sym (taken q) ∙ w)
       where
-        go : (b : Bool) → is_at (nat_cmp q) pc ≡ b → waits (pc ∷ ws) q ≡ false
-        go true e = absurd (ne (sym (at_same q pc e)))
-        go false e = simp (e, w)
+        go : (b : Bool) → is_at (nat_cmp pc) q ≡ b → cond b false (waits vs q) ≡ false → waits vs q ≡ false
+        go true e c = absurd (ne (at_same pc q e))
+        go false e c = c
 
-    waits_more : (q : ℕ) → waits ws q ≡ true → waits (pc ∷ ws) q ≡ true
-    waits_more q w = go (is_at (nat_cmp q) pc) refl
+    waits_more : (q : ℕ) → waits ws q ≡ true → waits vs q ≡ true
+    waits_more q w = go (is_at (nat_cmp pc) q) (sym (taken q) ∙ w)
       where
-        go : (b : Bool) → is_at (nat_cmp q) pc ≡ b → waits (pc ∷ ws) q ≡ true
-        go true e = simp e
-        go false e = simp (e, w)
-
-    below : (q : ℕ) → q < pc → waits (pc ∷ ws) q ≡ false
-    below q lt =
-        let le : q ≤ pc = omega arith in
-        let ne : q ≢ pc = λ e. absurd (omega arith) in
-        still q ne (waits_not pc ws least q le)
-
-    before_now : (q : ℕ) → q < now → (U : Table) × IsTypingUpTo P k q U
-    before_now q lt = elim (less_or q last) as (λ x. (U : Table) × IsTypingUpTo P k q U) [
-      | inl l ↦ known.before q l
-      | inr l ↦ (T, record { first = known.first; each = λ p h le e. let b : p < pc = omega arith in known.keeps p h e (below p b) })
-    ]
-
-    forced_now : (U : Table) → IsTypingUpTo P k now U → AreCovered P k U T
-    forced_now U t = known.forced U (up_to P k last now U old_le t)
+        go : (b : Bool) → cond b false (waits vs q) ≡ true → waits vs q ≡ true
+        go true c = absurd (let no : ⊥ = cc (c) in no)
+        go false c = c
 
     module _ (h : Types) (at : types_at T pc ≡ Some h) where
       entry : Entered P k h
       entry = known.entered pc h at
 
       -- the rules of the instruction, in each table that meets those up to here
-      rules : (U : Table) → IsTypingUpTo P k now U → (c : Covers P k U h pc) × IsTypedAt P k U pc c.types
-      rules U t = let c = forced_now U t pc h at in (c, t.each pc c.types pc_le c.there)
+      rules : (U : Table) → IsTypingUpTo P k last U → (c : Covers P k U h pc) × IsTypedAt P k U pc c.types
+      rules U t = let c = known.forced U t pc h at in (c, t.each pc c.types pc_le c.there)
 
-      ruled : (o : Op) → slice_get k.ops pc ≡ Some o → (U : Table) → IsTypingUpTo P k now U → Kept U pc h o
+      ruled : (o : Op) → slice_get k.ops pc ≡ Some o → (U : Table) → IsTypingUpTo P k last U → Kept U pc h o
       ruled o i U t =
           let r = rules U t in
           let c = r.0 in
           kept_down U pc h c.types o c.fits entry.framed.each r.1 (subst (KeepsAt P k U pc c.types) i r.1.keeps)
 
-      ruled_ready : (U : Table) → IsTypingUpTo P k now U → is_ready k h ≡ true
+      ruled_ready : (U : Table) → IsTypingUpTo P k last U → is_ready k h ≡ true
       ruled_ready U t = let r = rules U t in of_ready P k h r.0.types r.0.fits r.1.room r.1.stack
 
-      ruled_met : (o : Op) (to : List ℕ) (x : Types) → slice_get k.ops pc ≡ Some o → flow P k pc o h ≡ Leads to x → (U : Table) → IsTypingUpTo P k now U → Met P k U (demands P k pc h to x)
+      ruled_met : (o : Op) (to : List ℕ) (x : Types) → slice_get k.ops pc ≡ Some o → flow P k pc o h ≡ Leads to x → (U : Table) → IsTypingUpTo P k last U → Met P k U (demands P k pc h to x)
       ruled_met o to x i is U t =
           let r = ruled o i U t in
           let ri = r.is in
@@ -183,7 +149,7 @@ module _ (P : Program) (C : AreTypes P) (k : Method) where
           let b : r.left ≡ x = cc (ri, is) in
           subst (λ (to : List ℕ). Met P k U (demands P k pc h to x)) a (subst (λ (x : Types). Met P k U (demands P k pc h r.to x)) b r.met)
 
-      next : (o : Op) (to : List ℕ) (x : Types) → slice_get k.ops pc ≡ Some o → is_ready k h ≡ true → flow P k pc o h ≡ Leads to x → length x.stack ≤ k.max_stack → are_throwable P k.catches pc ≡ true → Flowed P k s n (demands P k pc h to x) → Known P k now n
+      next : (o : Op) (to : List ℕ) (x : Types) → slice_get k.ops pc ≡ Some o → is_ready k h ≡ true → flow P k pc o h ≡ Leads to x → length x.stack ≤ k.max_stack → are_throwable P k.catches pc ≡ true → Flowed P k s n (demands P k pc h to x) → Known P k last n
       next o to x i ready is fits throws f = record {
         size = f.grows.size ∙ known.size;
         first = f.grows.first ∙ known.first;
@@ -202,8 +168,7 @@ module _ (P : Program) (C : AreTypes P) (k : Method) where
           | inl x ↦ let y = known.there q (waits_more q x) in let z = f.grows.kept q y.0 y.1 in (z.types, z.there)
           | inr x ↦ x
         ];
-        forced = λ U t. f.forced U (forced_now U t) (ruled_met o to x i is U t);
-        before = before_now;
+        forced = λ U t. f.forced U (known.forced U t) (ruled_met o to x i is U t);
       }
 
       abbrev does : Option Op → Bool → Type 0
@@ -216,35 +181,35 @@ module _ (P : Program) (C : AreTypes P) (k : Method) where
       false_true true e f = cc
       false_true false e f = cc
 
-      holds : does (slice_get k.ops pc) true → Known P k now n
+      holds : does (slice_get k.ops pc) true → Known P k last n
       holds g = go (is_ready k h) (slice_get k.ops pc) refl refl g
         where
           ends : (o : Op) (to : List ℕ) (x : Types) (m t : Bool) → slice_get k.ops pc ≡ Some o → is_ready k h ≡ true → flow P k pc o h ≡ Leads to x → nat_le (length x.stack) k.max_stack ≡ m → are_throwable P k.catches pc ≡ t
-              → Then (m && t) (Flows P (demands P k pc h to x) s n true) (true ≡ false) → Known P k now n
+              → Then (m && t) (Flows P (demands P k pc h to x) s n true) (true ≡ false) → Known P k last n
           ends o to x true true i r is a b g =
               let le : length x.stack ≤ k.max_stack = grind (arith, nat_tests) in
               next o to x i r is le b (flows P C k (demands P k pc h to x) s n known.size known.first known.entered (framed o to x r is) g)
           ends o to x true false i r is a b g = absurd (false_true true g refl)
           ends o to x false t i r is a b g = absurd (false_true true g refl)
 
-          step : (o : Op) (f : Flow) → slice_get k.ops pc ≡ Some o → is_ready k h ≡ true → flow P k pc o h ≡ f → Follows P k pc h f s n true → Known P k now n
+          step : (o : Op) (f : Flow) → slice_get k.ops pc ≡ Some o → is_ready k h ≡ true → flow P k pc o h ≡ f → Follows P k pc h f s n true → Known P k last n
           step o Wrong i r is g = absurd (false_true true g refl)
           step o (Leads to x) i r is g = ends o to x (nat_le (length x.stack) k.max_stack) (are_throwable P k.catches pc) i r is refl refl g
 
-          go : (b : Bool) (o : Option Op) → is_ready k h ≡ b → slice_get k.ops pc ≡ o → Then b (follows_op P k pc h o s n true) (true ≡ false) → Known P k now n
+          go : (b : Bool) (o : Option Op) → is_ready k h ≡ b → slice_get k.ops pc ≡ o → Then b (follows_op P k pc h o s n true) (true ≡ false) → Known P k last n
           go false o r i g = absurd (false_true true g refl)
           go true None r i g = absurd (false_true true g refl)
           go true (Some o) r i g = step o (flow P k pc o h) i r refl g
 
       abbrev Fails : Type 0
-      Fails = (U : Table) → IsTypingUpTo P k now U → ⊥
+      Fails = (U : Table) → IsTypingUpTo P k last U → ⊥
 
-      fails : does (slice_get k.ops pc) false → IsUntypableAt P k now
-      fails g = record { none = go (is_ready k h) (slice_get k.ops pc) refl refl g; before = before_now }
+      fails : does (slice_get k.ops pc) false → Fails
+      fails g = go (is_ready k h) (slice_get k.ops pc) refl refl g
         where
           ends : (o : Op) (to : List ℕ) (x : Types) (m t : Bool) → slice_get k.ops pc ≡ Some o → is_ready k h ≡ true → flow P k pc o h ≡ Leads to x → nat_le (length x.stack) k.max_stack ≡ m → are_throwable P k.catches pc ≡ t
               → Then (m && t) (Flows P (demands P k pc h to x) s n false) (false ≡ false) → Fails
-          ends o to x true true i r is a b g U t = blocked P C k (demands P k pc h to x) s n known.size known.first known.entered (framed o to x r is) g U t.first (forced_now U t) (ruled_met o to x i is U t)
+          ends o to x true true i r is a b g U t = blocked P C k (demands P k pc h to x) s n known.size known.first known.entered (framed o to x r is) g U t.first (known.forced U t) (ruled_met o to x i is U t)
           ends o to x true false i r is a b g U t = let u = ruled o i U t in let th = u.throws in absurd (false_true (are_throwable P k.catches pc) b th)
           ends o to x false b i r is a c g U t =
               let u = ruled o i U t in
@@ -268,41 +233,55 @@ module _ (P : Program) (C : AreTypes P) (k : Method) where
     as_found : (b : Bool) → IsVisit P k pc s n b → does found.0 found.1 (slice_get k.ops pc) b
     as_found b v = subst (λ (o : Option Types). follows_at P k pc o s n b) found.1 v
 
-    pub visit_holds : IsVisit P k pc s n true → Known P k now n
+    pub visit_holds : IsVisit P k pc s n true → Known P k last n
     visit_holds v = holds found.0 found.1 (as_found true v)
 
-    pub visit_fails : IsVisit P k pc s n false → IsUntypableAt P k now
+    pub visit_fails : IsVisit P k pc s n false → IsUntypedUpTo P k last
     visit_fails v = fails found.0 found.1 (as_found false v)
 
     pub place_inside : pc < length k.ops
     place_inside = let e = to_entry T pc found.0 found.1 in let i = get_within T pc (Some found.0) e in let z = known.size in omega arith
 
 -- a turn of the search
-module _ (P : Program) (C : AreTypes P) (k : Method) (last pc : ℕ) (a b n : State) (known : Known P k last a) (taken : a.waiting ≡ pc ∷ b.waiting) (table : b.table ≡ a.table) (least : All (λ q. pc < q) b.waiting) where
-  opened : a ≡ record { table = b.table; waiting = pc ∷ b.waiting }
-  opened = let of : Table → List ℕ → State = λ t w. record { table = t; waiting = w } in ap (λ (t : Table). of t a.waiting) (sym table) ∙ ap (of b.table) taken
+module _ (P : Program) (C : AreTypes P) (k : Method) (last pc : ℕ) (a b n : State) (known : Known P k last a) (there : waits a.waiting pc ≡ true) (le : pc ≤ last) (taken : IsTaken pc a.waiting b.waiting) (table : b.table ≡ a.table) where
+  known_open : Known P k last (record { table = b.table; waiting = a.waiting })
+  known_open = subst (λ (T : Table). Known P k last (record { table = T; waiting = a.waiting })) (sym table) known
 
-  known_open : Known P k last (record { table = b.table; waiting = pc ∷ b.waiting })
-  known_open = subst (Known P k last) opened known
+  pub turn_holds : IsVisit P k pc b n true → Known P k last n
+  turn_holds v = visit_holds P C k last pc b.table a.waiting b.waiting known_open there le taken n v
 
-  pub turn_holds : IsVisit P k pc b n true → Known P k (max last pc) n
-  turn_holds v = visit_holds P C k last pc b.table b.waiting known_open least n v
-
-  pub turn_fails : IsVisit P k pc b n false → IsUntypableAt P k (max last pc)
-  turn_fails v = visit_fails P C k last pc b.table b.waiting known_open least n v
+  pub turn_fails : IsVisit P k pc b n false → IsUntypedUpTo P k last
+  turn_fails v = visit_fails P C k last pc b.table a.waiting b.waiting known_open there le taken n v
 
   pub turn_inside : pc < length k.ops
-  turn_inside = place_inside P C k last pc b.table b.waiting known_open least n
+  turn_inside = place_inside P C k last pc b.table a.waiting b.waiting known_open there le taken n
 
--- nothing waits
-pub known_typing : (P : Program) (k : Method) (last : ℕ) (s : State) → Known P k last s → s.waiting ≡ [] → IsTyping P k s.table
-known_typing P k last s known e = record {
-  first = known.first;
-  each = λ q h t. let w : waits s.waiting q ≡ false = rw e refl in known.keeps q h t w;
+-- no place up to the last one waits
+pub known_found : (P : Program) (k : Method) (last : ℕ) (s : State) → Known P k last s → ((q : ℕ) → q ≤ last → waits s.waiting q ≡ false) → IsTableUpTo P k last s.table
+known_found P k last s known still = record {
+  size = known.size;
+  typing = record { first = known.first; each = λ q h l t. known.keeps q h t (still q l) };
+  narrowest = known.forced;
 }
 
-pub known_narrowest : (P : Program) (k : Method) (last : ℕ) (s : State) → Known P k last s → IsNarrowest P k s.table
-known_narrowest P k last s known U t = known.forced U (record { first = t.first; each = λ q h l e. t.each q h e })
+-- a table up to the last instruction is a typing
+pub found_typing : (P : Program) (k : Method) (last : ℕ) (T : Table) → length k.ops ≤ suc last → IsTableUpTo P k last T → IsTyping P k T
+found_typing P k last T le f = record {
+  first = f.typing.first;
+  each = λ q h t.
+      let i = get_within T q (Some h) (to_entry T q h t) in
+      let z = f.size in
+      let l : q ≤ last = omega arith in
+      f.typing.each q h l t;
+}
+
+pub found_narrowest : (P : Program) (k : Method) (last : ℕ) (T : Table) → IsTableUpTo P k last T → IsNarrowest P k T
+found_narrowest P k last T f U t = f.narrowest U (record { first = t.first; each = λ q h l e. t.each q h e })
+
+-- a table up to a place is one up to each lower place
+pub found_before : (P : Program) (k : Method) (last : ℕ) (o : Option Table) → IsFoundUpTo P k last o → is_some o ≡ true → (q : ℕ) → q ≤ last → (U : Table) × IsTypingUpTo P k q U
+found_before P k last None f e q le = absurd (let no : ⊥ = cc (e) in no)
+found_before P k last (Some T) f e q le = (T, up_to P k q last T le f.typing)
 
 -- the start
 first_frame : (P : Program) (k : Method) → is_entered k ≡ true → IsFramed P k.locals (first_types k)
@@ -327,25 +306,23 @@ this_itself P false l a = a
 first_itself : (P : Program) (k : Method) → AreWithin P k.parameters k.parameters → FitsIn P (first_types k) (first_types k)
 first_itself P k a = record { locals = front_itself P (first_locals (is_constructor k) k.parameters) (replicate (k.locals - k.places) Top) (this_itself P (is_constructor k) k.parameters a) (tops_itself P (k.locals - k.places)); stack = tt; built = λ b. b }
 
--- a method that isn't entered has no typing
-pub none_entered : (P : Program) (k : Method) → is_entered k ≡ false → IsUntypableAt P k 0
-none_entered P k e = record {
-  none = λ U t. let z : 0 ≤ 0 = omega arith in
-      let a = t.each 0 (first_types k) z t.first in
-      let l = a.locals in
-      let x : nat_eq (length (first_types k).locals) k.locals ≡ true = grind (arith, nat_tests) in
-      let y = and_true (nat_eq (length (first_types k).locals) k.locals) (are_locals_after false (first_types k).locals) x (of_locals false (first_types k).locals a.each_local) in
-      absurd (let no : ⊥ = cc (y, e) in no);
-  before = λ q l. absurd (omega arith);
-}
+-- no table meets the rules of a method that isn't entered
+pub none_entered : (P : Program) (k : Method) (last : ℕ) → is_entered k ≡ false → IsUntypedUpTo P k last
+none_entered P k last e U t =
+    let z : 0 ≤ last = omega arith in
+    let a = t.each 0 (first_types k) z t.first in
+    let l = a.locals in
+    let x : nat_eq (length (first_types k).locals) k.locals ≡ true = grind (arith, nat_tests) in
+    let y = and_true (nat_eq (length (first_types k).locals) k.locals) (are_locals_after false (first_types k).locals) x (of_locals false (first_types k).locals a.each_local) in
+    absurd (let no : ⊥ = cc (y, e) in no)
 
 none_at : (n q : ℕ) → types_at (replicate n None) q ≡ None
 none_at zero q = refl
 none_at (suc n) zero = refl
 none_at (suc n) (suc q) = none_at n q
 
-pub known_start : (P : Program) (k : Method) → 0 < length k.ops → AreWithin P k.parameters k.parameters → is_entered k ≡ true → Known P k 0 (starting k)
-known_start P k some itself entered =
+pub known_start : (P : Program) (k : Method) (last : ℕ) → 0 < length k.ops → AreWithin P k.parameters k.parameters → is_entered k ≡ true → Known P k last (starting k)
+known_start P k last some itself entered =
     let n = length-replicate {A = Option Types} (length k.ops - 1) None in
     let size : suc (length (replicate (length k.ops - 1) None)) ≡ length k.ops = omega arith in
     let one : Entered P k (first_types k) = record { framed = first_frame P k entered; itself = first_itself P k itself } in
@@ -358,7 +335,6 @@ known_start P k some itself entered =
       forced = λ U t q h e. let x = only q h e in
           let f : Covers P k U (first_types k) 0 = record { inside = some; types = first_types k; there = t.first; fits = first_itself P k itself } in
           subst (λ (j : ℕ). Covers P k U h j) (sym x.0) (subst (λ (y : Types). Covers P k U y 0) x.1 f);
-      before = λ q l. absurd (omega arith);
     }
   where
     only : (q : ℕ) (h : Types) → types_at (starting k).table q ≡ Some h → (q ≡ 0) × (first_types k ≡ h)

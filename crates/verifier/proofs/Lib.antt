@@ -33,3 +33,6 @@ pub mod Constructing
 pub mod Received
 pub mod Flowing
 pub mod Texts
+pub mod Runs
+pub mod Afters
+pub mod Settled

@@ -1,11 +1,10 @@
 -- Places in lists, and those that wait.
 use Rattle.std.proofs.Common.{◌≡◌, ◌≢◌, ℕ, zero, suc, ◌<◌, ◌≤◌, ◌⊎◌, inl, inr, List, [], ◌∷◌, length, Option, Some, None, Bool, true, false, refl, ap, arith}
 use Rattle.std.proofs.lemmas.Bool.Decides.{nat_tests}
-use Rattle.std.specs.Prelude.{slice_get, slice_set, option_and_then, nat_eq, nat_lt, ◌==◌, All}
+use Rattle.std.specs.Prelude.{slice_get, slice_set, option_and_then, nat_eq, nat_lt, ◌==◌}
 use Rattle.std.specs.Ordering.{nat_cmp}
 use Rattle.std.specs.BTreeMap.{is_at}
 use Rattle.objects.specs.typing.Typing.{Types, Table, types_at}
-use Rattle.verifier.specs.Search.{waits}
 
 pub same_or_not : (a b : ℕ) → (a ≡ b) ⊎ (a ≢ b)
 same_or_not a b = go (nat_eq a b) refl
@@ -56,13 +55,3 @@ at_same n q = go (nat_lt n q) (n == q) refl refl
     go true b x y e = absurd (cc (simp x at e))
     go false true x y e = grind (arith, nat_tests)
     go false false x y e = absurd (cc (simp (x, y) at e))
-
--- of places above one, none is that or one below it
-pub waits_not : (pc : ℕ) (ws : List ℕ) → All (λ q. pc < q) ws → (q : ℕ) → q ≤ pc → waits ws q ≡ false
-waits_not pc [] a q h = refl
-waits_not pc (w ∷ ws) a q h =
-    let z : 0 < length (w ∷ ws) = omega arith in
-    let lt : pc < w = a 0 0 z in
-    let t : nat_lt q w ≡ true = grind (arith, nat_tests) in
-    let rest = waits_not pc ws (λ k d g. let g' : suc k < length (w ∷ ws) = omega arith in a (suc k) d g') q h in
-    simp (t, rest)

@@ -1,7 +1,7 @@
 -- What instructions that go by an object's class do, as tests and what follows them.
-use Rattle.std.proofs.Common.{◌≡◌, ℕ, suc, List, [], ◌∷◌, ◌++◌, length, reverse, drop, Option, Some, None, Bool, true, false, refl, sym, ap, subst, ◌∙◌}
+use Rattle.std.proofs.Common.{◌≡◌, ℕ, suc, ◌≤◌, List, [], ◌∷◌, ◌++◌, length, reverse, drop, Option, Some, None, Bool, true, false, refl, sym, ap, subst, ◌∙◌}
 use Rattle.std.proofs.lemmas.Grind.{reverse_onto}
-use Rattle.std.proofs.lemmas.List.{length-reverse}
+use Rattle.std.proofs.lemmas.List.{length-reverse, drop_all}
 use Rattle.std.specs.Prelude.{◌&&◌, bytes_eq, slice_get, if◌then◌else◌}
 use Rattle.jmodel.specs.declared.typing.VType.{VType}
 use Rattle.jmodel.specs.declared.typing.VType.TheVariants.{Ref}
@@ -28,6 +28,9 @@ module _ (P : Program) (k : Method) (pc : ℕ) (h : Types) where
       go : (o : Option VType) → local_in o (λ t. if_so (is_put P (bytes_eq f.class k.name.class) f.class (Some t)) (typed.leaves pc h (drop (suc n) h.stack))) ≡ if_so (is_put P (bytes_eq f.class k.name.class) f.class o) (typed.leaves pc h (drop (suc n) h.stack))
       go None = refl
       go (Some t) = refl
+
+  pub puts_past : (f : Field) (n : ℕ) → length h.stack ≤ n → Wrong ≡ puts P k pc f h (drop n h.stack)
+  puts_past f n le = let e = drop_all n h.stack le in rw e refl
 
   abbrev stored : List ℕ → Field → Flow
   stored c f = if_so (is_received P c (slice_get h.stack (length (stack_types f.declared)))) (if are_taken P (stack_types f.declared) h.stack then puts P k pc f h (drop (length (stack_types f.declared)) h.stack) else Wrong)

@@ -3,7 +3,7 @@ use Rattle.std.proofs.Common.{◌≡◌, ◌≢◌, ℕ, zero, suc, ◌+◌, ◌
 use Rattle.std.proofs.lemmas.Bool.Decides.{nat_tests}
 use Rattle.std.proofs.lemmas.List.Sums.{sum_by-set, sum_by-cons}
 use Rattle.std.proofs.lemmas.Option.{get_or_from_slice_get}
-use Rattle.std.specs.Prelude.{not, ◌&&◌, slice_get, slice_set, nat_eq, nat_le, sum_by, All, if◌then◌else◌}
+use Rattle.std.specs.Prelude.{not, ◌&&◌, slice_get, slice_set, nat_eq, nat_le, sum_by, if◌then◌else◌}
 use Rattle.std.specs.List.{AllByRecursion}
 use Rattle.jmodel.specs.declared.typing.VType.{VType}
 use Rattle.jmodel.specs.declared.typing.VType.TheVariants.{Top}
@@ -14,7 +14,7 @@ use Rattle.objects.specs.typing.Typing.{Types, Table, FitsIn, Flow, Leads, Wrong
 use Rattle.objects.specs.typing.Source.{AreTypes}
 use Rattle.verifier.specs.Order.{fits_in, joined}
 use Rattle.verifier.specs.declared.search.Change.TheVariants.{Nothing, Put, Refused}
-use Rattle.verifier.specs.Search.{State, Then, Flows, Demands, Makes, IsPour, IsInserted, is_alike, change_of, demands, each_to, caught, thrown, is_ready, are_throwable, Follows, follows_op, follows_at, IsVisit, starting}
+use Rattle.verifier.specs.Search.{State, Then, Flows, Demands, Makes, IsPour, IsInserted, IsTaken, waits, is_alike, change_of, demands, each_to, caught, thrown, is_ready, are_throwable, Follows, follows_op, follows_at, IsVisit, starting}
 use Rattle.verifier.proofs.Lists.{both, same_length, to_fits, of_fits, joined_first, joined_second, fits_trans}
 use Rattle.verifier.proofs.Numbers.{same_or_not, get_same, get_other, get_within, of_entry}
 use Rattle.verifier.proofs.Under.{IsFramed}
@@ -213,7 +213,7 @@ module _ (P : Program) (C : AreTypes P) (k : Method) where
         go (Some h) e g = ready_fell h e (is_ready k h) (slice_get k.ops pc) refl refl g
 
   -- a turn of the search
-  module _ (last pc : ℕ) (a b n : State) (known : Known P k last a) (low : AreLowIn P k a.table) (taken : a.waiting ≡ pc ∷ b.waiting) (table : b.table ≡ a.table) (least : All (λ q. pc < q) b.waiting) (v : IsVisit P k pc b n true) where
+  module _ (last pc : ℕ) (a b n : State) (known : Known P k last a) (low : AreLowIn P k a.table) (there : waits a.waiting pc ≡ true) (le : pc ≤ last) (taken : IsTaken pc a.waiting b.waiting) (table : b.table ≡ a.table) (v : IsVisit P k pc b n true) where
     -- what it leaves
     fell : Fell P k b n
     fell =
@@ -229,8 +229,7 @@ module _ (P : Program) (C : AreTypes P) (k : Method) where
     turn_less =
         let f = fell.less in
         let t = ap (sum_by (weight P k (deepest P k))) table in
-        let c = ap (count (length k.ops)) taken in
-        let d = count_taken pc b.waiting least (length k.ops) (turn_inside P C k last pc a b n known taken table least) in
+        let c = count_taken pc a.waiting b.waiting there taken (length k.ops) (turn_inside P C k last pc a b n known there le taken table) in
         omega arith
 
   -- the start

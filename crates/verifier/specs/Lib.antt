@@ -4,5 +4,6 @@ pub mod Search
 pub mod Rules
 pub mod Flows
 pub mod Answer
+pub mod Bounded
 pub mod Check
 pub mod Visits

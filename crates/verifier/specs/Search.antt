@@ -1,10 +1,10 @@
 -- What the search for a typing keeps: a table so far, and the places that are to be looked at.
-use Rattle.std.specs.Prelude.{◌≡◌, ℕ, ◌-◌, List, [], ◌∷◌, ◌++◌, length, replicate, Option, Some, None, Bool, true, false, not, cond, nat_eq, nat_le, ◌&&◌, ◌||◌, slice_get, slice_set, if◌then◌else◌}
+use Rattle.std.specs.Prelude.{◌≡◌, ℕ, ◌-◌, List, [], ◌∷◌, ◌++◌, length, replicate, Option, Some, None, Bool, true, false, not, cond, nat_eq, nat_le, ◌&&◌, ◌||◌, slice_get, slice_set, option_and_then, if◌then◌else◌}
 use Rattle.std.specs.List.{list_any}
 use Rattle.std.specs.Ordering.{nat_cmp}
 use Rattle.std.specs.BTreeMap.{is_at}
 use Rattle.jmodel.specs.declared.typing.VType.{VType}
-use Rattle.jmodel.specs.declared.typing.VType.TheVariants.{Long, Second, Ref, Top}
+use Rattle.jmodel.specs.declared.typing.VType.TheVariants.{Long, Second, Ref}
 use Rattle.objects.specs.declared.op.Op.{Op}
 use Rattle.objects.specs.declared.op.Catch.{Catch}
 use Rattle.objects.specs.semantics.Program.{Method, Program}
@@ -13,10 +13,7 @@ use Rattle.objects.specs.typing.Typing.{Types, Table, Flow, Leads, Wrong, types_
 use Rattle.verifier.specs.declared.search.Change.{Change}
 use Rattle.verifier.specs.declared.search.Change.TheVariants.{Nothing, Put, Refused}
 use Rattle.verifier.specs.Order.{fits_in, joined}
-
-abbrev pub some_and : Option Bool → (Bool → Bool) → Bool
-some_and None p = false
-some_and (Some b) p = p b
+pub use Rattle.type_lists.specs.Stacks.{some_and, next_under, is_stack_under}
 
 -- whether a local has the first place of a long, where the local before it had one or not; none where the two don't go together
 abbrev pub next_local : Bool → VType → Option Bool
@@ -30,18 +27,10 @@ abbrev pub are_locals_after : Bool → List VType → Bool
 are_locals_after after [] = not after
 are_locals_after after (t ∷ ts) = some_and (next_local after t) (λ (b : Bool). are_locals_after b ts)
 
--- whether a place of a stack is the second one of a long, where the place just above was one or not; none where the two don't go together
-abbrev pub next_under : Bool → VType → Option Bool
-next_under false Long = None
-next_under false Top = None
-next_under false Second = Some true
-next_under false t = Some false
-next_under true Long = Some false
-next_under true t = None
-
-abbrev pub is_stack_under : Bool → List VType → Bool
-is_stack_under under [] = not under
-is_stack_under under (t ∷ s) = some_and (next_under under t) (λ (u : Bool). is_stack_under u s)
+-- whether the last of some locals has the first place of a long
+abbrev pub after_all : Bool → List VType → Option Bool
+after_all after [] = Some after
+after_all after (t ∷ ts) = option_and_then (λ (b : Bool). after_all b ts) (next_local after t)
 
 -- a stack of a frame of the method
 abbrev pub is_ready : Method → Types → Bool
@@ -75,6 +64,10 @@ waits ws q = list_any (is_at (nat_cmp q)) ws
 
 abbrev pub IsInserted : ℕ → List ℕ → List ℕ → Type 0
 IsInserted k ws ns = (q : ℕ) → waits ns q ≡ cond (is_at (nat_cmp k) q) true (waits ws q)
+
+-- a place waits no longer, and each other one as before
+abbrev pub IsTaken : ℕ → List ℕ → List ℕ → Type 0
+IsTaken k ws ns = (q : ℕ) → waits ns q ≡ cond (is_at (nat_cmp k) q) false (waits ws q)
 
 -- types have flowed to a place, or it can't take them
 abbrev pub Makes : Change → ℕ → State → State → Bool → Type 0

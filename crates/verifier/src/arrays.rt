@@ -6,15 +6,16 @@ ghost use Rattle.objects.specs.typing.TypeOrder.{element_class};
 ghost use Rattle.objects.specs.typing.Typing.{element_types, fits_elements, has_elements, has_references, if_so, leaves, on_array, on_each, on_int, stored_types};
 ghost use Rattle.verifier.specs.Flows.{flow_of, array_under, has_array, is_array_type};
 
-use crate::led::{Led, are_taken, leaves, single};
-use crate::loads::is_int_at;
+use crate::led::{Led, are_taken, leaves, shared_one, single};
+use crate::loads::is_int;
 use crate::names::{equal, is_array, rest as bytes_from, without_last};
-use crate::order::{class_type, rest};
+use crate::order::class_type;
 use crate::rule::{Want, stored, want_types};
 use hierarchy::{Program, TypeEntry};
 use jmodel::VType;
 use objects::op::WordType;
 use std::alloc::{AllocError, Global};
+use type_lists::{TypeStack, shared_types};
 
 /// Whether a type is that of an array, or of null.
 fn is_array_type(item: &VType) -> bool
@@ -28,7 +29,7 @@ fn is_array_type(item: &VType) -> bool
 }
 
 /// Whether an array, or null, is on top.
-fn has_array(stack: &[VType]) -> bool
+fn has_array(stack: &TypeStack) -> bool
     ensures { result ≡ has_array stack.now }
 {
     match stack.first() {
@@ -108,17 +109,17 @@ pub fn array_length(alloc: Global, pc: usize, entry: &TypeEntry) -> Result<Optio
     ensures { IfOk result (λ o. flow_of o ≡ on_array entry.now.stack (λ t s. leaves pc entry.now (type.Int ∷ s))) }
 {
     if has_array(entry.stack()) {
-        leaves(alloc, pc, entry, single(alloc, VType::Int)?, 1)
+        leaves(alloc, pc, entry, shared_one(alloc, VType::Int)?, 1)
     } else {
         Ok(None)
     }
 }
 
 /// The array of an access to an element of a type, which lies under its index, if both are there.
-fn array_under(of: WordType, stack: &[VType]) -> Option<&VType>
+fn array_under(of: WordType, stack: &TypeStack) -> Option<&VType>
     ensures { option_copied result ≡ array_under of stack.now }
 {
-    if !is_int_at(stack, 0) {
+    if !is_int(stack.first()) {
         return None;
     }
     let array = stack.get(1)?;
@@ -143,7 +144,7 @@ pub fn load_element(
     match array_under(of, entry.stack()) {
         Some(array) => {
             let types = element_types(alloc, of, array)?;
-            leaves(alloc, pc, entry, types, 2)
+            leaves(alloc, pc, entry, shared_types(alloc, types)?, 2)
         }
         None => Ok(None),
     }
@@ -166,7 +167,7 @@ pub fn store_element(
         return Ok(None);
     }
     let count = value.len();
-    match array_under(of, rest(entry.stack(), count)) {
+    match array_under(of, entry.stack().rest(count)) {
         Some(_) => leaves(alloc, pc, entry, Vec::new(alloc), count + 2),
         None => Ok(None),
     }

@@ -1,6 +1,6 @@
 //! Objects that aren't built: what makes them, and calls of constructors.
 ghost use Rattle.std.specs.Prelude.{◌≡◌, ◌+◌, ◌^◌, ◌<◌, ◌∷◌, true, IfOk, codes, drop, map, option_copied, replicate, slice_get};
-ghost use Rattle.std.specs.List.{list_all, list_any};
+ghost use Rattle.std.specs.List.{list_any};
 ghost use Rattle.jmodel.specs.declared.typing.VType.TheVariants as type;
 ghost use Rattle.objects.specs.semantics.Program.{row_at};
 ghost use Rattle.objects.specs.typing.TypeOrder.{is_within, string_class};
@@ -8,15 +8,16 @@ ghost use Rattle.objects.specs.typing.Typing.{become, constructs, direct_supercl
 ghost use Rattle.verifier.specs.Flows.{constructed, flow_of, may_construct};
 ghost use Rattle.verifier.specs.Rules.{are_taken};
 
-use crate::led::{Led, are_taken, single};
+use crate::led::{Led, are_taken};
 use crate::members::{arguments, reversed};
 use crate::names::{classes_from, equal, string_class};
-use crate::order::{class_type, copy, is_below, push_copies, rest};
+use crate::order::{class_type, is_below};
 use crate::rule::next;
 use hierarchy::{Method, Program, TypeEntry};
 use jmodel::VType;
 use objects::op::Op;
 use std::alloc::{AllocError, Global};
+use type_lists::{SharedType, TypeStack, TypeTree};
 
 /// Where an instruction stands: in a method of a program.
 #[derive(Drop)]
@@ -40,18 +41,48 @@ fn is_uninit(item: &VType, other: &VType) -> bool
 /// Types with another in place of each copy of an object that isn't built.
 fn replaced(
     alloc: Global,
-    from: &[VType],
+    from: &[SharedType],
     object: &VType,
-    by: &VType,
-) -> Result<Vec<VType>, AllocError>
+    by: &SharedType,
+) -> Result<Vec<SharedType>, AllocError>
     ensures { IfOk result (λ v. v.items ≡ map (become object.now by.now) from.now) }
 {
     let mut types = Vec::new(alloc);
     for item in from {
-        let item = if is_uninit(object, item) { by } else { item };
-        types.push(copy(alloc, item)?)?;
+        let item = if is_uninit(object, item.as_type()) {
+            by
+        } else {
+            item
+        };
+        types.push(item.share()?)?;
     }
     Ok(types)
+}
+
+/// Types of locals, with another in place of each copy of an object that isn't built.
+fn replaced_locals(
+    alloc: Global,
+    from: &TypeTree,
+    object: &VType,
+    by: &SharedType,
+) -> Result<TypeTree, AllocError>
+    ensures { IfOk result (λ l. l ≡ map (become object.now by.now) from.now) }
+{
+    let types = replaced(alloc, from.flat(alloc)?.as_slice(), object, by)?;
+    TypeTree::like(alloc, types.as_slice(), from, from)
+}
+
+/// Types of a stack, with another in place of each copy of an object that isn't built.
+fn replaced_stack(
+    alloc: Global,
+    from: &TypeStack,
+    object: &VType,
+    by: &SharedType,
+) -> Result<TypeStack, AllocError>
+    ensures { IfOk result (λ s. s ≡ map (become object.now by.now) from.now) }
+{
+    let types = replaced(alloc, from.flat(alloc)?.as_slice(), object, by)?;
+    TypeStack::like(alloc, types, from, from)
 }
 
 /// Whether a method is a constructor.
@@ -120,16 +151,16 @@ fn may_construct(
     }
 }
 
-/// The types after a constructor of a class has run over an object, where so many places are taken.
+/// The types after a constructor of a class has run over an object, over what lay under it.
 fn constructed(
     alloc: Global,
     method: &Method,
     class: &[u8],
     entry: &TypeEntry,
     object: &VType,
-    takes: usize,
+    under: &TypeStack,
 ) -> Result<TypeEntry, AllocError>
-    ensures { IfOk result (λ h. h ≡ constructed method.now class.now entry.now object.now (drop takes entry.now.stack)) }
+    ensures { IfOk result (λ h. h ≡ constructed method.now class.now entry.now object.now under.now) }
 {
     let this = matches!(object, VType::UninitThis);
     let class = if this {
@@ -137,14 +168,13 @@ fn constructed(
     } else {
         class
     };
-    let built = class_type(alloc, class)?;
-    let locals = replaced(alloc, entry.locals(), object, &built)?;
-    let stack = replaced(alloc, rest(entry.stack(), takes), object, &built)?;
+    let built = SharedType::new(alloc, class_type(alloc, class)?)?;
+    let locals = replaced_locals(alloc, entry.locals(), object, &built)?;
+    let stack = replaced_stack(alloc, under, object, &built)?;
     Ok(TypeEntry::new(locals, stack, this || entry.built()))
 }
 
 /// Runs a constructor of a class over the object under so many places.
-#[tactic(auto, using(crate::proofs::Constructing::constructs_at))]
 fn constructs(
     alloc: Global,
     site: &Site,
@@ -155,13 +185,14 @@ fn constructs(
     requires { site.now.pc + 1 < 2 ^ 64 }
     ensures { IfOk result (λ o. flow_of o ≡ on_top (drop places entry.now.stack) (λ t s. constructs site.now.program.now site.now.method.now site.now.pc class.now entry.now t s)) }
 {
-    let Some(object) = entry.stack().get(places) else {
+    let Some((object, under)) = entry.stack().rest(places).split() else {
         return Ok(None);
     };
+    let object = object.as_type();
     if !may_construct(alloc, site, class, object)? {
         return Ok(None);
     }
-    let left = constructed(alloc, site.method, class, entry, object, places + 1)?;
+    let left = constructed(alloc, site.method, class, entry, object, under)?;
     let to = next(alloc, site.pc)?;
     Ok(Some(Led { to, left }))
 }
@@ -193,21 +224,23 @@ pub fn invoke_constructor(
     )
 }
 
-/// Whether each type is within that of a class.
-fn are_below(program: &Program, types: &[VType], class: &[u8]) -> bool
-    ensures { result ≡ list_all (λ t. is_within program.now t (type.Ref class.now)) types.now }
-{
-    types
-        .iter()
-        .all(|item: &VType| is_below(program, item, class))
-}
-
 /// Whether so many of the topmost places have strings.
-#[tactic(auto, using(crate::proofs::Texts::alike_all, crate::proofs::Texts::alike_few))]
-fn are_texts(program: &Program, count: usize, stack: &[VType]) -> bool
+fn are_texts(program: &Program, count: usize, stack: &TypeStack) -> bool
     ensures { result ≡ are_taken program.now (replicate count (type.Ref string_class)) stack.now }
 {
-    count <= stack.len() && are_below(program, &stack[..count], string_class())
+    let mut left = stack;
+    for _ in 0..count {
+        match left.split() {
+            Some((item, under)) => {
+                if !is_below(program, item.as_type(), string_class()) {
+                    return false;
+                }
+                left = under;
+            }
+            None => return false,
+        }
+    }
+    true
 }
 
 /// A call of a constructor of a library class, over so many places with strings.
@@ -228,11 +261,18 @@ pub fn init_library(
     }
 }
 
-/// Whether some types have an object that isn't built.
-fn has_object(types: &[VType], object: &VType) -> bool
-    ensures { result ≡ list_any (is_uninit object.now) types.now }
+/// Whether a stack has an object that isn't built.
+fn has_object(stack: &TypeStack, object: &VType) -> bool
+    ensures { result ≡ list_any (is_uninit object.now) stack.now }
 {
-    types.iter().any(|item: &VType| is_uninit(object, item))
+    let mut left = stack;
+    while let Some((item, under)) = left.split() {
+        if is_uninit(object, item.as_type()) {
+            return true;
+        }
+        left = under;
+    }
+    false
 }
 
 /// The object that an instruction makes, as a type. Want of memory also for a place from 65536 on, which no method of a class
@@ -250,9 +290,10 @@ fn made_at(pc: usize) -> Result<VType, AllocError>
 fn made_entry(alloc: Global, entry: &TypeEntry, object: VType) -> Result<TypeEntry, AllocError>
     ensures { IfOk result (λ h. h ≡ record entry.now { locals = map (become object type.Top) entry.now.locals; stack = object ∷ entry.now.stack }) }
 {
-    let locals = replaced(alloc, entry.locals(), &object, &VType::Top)?;
-    let mut stack = single(alloc, object)?;
-    push_copies(alloc, &mut stack, entry.stack())?;
+    let top = SharedType::new(alloc, VType::Top)?;
+    let locals = replaced_locals(alloc, entry.locals(), &object, &top)?;
+    let made = SharedType::new(alloc, object)?;
+    let stack = entry.stack().share()?.push(alloc, made)?;
     Ok(TypeEntry::new(locals, stack, entry.built()))
 }
 

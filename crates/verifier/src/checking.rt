@@ -7,39 +7,21 @@ ghost use Rattle.verifier.specs.Search.{caught, each_to};
 
 use crate::flow::flow;
 use crate::inference::first_types;
-use crate::names::equal;
 use crate::order::fits_in;
 use crate::search::{are_locals, are_throwable, is_guarded, is_ready, thrown};
 use hierarchy::{Method, Program, TypeEntry, Typing};
-use jmodel::VType;
 use std::alloc::{AllocError, Global};
-
-/// Whether two types are the same.
-fn is_same(a: &VType, b: &VType) -> bool
-    ensures { IsTrue result ↔ (a.now ≡ b.now) }
-{
-    match (a, b) {
-        (VType::Int, VType::Int) => true,
-        (VType::Long, VType::Long) => true,
-        (VType::Second, VType::Second) => true,
-        (VType::Null, VType::Null) => true,
-        (VType::Ref(m), VType::Ref(n)) => equal(m.as_slice(), n.as_slice()),
-        (VType::Uninit(p), VType::Uninit(q)) => p == q,
-        (VType::UninitThis, VType::UninitThis) => true,
-        (VType::Top, VType::Top) => true,
-        _ => false,
-    }
-}
+use type_lists::{SharedType, is_same};
 
 /// Whether two lists have the same types.
-fn are_same(a: &[VType], b: &[VType]) -> bool
+fn are_same(a: &[SharedType], b: &[SharedType]) -> bool
     ensures { IsTrue result ↔ (a.now ≡ b.now) }
 {
     if a.len() != b.len() {
         return false;
     }
     for (i, item) in a.iter().enumerate() {
-        if !is_same(item, &b[i]) {
+        if !is_same(item.as_type(), b[i].as_type()) {
             return false;
         }
     }
@@ -51,9 +33,11 @@ fn is_first(alloc: Global, method: &Method, entry: &TypeEntry) -> Result<bool, A
     ensures { IfOk result (λ b. IsTrue b ↔ (entry.now ≡ first_types method.now)) }
 {
     let first = first_types(alloc, method)?;
+    let locals = entry.locals().flat(alloc)?;
+    let stack = entry.stack().flat(alloc)?;
     Ok(
-        are_same(entry.locals(), first.locals())
-            && are_same(entry.stack(), first.stack())
+        are_same(locals.as_slice(), first.locals().flat(alloc)?.as_slice())
+            && are_same(stack.as_slice(), first.stack().flat(alloc)?.as_slice())
             && entry.built() == first.built(),
     )
 }

@@ -8,7 +8,6 @@ use crate::arrays::{array_length, load_element, store_element};
 use crate::building::{Site, is_constructor};
 use crate::led::Led;
 use crate::loads::{increments, loads};
-use crate::order::duplicate;
 use crate::receivers::object_flow;
 use crate::stack::rearranged;
 use crate::storing::stores;
@@ -29,7 +28,7 @@ fn returns(
     if method.result().is_some() || is_constructor(method) && !entry.built() {
         return Ok(None);
     }
-    let left = duplicate(alloc, entry)?;
+    let left = entry.share()?;
     let to = Vec::new(alloc);
     Ok(Some(Led { to, left }))
 }

@@ -1,9 +1,11 @@
 //! The narrowest typing of a method, or the place from which on it has none.
 ghost use Rattle.std.specs.Prelude.{◌≡◌, ◌++◌, ◌<◌, IfOk, IfErr, OnOk, length, replicate};
+ghost use Rattle.std.specs.List.{AllByRecursion};
 ghost use Rattle.jmodel.specs.declared.typing.VType.TheVariants as type;
-ghost use Rattle.objects.specs.typing.Typing.{first_locals, first_types};
-ghost use Rattle.objects.specs.typing.Source.{AreTypes};
+ghost use Rattle.objects.specs.typing.Typing.{first_locals, first_types, IsUntypableAt};
+ghost use Rattle.objects.specs.typing.Source.{AreTypes, IsReadType};
 ghost use Rattle.verifier.specs.Answer.{IsEnd, IsInferred, TakesRead};
+ghost use Rattle.verifier.specs.Bounded.{IsFoundUpTo, IsUntypedUpTo};
 
 use crate::building::is_constructor;
 use crate::order::{copies, push_copies, rest};
@@ -12,6 +14,7 @@ use crate::visit::visit;
 use hierarchy::{Method, Program, TypeEntry, Typing};
 use jmodel::VType;
 use std::alloc::{AllocError, Global};
+use type_lists::{TypeStack, TypeTree, shared_types};
 
 /// Why a method got no typing.
 #[derive(Clone, Copy, Debug, PartialEq, Eq)]
@@ -68,7 +71,61 @@ pub fn first_types(alloc: Global, method: &Method) -> Result<TypeEntry, AllocErr
     let mut locals = first_locals(alloc, constructor, method.parameters())?;
     let entry = method.entry();
     push_tops(&mut locals, entry.locals.saturating_sub(entry.places))?;
-    Ok(TypeEntry::new(locals, Vec::new(alloc), !constructor))
+    let locals = TypeTree::from_slice(alloc, shared_types(alloc, locals)?.as_slice())?;
+    Ok(TypeEntry::new(locals, TypeStack::new(), !constructor))
+}
+
+/// The narrowest table that meets the rules of a method's instructions up to a place; none where there is no such table. No
+/// place behind that one is looked at.
+fn table_up_to(
+    alloc: Global,
+    program: &Program,
+    method: &Method,
+    last: usize,
+) -> Result<Option<Typing>, AllocError>
+    requires some { 0 < length method.now.ops }
+    requires types { AreTypes program.now }
+    requires takes { AllByRecursion (IsReadType program.now) method.now.parameters }
+    ensures { IfOk result (IsFoundUpTo program.now method.now last) }
+{
+    let first = first_types(alloc, method)?;
+    if !is_entered(method, &first) {
+        return Ok(None);
+    }
+    let mut search = Search::start(alloc, method, first)?;
+    while let Some(pc) = search.next(last) {
+        if !visit(alloc, program, method, pc, &mut search)? {
+            return Ok(None);
+        }
+    }
+    Ok(Some(search.into_typing()))
+}
+
+/// The least place such that no table meets the rules up to it, where none meets those up to a last one. It is found by
+/// bisection: a table up to a place is one up to each lower place.
+fn least_untyped(
+    alloc: Global,
+    program: &Program,
+    method: &Method,
+    last: usize,
+) -> Result<usize, AllocError>
+    requires some { 0 < length method.now.ops }
+    requires types { AreTypes program.now }
+    requires takes { AllByRecursion (IsReadType program.now) method.now.parameters }
+    requires none { IsUntypedUpTo program.now method.now last }
+    ensures { IfOk result (IsUntypableAt program.now method.now) }
+{
+    let mut low = 0;
+    let mut high = last;
+    while low < high {
+        let middle = low + (high - low) / 2;
+        if table_up_to(alloc, program, method, middle)?.is_some() {
+            low = middle + 1;
+        } else {
+            high = middle;
+        }
+    }
+    Ok(low)
 }
 
 /// The typing of a program's method by its number, the narrowest: at each place that has types, each other typing has some
@@ -82,17 +139,13 @@ pub fn infer(alloc: Global, program: &Program, method: usize) -> Result<Typing, 
     ensures err { IfErr result (IsEnd program.now method) }
 {
     let code = &program.methods()[method];
-    let first = first_types(alloc, code)?;
-    if code.ops().is_empty() || !is_entered(code, &first) {
+    if code.ops().is_empty() {
         return Err(TypeEnd::Untypable(0));
     }
-    let mut search = Search::start(alloc, code, first)?;
-    let mut last = 0;
-    while let Some(pc) = search.next() {
-        last = last.max(pc);
-        if !visit(alloc, program, code, pc, &mut search)? {
-            return Err(TypeEnd::Untypable(last));
-        }
-    }
-    Ok(search.into_typing())
+    let last = code.ops().len() - 1;
+    let Some(typing) = table_up_to(alloc, program, code, last)? else {
+        let place = least_untyped(alloc, program, code, last)?;
+        return Err(TypeEnd::Untypable(place));
+    };
+    Ok(typing)
 }

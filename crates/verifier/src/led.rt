@@ -1,15 +1,16 @@
 //! Where an instruction goes on and what it leaves there, by the types that it takes from the stack.
 ghost use Rattle.std.specs.Prelude.{◌≡◌, ◌+◌, ◌^◌, ◌<◌, ◌∷◌, ◌++◌, [], IfOk, drop};
-ghost use Rattle.objects.specs.typing.Typing.{leaves};
+ghost use Rattle.objects.specs.typing.Typing.{leaves, with_stack};
 ghost use Rattle.verifier.specs.Flows.{flow_of};
 ghost use Rattle.verifier.specs.Rules.{are_taken, ruled};
 
-use crate::order::{copies, is_within, push_copies, rest};
+use crate::order::is_within;
 use crate::rule::{StackRule, next};
 use hierarchy::{Program, TypeEntry};
 use jmodel::VType;
 use std::alloc::{AllocError, Global};
 use std::marker::Model;
+use type_lists::{SharedType, TypeStack, shared_types};
 
 /// Where an instruction goes on, and the types that it leaves there.
 #[derive(Drop)]
@@ -27,20 +28,35 @@ impl Model for Led {
 }
 
 /// Whether the topmost places have what is wanted.
-pub fn are_taken(program: &Program, wants: &[VType], stack: &[VType]) -> bool
+pub fn are_taken(program: &Program, wants: &[VType], stack: &TypeStack) -> bool
     ensures { result ≡ are_taken program.now wants.now stack.now }
 {
-    for (i, want) in wants.iter().enumerate() {
-        match stack.get(i) {
-            Some(item) => {
-                if !is_within(program, item, want) {
+    let mut left = stack;
+    for want in wants {
+        match left.split() {
+            Some((item, under)) => {
+                if !is_within(program, item.as_type(), want) {
                     return false;
                 }
+                left = under;
             }
             None => return false,
         }
     }
     true
+}
+
+/// Types with others in place of so many of the topmost.
+fn over(
+    alloc: Global,
+    entry: &TypeEntry,
+    types: Vec<SharedType>,
+    takes: usize,
+) -> Result<TypeEntry, AllocError>
+    ensures { IfOk result (λ h. h ≡ with_stack entry.now (types.items ++ drop takes entry.now.stack)) }
+{
+    let stack = entry.stack().rest(takes).share()?.push_all(alloc, types)?;
+    Ok(TypeEntry::new(entry.locals().share()?, stack, entry.built()))
 }
 
 /// What a rule does to types.
@@ -58,10 +74,8 @@ pub fn ruled(
     if !are_taken(program, rule.takes.as_slice(), entry.stack()) {
         return Ok(None);
     }
-    let count = rule.takes.len();
-    let mut stack = rule.leaves;
-    push_copies(alloc, &mut stack, rest(entry.stack(), count))?;
-    let left = TypeEntry::new(copies(alloc, entry.locals())?, stack, entry.built());
+    let types = shared_types(alloc, rule.leaves)?;
+    let left = over(alloc, entry, types, rule.takes.len())?;
     Ok(Some(Led { to: rule.to, left }))
 }
 
@@ -70,15 +84,13 @@ pub fn leaves(
     alloc: Global,
     pc: usize,
     entry: &TypeEntry,
-    types: Vec<VType>,
+    types: Vec<SharedType>,
     takes: usize,
 ) -> Result<Option<Led>, AllocError>
     requires { pc + 1 < 2 ^ 64 }
     ensures { IfOk result (λ o. flow_of o ≡ leaves pc entry.now (types.items ++ drop takes entry.now.stack)) }
 {
-    let mut stack = types;
-    push_copies(alloc, &mut stack, rest(entry.stack(), takes))?;
-    let left = TypeEntry::new(copies(alloc, entry.locals())?, stack, entry.built());
+    let left = over(alloc, entry, types, takes)?;
     let to = next(alloc, pc)?;
     Ok(Some(Led { to, left }))
 }
@@ -90,4 +102,11 @@ pub fn single(alloc: Global, item: VType) -> Result<Vec<VType>, AllocError>
     let mut types = Vec::new(alloc);
     types.push(item)?;
     Ok(types)
+}
+
+/// One type that can be shared.
+pub fn shared_one(alloc: Global, item: VType) -> Result<Vec<SharedType>, AllocError>
+    ensures { IfOk result (λ v. v.items ≡ item ∷ []) }
+{
+    shared_types(alloc, single(alloc, item)?)
 }

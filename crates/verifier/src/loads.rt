@@ -1,16 +1,16 @@
 //! What loads do to the types before them, and sums with a local.
-ghost use Rattle.std.specs.Prelude.{◌≡◌, ◌+◌, ◌^◌, ◌<◌, ◌∷◌, IfOk, slice_get};
+ghost use Rattle.std.specs.Prelude.{◌≡◌, ◌+◌, ◌^◌, ◌<◌, ◌∷◌, IfOk, option_copied, slice_get};
 ghost use Rattle.jmodel.specs.declared.typing.VType.TheVariants as type;
 ghost use Rattle.objects.specs.typing.Typing.{if_so, int_in, is_reference, leaves, loads, local_in, long_at};
 ghost use Rattle.verifier.specs.Flows.{flow_of, is_int, is_long};
 
-use crate::led::{Led, leaves, single};
-use crate::order::copy;
+use crate::led::{Led, leaves, shared_one};
 use crate::rule::{Want, want_types};
 use hierarchy::TypeEntry;
 use jmodel::VType;
 use objects::op::Sort;
 use std::alloc::{AllocError, Global};
+use type_lists::{TypeTree, shared_types};
 
 /// Whether a type is that of null, of an object, or of one that isn't built.
 pub fn is_reference(item: &VType) -> bool
@@ -22,17 +22,20 @@ pub fn is_reference(item: &VType) -> bool
     )
 }
 
-/// Whether a local has an int.
-pub fn is_int_at(locals: &[VType], local: usize) -> bool
-    ensures { result ≡ is_int (slice_get locals.now local) }
+/// Whether a place has an int.
+pub fn is_int(item: Option<&VType>) -> bool
+    ensures { result ≡ is_int (option_copied item.entry) }
 {
-    matches!(locals.get(local), Some(VType::Int))
+    matches!(item, Some(VType::Int))
 }
 
 /// Whether a local and the next one have a long.
-fn is_long_at(locals: &[VType], local: usize) -> bool
+fn is_long_at(locals: &TypeTree, local: usize) -> bool
     ensures { result ≡ is_long (slice_get locals.now local) (slice_get locals.now (local + 1)) }
 {
+    if local >= locals.len() {
+        return false;
+    }
     match locals.get(local) {
         Some(VType::Long) => matches!(locals.get(local + 1), Some(VType::Second)),
         _ => false,
@@ -50,8 +53,8 @@ fn load_int(
     requires { pc + 1 < 2 ^ 64 }
     ensures { IfOk result (λ o. flow_of o ≡ int_in (slice_get entry.now.locals local) (leaves pc entry.now (type.Int ∷ entry.now.stack))) }
 {
-    if is_int_at(entry.locals(), local) {
-        leaves(alloc, pc, entry, single(alloc, VType::Int)?, 0)
+    if is_int(entry.locals().get(local)) {
+        leaves(alloc, pc, entry, shared_one(alloc, VType::Int)?, 0)
     } else {
         Ok(None)
     }
@@ -70,7 +73,7 @@ fn load_long(
 {
     if is_long_at(entry.locals(), local) {
         let types = want_types(alloc, &[Want::Second, Want::Long])?;
-        leaves(alloc, pc, entry, types, 0)
+        leaves(alloc, pc, entry, shared_types(alloc, types)?, 0)
     } else {
         Ok(None)
     }
@@ -86,9 +89,11 @@ fn load_reference(
     requires { pc + 1 < 2 ^ 64 }
     ensures { IfOk result (λ o. flow_of o ≡ local_in (slice_get entry.now.locals local) (λ t. if_so (is_reference t) (leaves pc entry.now (t ∷ entry.now.stack)))) }
 {
-    match entry.locals().get(local) {
-        Some(item) if is_reference(item) => {
-            leaves(alloc, pc, entry, single(alloc, copy(alloc, item)?)?, 0)
+    match entry.locals().shared_at(local) {
+        Some(item) if is_reference(item.as_type()) => {
+            let mut types = Vec::new(alloc);
+            types.push(item.share()?)?;
+            leaves(alloc, pc, entry, types, 0)
         }
         _ => Ok(None),
     }
@@ -123,7 +128,7 @@ pub fn increments(
     requires { pc + 1 < 2 ^ 64 }
     ensures { IfOk result (λ o. flow_of o ≡ int_in (slice_get entry.now.locals local) (leaves pc entry.now entry.now.stack)) }
 {
-    if is_int_at(entry.locals(), local) {
+    if is_int(entry.locals().get(local)) {
         leaves(alloc, pc, entry, Vec::new(alloc), 0)
     } else {
         Ok(None)

@@ -1,14 +1,17 @@
 //! The narrowest types above two.
-ghost use Rattle.std.specs.Prelude.{◌≡◌, ◌++◌, IfOk, Some, None, bytes_eq, drop, length, option_copied, option_map, replicate, if◌then◌else◌};
+ghost use Rattle.std.specs.Prelude.{◌≡◌, ◌++◌, true, IfOk, IsTrue, Some, None, bytes_eq, drop, length, option_copied, option_map, replicate, if◌then◌else◌};
 ghost use Rattle.objects.specs.typing.Typing.{begins};
-ghost use Rattle.verifier.specs.Order.{array_over, class_descriptor, common_depth, join, join_all, join_base, first_common, join_class, join_described, join_other, join_element, join_name, joined, object_over, ref_or_top, under_object, wrapped};
+ghost use Rattle.objects.specs.typing.Source.{AreTypes};
+ghost use Rattle.verifier.specs.Order.{are_within, array_over, class_descriptor, common_depth, join, join_all, join_base, first_common, join_class, join_described, join_other, join_element, join_name, joined, object_over, ref_or_top, under_object, wrapped};
 
 use crate::names::{
     classes_from, equal, is_among, is_array, is_class_above, object_class, rest, without_last,
 };
+use crate::order::is_within;
 use hierarchy::{Program, TypeEntry};
 use jmodel::{Bytes, VType};
 use std::alloc::{AllocError, Global};
+use type_lists::{Parts, SharedType, TypeStack, TypeTree, is_same};
 
 /// The first of some names that is among others, if one is.
 fn first_common<'a>(names: &'a [Bytes], others: &[Bytes]) -> Option<&'a Bytes>
@@ -271,22 +274,71 @@ pub fn join(alloc: Global, program: &Program, a: &VType, b: &VType) -> Result<VT
     }
 }
 
+/// The narrowest type above two. It shares the memory of one that is the same.
+fn join_shared(
+    alloc: Global,
+    program: &Program,
+    a: &SharedType,
+    b: &SharedType,
+) -> Result<SharedType, AllocError>
+    ensures { IfOk result (λ t. t ≡ join program.now a.now b.now) }
+{
+    let item = join(alloc, program, a.as_type(), b.as_type())?;
+    if is_same(&item, b.as_type()) {
+        return b.share();
+    }
+    if is_same(&item, a.as_type()) {
+        return a.share();
+    }
+    SharedType::new(alloc, item)
+}
+
 /// The narrowest types above those of two lists of one length.
 #[tactic(auto, using(crate::proofs::Lists::join_step, crate::proofs::Lists::join_end))]
 fn join_all(
     alloc: Global,
     program: &Program,
-    a: &[VType],
-    b: &[VType],
-) -> Result<Vec<VType>, AllocError>
+    a: &[SharedType],
+    b: &[SharedType],
+) -> Result<Vec<SharedType>, AllocError>
     requires { length a.now ≡ length b.now }
     ensures { IfOk result (λ v. v.items ≡ join_all program.now a.now b.now) }
 {
     let mut types = Vec::new(alloc);
     for (i, item) in a.iter().enumerate() {
-        types.push(join(alloc, program, item, &b[i])?)?;
+        types.push(join_shared(alloc, program, item, &b[i])?)?;
     }
     Ok(types)
+}
+
+/// The narrowest types above those of as many locals. Parts that are the same as one's are shared.
+fn joined_locals(
+    alloc: Global,
+    program: &Program,
+    a: &TypeTree,
+    b: &TypeTree,
+) -> Result<TypeTree, AllocError>
+    requires { length a.now ≡ length b.now }
+    ensures { IfOk result (λ l. l ≡ join_all program.now a.now b.now) }
+{
+    let (first, second) = (a.flat(alloc)?, b.flat(alloc)?);
+    let types = join_all(alloc, program, first.as_slice(), second.as_slice())?;
+    TypeTree::like(alloc, types.as_slice(), b, a)
+}
+
+/// The narrowest types above those of two stacks of one height. What lies under the last difference from one is shared.
+fn joined_stack(
+    alloc: Global,
+    program: &Program,
+    a: &TypeStack,
+    b: &TypeStack,
+) -> Result<TypeStack, AllocError>
+    requires { length a.now ≡ length b.now }
+    ensures { IfOk result (λ s. s ≡ join_all program.now a.now b.now) }
+{
+    let (first, second) = (a.flat(alloc)?, b.flat(alloc)?);
+    let types = join_all(alloc, program, first.as_slice(), second.as_slice())?;
+    TypeStack::like(alloc, types, b, a)
 }
 
 /// The narrowest types above two of as many places.
@@ -300,7 +352,54 @@ pub fn joined(
     requires stack { length a.now.stack ≡ length b.now.stack }
     ensures { IfOk result (λ h. h ≡ joined program.now a.now b.now) }
 {
-    let locals = join_all(alloc, program, a.locals(), b.locals())?;
-    let stack = join_all(alloc, program, a.stack(), b.stack())?;
+    let locals = joined_locals(alloc, program, a.locals(), b.locals())?;
+    let stack = joined_stack(alloc, program, a.stack(), b.stack())?;
     Ok(TypeEntry::new(locals, stack, a.built() && b.built()))
+}
+
+/// Whether each type of a list is within itself, and so the narrowest above it.
+fn are_settled(program: &Program, types: &TypeTree) -> bool
+    ensures { IsTrue result → are_within program.now types.now types.now ≡ true }
+{
+    if !types.has_names() {
+        return true;
+    }
+    match types.parts() {
+        Parts::Empty => true,
+        Parts::Run(item) => is_within(program, item.as_type(), item.as_type()),
+        Parts::Fork(left, right) => are_settled(program, left) && are_settled(program, right),
+    }
+}
+
+/// Whether each type of a stack is within itself, and so the narrowest above it.
+fn is_settled(program: &Program, stack: &TypeStack) -> bool
+    ensures { IsTrue result → are_within program.now stack.now stack.now ≡ true }
+{
+    let top = VType::Top;
+    let mut known = &top;
+    let mut left = stack;
+    while let Some((item, under)) = left.split() {
+        if !left.has_names() {
+            return true;
+        }
+        let item = item.as_type();
+        if !is_same(item, known) && !is_within(program, item, item) {
+            return false;
+        }
+        known = item;
+        left = under;
+    }
+    true
+}
+
+/// The narrowest types above some. They are shared where each is the narrowest above itself.
+pub fn settled(alloc: Global, program: &Program, entry: &TypeEntry) -> Result<TypeEntry, AllocError>
+    requires types { AreTypes program.now }
+    ensures { IfOk result (λ h. h ≡ joined program.now entry.now entry.now) }
+{
+    if are_settled(program, entry.locals()) && is_settled(program, entry.stack()) {
+        entry.share()
+    } else {
+        joined(alloc, program, entry, entry)
+    }
 }

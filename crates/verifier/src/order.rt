@@ -1,12 +1,13 @@
 //! Types in their order: which are within others, and the narrowest ones above two.
-ghost use Rattle.std.specs.Prelude.{◌≡◌, ◌++◌, IfOk, OnOk, drop, length, replicate};
+ghost use Rattle.std.specs.Prelude.{◌≡◌, ◌++◌, IfOk, OnOk, drop, length, option_copied, replicate};
 ghost use Rattle.objects.specs.typing.TypeOrder.{is_within};
-ghost use Rattle.verifier.specs.Order.{are_within, fits_in};
+ghost use Rattle.verifier.specs.Order.{are_within, fits_in, is_place_within};
 
 use crate::names::is_reference_within;
 use hierarchy::{Program, TypeEntry};
 use jmodel::{Bytes, VType};
 use std::alloc::{AllocError, Global};
+use type_lists::{Parts, TypeStack, TypeTree};
 
 /// Whether the second type is at least as wide as the first.
 pub fn is_within(program: &Program, narrow: &VType, wide: &VType) -> bool
@@ -38,27 +39,107 @@ pub fn is_below(program: &Program, narrow: &VType, class: &[u8]) -> bool
     }
 }
 
-/// Whether each type is within the one at its place of another list.
-pub fn are_within(program: &Program, narrow: &[VType], wide: &[VType]) -> bool
+/// Whether each type of a stack is within the one at its place of another.
+fn is_stack_within(program: &Program, narrow: &TypeStack, wide: &TypeStack) -> bool
     ensures { result ≡ are_within program.now narrow.now wide.now }
 {
-    if narrow.len() != wide.len() {
-        return false;
+    let mut narrow = narrow;
+    let mut wide = wide;
+    loop {
+        match (narrow.split(), wide.split()) {
+            (None, None) => return true,
+            (Some((item, left)), Some((wider, left_wide))) => {
+                if !is_within(program, item.as_type(), wider.as_type()) {
+                    return false;
+                }
+                narrow = left;
+                wide = left_wide;
+            }
+            _ => return false,
+        }
     }
-    for (i, item) in narrow.iter().enumerate() {
-        if !is_within(program, item, &wide[i]) {
+}
+
+/// Whether each type of a list is within one.
+#[tactic(auto, using(crate::proofs::Runs::within_run, crate::proofs::Runs::under_parts))]
+fn are_under(program: &Program, narrow: &TypeTree, wide: &VType) -> bool
+    ensures { result ≡ are_within program.now narrow.now (replicate (length narrow.now) wide.now) }
+{
+    match narrow.parts() {
+        Parts::Empty => true,
+        Parts::Run(item) => is_within(program, item.as_type(), wide),
+        Parts::Fork(left, right) => {
+            are_under(program, left, wide) && are_under(program, right, wide)
+        }
+    }
+}
+
+/// Whether a type is within each of a list.
+#[tactic(auto, using(crate::proofs::Runs::within_run, crate::proofs::Runs::over_parts))]
+fn are_over(program: &Program, narrow: &VType, wide: &TypeTree) -> bool
+    ensures { result ≡ are_within program.now (replicate (length wide.now) narrow.now) wide.now }
+{
+    match wide.parts() {
+        Parts::Empty => true,
+        Parts::Run(item) => is_within(program, narrow, item.as_type()),
+        Parts::Fork(left, right) => {
+            are_over(program, narrow, left) && are_over(program, narrow, right)
+        }
+    }
+}
+
+/// Whether two places have types, the second at least as wide as the first.
+fn is_place_within(program: &Program, narrow: Option<&VType>, wide: Option<&VType>) -> bool
+    ensures { result ≡ is_place_within program.now (option_copied narrow.entry) (option_copied wide.entry) }
+{
+    match (narrow, wide) {
+        (Some(item), Some(wider)) => is_within(program, item, wider),
+        _ => false,
+    }
+}
+
+/// Whether each type is within the one at its place of another list of one length, place by place.
+#[tactic(auto, using(crate::proofs::Runs::place_step, crate::proofs::Lists::within_end))]
+fn are_each_within(program: &Program, narrow: &TypeTree, wide: &TypeTree) -> bool
+    requires { length narrow.now ≡ length wide.now }
+    ensures { result ≡ are_within program.now narrow.now wide.now }
+{
+    for i in 0..narrow.len() {
+        if !is_place_within(program, narrow.get(i), wide.get(i)) {
             return false;
         }
     }
     true
 }
 
+/// Whether each local's type is within the one at its place of another list.
+#[tactic(auto, using(crate::proofs::Runs::parts_within, crate::proofs::Lists::unlike))]
+fn are_locals_within(program: &Program, narrow: &TypeTree, wide: &TypeTree) -> bool
+    ensures { result ≡ are_within program.now narrow.now wide.now }
+{
+    if narrow.len() != wide.len() {
+        return false;
+    }
+    match (narrow.parts(), wide.parts()) {
+        (Parts::Run(item), _) => are_over(program, item.as_type(), wide),
+        (_, Parts::Run(item)) => are_under(program, narrow, item.as_type()),
+        (Parts::Fork(left, right), Parts::Fork(left_wide, right_wide)) => {
+            if left.len() != left_wide.len() {
+                return are_each_within(program, narrow, wide);
+            }
+            are_locals_within(program, left, left_wide)
+                && are_locals_within(program, right, right_wide)
+        }
+        _ => are_each_within(program, narrow, wide),
+    }
+}
+
 /// Whether types are within others.
 pub fn fits_in(program: &Program, narrow: &TypeEntry, wide: &TypeEntry) -> bool
     ensures { result ≡ fits_in program.now narrow.now wide.now }
 {
-    are_within(program, narrow.locals(), wide.locals())
-        && are_within(program, narrow.stack(), wide.stack())
+    are_locals_within(program, narrow.locals(), wide.locals())
+        && is_stack_within(program, narrow.stack(), wide.stack())
         && (!wide.built() || narrow.built())
 }
 
@@ -102,15 +183,6 @@ pub fn copies(alloc: Global, from: &[VType]) -> Result<Vec<VType>, AllocError>
     let mut types = Vec::new(alloc);
     push_copies(alloc, &mut types, from)?;
     Ok(types)
-}
-
-/// The types before an instruction once more.
-pub fn duplicate(alloc: Global, from: &TypeEntry) -> Result<TypeEntry, AllocError>
-    ensures { IfOk result (λ h. h ≡ from.now) }
-{
-    let locals = copies(alloc, from.locals())?;
-    let stack = copies(alloc, from.stack())?;
-    Ok(TypeEntry::new(locals, stack, from.built()))
 }
 
 /// The types from a place on.

@@ -59,7 +59,7 @@ fn is_put(site: &Site, field: &Field, object: Option<&VType>) -> bool
 }
 
 /// A store to a field of the object under so many places.
-#[tactic(auto, using(crate::proofs::Received::puts_is))]
+#[tactic(auto, using(crate::proofs::Received::puts_is, crate::proofs::Received::puts_past))]
 fn puts(
     alloc: Global,
     site: &Site,
@@ -70,6 +70,9 @@ fn puts(
     requires { site.now.pc + 1 < 2 ^ 64 }
     ensures { IfOk result (λ o. flow_of o ≡ puts site.now.program.now site.now.method.now site.now.pc field.now entry.now (drop places entry.now.stack)) }
 {
+    if places >= entry.stack().len() {
+        return Ok(None);
+    }
     if !is_put(site, field, entry.stack().get(places)) {
         return Ok(None);
     }

@@ -1,23 +1,26 @@
 //! The search for a typing: a table so far, and the places that are still to be looked at.
-ghost use Rattle.std.specs.Prelude.{◌≡◌, ◌<◌, ◌∷◌, [], All, false, slice_get, IfOk, IfSome, IfNone, length, option_copied};
+ghost use Rattle.std.specs.Prelude.{◌≡◌, ℕ, ◌<◌, ◌≤◌, true, false, slice_get, IfOk, IfSome, IfNone, length, option_copied, replicate};
 ghost use Rattle.objects.specs.typing.Typing.{first_types, is_guarded, caught_type, types_at};
-ghost use Rattle.verifier.specs.Search.{are_locals_after, are_throwable, caught, change_of, each_to, Flows, is_alike, is_entered, is_ready, is_stack_under, IsPour, merged, next_local, next_under, starting, thrown};
+ghost use Rattle.objects.specs.typing.Source.{AreTypes};
+ghost use Rattle.verifier.specs.Search.{after_all, are_locals_after, are_throwable, caught, change_of, each_to, Flows, is_alike, is_entered, is_ready, IsPour, IsTaken, merged, next_local, starting, thrown, waits};
 
-use crate::merging::joined;
+use crate::merging::{joined, settled};
 use crate::names::{conflict_class, name_read, throwable_class};
-use crate::order::{class_type, copies, fits_in, is_below};
+use crate::order::{class_type, fits_in, is_below};
 use hierarchy::{Method, Program, TypeEntry, Typing};
 use jmodel::VType;
 use objects::op::{Catch, Catches};
 use std::alloc::{AllocError, Global};
 use std::collections::BTreeSet;
 use std::marker::Model;
+use type_lists::{Parts, SharedType, TypeStack, TypeTree};
 
-/// A table, and the places whose types have changed since their instructions were looked at.
+/// A table, the places whose types have changed since their instructions were looked at, and the place taken last.
 #[derive(Drop)]
 pub struct Search {
     table: Vec<Option<TypeEntry>>,
     waiting: BTreeSet<usize>,
+    at: usize,
 }
 
 impl Model for Search {
@@ -42,53 +45,51 @@ fn next_local(after: bool, item: &VType) -> Option<bool>
     }
 }
 
+/// Whether the last of so many locals of one type has the first place of a long, where the local before them had one or not.
+fn run_after(after: bool, item: &VType, count: usize) -> Option<bool>
+    ensures { result ≡ after_all after (replicate count item.now) }
+{
+    let mut after = after;
+    for _ in 0..count {
+        let Some(next) = next_local(after, item) else {
+            return None;
+        };
+        if next == after {
+            return Some(after);
+        }
+        after = next;
+    }
+    Some(after)
+}
+
+/// Whether the last of some locals has the first place of a long, where the local before them had one or not; none where two
+/// of them don't go together.
+fn after_all(after: bool, types: &TypeTree) -> Option<bool>
+    ensures { result ≡ after_all after types.now }
+{
+    match types.parts() {
+        Parts::Empty => Some(after),
+        Parts::Run(item) => run_after(after, item.as_type(), types.len()),
+        Parts::Fork(left, right) => match after_all(after, left) {
+            Some(between) => after_all(between, right),
+            None => None,
+        },
+    }
+}
+
 /// Whether locals may have these types.
-pub fn are_locals(types: &[VType]) -> bool
+#[tactic(auto, using(crate::proofs::Afters::ends_are))]
+pub fn are_locals(types: &TypeTree) -> bool
     ensures { result ≡ are_locals_after false types.now }
 {
-    let mut after = false;
-    for item in types {
-        match next_local(after, item) {
-            Some(next) => after = next,
-            None => return false,
-        }
-    }
-    !after
-}
-
-/// Whether a place of the stack is the second one of a long, where the place just above it was one or not; none where the
-/// two don't go together.
-fn next_under(under: bool, item: &VType) -> Option<bool>
-    ensures { result ≡ next_under under item.now }
-{
-    match item {
-        VType::Long if under => Some(false),
-        VType::Second if !under => Some(true),
-        VType::Long | VType::Second | VType::Top => None,
-        _ if !under => Some(false),
-        _ => None,
-    }
-}
-
-/// Whether a stack may have these types.
-fn is_stack(stack: &[VType]) -> bool
-    ensures { result ≡ is_stack_under false stack.now }
-{
-    let mut under = false;
-    for item in stack {
-        match next_under(under, item) {
-            Some(next) => under = next,
-            None => return false,
-        }
-    }
-    !under
+    matches!(after_all(false, types), Some(false))
 }
 
 /// Whether a frame of the method may have this stack.
 pub fn is_ready(method: &Method, entry: &TypeEntry) -> bool
     ensures { result ≡ is_ready method.now entry.now }
 {
-    entry.stack().len() <= method.max_stack() && is_stack(entry.stack())
+    entry.stack().len() <= method.max_stack() && entry.stack().is_under(false)
 }
 
 /// Whether the types that a method begins with are those of a frame.
@@ -143,11 +144,12 @@ fn change_at(
     to: usize,
     out: &TypeEntry,
 ) -> Result<Change, AllocError>
+    requires types { AreTypes program.now }
     ensures { IfOk result (λ x. x ≡ change_of program.now to out.now (slice_get table.now to)) }
 {
     match table.get(to) {
         None => Ok(Change::Refused),
-        Some(None) => Ok(Change::Put(joined(alloc, program, out, out)?)),
+        Some(None) => Ok(Change::Put(settled(alloc, program, out)?)),
         Some(Some(entry)) => merged(alloc, program, to, out, entry),
     }
 }
@@ -179,9 +181,9 @@ pub fn thrown(
 ) -> Result<TypeEntry, AllocError>
     ensures { IfOk result (λ h. h ≡ thrown program.now entry.now.locals entry.now.built catch.now) }
 {
-    let mut stack = Vec::new(alloc);
-    stack.push(caught_type(alloc, program, &catch.catches)?)?;
-    Ok(TypeEntry::new(copies(alloc, entry.locals())?, stack, entry.built()))
+    let of = SharedType::new(alloc, caught_type(alloc, program, &catch.catches)?)?;
+    let stack = TypeStack::new().push(alloc, of)?;
+    Ok(TypeEntry::new(entry.locals().share()?, stack, entry.built()))
 }
 
 /// Whether each entry that guards a place takes exceptions.
@@ -219,17 +221,42 @@ impl Search {
         }
         let mut waiting = BTreeSet::new(alloc);
         waiting.insert(0)?;
-        Ok(Search { table, waiting })
+        Ok(Search {
+            table,
+            waiting,
+            at: 0,
+        })
     }
 
-    /// Takes the least of the places that wait.
-    pub fn next(&mut self) -> Option<usize>
-        ensures none { IfNone result (self.old.waiting ≡ []) }
-        ensures taken { IfSome result (λ pc. self.old.waiting ≡ pc ∷ self.new.waiting) }
-        ensures least { IfSome result (λ pc. All (λ q. pc < q) self.new.waiting) }
+    /// The least place that waits from one place on; none where that lies behind the last one.
+    fn least_from(&self, from: usize, last: usize) -> Option<usize>
+        ensures none { IfNone result ((q : ℕ) → from ≤ q → q ≤ last → waits self.now.waiting q ≡ false) }
+        ensures waiting { IfSome result (λ pc. waits self.now.waiting pc ≡ true) }
+        ensures inside { IfSome result (λ pc. pc ≤ last) }
+    {
+        let pc = *self.waiting.range(from..).next()?;
+        if pc > last {
+            return None;
+        }
+        Some(pc)
+    }
+
+    /// Takes a place that waits, up to a last one; none where no place up to it waits. The search goes in passes: the least
+    /// place is taken that waits from the one taken before on. Where none waits there, a new pass begins with the least of all.
+    pub fn next(&mut self, last: usize) -> Option<usize>
+        ensures none { IfNone result ((q : ℕ) → q ≤ last → waits self.old.waiting q ≡ false) }
+        ensures waiting { IfSome result (λ pc. waits self.old.waiting pc ≡ true) }
+        ensures inside { IfSome result (λ pc. pc ≤ last) }
+        ensures taken { IfSome result (λ pc. IsTaken pc self.old.waiting self.new.waiting) }
         ensures table { self.new.table ≡ self.old.table }
     {
-        self.waiting.pop_first()
+        let pc = match self.least_from(self.at, last) {
+            Some(pc) => pc,
+            None => self.least_from(0, last)?,
+        };
+        self.waiting.remove(&pc);
+        self.at = pc;
+        Some(pc)
     }
 
     /// Lets types flow to a place. False where the place can't take them.
@@ -240,6 +267,7 @@ impl Search {
         to: usize,
         out: &TypeEntry,
     ) -> Result<bool, AllocError>
+        requires types { AreTypes program.now }
         ensures { IfOk result (λ b. IsPour program.now to out.now self.old self.new b) }
     {
         match change_at(alloc, program, &self.table, to, out)? {
@@ -261,6 +289,7 @@ impl Search {
         places: &[usize],
         out: &TypeEntry,
     ) -> Result<bool, AllocError>
+        requires types { AreTypes program.now }
         ensures { IfOk result (λ b. Flows program.now (each_to places.now out.now) self.old self.new b) }
     {
         for to in places {
@@ -281,6 +310,7 @@ impl Search {
         pc: usize,
         over: &TypeEntry,
     ) -> Result<bool, AllocError>
+        requires types { AreTypes program.now }
         ensures { IfOk result (λ b. Flows program.now (caught program.now catches.now pc over.now.locals over.now.built) self.old self.new b) }
     {
         for entry in catches {

@@ -4,11 +4,11 @@ ghost use Rattle.objects.specs.typing.Typing.{is_one, rearranged};
 ghost use Rattle.verifier.specs.Flows.{arranged_places, arrangement, flow_of, has_long, has_one, has_two, is_arranged, type_at};
 
 use crate::led::{Led, leaves};
-use crate::order::{copy, rest};
 use hierarchy::TypeEntry;
 use jmodel::VType;
 use objects::op::StackOp;
 use std::alloc::{AllocError, Global};
+use type_lists::{SharedType, TypeStack};
 
 /// Whether a type is that of a value of one place.
 fn is_one(item: &VType) -> bool
@@ -21,7 +21,7 @@ fn is_one(item: &VType) -> bool
 }
 
 /// Whether a value of one place is on top.
-fn has_one(stack: &[VType]) -> bool
+fn has_one(stack: &TypeStack) -> bool
     ensures { result ≡ has_one stack.now }
 {
     match stack.first() {
@@ -31,7 +31,7 @@ fn has_one(stack: &[VType]) -> bool
 }
 
 /// Whether a long is on top.
-pub fn has_long(stack: &[VType]) -> bool
+pub fn has_long(stack: &TypeStack) -> bool
     ensures { result ≡ has_long stack.now }
 {
     match (stack.first(), stack.get(1)) {
@@ -41,24 +41,24 @@ pub fn has_long(stack: &[VType]) -> bool
 }
 
 /// Whether a long, or two values of one place, are on top.
-fn has_two(stack: &[VType]) -> bool
+fn has_two(stack: &TypeStack) -> bool
     ensures { result ≡ has_two stack.now }
 {
-    has_long(stack) || has_one(stack) && has_one(rest(stack, 1))
+    has_long(stack) || has_one(stack) && has_one(stack.rest(1))
 }
 
 /// Whether a stack has what is rearranged.
-fn is_arranged(op: StackOp, stack: &[VType]) -> bool
+fn is_arranged(op: StackOp, stack: &TypeStack) -> bool
     ensures { result ≡ is_arranged op stack.now }
 {
     match op {
         StackOp::Nop => true,
         StackOp::Pop | StackOp::Dup => has_one(stack),
         StackOp::Pop2 | StackOp::Dup2 => has_two(stack),
-        StackOp::DupX1 | StackOp::Swap => has_one(stack) && has_one(rest(stack, 1)),
-        StackOp::DupX2 => has_one(stack) && has_two(rest(stack, 1)),
-        StackOp::Dup2X1 => has_two(stack) && has_one(rest(stack, 2)),
-        StackOp::Dup2X2 => has_two(stack) && has_two(rest(stack, 2)),
+        StackOp::DupX1 | StackOp::Swap => has_one(stack) && has_one(stack.rest(1)),
+        StackOp::DupX2 => has_one(stack) && has_two(stack.rest(1)),
+        StackOp::Dup2X1 => has_two(stack) && has_one(stack.rest(2)),
+        StackOp::Dup2X2 => has_two(stack) && has_two(stack.rest(2)),
     }
 }
 
@@ -92,17 +92,17 @@ fn arrangement(op: StackOp) -> &'static [usize]
 }
 
 /// The type of a place, once more.
-fn copy_at(alloc: Global, types: &[VType], place: usize) -> Result<VType, AllocError>
+fn copy_at(alloc: Global, types: &TypeStack, place: usize) -> Result<SharedType, AllocError>
     ensures { IfOk result (λ t. t ≡ type_at types.now place) }
 {
-    match types.get(place) {
-        Some(item) => copy(alloc, item),
-        None => Ok(VType::Top),
+    match types.shared_at(place) {
+        Some(item) => item.share(),
+        None => SharedType::new(alloc, VType::Top),
     }
 }
 
 /// The types of places, once more.
-fn picked(alloc: Global, types: &[VType], places: &[usize]) -> Result<Vec<VType>, AllocError>
+fn picked(alloc: Global, types: &TypeStack, places: &[usize]) -> Result<Vec<SharedType>, AllocError>
     ensures { IfOk result (λ v. v.items ≡ map (type_at types.now) places.now) }
 {
     let mut picked = Vec::new(alloc);

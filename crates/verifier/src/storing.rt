@@ -6,32 +6,32 @@ ghost use Rattle.objects.specs.typing.Typing.{freed, set_local, set_long, stores
 ghost use Rattle.verifier.specs.Flows.{flow_of};
 
 use crate::led::Led;
-use crate::loads::{is_int_at, is_reference};
-use crate::order::{copies, copy, rest};
+use crate::loads::{is_int, is_reference};
 use crate::rule::next;
 use crate::stack::has_long;
 use hierarchy::{Program, TypeEntry};
 use jmodel::VType;
 use objects::op::Sort;
 use std::alloc::{AllocError, Global};
+use type_lists::{SharedType, TypeTree};
 
 /// Leaves nothing in a local, if there is one.
-fn clear(locals: &mut Vec<VType>, local: usize)
-    ensures { locals.new.items ≡ slice_set locals.old.items local type.Top }
+fn clear(alloc: Global, locals: &TypeTree, local: usize) -> Result<TypeTree, AllocError>
+    ensures { IfOk result (λ l. l ≡ slice_set locals.now local type.Top) }
 {
-    if local < locals.len() {
-        locals[local] = VType::Top;
-    }
+    locals.set(alloc, local, SharedType::new(alloc, VType::Top)?)
 }
 
 /// Of a long whose one place is written, the other has nothing left.
-fn free(locals: &mut Vec<VType>, local: usize)
-    ensures { locals.new.items ≡ freed local locals.old.items }
+fn free(alloc: Global, locals: &TypeTree, local: usize) -> Result<TypeTree, AllocError>
+    requires { local < length locals.now }
+    ensures { IfOk result (λ l. l ≡ freed local locals.now) }
 {
+    let _ = locals.len();
     match locals.get(local) {
-        Some(VType::Second) => clear(locals, local.saturating_sub(1)),
-        Some(VType::Long) => clear(locals, local + 1),
-        _ => {}
+        Some(VType::Second) => clear(alloc, locals, local.saturating_sub(1)),
+        Some(VType::Long) => clear(alloc, locals, local + 1),
+        _ => locals.share(),
     }
 }
 
@@ -41,7 +41,7 @@ fn set_local(
     pc: usize,
     entry: &TypeEntry,
     local: usize,
-    item: VType,
+    item: SharedType,
 ) -> Result<Option<Led>, AllocError>
     requires { pc + 1 < 2 ^ 64 }
     ensures { IfOk result (λ o. flow_of o ≡ set_local (nat_lt local (length entry.now.locals)) local item pc entry.now (drop 1 entry.now.stack)) }
@@ -49,13 +49,24 @@ fn set_local(
     if local >= entry.locals().len() {
         return Ok(None);
     }
-    let mut locals = copies(alloc, entry.locals())?;
-    free(&mut locals, local);
-    locals[local] = item;
-    let stack = copies(alloc, rest(entry.stack(), 1))?;
+    let freed = free(alloc, entry.locals(), local)?;
+    let locals = freed.set(alloc, local, item)?;
+    let stack = entry.stack().rest(1).share()?;
     let to = next(alloc, pc)?;
     let left = TypeEntry::new(locals, stack, entry.built());
     Ok(Some(Led { to, left }))
+}
+
+/// Locals with a long in two of them.
+fn long_set(alloc: Global, locals: &TypeTree, local: usize) -> Result<TypeTree, AllocError>
+    requires { local + 1 < length locals.now }
+    ensures { IfOk result (λ l. l ≡ slice_set (slice_set (freed (local + 1) (freed local locals.now)) local type.Long) (local + 1) type.Second) }
+{
+    let _ = locals.len();
+    let freed = free(alloc, locals, local)?;
+    let freed = free(alloc, &freed, local + 1)?;
+    let first = freed.set(alloc, local, SharedType::new(alloc, VType::Long)?)?;
+    first.set(alloc, local + 1, SharedType::new(alloc, VType::Second)?)
 }
 
 /// A store of a long.
@@ -71,12 +82,8 @@ fn set_long(
     if local >= entry.locals().len() || local + 1 >= entry.locals().len() {
         return Ok(None);
     }
-    let mut locals = copies(alloc, entry.locals())?;
-    free(&mut locals, local);
-    free(&mut locals, local + 1);
-    locals[local] = VType::Long;
-    locals[local + 1] = VType::Second;
-    let stack = copies(alloc, rest(entry.stack(), 2))?;
+    let locals = long_set(alloc, entry.locals(), local)?;
+    let stack = entry.stack().rest(2).share()?;
     let to = next(alloc, pc)?;
     let left = TypeEntry::new(locals, stack, entry.built());
     Ok(Some(Led { to, left }))
@@ -94,8 +101,8 @@ fn store_int(
     requires { pc + 1 < 2 ^ 64 }
     ensures { IfOk result (λ o. flow_of o ≡ stores program.now sort.Int local pc entry.now) }
 {
-    if is_int_at(entry.stack(), 0) {
-        set_local(alloc, pc, entry, local, VType::Int)
+    if is_int(entry.stack().first()) {
+        set_local(alloc, pc, entry, local, SharedType::new(alloc, VType::Int)?)
     } else {
         Ok(None)
     }
@@ -113,9 +120,9 @@ fn store_reference(
     requires { pc + 1 < 2 ^ 64 }
     ensures { IfOk result (λ o. flow_of o ≡ stores program.now sort.Reference local pc entry.now) }
 {
-    match entry.stack().first() {
-        Some(item) if is_reference(item) => {
-            set_local(alloc, pc, entry, local, copy(alloc, item)?)
+    match entry.stack().split() {
+        Some((item, _)) if is_reference(item.as_type()) => {
+            set_local(alloc, pc, entry, local, item.share()?)
         }
         _ => Ok(None),
     }

@@ -1,11 +1,11 @@
 //! One turn of the search for a typing: the instruction of a place is looked at.
 ghost use Rattle.std.specs.Prelude.{◌≡◌, IfOk};
 ghost use Rattle.objects.specs.typing.Typing.{types_at};
+ghost use Rattle.objects.specs.typing.Source.{AreTypes};
 ghost use Rattle.verifier.specs.Search.{demands, Flows, IsVisit};
 ghost use Rattle.verifier.specs.Visits.{step_at};
 
 use crate::flow::flow;
-use crate::order::duplicate;
 use crate::search::{Search, are_throwable, is_ready};
 use hierarchy::{Method, Program, TypeEntry};
 use std::alloc::{AllocError, Global};
@@ -52,7 +52,7 @@ fn step_at(
     if !are_throwable(alloc, program, method.catches(), pc)? {
         return Ok(None);
     }
-    let before = duplicate(alloc, before)?;
+    let before = before.share()?;
     Ok(Some(Step {
         before,
         to: led.to,
@@ -69,6 +69,7 @@ fn follow(
     step: &Step,
     search: &mut Search,
 ) -> Result<bool, AllocError>
+    requires types { AreTypes program.now }
     ensures { IfOk result (λ b. Flows program.now (demands program.now method.now pc step.now.before step.now.to step.now.left) search.old search.new b) }
 {
     if !search.flow_each(alloc, program, step.to.as_slice(), &step.left)? {
@@ -90,6 +91,7 @@ pub fn visit(
     pc: usize,
     search: &mut Search,
 ) -> Result<bool, AllocError>
+    requires types { AreTypes program.now }
     ensures { IfOk result (λ b. IsVisit program.now method.now pc search.old search.new b) }
 {
     match step_at(alloc, program, method, pc, search)? {

@@ -1,0 +1,5 @@
+pub mod Stacks
+pub mod Cells
+pub mod Trees
+pub mod Named
+pub mod Parted

@@ -1,0 +1,6 @@
+use Rattle.std.proofs.Common.{◌∙◌, sym}
+use Rattle.verifier.proofs.Runs.{over_parts, and_stop}
+use Rattle.verifier.proofs.order.+are_over.Goals as goal
+
+pub returns-else-are_over : goal.returns-else-are_over
+returns-else-are_over t c = c.if-are_over.false ∙ and_stop _ _ _ (over_parts c.args.program.now c.args.wide.now c.in-Fork.left.now c.in-Fork.right.now c.args.narrow.now c.in-Fork.ensures.0) (sym c.are_over.ensures ∙ c.if-are_over.false)
