@@ -95,9 +95,9 @@ pub fn programs(alloc: Global, classes: &[&ClassFile]) -> Result<(Program, Progr
     let Ok(original) = build(alloc, classes) else {
         return Err(NoMemory);
     };
-    let Ok(()) = type_all(alloc, &original) else {
+    let Ok(typings) = type_all(alloc, &original) else {
         return Err(NoMemory);
     };
-    let rewritten = rewrite_program(alloc, &original)?;
+    let rewritten = rewrite_program(alloc, &original, typings.as_slice())?;
     Ok((original, rewritten))
 }

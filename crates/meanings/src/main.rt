@@ -6,7 +6,7 @@ ghost use Rattle.std.specs.Prelude.{IfOk};
 ghost use Rattle.std.specs.List.{AllByRecursion};
 ghost use Rattle.jmodel.specs.format.ClassRules.{IsClassFile};
 ghost use Rattle.objects.specs.typing.Source.{IsSource};
-ghost use Rattle.program_typing.specs.Tables.{IsTypedOrBare};
+ghost use Rattle.program_typing.specs.Tables.{AreTables};
 ghost use Rattle.rewriter.specs.Asked.{AreFiled};
 
 use const_pool::ClassFile;
@@ -15,8 +15,8 @@ use deuce::classes::class_of;
 use deuce::listing::class_paths;
 use deuce::top::deuce;
 use deuce_io::{Folder, IoEnd, MemSink, RealFolder, names_in};
-use hierarchy::Program;
 use hierarchy::symbols::own_name;
+use hierarchy::{Program, Typing};
 use linking::rebuild::rebuild;
 use program_rewriter::rewrite_program;
 use runner::instrument_files;
@@ -150,22 +150,23 @@ fn print_meaning<R: Runtime>(
     let classes = sorted(alloc, rewritten)?;
     let before = made.classes.as_slice();
     match rebuild(alloc, before, classes.as_slice(), &made.original) {
-        Ok(rebuilt) => print_rebuilt(rt, alloc, &made.original, &rebuilt),
+        Ok(rebuilt) => print_rebuilt(rt, alloc, &made.original, made.typings.as_slice(), &rebuilt),
         Err(end) => println!(rt; "{end:?}"),
     }
 }
 
-/// Prints how many methods a program has, and whether it is the rewriting of another.
+/// Prints how many methods a program has, and whether it is the rewriting of another by the narrowest typings of that one's methods.
 fn print_rebuilt<R: Runtime>(
     rt: &R,
     alloc: Global,
     original: &Program,
+    typings: &[Typing],
     rebuilt: &Program,
 ) -> io::Result<()>
     requires source { IsSource original.now }
-    requires typed { AllByRecursion (IsTypedOrBare original.now) original.now.methods }
+    requires tables { AreTables original.now typings.now }
 {
-    let Ok(wanted) = rewrite_program(alloc, original) else {
+    let Ok(wanted) = rewrite_program(alloc, original, typings) else {
         return println!(rt; "no rewriting");
     };
     let text = format!(in alloc; "{rebuilt:?}")?;

@@ -1,9 +1,9 @@
 //! The rewriting of a program.
-ghost use Rattle.std.specs.Prelude.{◌≡◌, ◌<◌, length, slice_get, Some, IfOk};
-ghost use Rattle.std.specs.List.{AllByRecursion};
+ghost use Rattle.std.specs.Prelude.{◌≡◌, ◌++◌, IfOk};
 ghost use Rattle.objects.specs.typing.Source.{IsSource};
-ghost use Rattle.program_typing.specs.Tables.{IsTypedOrBare};
-ghost use Rattle.program_rewriter.specs.Rewritten.{IsDuplicateAt, AreDuplicates, IsRewriting};
+ghost use Rattle.objects.specs.rewriting.Rewriting.{old_methods as old_ones, accessors as accessors_from, duplicates as duplicates_by, helper_methods as helping};
+ghost use Rattle.program_typing.specs.Tables.{AreTables};
+ghost use Rattle.program_rewriter.specs.Rewritten.{IsRewriting};
 
 use crate::accessors::accessors;
 use crate::copies::{copy_fields, copy_rows};
@@ -12,74 +12,51 @@ use crate::helper::helper_methods;
 use crate::wrappers::old_methods;
 use hierarchy::{Method, Program, Typing};
 use jmodel::NoMemory;
-use program_typing::table_of;
 use std::alloc::Global;
-use verifier::TypeEnd;
 
-// The table of the method with a number. It has one, so what is wanting is memory.
-fn typing_of(alloc: Global, program: &Program, number: usize) -> Result<Typing, NoMemory>
-    requires there { number < length program.now.methods }
+// The duplicates of all methods, each by its typing.
+fn duplicates(alloc: Global, program: &Program, typings: &[Typing]) -> Result<Vec<Method>, NoMemory>
     requires source { IsSource program.now }
-    requires typed { AllByRecursion (IsTypedOrBare program.now) program.now.methods }
-    ensures { IfOk result (λ T. (k : JMethod) → slice_get program.now.methods number ≡ Some k → IsTableOf program.now k T) }
-{
-    match table_of(alloc, program, number) {
-        Ok(typing) => Ok(typing),
-        Err(TypeEnd::Untypable(_)) => unreachable!(),
-        Err(TypeEnd::NoMemory) => Err(NoMemory),
-    }
-}
-
-ghost use Rattle.objects.specs.semantics.Program.{Method as JMethod};
-ghost use Rattle.program_typing.specs.Tables.{IsTableOf};
-
-// The duplicate of the method with a number.
-fn duplicate_at(alloc: Global, program: &Program, number: usize) -> Result<Method, NoMemory>
-    requires there { number < length program.now.methods }
-    requires source { IsSource program.now }
-    requires typed { AllByRecursion (IsTypedOrBare program.now) program.now.methods }
-    ensures { IfOk result (IsDuplicateAt program.now number) }
-{
-    let typing = typing_of(alloc, program, number)?;
-    duplicate_of(alloc, program, &program.methods()[number], &typing)
-}
-
-// The duplicates of all methods. One table is held at a time.
-fn duplicates(alloc: Global, program: &Program) -> Result<Vec<Method>, NoMemory>
-    requires source { IsSource program.now }
-    requires typed { AllByRecursion (IsTypedOrBare program.now) program.now.methods }
-    ensures { IfOk result (λ v. AreDuplicates program.now program.now.methods v.items) }
+    requires tables { AreTables program.now typings.now }
+    ensures { IfOk result (λ v. v.items ≡ duplicates_by program.now program.now.methods typings.now) }
 {
     let mut methods = Vec::new(alloc);
-    for number in 0..program.methods().len() {
-        methods.push(duplicate_at(alloc, program, number)?)?;
+    for (method, typing) in program.methods().iter().zip(typings) {
+        methods.push(duplicate_of(alloc, program, method, typing)?)?;
     }
     Ok(methods)
 }
 
 // The methods of the rewritten program: the old ones, accessors, duplicates, and those of the helper of arrays.
-fn rewritten_methods(alloc: Global, program: &Program) -> Result<Vec<Method>, NoMemory>
+fn rewritten_methods(
+    alloc: Global,
+    program: &Program,
+    typings: &[Typing],
+) -> Result<Vec<Method>, NoMemory>
     requires source { IsSource program.now }
-    requires typed { AllByRecursion (IsTypedOrBare program.now) program.now.methods }
-    ensures { IfOk result (λ v. AreRewritten program.now v.items) }
+    requires tables { AreTables program.now typings.now }
+    ensures { IfOk result (λ v. v.items ≡ old_ones program.now 0 0 program.now.methods ++ accessors_from 0 program.now.fields ++ duplicates_by program.now program.now.methods typings.now ++ helping) }
 {
     let mut methods = old_methods(alloc, program)?;
     methods.append(&mut accessors(alloc, program)?)?;
-    methods.append(&mut duplicates(alloc, program)?)?;
+    methods.append(&mut duplicates(alloc, program, typings)?)?;
     methods.append(&mut helper_methods(alloc)?)?;
     Ok(methods)
 }
 
-ghost use Rattle.program_rewriter.specs.Rewritten.{AreRewritten};
-
-/// The rewriting of a program each of whose methods has a typing, or no code. Its types, texts and fields are the program's own. The methods are the
-/// old ones, with wrappers in the place of marked methods and static initialisers; then accessors, duplicates, and the helper of arrays.
-pub fn rewrite_program(alloc: Global, program: &Program) -> Result<Program, NoMemory>
+/// The rewriting of a program by the narrowest typings of its methods, in the order of their numbers; that of a method without code is empty. Its
+/// types, texts and fields are the program's own. The methods are the old ones, with wrappers in the place of marked methods and static
+/// initialisers; then accessors, duplicates, and the helper of arrays.
+pub fn rewrite_program(
+    alloc: Global,
+    program: &Program,
+    typings: &[Typing],
+) -> Result<Program, NoMemory>
     requires source { IsSource program.now }
-    requires typed { AllByRecursion (IsTypedOrBare program.now) program.now.methods }
+    requires tables { AreTables program.now typings.now }
     ensures { IfOk result (IsRewriting program.now) }
 {
-    let methods = rewritten_methods(alloc, program)?;
+    let methods = rewritten_methods(alloc, program, typings)?;
     let types = copy_rows(alloc, program.types())?;
     let texts = Vec::from_slice(alloc, program.texts())?;
     let fields = copy_fields(alloc, program.fields())?;

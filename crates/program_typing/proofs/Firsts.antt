@@ -42,12 +42,12 @@ front_more xs i x h = take_more xs i x (there_less xs i x h) ∙ ap (λ y. take 
 
 -- ---- methods
 
-module _ (P : Program) (n : ℕ) (early : Option (ℕ × ℕ)) (so_far : AreTyped P n early) where
+module _ (P : Program) (n : ℕ) (Ts : List Table) (early : Option (ℕ × ℕ)) (so_far : AreTyped P n Ts early) where
   pub untyped : (place : ℕ) → n < length P.methods → IsUntyped P n place → IsFirstUntyped P n place
   untyped place lt none = let k = at_place P.methods n lt in record {
     method = k.0;
     there = k.1;
-    before = all_typed P so_far.tables (take n P.methods) so_far.narrowest;
+    before = all_typed P Ts (take n P.methods) so_far.tables;
     code = (none k.0 k.1).0;
     untypable = (none k.0 k.1).1;
   }
@@ -64,22 +64,21 @@ module _ (P : Program) (n : ℕ) (early : Option (ℕ × ℕ)) (so_far : AreType
     among None before = among_late (early_store P k T) refl before
     among (Some e) at = at
 
-    pub next : (new : Option (ℕ × ℕ)) → new ≡ option_or early (option_map (λ (pc : ℕ). (n, pc)) (early_store P k T)) → AreTyped P (n + 1) new
+    pub next : (new : Option (ℕ × ℕ)) → new ≡ option_or early (option_map (λ (pc : ℕ). (n, pc)) (early_store P k T)) → AreTyped P (n + 1) (Ts ++ T ∷ []) new
     next new e = record {
-      tables = so_far.tables ++ T ∷ [];
-      narrowest = subst (λ (ks : List Method). AllZip (IsTableOf P) ks (so_far.tables ++ T ∷ [])) (sym (front_more P.methods n k there)) (zip_pushed (IsTableOf P) (take n P.methods) so_far.tables k T so_far.narrowest is);
+      tables = subst (λ (ks : List Method). AllZip (IsTableOf P) ks (Ts ++ T ∷ [])) (sym (front_more P.methods n k there)) (zip_pushed (IsTableOf P) (take n P.methods) Ts k T so_far.tables is);
       first = subst (IsEarlyAmong P (n + 1)) (sym e) (among early so_far.first);
     }
 
   pub next_typed : (T : Table) (found new : Option (ℕ × ℕ)) → n < length P.methods → ((k : Method) → slice_get P.methods n ≡ Some k → IsTableOf P k T)
-      → ((k : Method) → slice_get P.methods n ≡ Some k → found ≡ option_map (λ (pc : ℕ). (n, pc)) (early_store P k T)) → new ≡ option_or early found → AreTyped P (n + 1) new
+      → ((k : Method) → slice_get P.methods n ≡ Some k → found ≡ option_map (λ (pc : ℕ). (n, pc)) (early_store P k T)) → new ≡ option_or early found → AreTyped P (n + 1) (Ts ++ T ∷ []) new
   next_typed T found new lt is finds e =
       let k = at_place P.methods n lt in
       next k.0 T k.1 (is k.0 k.1) new (e ∙ ap (option_or early) (finds k.0 k.1))
 
 -- all methods
-pub all_early : (P : Program) (n : ℕ) (e : ℕ × ℕ) → length P.methods ≡ n → AreTyped P n (Some e) → IsFirstEarly P e.0 e.1
-all_early P n e many all = record {
-  typed = subst (AllByRecursion (IsTypedOrBare P)) (take_all n P.methods (omega (arith, many))) (all_typed P all.tables (take n P.methods) all.narrowest);
+pub all_early : (P : Program) (n : ℕ) (Ts : List Table) (e : ℕ × ℕ) → length P.methods ≡ n → AreTyped P n Ts (Some e) → IsFirstEarly P e.0 e.1
+all_early P n Ts e many all = record {
+  typed = subst (AllByRecursion (IsTypedOrBare P)) (take_all n P.methods (omega (arith, many))) (all_typed P Ts (take n P.methods) all.tables);
   at = all.first;
 }

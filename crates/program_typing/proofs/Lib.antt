@@ -1,3 +1,4 @@
+pub mod Chosen
 mod Firsts
 mod Numbered
 pub mod SameEarly

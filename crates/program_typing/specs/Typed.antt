@@ -56,10 +56,9 @@ abbrev pub IsEarlyAmong : Program → ℕ → Option (ℕ × ℕ) → Type 0
 IsEarlyAmong P n None = AllByRecursion (IsLate P) (take n P.methods)
 IsEarlyAmong P n (Some e) = IsEarlyAt P e.0 e.1
 
--- the first so many methods of a program have tables, and the first such store of them is this
-pub record AreTyped (P : Program) (n : ℕ) (early : Option (ℕ × ℕ)) : Type 0 where
-  pub tables : List Table
-  pub narrowest : AllZip (IsTableOf P) (take n P.methods) tables
+-- the first so many methods of a program have these tables, and the first such store of them is this
+pub record AreTyped (P : Program) (n : ℕ) (Ts : List Table) (early : Option (ℕ × ℕ)) : Type 0 where
+  pub tables : AllZip (IsTableOf P) (take n P.methods) Ts
   pub first : IsEarlyAmong P n early
 
 -- why a program isn't typed

@@ -6,5 +6,4 @@ mod tables;
 mod typed;
 
 pub use early::early_store;
-pub use tables::table_of;
 pub use typed::{TypeFault, type_all};

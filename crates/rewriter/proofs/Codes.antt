@@ -14,7 +14,7 @@ use Rattle.objects.specs.semantics.Program.{Method, Program, method_at}
 use Rattle.objects.specs.linking.Decoding.{Symbols, ops_of, catch_of}
 use Rattle.objects.specs.linking.Linking.{Body, no_body, with_catches, body_of, original_symbols, receiver_types, parameter_types, linking}
 use Rattle.objects.specs.laws.LinkingLaw.{AreRead}
-use Rattle.objects.specs.typing.Source.{IsSourceMethod}
+use Rattle.objects.specs.typing.Typing.{Table}
 use Rattle.objects.proofs.Items.{item}
 use Rattle.objects.proofs.DeclaredMembers.{of_methods}
 use Rattle.objects.proofs.TakenMembers.{in_methods}
@@ -28,7 +28,7 @@ use Rattle.bytecode.proofs.CodeLaws.{code_take, over_pool}
 use Rattle.dup_methods.specs.Limits.{AddsLittle}
 use Rattle.dup_methods.proofs.Little.{little_is}
 use Rattle.rewriter.specs.Asked.{HasBytes, AreFiled, IsReady}
-use Rattle.program_typing.specs.Tables.{IsTypedOrBare}
+use Rattle.program_typing.specs.Tables.{AreTables}
 use Rattle.rewriter.proofs.Owned.{few_methods}
 
 -- ---- bytes of code
@@ -112,15 +112,14 @@ module _ (cs : List ClassFile) (P : Program) (read : AreRead cs) (filed : AllByR
             little_is (original_symbols cs f.member.class) x.0.instrs f.meant.body.ops (instrs_fit f.member.class f.member.member x.0 bytes x.2) ops)
       ])
 
--- what classes that are read from a folder are linked to can be typed and duplicated
-pub ready : (cs : List ClassFile) (P : Program) → AreRead cs → AllByRecursion AreFiled cs → linking cs ≡ Ok (Some P) → AllByRecursion (IsTypedOrBare P) P.methods → IsReady P
-ready cs P read filed e typed =
+-- the methods of what classes that are read from a folder are linked to can be duplicated
+pub ready : (cs : List ClassFile) (P : Program) (Ts : List Table) → AreRead cs → AllByRecursion AreFiled cs → linking cs ≡ Ok (Some P) → AreTables P Ts → IsReady P Ts
+ready cs P Ts read filed e tables =
     let source = source_law cs P read e in
     let l = links cs P e in
     record {
       types = source.types;
-      takes = λ m k at. (item (IsSourceMethod P) P.methods k source.methods (m, at)).takes;
       little = adds_little cs P read filed l;
-      typed = typed;
+      tables = tables;
       few = (let few = few_methods cs P read l in omega (arith, few));
     }

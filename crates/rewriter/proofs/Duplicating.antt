@@ -6,7 +6,7 @@ use Rattle.std.proofs.lemmas.Slice.Zip.{length-zip}
 use Rattle.jmodel.specs.declared.refusal.Halt.{Halt}
 use Rattle.jmodel.specs.format.Reading.{Fails}
 use Rattle.jmodel.specs.format.ClassFile.{Member, Pool, ClassFile}
-use Rattle.objects.specs.semantics.Program.{Method, Program}
+use Rattle.objects.specs.semantics.Program.{Method, Program, method_at}
 use Rattle.objects.specs.typing.Typing.{Table}
 use Rattle.objects.specs.typing.Source.{AreTypes}
 use Rattle.std.proofs.lemmas.List.{append-nil, drop_all}
@@ -15,9 +15,10 @@ use Rattle.member_code.proofs.Grow as grow
 use Rattle.member_code.proofs.Grow.{with_front}
 use Rattle.dup_methods.specs.Originals.{Original}
 use Rattle.dup_methods.specs.Duplicates.{duplicate_of}
-use Rattle.program_typing.specs.Tables.{IsTableOf}
+use Rattle.program_typing.specs.Tables.{IsTableOf, AreTables}
+use Rattle.program_typing.proofs.Chosen.{as_many, chosen}
 use Rattle.rewriter.specs.Rewritten.{original_of, originals}
-use Rattle.rewriter.proofs.Lists.{item_at, zip_item}
+use Rattle.rewriter.proofs.Lists.{item_at, place_inside, zip_item}
 use Rattle.rewriter.proofs.SameDuplicates.{same_duplicate}
 
 -- a method and its member, by their index
@@ -32,6 +33,16 @@ pair_at ks methods ms members i k m told seen long inside is too =
 
 pub method_there : (ks methods : List Method) (i : ℕ) (k : Method) → methods ≡ ks → i < length methods → k ≡ get_or methods i k → slice_get ks i ≡ Some k
 method_there ks methods i k told inside is = ap (λ (xs : List Method). slice_get xs i) (sym told) ∙ item_at methods i k inside is
+
+-- of tables of a program's methods the one with the number of a share's method is this method's
+pub table_there : (P : Program) (Ts : List Table) (first i n : ℕ) (k : Method) (T : Table) → AreTables P Ts → n ≡ first → method_at P (first + i) ≡ Some k → T ≡ get_or Ts (n + i) T → IsTableOf P k (get_or Ts (n + i) T)
+table_there P Ts first i n k T are same at is = subst (IsTableOf P k) is (chosen P P.methods Ts (first + i) k T are at (is ∙ ap (λ (m : ℕ). get_or Ts (m + i) T) same))
+
+-- its number is that of a table, and that of a method
+pub table_inside : (P : Program) (Ts : List Table) (first i n : ℕ) (k : Method) → AreTables P Ts → n ≡ first → method_at P (first + i) ≡ Some k → (n + i < length P.methods) × (length Ts ≡ length P.methods)
+table_inside P Ts first i n k are same at =
+    let inside = place_inside P.methods (first + i) k at in
+    (omega (arith, inside, same), as_many P P.methods Ts are)
 
 -- behind the last there is none
 pub no_more : (ks methods : List Method) (ms : List Member) (i : ℕ) → methods ≡ ks → length methods ≤ i → drop i (zip ks ms) ≡ []

@@ -7,6 +7,5 @@ pub mod Wrapping
 pub mod Grouped
 pub mod Owned
 pub mod Codes
-pub mod Known
 pub mod Splits
 pub mod Shares

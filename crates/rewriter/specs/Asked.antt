@@ -4,9 +4,9 @@ use Rattle.std.specs.List.{AllByRecursion}
 use Rattle.jmodel.specs.format.ClassFile.{Attribute, Member, ClassFile}
 use Rattle.objects.specs.semantics.Program.{Method, Program, method_at}
 use Rattle.objects.specs.typing.Source.{AreTypes}
-use Rattle.verifier.specs.Answer.{TakesRead}
+use Rattle.objects.specs.typing.Typing.{Table}
 use Rattle.dup_methods.specs.Limits.{AddsLittle}
-use Rattle.program_typing.specs.Tables.{IsTypedOrBare}
+use Rattle.program_typing.specs.Tables.{AreTables}
 use Rattle.rewriter.specs.Part.{Share}
 
 -- numbers below 256
@@ -20,13 +20,12 @@ HasBytes m = AllByRecursion (λ (a : Attribute). AreBytes a.bytes) m.attributes
 abbrev pub AreFiled : ClassFile → Type 0
 AreFiled c = AllByRecursion HasBytes c.methods
 
--- A program whose methods can be typed and duplicated.
-pub record IsReady (P : Program) : Type 0 where
+-- A program whose methods can be duplicated, and a table for each of them.
+pub record IsReady (P : Program) (Ts : List Table) : Type 0 where
   pub types : AreTypes P
-  pub takes : (m : ℕ) → TakesRead P m
   pub little : (m : ℕ) (k : Method) → method_at P m ≡ Some k → AllByRecursion AddsLittle k.ops
-  pub typed : AllByRecursion (IsTypedOrBare P) P.methods
-  pub few : length P.methods < 2 ^ 63
+  pub tables : AreTables P Ts
+  pub few : length P.methods < 2 ^ 32
 
 -- The methods of a class's share are the program's, from its first on; each has its member, and each method of the class a flag.
 pub record IsShare (P : Program) (c : ClassFile) (share : Share) : Type 0 where

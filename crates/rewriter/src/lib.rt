@@ -7,6 +7,7 @@ mod copies;
 mod duplicates;
 mod rewriting;
 mod share;
+mod typed;
 mod wrappers;
 
 pub use classes::rewrite_classes;

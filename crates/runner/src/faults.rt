@@ -2,13 +2,14 @@
 ghost use Rattle.std.specs.Prelude.{◌≡◌, Ok, Some, IfOk, IfErr, map};
 ghost use Rattle.objects.specs.linking.Linking.{linking};
 ghost use Rattle.objects.specs.typing.Source.{IsSource};
+ghost use Rattle.program_typing.specs.Tables.{AreTables};
 ghost use Rattle.program_typing.specs.Typed.{IsTyped, IsFirstUntyped, IsFirstEarly};
 ghost use Rattle.runner.specs.Faults.{IsAt, EndsTyping};
 ghost use Rattle.runner.specs.Placing.{IsPlace};
 
 use crate::outcome::RunEnd;
 use const_pool::ClassFile;
-use hierarchy::Program;
+use hierarchy::{Program, Typing};
 use jmodel::{Bytes, NoMemory, Refusal};
 use linking::pc_of;
 use program_typing::{TypeFault, type_all};
@@ -72,20 +73,22 @@ fn early(
     }
 }
 
-/// Types each method of the program of classes. Untyped at the first that has code and no typing; else refused as
-/// `Construct` with EarlyStore at the first store to a field of an object that another constructor has not run over.
+/// The narrowest typing of each method of the program of classes. Untyped at the first that has code and no typing; else
+/// refused as `Construct` with EarlyStore at the first store to a field of an object that another constructor has not run
+/// over.
 pub(crate) fn type_program(
     alloc: Global,
     classes: &[&ClassFile],
     program: &Program,
-) -> Result<(), RunEnd>
+) -> Result<Vec<Typing>, RunEnd>
     requires links { linking (map (λ c. c.now) classes.now) ≡ Ok (Some program.now) }
     requires source { IsSource program.now }
     ensures typed { IfOk result (λ _. IsTyped program.now) }
+    ensures tables { IfOk result (λ v. AreTables program.now v.items) }
     ensures cause { IfErr result (EndsTyping program.now (map (λ c. c.now) classes.now)) }
 {
     match type_all(alloc, program) {
-        Ok(()) => Ok(()),
+        Ok(typings) => Ok(typings),
         Err(TypeFault::Untypable { method, place }) => Err(untyped(
             alloc, classes, program, method, place,
         )),

@@ -7,6 +7,7 @@ ghost use Rattle.objects.specs.linking.Linking.{linking};
 ghost use Rattle.objects.specs.laws.LinkingLaw.{AreRead, IsLinkedFolder};
 ghost use Rattle.rewriter.specs.Asked.{AreFiled};
 ghost use Rattle.session.specs.Rule.{IsReady};
+ghost use Rattle.program_typing.specs.Tables.{AreTables};
 ghost use Rattle.program_typing.specs.Typed.{IsTyped};
 ghost use Rattle.runner.specs.Headline.{linked_files, IsInstrumented, IsRunnable};
 ghost use Rattle.runner.specs.Faults.{IsOrdered, EndsBuild, EndsLinking, EndsPreparing, EndsRewriting};
@@ -14,19 +15,20 @@ ghost use Rattle.runner.specs.Faults.{IsOrdered, EndsBuild, EndsLinking, EndsPre
 use crate::faults::type_program;
 use crate::outcome::RunEnd;
 use const_pool::ClassFile;
-use hierarchy::{BuildEnd, Program, in_order};
+use hierarchy::{BuildEnd, Program, Typing, in_order};
 use jmodel::Halt;
 use linking::build::build;
 use program_rewriter::rewrite_program;
 use rewriter::rewrite_classes;
 use std::alloc::Global;
 
-/// The classes of class files in the order of their names, the program that they mean, and their rewriting, behind which stands the helper of
-/// arrays.
+/// The classes of class files in the order of their names, the program that they mean, the narrowest typings of its methods, and the rewriting of
+/// the classes, behind which stands the helper of arrays.
 #[derive(Drop)]
 pub struct Instrumented<'a> {
     pub classes: Vec<&'a ClassFile>,
     pub original: Program,
+    pub typings: Vec<Typing>,
     pub rewritten: Vec<ClassFile>,
 }
 
@@ -59,16 +61,18 @@ pub fn instrument_files(alloc: Global, files: &[ClassFile]) -> Result<Instrument
     ensures linked { IfOk result (λ i. IsLinkedFolder files.now i.original) }
     ensures links { IfOk result (λ i. linked_files files.now ≡ Some i.original) }
     ensures typed { IfOk result (λ i. IsTyped i.original) }
+    ensures tables { IfOk result (λ i. AreTables i.original i.typings.items) }
     ensures rewrites { IfOk result (λ i. IsInstrumented (order_of_classes files.now) i.original i.rewritten.items) }
     ensures cause { IfErr result (EndsPreparing files.now) }
 {
     let classes = ordered(alloc, files)?;
     let original = linked(alloc, classes.as_slice())?;
-    type_program(alloc, classes.as_slice(), &original)?;
-    let rewritten = instrument(alloc, classes.as_slice(), &original)?;
+    let typings = type_program(alloc, classes.as_slice(), &original)?;
+    let rewritten = instrument(alloc, classes.as_slice(), &original, typings.as_slice())?;
     Ok(Instrumented {
         classes,
         original,
+        typings,
         rewritten,
     })
 }
@@ -85,7 +89,8 @@ pub fn prepare(alloc: Global, files: &[ClassFile]) -> Result<Prepared<'_>, RunEn
     ensures cause { IfErr result (EndsPreparing files.now) }
 {
     let instrumented = instrument_files(alloc, files)?;
-    let rewritten = rewrite_program(alloc, &instrumented.original)?;
+    let typings = instrumented.typings.as_slice();
+    let rewritten = rewrite_program(alloc, &instrumented.original, typings)?;
     Ok(Prepared {
         classes: instrumented.classes,
         original: instrumented.original,
@@ -122,20 +127,22 @@ fn linked(alloc: Global, classes: &[&ClassFile]) -> Result<Program, RunEnd>
     }
 }
 
-/// Rewrites the classes of a typed program.
+/// Rewrites the classes of a typed program by the narrowest typings of its methods.
 fn instrument(
     alloc: Global,
     classes: &[&ClassFile],
     original: &Program,
+    typings: &[Typing],
 ) -> Result<Vec<ClassFile>, RunEnd>
     requires filed { AllByRecursion AreFiled (map (λ c. c.now) classes.now) }
     requires read { AreRead (map (λ c. c.now) classes.now) }
     requires links { linking (map (λ c. c.now) classes.now) ≡ Ok (Some original.now) }
     requires typed { IsTyped original.now }
+    requires tables { AreTables original.now typings.now }
     ensures rewrites { IfOk result (λ news. IsInstrumented (map (λ c. c.now) classes.now) original.now news.items) }
     ensures cause { IfErr result (EndsRewriting original.now (map (λ c. c.now) classes.now)) }
 {
-    match rewrite_classes(alloc, classes, original) {
+    match rewrite_classes(alloc, classes, original, typings) {
         Ok(rewritten) => Ok(rewritten),
         Err(Halt::Refused(refusal)) => Err(RunEnd::Refused(refusal)),
         Err(Halt::NoMemory) => Err(RunEnd::NoMemory),

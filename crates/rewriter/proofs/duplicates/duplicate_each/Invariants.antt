@@ -11,6 +11,6 @@ use Rattle.rewriter.proofs.duplicates.duplicate_each.Given as goal
 
 -- what was put so far, and what is still put, whichever tables are taken
 abbrev pub invariant-loop-i : goal.invariant-loop-i
-invariant-loop-i l = (Ts : List Table) → AllZip (IsTableOf l.program) l.share.methods Ts
-    → with_front l.copies.items (grow_from (λ n O. duplicate_of (l.room - n) O) l.i (drop l.i (originals l.program l.class (zip l.share.methods l.share.members) Ts)) l.pool)
-    ≡ grow_from (λ n O. duplicate_of (l.room - n) O) 0 (originals l.program l.class (zip l.share.methods l.share.members) Ts) l.initial.pool
+invariant-loop-i l = (Ts : List Table) → AllZip (IsTableOf l.typed.program.now) l.share.methods Ts
+    → with_front l.copies.items (grow_from (λ n O. duplicate_of (l.room - n) O) l.i (drop l.i (originals l.typed.program.now l.class (zip l.share.methods l.share.members) Ts)) l.pool)
+    ≡ grow_from (λ n O. duplicate_of (l.room - n) O) 0 (originals l.typed.program.now l.class (zip l.share.methods l.share.members) Ts) l.initial.pool
