@@ -11,7 +11,7 @@ ghost use Rattle.driver.specs.SetUp.{AnswersAlone, OpensTo, EndsSetUp};
 use crate::memory::{Limits, Memory};
 use hierarchy::Program;
 use jmodel::Answer;
-use machine::Open;
+use machine::{Machine, Open};
 use script::Known;
 use session::{Making, Place};
 use std::alloc::{AllocError, Global};
@@ -132,7 +132,8 @@ fn call_over<K: Origin>(
         rewritten,
         limits: limits.in_region(0, used),
     };
-    let (record, used) = making.make_next(&mut engine, &mut Open, at, &call);
+    let mut machine = Machine::new(alloc);
+    let (record, used) = making.make_next(&mut machine, &mut engine, &mut Open, at, &call);
     let words = engine.into_words();
     match record.answer {
         Answer::NoMemory => Err(AllocError),

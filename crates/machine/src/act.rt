@@ -1,5 +1,5 @@
 //! What one instruction does to its frame (JVM Specification, Java SE 7, chapter 6).
-ghost use Rattle.std.specs.Prelude.{◌≡◌, ◌∷◌, ◌+◌, ◌<◌, ◌^◌, IfOk, MatchResult, slice_get, Some, None, length};
+ghost use Rattle.std.specs.Prelude.{◌≡◌, ◌∷◌, ◌+◌, ◌<◌, ◌^◌, IfOk, MatchResult, slice_get, Some, None, length, true};
 ghost use Rattle.objects.specs.semantics.Program.{Program as JProgram, method_at};
 ghost use Rattle.objects.specs.semantics.Step.{Frames, does, step};
 ghost use Rattle.objects.specs.declared.op.Op.TheVariants as op;
@@ -29,6 +29,21 @@ pub(crate) fn op_in(ops: &[Op], pc: usize) -> Result<&Op, Failure>
     }
 }
 
+/// Whether an instruction is one of those that mostly follow on the answer of a caller or of the engine.
+#[inline(always)]
+fn is_mostly_other(op: &Op) -> bool {
+    matches!(
+        op,
+        Op::Context(_)
+            | Op::Return
+            | Op::ReturnValue(_)
+            | Op::GetField { .. }
+            | Op::InvokeStatic(_)
+            | Op::InvokeSpecial(_)
+            | Op::InvokeVirtual { .. }
+    )
+}
+
 impl Frame {
     /// Does the instruction that the frame stands at, all but what lies outside the frame. `Wrong` where there is none.
     #[inline(always)]
@@ -46,6 +61,17 @@ impl Frame {
     {
         let op = op_in(method.ops(), self.pc)?;
         self.act(alloc, program, op)
+    }
+
+    /// Whether the frame stands at one of the instructions that mostly follow on a caller's or an engine's answer, and aren't plain.
+    #[inline(always)]
+    pub(crate) fn is_at_other(&self, method: &Method) -> bool
+        ensures next { result ≡ true → self.now.pc + 1 < 2 ^ 64 }
+    {
+        match op_in(method.ops(), self.pc) {
+            Ok(op) => is_mostly_other(op),
+            Err(_) => false,
+        }
     }
 
     /// Does one instruction, all but what lies outside the frame. `Wrong` where the frame hasn't what it needs.

@@ -58,6 +58,13 @@ impl Callers {
         let _ = self.ended.push(frame);
     }
 
+    /// Ends all frames.
+    pub(crate) fn clear(&mut self)
+        ensures { self.new ≡ [] }
+    {
+        self.items.clear();
+    }
+
     /// How many frames these are.
     pub(crate) fn len(&self) -> usize
         ensures { result ≡ length self.now }
@@ -101,7 +108,9 @@ impl Callers {
     {
         let mut callers = Callers::new(alloc);
         for frame in &self.items {
-            callers.push(frame.copy(alloc)?)?;
+            let mut copied = Frame::empty(alloc);
+            copied.set_copy(frame)?;
+            callers.push(copied)?;
         }
         Ok(callers)
     }

@@ -54,15 +54,15 @@ fn threw(
 fn finish(
     alloc: Global,
     program: &Program,
-    mut frame: Frame,
-    mut callers: Callers,
+    frame: &mut Frame,
+    callers: &mut Callers,
     thrown: Option<Thrown>,
 ) -> Result<Answer, Failure>
     ensures { (B : Bounds) (m : Meter) (w r : Log) → m.thrown ≡ thrown_of thrown
-        → IsFinished program.now B (On phase.Closed (frame ∷ callers) m w r) m w r result }
+        → IsFinished program.now B (On phase.Closed (frame.old ∷ callers.old) m w r) m w r result }
 {
     for _ in 0..u64::MAX {
-        match step(alloc, program, &mut frame, &mut callers)? {
+        match step(alloc, program, frame, callers)? {
             Asking::Go => {}
             Asking::Return(value) => return Ok(Answer::Returned(value)),
             Asking::Throw(exception) => return threw(alloc, program, thrown, exception),
@@ -79,20 +79,19 @@ fn finish(
 
 impl Running {
     /// How the call ends once its attempt is committed.
-    fn answer_committed(&self, alloc: Global, program: &Program) -> Result<Answer, Failure>
-        requires { self.now.frame.pc + 1 < 2 ^ 64 }
-        ensures { (B : Bounds) (w r : Log)
-            → IsFinished program.now B (On phase.Closed (resumed (slot.Int (pos 1) ∷ []) (frames self.now)) (meter self.now) w r) (meter self.now) w r result }
+    fn answer_committed(&mut self, alloc: Global, program: &Program) -> Result<Answer, Failure>
+        requires { self.old.frame.pc + 1 < 2 ^ 64 }
+        ensures same { self.new ≡ self.old }
+        ensures answer { (B : Bounds) (w r : Log)
+            → IsFinished program.now B (On phase.Closed (resumed (slot.Int (pos 1) ∷ []) (frames self.old)) (meter self.old) w r) (meter self.old) w r result }
     {
-        let mut frame = self.frame.copy(alloc)?;
+        let mut frame = self.callers.spare(alloc);
+        frame.set_copy(&self.frame)?;
         frame.resume(Slot::Int(1))?;
-        finish(
-            alloc,
-            program,
-            frame,
-            self.callers.copy(alloc)?,
-            self.thrown,
-        )
+        let mut callers = self.callers.copy(alloc)?;
+        let answer = finish(alloc, program, &mut frame, &mut callers, self.thrown);
+        self.callers.keep(frame);
+        answer
     }
 
     /// Commits the attempt. Answers how the call ends, or none where the engine refused.

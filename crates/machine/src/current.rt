@@ -73,6 +73,21 @@ impl Running {
         flow
     }
 
+    /// The same, without taking the frame out if the instruction at hand is one that the loop leaves as it stands.
+    #[inline(always)]
+    fn go_where_plain(&mut self, alloc: Global, method: &Method) -> Result<Flow, Failure>
+        ensures run { (P : JProgram) → method_at P self.old.frame.method ≡ Some method.now → IsGone P self.old self.new result }
+        ensures method { self.new.frame.method ≡ self.old.frame.method }
+        ensures stage { self.new.stage ≡ self.old.stage }
+        ensures tried { self.new.tried ≡ self.old.tried }
+        ensures next { IfOk result (λ _. self.new.frame.pc + 1 < 2 ^ 64) }
+    {
+        if self.frame.is_at_other(method) {
+            return Ok(Flow::Other);
+        }
+        self.go_plainly(alloc, method)
+    }
+
     /// Does instructions up to the first that does more than go on in its method, and answers what that one leaves to be done. The method is
     /// looked up once.
     #[inline(always)]
@@ -85,7 +100,7 @@ impl Running {
     {
         let method = method_of(program, self.frame.method)?;
         for _ in 0..u64::MAX {
-            match self.go_plainly(alloc, method)? {
+            match self.go_where_plain(alloc, method)? {
                 Flow::Next => return Ok(Doing::Next),
                 Flow::Jump(to) => return Ok(Doing::Jump(to)),
                 Flow::Trap(trap) => return Ok(Doing::Trap(trap)),

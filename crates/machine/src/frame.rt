@@ -1,5 +1,5 @@
 //! A frame (JVM Specification, Java SE 7, section 2.6).
-ghost use Rattle.std.specs.Prelude.{◌≡◌, ◌∷◌, [], IfOk, OnOk, ◌-◌, ◌++◌, replicate, ◌+◌, ◌<◌, ◌^◌};
+ghost use Rattle.std.specs.Prelude.{◌≡◌, ◌∷◌, [], OnOk, ◌-◌, ◌++◌, replicate, ◌+◌, ◌<◌, ◌^◌};
 ghost use Rattle.objects.specs.semantics.Step.{next};
 
 use crate::failure::Failure;
@@ -31,7 +31,8 @@ impl Frame {
     ghost use Rattle.objects.specs.declared.op.Slot.TheVariants as slot;
     ghost use Rattle.objects.specs.semantics.Step.{with_stack};
     ghost use Rattle.objects.specs.semantics.Program.{is_counted};
-    ghost use Rattle.objects.specs.semantics.Value.{pushed};
+    ghost use Rattle.objects.specs.semantics.Value.{pushed, slots_of};
+    ghost use Rattle.std.specs.List.{flat_map};
     ghost use Rattle.objects.specs.declared.op.Slot.{Slot as JSlot};
     ghost use Rattle.machine.specs.Meets.{IsEntered};
 
@@ -45,23 +46,16 @@ impl Frame {
         }
     }
 
-    /// A frame at the start of a method, with these arguments.
-    pub fn start(
-        alloc: Global,
-        method: usize,
-        entry: Entry,
-        args: Locals,
-    ) -> Result<Self, AllocError>
-        ensures { IfOk result (λ f. f ≡ record { method = method; pc = 0; locals = args ++ replicate (entry.locals - entry.places) slot.Empty; stack = [] }) }
+    /// Becomes the frame at the start of a method, with these arguments.
+    pub fn start(&mut self, method: usize, entry: Entry, args: &[Value]) -> Result<(), AllocError>
+        ensures { OnOk result (self.new ≡ record { method = method; pc = 0; locals = flat_map slots_of args.now ++ replicate (entry.locals - entry.places) slot.Empty; stack = [] }) }
     {
-        let mut locals = args;
-        locals.add_empty(entry.locals.saturating_sub(entry.places))?;
-        Ok(Frame {
-            method,
-            pc: 0,
-            locals,
-            stack: Stack::new(alloc),
-        })
+        self.method = method;
+        self.pc = 0;
+        self.stack.clear();
+        self.locals.set_values(args)?;
+        self.locals
+            .add_empty(entry.locals.saturating_sub(entry.places))
     }
 
     /// Becomes the frame at the start of a method, whose arguments it takes from its caller's stack. `Wrong` where these are too few.
@@ -83,16 +77,14 @@ impl Frame {
         Ok(())
     }
 
-    /// The same frame with slots of its own.
-    pub fn copy(&self, alloc: Global) -> Result<Self, AllocError>
-        ensures { IfOk result (λ f. f ≡ self.now) }
+    /// Becomes the same as another frame, with slots of its own.
+    pub fn set_copy(&mut self, from: &Frame) -> Result<(), AllocError>
+        ensures { OnOk result (self.new ≡ from.now) }
     {
-        Ok(Frame {
-            method: self.method,
-            pc: self.pc,
-            locals: self.locals.copy(alloc)?,
-            stack: self.stack.copy(alloc)?,
-        })
+        self.method = from.method;
+        self.pc = from.pc;
+        self.locals.set_copy(&from.locals)?;
+        self.stack.set_copy(&from.stack)
     }
 
     /// Whether the frame counts.

@@ -14,6 +14,7 @@ ghost use Rattle.machine.specs.Sound.{IsTypedCall, IsOverStates};
 ghost use Rattle.machine.specs.Opacity.{OpaqueRun};
 ghost use Rattle.machine.specs.Running.{at, Saw, Leaves, IsEnd};
 
+use crate::callers::Callers;
 use crate::failure::Failure;
 use crate::gate::Gate;
 use crate::room::Room;
@@ -22,6 +23,8 @@ use hierarchy::program::Program;
 use jmodel::value::{Answer, Stamp, Value};
 use objects::event::Event;
 use std::alloc::Global;
+use std::marker::Model;
+use std::mem;
 use std::snapshot::Snapshot;
 use tx_core::Engine;
 
@@ -46,8 +49,18 @@ pub struct End {
 #[derive(Clone, Copy, Debug)]
 pub struct Stuck;
 
-/// The machine that runs calls.
-pub struct Machine;
+/// What runs calls, one after another. It keeps the memory of frames that ended, which those of the next call take; that has no meaning.
+#[derive(Drop)]
+pub struct Machine {
+    alloc: Global,
+    callers: Callers,
+}
+
+impl Model for Machine {
+    ghost Value = { Unit {0} };
+
+    ghost view = { λ _. tt };
+}
 
 /// What is called: a method of this number, with these arguments.
 #[derive(Clone, Copy)]
@@ -86,10 +99,18 @@ impl Limits {
 }
 
 impl Machine {
+    /// A machine that keeps nothing yet. No memory.
+    pub fn new(alloc: Global) -> Self {
+        Machine {
+            alloc,
+            callers: Callers::new(alloc),
+        }
+    }
+
     /// Calls a method of a program with these arguments, as a transaction, which is tried again where it meets a conflict.
     /// Answers how it ended. `Spent` and `NoMemory` have no place in the history, and leave the region as it was.
     pub fn call<E: Engine, G: Gate>(
-        alloc: Global,
+        &mut self,
         program: &Program,
         tx: &mut E,
         gate: &mut G,
@@ -130,36 +151,48 @@ impl Machine {
             → OpaqueRun P program.now (bounds_of limits) E.begins E.allows c (E.stands tx.new) h n (Grows (G.told gate.old) (G.told gate.new)) result }
         ensures ticks { E.clock tx.new ≤ E.clock tx.old + limits.attempts }
     {
-        match attempts(alloc, program, tx, gate, limits, Called { method, args }) {
+        match self.attempts(program, tx, gate, limits, Called { method, args }) {
             Ok(end) => Ok(end),
             Err(Failure::NoMemory) => Ok(limits.unplaced(Answer::NoMemory)),
             Err(Failure::Wrong) => Err(Stuck),
         }
     }
-}
 
-/// Makes attempts until one ends, and leaves none open.
-fn attempts<'a, E: Engine, G: Gate>(
-    alloc: Global,
-    program: &Program,
-    tx: &mut E,
-    gate: &mut G,
-    limits: Limits,
-    called: Called<'a>,
-) -> Result<End, Failure>
-    requires clock { E.clock tx.old + limits.attempts ≤ 2 ^ 40 }
-    requires fits { limits.room.region * limits.room.size + limits.room.size < 2 ^ 64 }
-    requires ready { E.is_shared → MayStart program.now (bounds_of limits) (run_start program.now (bounds_of limits) called.method called.args.now) E.allows (E.stands tx.old) (E.awaits tx.old) }
-    ensures run { (h : List Entry) (n : ℕ) (k : Call) → E.stands tx.old h n [] [] → E.awaits tx.old k limits.room.used
-        → IsEnd program.now (bounds_of limits) (run_start program.now (bounds_of limits) called.entry.method called.entry.args.now) (E.awaits tx.old) E.allows (Begins (E.attempts tx.old) (E.attempts tx.new)) (Grows (G.told gate.old) (G.told gate.new)) (E.stands tx.new) h n (AddsNone (E.stands tx.new h) n) (Saw E.is_shared E.begins E.allows h k limits.room.used) result }
-    ensures ticks { E.clock tx.new ≤ E.clock tx.old + limits.attempts }
-{
-    let mut running = Running::start(alloc, program, limits, called.method, called.args)?;
-    match running.run(alloc, program, limits, tx, gate) {
-        Ok(end) => Ok(end),
-        Err(failure) => {
-            running.leave(tx);
-            Err(failure)
+    /// Makes attempts until one ends, and leaves none open.
+    fn attempts<'a, E: Engine, G: Gate>(
+        &mut self,
+        program: &Program,
+        tx: &mut E,
+        gate: &mut G,
+        limits: Limits,
+        called: Called<'a>,
+    ) -> Result<End, Failure>
+        requires clock { E.clock tx.old + limits.attempts ≤ 2 ^ 40 }
+        requires fits { limits.room.region * limits.room.size + limits.room.size < 2 ^ 64 }
+        requires ready { E.is_shared → MayStart program.now (bounds_of limits) (run_start program.now (bounds_of limits) called.method called.args.now) E.allows (E.stands tx.old) (E.awaits tx.old) }
+        ensures run { (h : List Entry) (n : ℕ) (k : Call) → E.stands tx.old h n [] [] → E.awaits tx.old k limits.room.used
+            → IsEnd program.now (bounds_of limits) (run_start program.now (bounds_of limits) called.entry.method called.entry.args.now) (E.awaits tx.old) E.allows (Begins (E.attempts tx.old) (E.attempts tx.new)) (Grows (G.told gate.old) (G.told gate.new)) (E.stands tx.new) h n (AddsNone (E.stands tx.new h) n) (Saw E.is_shared E.begins E.allows h k limits.room.used) result }
+        ensures ticks { E.clock tx.new ≤ E.clock tx.old + limits.attempts }
+    {
+        let alloc = self.alloc;
+        let callers = mem::replace(&mut self.callers, Callers::new(alloc));
+        let mut running = Running::start(
+            alloc,
+            program,
+            limits,
+            called.method,
+            called.args,
+            callers,
+        )?;
+        match running.run(alloc, program, limits, tx, gate) {
+            Ok(end) => {
+                self.callers = running.into_callers();
+                Ok(end)
+            }
+            Err(failure) => {
+                running.leave(tx);
+                Err(failure)
+            }
         }
     }
 }

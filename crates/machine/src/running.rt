@@ -21,7 +21,6 @@ use crate::frame::Frame;
 use crate::gate::Gate;
 use crate::machine::Limits;
 use crate::room::Thrown;
-use crate::stack::Locals;
 use crate::step::{settle, unwind};
 use crate::value::value_of;
 use hierarchy::program::Program;
@@ -78,27 +77,41 @@ pub struct Running {
 impl Running {
     ghost use Rattle.machine.specs.Running.{IsStarted};
 
-    /// A call of a method, or `Wrong` where the program has none of this number.
+    /// A call of a method, or `Wrong` where the program has none of this number. Of the callers it takes the memory alone.
     pub fn start(
         alloc: Global,
         program: &Program,
         limits: Limits,
         method: usize,
         args: &[Value],
+        mut callers: Callers,
     ) -> Result<Self, Failure>
         ensures { IsStarted program.now (bounds_of limits) method args.now result }
     {
         let entry = method_of(program, method)?.entry();
-        let locals = Locals::of_values(alloc, args)?;
+        callers.clear();
+        let mut frame = callers.spare(alloc);
+        frame.start(method, entry, args)?;
         Ok(Running {
             stage: Stage::Ready,
-            frame: Frame::start(alloc, method, entry, locals)?,
-            callers: Callers::new(alloc),
+            frame,
+            callers,
             turns: 0,
             tried: 0,
             used: limits.room.used,
             thrown: None,
         })
+    }
+
+    /// The memory of the frames, for a next call.
+    pub(crate) fn into_callers(self) -> Callers {
+        let Running {
+            frame,
+            mut callers,
+            ..
+        } = self;
+        callers.keep(frame);
+        callers
     }
 }
 

@@ -36,13 +36,13 @@ impl Stack {
         }
     }
 
-    /// The same slots on a stack of their own.
-    pub fn copy(&self, alloc: Global) -> Result<Self, AllocError>
-        ensures { IfOk result (λ s. s ≡ self.now) }
+    /// Becomes the same slots as on another stack.
+    pub fn set_copy(&mut self, from: &Stack) -> Result<(), AllocError>
+        ensures { OnOk result (self.new ≡ from.now) }
     {
-        Ok(Stack {
-            items: Vec::from_slice(alloc, self.items.as_slice())?,
-        })
+        self.items.clear();
+        self.items.extend_from_slice(from.items.as_slice())?;
+        Ok(())
     }
 
     /// Whether there is room for so many slots more.
@@ -294,24 +294,24 @@ impl Locals {
         }
     }
 
-    /// The locals of argument values, a long in two slots.
-    pub fn of_values(alloc: Global, args: &[Value]) -> Result<Self, AllocError>
-        ensures { IfOk result (λ l. l ≡ flat_map slots_of args.now) }
+    /// Becomes the locals of argument values, a long in two slots.
+    pub fn set_values(&mut self, args: &[Value]) -> Result<(), AllocError>
+        ensures { OnOk result (self.new ≡ flat_map slots_of args.now) }
     {
-        let mut locals = Locals::new(alloc);
+        self.items.clear();
         for value in args {
-            locals.push_value(*value)?;
+            self.push_value(*value)?;
         }
-        Ok(locals)
+        Ok(())
     }
 
-    /// The same slots in locals of their own.
-    pub fn copy(&self, alloc: Global) -> Result<Self, AllocError>
-        ensures { IfOk result (λ l. l ≡ self.now) }
+    /// Becomes the same slots as others.
+    pub fn set_copy(&mut self, from: &Locals) -> Result<(), AllocError>
+        ensures { OnOk result (self.new ≡ from.now) }
     {
-        Ok(Locals {
-            items: Vec::from_slice(alloc, self.items.as_slice())?,
-        })
+        self.items.clear();
+        self.items.extend_from_slice(from.items.as_slice())?;
+        Ok(())
     }
 
     #[inline(always)]

@@ -48,6 +48,7 @@ impl<'a> Making<'a> {
     /// that memory was: such a call adds nothing to the history. The gate is told the events of the call's attempts.
     pub fn make_next<E: Engine, G: Gate>(
         &self,
+        machine: &mut Machine,
         engine: &mut E,
         gate: &mut G,
         at: Place,
@@ -75,8 +76,7 @@ impl<'a> Making<'a> {
         ensures prefixes { (h : List Entry) (n : ℕ) → E.stands engine.old h n [] [] → Leads E.is_shared E.begins h (call_of self.now.limits.room at call.now) self.now.limits.room.used
             → OpaqueBy result.0.answer self.now.original.now self.now.rewritten.now (bounds_of self.now.limits) E.begins E.allows (call_of self.now.limits.room at call.now) (E.stands engine.new) h n (Grows (G.told gate.old) (G.told gate.new)) (record { answer = result.0.answer; stamp = result.0.stamp; used = result.1 }) }
     {
-        match Machine::call(
-            self.alloc,
+        match machine.call(
             self.rewritten,
             engine,
             gate,

@@ -13,16 +13,17 @@ ghost use Rattle.session.specs.Telling.{TellsOne};
 
 use crate::call::Making;
 use crate::record::{Lane, Place};
-use machine::Gate;
+use machine::{Gate, Machine};
 use script::Known;
 use std::alloc::AllocError;
 use tx_core::Engine;
 
-/// The calls of one lane: what they are made with, the engine that runs their attempts, the gate that is told the events of these, and what is kept of
-/// the calls that were made.
+/// The calls of one lane: what they are made with, the machine and the engine that run their attempts, the gate that is told the events of these, and
+/// what is kept of the calls that were made.
 #[derive(Drop)]
 pub struct Session<'a, E, G> {
     making: Making<'a>,
+    machine: Machine,
     /// What runs the attempts. Between two calls it is told which one is next.
     pub engine: E,
     gate: G,
@@ -40,6 +41,7 @@ impl<'a, E: Engine, G: Gate> Session<'a, E, G> {
         let lane = Lane::new(making.alloc, making.limits.room.used);
         Session {
             making,
+            machine: Machine::new(making.alloc),
             engine,
             gate,
             lane,
@@ -74,7 +76,13 @@ impl<'a, E: Engine, G: Gate> Session<'a, E, G> {
         ensures told { IfOk result (λ made. TellsOne made self.old.making.rewritten.now (bounds_with self.old.making.limits self.old.lane.used) at call.now self.old.lane self.new.lane (Grows (G.told self.old.gate) (G.told self.new.gate))) }
     {
         let making = self.making.with_used(self.lane.used);
-        let (one, used) = making.make_next(&mut self.engine, &mut self.gate, at, call);
+        let (one, used) = making.make_next(
+            &mut self.machine,
+            &mut self.engine,
+            &mut self.gate,
+            at,
+            call,
+        );
         if one.is_spent() {
             return Ok(false);
         }
@@ -102,6 +110,7 @@ impl<'a, E: Engine, G: Gate> Session<'a, E, G> {
     {
         let Session {
             making: _,
+            machine: _,
             engine,
             gate,
             lane,

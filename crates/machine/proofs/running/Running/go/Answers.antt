@@ -18,45 +18,45 @@ returns-in_err-method-clause-run c =
           (method_missing c.args.program.now c.args.self.now.frame.method c.args.self.now.frame.pc missing);
     })
 
-pub returns-in_err-go_plainly-clause-run : goal.returns-in_err-go_plainly-clause-run
-returns-in_err-go_plainly-clause-run c =
+pub returns-in_err-go_where_plain-clause-run : goal.returns-in_err-go_where_plain-clause-run
+returns-in_err-go_where_plain-clause-run c =
     let P = c.args.program.now in
     let found : method_at c.args.program.now c.args.self.now.frame.method ≡ Some c.in_ok-method.method.now = rw (← c.self.view_is) c.in_ok-method.ensures in
     let here : method_at c.args.program.now c.loop.self.frame.method ≡ Some c.in_ok-method.method.now = rw c.loop.invariant.method found in
-    let p = err_from_is_err_and c.from_residual-in_err-go_plainly.result c.from_residual-in_err-go_plainly.ensures.1 in
-    rw (p.1, p.2) (plain_behind P c.args.self.now c.loop.self c.loop.invariant.comes c.go_plainly.new.self (Err c.in_err-go_plainly.field-0.0) (c.in_err-go_plainly.ensures.run P here))
+    let p = err_from_is_err_and c.from_residual-in_err-go_where_plain.result c.from_residual-in_err-go_where_plain.ensures.1 in
+    rw (p.1, p.2) (plain_behind P c.args.self.now c.loop.self c.loop.invariant.comes c.go_where_plain.new.self (Err c.in_err-go_where_plain.field-0.0) (c.in_err-go_where_plain.ensures.run P here))
 
 pub returns-in-Next-clause-run : goal.returns-in-Next-clause-run
 returns-in-Next-clause-run c =
     let P = c.args.program.now in
     let found : method_at c.args.program.now c.args.self.now.frame.method ≡ Some c.in_ok-method.method.now = rw (← c.self.view_is) c.in_ok-method.ensures in
     let here : method_at c.args.program.now c.loop.self.frame.method ≡ Some c.in_ok-method.method.now = rw c.loop.invariant.method found in
-    plain_behind P c.args.self.now c.loop.self c.loop.invariant.comes c.go_plainly.new.self (Ok doing.Next) (rw c.in-Next.is at (c.in_ok-go_plainly.ensures.run P here))
+    plain_behind P c.args.self.now c.loop.self c.loop.invariant.comes c.go_where_plain.new.self (Ok doing.Next) (rw c.in-Next.is at (c.in_ok-go_where_plain.ensures.run P here))
 
 pub returns-in-Jump-clause-run : goal.returns-in-Jump-clause-run
 returns-in-Jump-clause-run c =
     let P = c.args.program.now in
     let found : method_at c.args.program.now c.args.self.now.frame.method ≡ Some c.in_ok-method.method.now = rw (← c.self.view_is) c.in_ok-method.ensures in
     let here : method_at c.args.program.now c.loop.self.frame.method ≡ Some c.in_ok-method.method.now = rw c.loop.invariant.method found in
-    plain_behind P c.args.self.now c.loop.self c.loop.invariant.comes c.go_plainly.new.self (Ok (doing.Jump c.in-Jump.to)) (rw c.in-Jump.is at (c.in_ok-go_plainly.ensures.run P here))
+    plain_behind P c.args.self.now c.loop.self c.loop.invariant.comes c.go_where_plain.new.self (Ok (doing.Jump c.in-Jump.to)) (rw c.in-Jump.is at (c.in_ok-go_where_plain.ensures.run P here))
 
 pub returns-in-Trap-clause-run : goal.returns-in-Trap-clause-run
 returns-in-Trap-clause-run c =
     let P = c.args.program.now in
     let found : method_at c.args.program.now c.args.self.now.frame.method ≡ Some c.in_ok-method.method.now = rw (← c.self.view_is) c.in_ok-method.ensures in
     let here : method_at c.args.program.now c.loop.self.frame.method ≡ Some c.in_ok-method.method.now = rw c.loop.invariant.method found in
-    plain_behind P c.args.self.now c.loop.self c.loop.invariant.comes c.go_plainly.new.self (Ok (doing.Trap c.in-Trap.trap)) (rw c.in-Trap.is at (c.in_ok-go_plainly.ensures.run P here))
+    plain_behind P c.args.self.now c.loop.self c.loop.invariant.comes c.go_where_plain.new.self (Ok (doing.Trap c.in-Trap.trap)) (rw c.in-Trap.is at (c.in_ok-go_where_plain.ensures.run P here))
 
 pub returns-in_err-doing-in-Other-clause-run : goal.returns-in_err-doing-in-Other-clause-run
 returns-in_err-doing-in-Other-clause-run c =
     let P = c.args.program.now in
     let found : method_at c.args.program.now c.args.self.now.frame.method ≡ Some c.in_ok-method.method.now = rw (← c.self.view_is) c.in_ok-method.ensures in
     let here : method_at c.args.program.now c.loop.self.frame.method ≡ Some c.in_ok-method.method.now = rw c.loop.invariant.method found in
-    let gone = rw c.in-Other.is at (c.in_ok-go_plainly.ensures.run P here) in
+    let gone = rw c.in-Other.is at (c.in_ok-go_where_plain.ensures.run P here) in
     let p = err_from_is_err_and c.from_residual-in_err-doing-in-Other.result c.from_residual-in_err-doing-in-Other.ensures.1 in
     rw (p.1, p.2) (record {
-      frame = c.go_plainly.new.self.frame;
-      comes = λ B w r. way_behind P c.args.self.now c.loop.self c.loop.invariant.comes B w r (at c.go_plainly.new.self w r) (gone B w r);
+      frame = c.go_where_plain.new.self.frame;
+      comes = λ B w r. way_behind P c.args.self.now c.loop.self c.loop.invariant.comes B w r (at c.go_where_plain.new.self w r) (gone B w r);
       does = c.in_err-doing-in-Other.ensures.does;
     })
 
@@ -65,15 +65,15 @@ returns-in_default c =
     let P = c.args.program.now in
     let found : method_at c.args.program.now c.args.self.now.frame.method ≡ Some c.in_ok-method.method.now = rw (← c.self.view_is) c.in_ok-method.ensures in
     let here : method_at c.args.program.now c.loop.self.frame.method ≡ Some c.in_ok-method.method.now = rw c.loop.invariant.method found in
-    let gone = rw c.in-Other.is at (c.in_ok-go_plainly.ensures.run P here) in
+    let gone = rw c.in-Other.is at (c.in_ok-go_where_plain.ensures.run P here) in
     record {
       run = record {
-        frame = c.go_plainly.new.self.frame;
-        comes = λ B w r. way_behind P c.args.self.now c.loop.self c.loop.invariant.comes B w r (at c.go_plainly.new.self w r) (gone B w r);
+        frame = c.go_where_plain.new.self.frame;
+        comes = λ B w r. way_behind P c.args.self.now c.loop.self c.loop.invariant.comes B w r (at c.go_where_plain.new.self w r) (gone B w r);
         does = c.in_ok-doing-in-Other.ensures.does;
       };
-      stage = c.in_ok-go_plainly.ensures.stage ∙ c.loop.invariant.stage;
-      tried = c.in_ok-go_plainly.ensures.tried ∙ c.loop.invariant.tried;
+      stage = c.in_ok-go_where_plain.ensures.stage ∙ c.loop.invariant.stage;
+      tried = c.in_ok-go_where_plain.ensures.tried ∙ c.loop.invariant.tried;
       can = c.in_ok-doing-in-Other.ensures.can;
       next = c.in_ok-doing-in-Other.ensures.next;
     }
@@ -83,12 +83,12 @@ loop-preserved c =
     let P = c.args.program.now in
     let found : method_at c.args.program.now c.args.self.now.frame.method ≡ Some c.in_ok-method.method.now = rw (← c.self.view_is) c.in_ok-method.ensures in
     let here : method_at c.args.program.now c.loop.self.frame.method ≡ Some c.in_ok-method.method.now = rw c.loop.invariant.method found in
-    let gone = rw c.in-Other.is at (c.in_ok-go_plainly.ensures.run P here) in
+    let gone = rw c.in-Other.is at (c.in_ok-go_where_plain.ensures.run P here) in
     record {
-      method = rw c.advance.ensures (c.in_ok-doing-in-Other.ensures.place.0 ∙ c.in_ok-go_plainly.ensures.method ∙ c.loop.invariant.method);
-      stage = c.in_ok-go_plainly.ensures.stage ∙ c.loop.invariant.stage;
-      tried = c.in_ok-go_plainly.ensures.tried ∙ c.loop.invariant.tried;
-      comes = goes_next P c.args.self.now c.go_plainly.new.self (λ B w r. way_behind P c.args.self.now c.loop.self c.loop.invariant.comes B w r (at c.go_plainly.new.self w r) (gone B w r))
+      method = rw c.advance.ensures (c.in_ok-doing-in-Other.ensures.place.0 ∙ c.in_ok-go_where_plain.ensures.method ∙ c.loop.invariant.method);
+      stage = c.in_ok-go_where_plain.ensures.stage ∙ c.loop.invariant.stage;
+      tried = c.in_ok-go_where_plain.ensures.tried ∙ c.loop.invariant.tried;
+      comes = goes_next P c.args.self.now c.go_where_plain.new.self (λ B w r. way_behind P c.args.self.now c.loop.self c.loop.invariant.comes B w r (at c.go_where_plain.new.self w r) (gone B w r))
           c.act_in.new.self c.advance.new.self (λ fs. rw c.in-Next-2.is at (c.in_ok-doing-in-Other.ensures.does fs)) c.advance.ensures;
     }
 

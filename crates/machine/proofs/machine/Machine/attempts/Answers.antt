@@ -6,7 +6,7 @@ use Rattle.objects.specs.rewriting.Events.{Grows}
 use Rattle.machine.proofs.Ways.{grows_same}
 use Rattle.machine.specs.Running.{Saw, Leaves}
 use Rattle.machine.proofs.Ends.{start_fails, end_left, end_from}
-use Rattle.machine.proofs.machine.attempts.Goals as goal
+use Rattle.machine.proofs.machine.Machine.attempts.Goals as goal
 
 pub returns-in_err-running-clause-run : goal.returns-in_err-running-clause-run
 returns-in_err-running-clause-run g c = λ h n kc s aw.
@@ -24,8 +24,8 @@ returns-in-Ok-clause-run g c = λ h n kc s aw.
     end_from c.args.program.now (bounds_of c.args.limits) _ _ (g.E.Engine.awaits c.args.tx.now) g.E.Engine.allows (Begins (g.E.Engine.attempts c.args.tx.now) (g.E.Engine.attempts c.run.new.tx)) (Grows (g.G.Gate.told c.args.gate.now) (g.G.Gate.told c.run.new.gate)) (g.E.Engine.stands c.run.new.tx) h n
     (Leaves (g.E.Engine.stands c.run.new.tx h) n c.run.new.self.stage) (Saw g.E.Engine.is_shared g.E.Engine.begins g.E.Engine.allows h kc c.args.limits.room.used) (Ok c.in-Ok.end) c.in_ok-running.ensures.0 (c.in-Ok.ensures.run h n kc s aw)
 
-pub returns-clause-run : goal.returns-clause-run
-returns-clause-run g c = λ h n kc s aw.
+pub returns-in-Err-clause-run : goal.returns-in-Err-clause-run
+returns-in-Err-clause-run g c = λ h n kc s aw.
     end_left c.args.program.now (bounds_of c.args.limits) (run_start c.args.program.now (bounds_of c.args.limits) c.args.called.method c.args.called.args.now) (g.E.Engine.awaits c.args.tx.now) g.E.Engine.allows (Begins (g.E.Engine.attempts c.args.tx.now) (g.E.Engine.attempts c.run.new.tx)) (Begins (g.E.Engine.attempts c.args.tx.now) (g.E.Engine.attempts c.leave.new.tx)) (Grows (g.G.Gate.told c.args.gate.now) (g.G.Gate.told c.run.new.gate)) (g.E.Engine.stands c.run.new.tx) (g.E.Engine.stands c.leave.new.tx) h n (Saw g.E.Engine.is_shared g.E.Engine.begins g.E.Engine.allows h kc c.args.limits.room.used) c.run.new.self.stage c.in-Err.failure (c.leave.ensures.run h n)
     (end_from c.args.program.now (bounds_of c.args.limits) _ _ (g.E.Engine.awaits c.args.tx.now) g.E.Engine.allows (Begins (g.E.Engine.attempts c.args.tx.now) (g.E.Engine.attempts c.run.new.tx)) (Grows (g.G.Gate.told c.args.gate.now) (g.G.Gate.told c.run.new.gate)) (g.E.Engine.stands c.run.new.tx) h n
     (Leaves (g.E.Engine.stands c.run.new.tx h) n c.run.new.self.stage) (Saw g.E.Engine.is_shared g.E.Engine.begins g.E.Engine.allows h kc c.args.limits.room.used) (Err c.in-Err.failure) c.in_ok-running.ensures.0 (c.in-Err.ensures.run h n kc s aw))
