@@ -18,7 +18,7 @@ import tempfile
 sys.dont_write_bytecode = True
 
 from common.building import PROGRAM, compile_sources
-from common.class_files import additions, interface_calls, late_jumps, many_places, null_loads
+from common.class_files import additions, interface_calls, late_jumps, many_places, null_loads, reference_loads
 from common.runs import apart, median, run
 
 ATOMIC = "import org.deuce.Atomic;\n"
@@ -162,6 +162,8 @@ CASES = {
     "1,000 loads and then 999 additions": (lambda: additions(1_000), made),
     "4,000 loads and then 3,999 additions": (lambda: additions(4_000), made),
     "32,767 loads and then 32,766 additions, 65,534 bytes": (lambda: additions(32_767), made),
+    "4,000 loads of a reference and as many pops": (lambda: reference_loads(4_000), made),
+    "the same, 30,000 loads of a reference": (lambda: reference_loads(30_000), made),
     "199 late jumps, each of which widens one local more; 7,000 instructions before": (lambda: late_jumps(199, 7_000), made),
     "the same, 14,000 instructions before": (lambda: late_jumps(199, 14_000), made),
     "the same, 1,800 late jumps, 14,000 instructions before": (lambda: late_jumps(1_800, 14_000), made),

@@ -84,6 +84,15 @@ def null_loads(count):
     return one_method(b"\x01" + b"\x03\x32" * count + b"\x57\x03\xac", stack=2)
 
 
+def reference_loads(count):
+    """So many loads of a reference to an Object, and as many pops."""
+    made = ClassMaker("Made")
+    # aconst_null; checkcast Object; astore_1
+    stored = b"\x01\xc0" + struct.pack(">H", made.class_("java/lang/Object")) + b"\x4c"
+    made.marked("m", "(I)I", count, 2, stored + b"\x2b" * count + b"\x57" * count + b"\x03\xac")
+    return {"Made": made.content()}
+
+
 def interface_calls(count, letters):
     """So many calls of an interface's method, whose one parameter is of a class with a name of so many letters."""
     descriptor = f"(L{'n' * letters};)V"
