@@ -29,8 +29,11 @@ fn locals_share_their_parts(rt: HostRuntime) -> Result<(), Fail> {
     );
     assert!(rt; matches!(tops.parts(), Parts::Run(_)) && matches!(set.parts(), Parts::Fork(_, _)));
     let flat = set.flat(alloc)?;
-    let same = TypeTree::like(alloc, flat.as_slice(), &tops, &set)?;
-    assert!(rt; same.len() == 9 && !same.share()?.has_names());
+    let (left, right) = set.halves()?;
+    assert!(rt; left.len() == 4 && right.len() == 5 && !left.share()?.has_names());
+    let same = TypeTree::pair(alloc, left, right)?;
+    let back = same.set(alloc, 4, SharedType::new(alloc, VType::Top)?)?;
+    assert!(rt; same.len() == 9 && matches!(back.parts(), Parts::Run(_)));
     let read = TypeTree::from_slice(alloc, flat.as_slice())?;
     assert!(rt; matches!(read.get(3), Some(VType::Top)) && TypeTree::new().len() == 0);
     assert!(rt; is_same(flat[4].as_type(), &VType::Null) && !is_named(flat[4].share()?.as_type()));

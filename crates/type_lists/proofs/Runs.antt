@@ -1,6 +1,7 @@
 -- Lists of one type over and over.
-use Rattle.std.proofs.Common.{◌≡◌, ℕ, zero, suc, ◌+◌, ◌<◌, List, [], ◌∷◌, ◌++◌, Bool, true, false, length, replicate, take, drop, slice_set, ◌-◌, ◌≤◌, refl, sym, ap, subst, arith, ◌∙◌}
-use Rattle.std.proofs.lemmas.List.{length-replicate, replicate-append-replicate, take-append-drop}
+use Rattle.std.proofs.Common.{◌≡◌, ℕ, zero, suc, ◌+◌, ◌/◌, ◌<◌, List, [], ◌∷◌, ◌++◌, Bool, true, false, length, replicate, take, drop, slice_set, ◌-◌, ◌≤◌, refl, sym, ap, subst, arith, ◌∙◌}
+use Rattle.std.proofs.Math.Seq.{take-append_seam, drop-append_seam}
+use Rattle.std.proofs.lemmas.List.{length-replicate, take-replicate, drop-replicate, replicate-append-replicate, take-append-drop}
 use Rattle.jmodel.specs.declared.typing.VType.{VType}
 use Rattle.type_lists.specs.Named.{is_named, are_named}
 
@@ -40,6 +41,26 @@ pub set_same : (n i : ℕ) (t : VType) → slice_set (replicate n t) i t ≡ rep
 set_same zero i t = refl
 set_same (suc n) zero t = refl
 set_same (suc n) (suc i) t = ap (◌∷◌ t) (set_same n i t)
+
+-- two runs of one type are one run
+pub runs_join : (n : ℕ) (xs ys : List VType) (t u : VType) → n ≡ length xs + length ys → xs ≡ replicate (length xs) t → ys ≡ replicate (length ys) u → t ≡ u → replicate n t ≡ xs ++ ys
+runs_join n xs ys t u k e f g =
+    let h : replicate (length ys) t ≡ ys = ap (replicate (length ys)) g ∙ sym f in
+    ap (λ (n : ℕ). replicate n t) k ∙ sym (replicate-append-replicate (length xs) (length ys) t) ∙ ap (λ (xs : List VType). xs ++ replicate (length ys) t) (sym e) ∙ ap (λ (ys : List VType). xs ++ ys) h
+
+-- the halves of a run
+pub run_left : (k n : ℕ) (ts : List VType) (t : VType) → ts ≡ replicate n t → k ≤ n → replicate k t ≡ take k ts
+run_left k n ts t e h = sym (ap (take k) e ∙ take-replicate k n t h)
+
+pub run_right : (k n : ℕ) (ts : List VType) (t : VType) → ts ≡ replicate n t → replicate (n - k) t ≡ drop k ts
+run_right k n ts t e = sym (ap (drop k) e ∙ drop-replicate k n t)
+
+-- the parts of a list
+pub left_part : (n : ℕ) (xs ys : List VType) → length xs ≡ n → xs ≡ take n (xs ++ ys)
+left_part n xs ys e = sym (ap (λ (n : ℕ). take n (xs ++ ys)) (sym e) ∙ take-append_seam xs ys)
+
+pub right_part : (n : ℕ) (xs ys : List VType) → length xs ≡ n → ys ≡ drop n (xs ++ ys)
+right_part n xs ys e = sym (ap (λ (n : ℕ). drop n (xs ++ ys)) (sym e) ∙ drop-append_seam xs ys)
 
 -- a run in two parts
 pub run_parts : (n m : ℕ) (t : VType) → m < n → replicate n t ≡ replicate m t ++ replicate (n - m) t

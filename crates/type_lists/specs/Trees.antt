@@ -1,5 +1,5 @@
 -- What a tree of types keeps of itself.
-use Rattle.std.specs.Prelude.{◌≡◌, ℕ, ◌<◌, List, [], ◌++◌, length, replicate, Bool}
+use Rattle.std.specs.Prelude.{◌≡◌, ℕ, ◌/◌, ◌<◌, List, [], ◌++◌, length, replicate, Bool}
 use Rattle.jmodel.specs.declared.typing.VType.{VType}
 use Rattle.type_lists.specs.Named.{are_named}
 use Rattle.type_lists.specs.declared.tree.Node.{Node}
@@ -10,11 +10,11 @@ types n Empty = []
 types n (Run item) = replicate n item
 types n (Fork left right) = left.value ++ right.value
 
--- no part is empty
+-- a fork is of two halves, of which none is empty
 abbrev pub HasParts : ℕ → Node → Type 0
 HasParts n Empty = Unit {0}
 HasParts n (Run item) = 0 < n
-HasParts n (Fork left right) = (0 < length left.value) × (0 < length right.value)
+HasParts n (Fork left right) = (0 < length left.value) × (0 < length right.value) × (length left.value ≡ n / 2)
 
 pub record IsTree (count : ℕ) (b : Bool) (node : Node) : Type 0 where
   pub len : count ≡ length (types count node)

@@ -274,6 +274,24 @@ impl TypeStack {
         Ok(types)
     }
 
+    /// So many of the topmost types.
+    pub fn top(&self, alloc: Global, count: usize) -> Result<Vec<SharedType>, AllocError>
+        ensures { IfOk result (λ v. v.items ≡ take count self.now) }
+    {
+        let mut types = Vec::new(alloc);
+        let mut at = self;
+        for _ in 0..count {
+            match at.split() {
+                Some((item, rest)) => {
+                    types.push(item.share()?)?;
+                    at = rest;
+                }
+                None => return Ok(types),
+            }
+        }
+        Ok(types)
+    }
+
     /// A stack of these types. Where places of it lie over the bottom as in another stack, they are shared.
     #[tactic(auto, using(crate::proofs::Drops::over_same))]
     fn beside(

@@ -1,5 +1,5 @@
 //! Types of locals (JVM Specification, Java SE 7, section 4.10.1.2), whose copies share the parts that are the same.
-ghost use Rattle.std.specs.Prelude.{◌≡◌, ◌∷◌, ◌++◌, ◌<◌, ◌+◌, ◌^◌, ◌↔◌, [], IfOk, IsTrue, OnOk, length, option_copied, replicate, slice_get, slice_set};
+ghost use Rattle.std.specs.Prelude.{◌≡◌, ◌∷◌, ◌++◌, ◌<◌, ◌+◌, ◌/◌, ◌^◌, ◌↔◌, [], IfOk, IfSome, IsTrue, OnOk, drop, length, option_copied, replicate, slice_get, slice_set, take};
 ghost use Rattle.type_lists.specs.Named.{are_named};
 ghost use Rattle.type_lists.specs.Parted.{IsParted};
 
@@ -51,6 +51,7 @@ pub enum Parts<'a> {
     Empty,
     /// So many of one type as the list is long.
     Run(&'a SharedType),
+    /// Two halves. Where the list has an odd length, the second one is longer.
     Fork(&'a TypeTree, &'a TypeTree),
 }
 
@@ -106,10 +107,10 @@ impl TypeTree {
         self.named
     }
 
-    /// The types of one list, and those of another behind them.
+    /// The types of one list, and those of another behind them, which are as many or one more.
     fn fork(left: Rc<TypeTree>, right: Rc<TypeTree>) -> Result<Self, AllocError>
-        requires left { 0 < length left.value }
-        requires right { 0 < length right.value }
+        requires some { 0 < length left.value }
+        requires half { length left.value ≡ (length left.value + length right.value) / 2 }
         ensures { IfOk result (λ t. t ≡ left.value ++ right.value) }
     {
         let len = left.len.checked_add(right.len).ok_or(AllocError)?;
@@ -143,6 +144,24 @@ impl TypeTree {
         }
     }
 
+    /// The two halves. Where the list has an odd length, the second one is longer.
+    #[tactic(auto, using(crate::proofs::Runs::run_left, crate::proofs::Runs::run_right, crate::proofs::Runs::left_part, crate::proofs::Runs::right_part))]
+    pub fn halves(&self) -> Result<(Self, Self), AllocError>
+        ensures left { IfOk result (λ p. p.0 ≡ take (length self.now / 2) self.now) }
+        ensures right { IfOk result (λ p. p.1 ≡ drop (length self.now / 2) self.now) }
+    {
+        let half = self.len() / 2;
+        match self.parts() {
+            Parts::Empty => Ok((TypeTree::new(), TypeTree::new())),
+            Parts::Run(item) => {
+                let left = TypeTree::run(item.share()?, half);
+                let right = TypeTree::run(item.share()?, self.len() - half);
+                Ok((left, right))
+            }
+            Parts::Fork(left, right) => Ok((left.share()?, right.share()?)),
+        }
+    }
+
     /// The type of a place.
     pub fn get(&self, at: usize) -> Option<&VType>
         ensures { option_copied result ≡ slice_get self.now at }
@@ -171,48 +190,42 @@ impl TypeTree {
     }
 }
 
-/// Whether a list has these types.
-fn has(tree: &TypeTree, types: &[SharedType]) -> bool
-    ensures { IsTrue result → (tree.now ≡ types.now) }
+/// Two lists as one run, if they are runs of one type.
+#[tactic(auto, using(crate::proofs::Runs::runs_join))]
+fn one_run(left: &TypeTree, right: &TypeTree) -> Result<Option<TypeTree>, AllocError>
+    ensures { IfOk result (λ o. IfSome o (λ t. t ≡ left.now ++ right.now)) }
 {
-    if tree.len() != types.len() {
-        return false;
-    }
-    match tree.parts() {
-        Parts::Empty => true,
-        Parts::Run(item) => are_all(types, item),
-        Parts::Fork(left, right) => {
-            let count = left.len();
-            has(left, &types[..count]) && has(right, &types[count..])
+    match (left.parts(), right.parts()) {
+        (Parts::Run(item), Parts::Run(other)) if is_same(item.as_type(), other.as_type()) => {
+            let len = left.len().checked_add(right.len()).ok_or(AllocError)?;
+            Ok(Some(TypeTree::run(item.share()?, len)))
         }
+        _ => Ok(None),
     }
 }
 
-/// The types of one list, and those of another behind them.
-fn pair(alloc: Global, left: TypeTree, right: TypeTree) -> Result<TypeTree, AllocError>
-    requires left { 0 < length left }
-    requires right { 0 < length right }
-    ensures { IfOk result (λ t. t ≡ left ++ right) }
-{
-    TypeTree::fork(Rc::new(alloc, left)?, Rc::new(alloc, right)?)
-}
-
-/// Types before those of a shared part.
+/// Types before those of a shared part, which are as many or one more.
 fn with_left(alloc: Global, left: TypeTree, right: &Rc<TypeTree>) -> Result<TypeTree, AllocError>
-    requires left { 0 < length left }
-    requires right { 0 < length right.now.value }
+    requires some { 0 < length left }
+    requires half { length left ≡ (length left + length right.now.value) / 2 }
     ensures { IfOk result (λ t. t ≡ left ++ right.now.value) }
 {
-    TypeTree::fork(Rc::new(alloc, left)?, right.clone()?)
+    match one_run(&left, right.as_ref())? {
+        Some(run) => Ok(run),
+        None => TypeTree::fork(Rc::new(alloc, left)?, right.clone()?),
+    }
 }
 
-/// Types behind those of a shared part.
+/// Types behind those of a shared part, as many or one more.
 fn with_right(alloc: Global, left: &Rc<TypeTree>, right: TypeTree) -> Result<TypeTree, AllocError>
-    requires left { 0 < length left.now.value }
-    requires right { 0 < length right }
+    requires some { 0 < length left.now.value }
+    requires half { length left.now.value ≡ (length left.now.value + length right) / 2 }
     ensures { IfOk result (λ t. t ≡ left.now.value ++ right) }
 {
-    TypeTree::fork(left.clone()?, Rc::new(alloc, right)?)
+    match one_run(left.as_ref(), &right)? {
+        Some(run) => Ok(run),
+        None => TypeTree::fork(left.clone()?, Rc::new(alloc, right)?),
+    }
 }
 
 /// The types as a list of their own.
@@ -232,7 +245,7 @@ fn grown(alloc: Global, types: &[SharedType]) -> Result<TypeTree, AllocError>
     }
     let left = grown(alloc, &types[..half])?;
     let right = grown(alloc, &types[half..])?;
-    pair(alloc, left, right)
+    TypeTree::pair(alloc, left, right)
 }
 
 /// So many of one type, with another at a place.
@@ -253,15 +266,27 @@ fn set_in_run(
     if at < half {
         let left = set_in_run(alloc, old, half, at, item)?;
         let right = TypeTree::run(old.share()?, len - half);
-        pair(alloc, left, right)
+        TypeTree::pair(alloc, left, right)
     } else {
         let left = TypeTree::run(old.share()?, half);
         let right = set_in_run(alloc, old, len - half, at - half, item)?;
-        pair(alloc, left, right)
+        TypeTree::pair(alloc, left, right)
     }
 }
 
 impl TypeTree {
+    /// The types of one list, and those of another behind them, which are as many or one more. Two runs of one type are one run.
+    pub fn pair(alloc: Global, left: TypeTree, right: TypeTree) -> Result<Self, AllocError>
+        requires some { 0 < length left }
+        requires half { length left ≡ (length left + length right) / 2 }
+        ensures { IfOk result (λ t. t ≡ left ++ right) }
+    {
+        match one_run(&left, &right)? {
+            Some(run) => Ok(run),
+            None => TypeTree::fork(Rc::new(alloc, left)?, Rc::new(alloc, right)?),
+        }
+    }
+
     /// The types with another one at a place, if there is such a place. The other parts are shared.
     pub fn set(&self, alloc: Global, at: usize, item: SharedType) -> Result<Self, AllocError>
         ensures { IfOk result (λ t. t ≡ slice_set self.now at item) }
@@ -323,49 +348,5 @@ impl TypeTree {
         ensures { IfOk result (λ t. t ≡ types.now) }
     {
         grown(alloc, types)
-    }
-
-    /// A list of these types. Where parts of it are those of other lists, they are shared.
-    #[tactic(auto, using(crate::proofs::Runs::both_parts))]
-    pub fn like(
-        alloc: Global,
-        types: &[SharedType],
-        first: &TypeTree,
-        second: &TypeTree,
-    ) -> Result<Self, AllocError>
-        ensures { IfOk result (λ t. t ≡ types.now) }
-    {
-        if has(first, types) {
-            return first.share();
-        }
-        if has(second, types) {
-            return second.share();
-        }
-        let count = left_count(first, second);
-        if count == 0 || count >= types.len() {
-            return grown(alloc, types);
-        }
-        let (first_left, first_right) = halves(first, count);
-        let (second_left, second_right) = halves(second, count);
-        let left = TypeTree::like(alloc, &types[..count], first_left, second_left)?;
-        let right = TypeTree::like(alloc, &types[count..], first_right, second_right)?;
-        pair(alloc, left, right)
-    }
-}
-
-/// How many types the left part of one of two lists has.
-fn left_count(first: &TypeTree, second: &TypeTree) -> usize {
-    match (first.parts(), second.parts()) {
-        (Parts::Fork(left, _), _) => left.len(),
-        (_, Parts::Fork(left, _)) => left.len(),
-        _ => 0,
-    }
-}
-
-/// The two parts of a list, if the left one has so many types, or else the list twice.
-fn halves(tree: &TypeTree, count: usize) -> (&TypeTree, &TypeTree) {
-    match tree.parts() {
-        Parts::Fork(left, right) if left.len() == count => (left, right),
-        _ => (tree, tree),
     }
 }

@@ -30,6 +30,21 @@ pub record IsClosed (P : Program) (k : Method) (Q : VType → Type 0) : Type 0 w
   pub casts : (pc : ℕ) (c : List ℕ) → slice_get k.ops pc ≡ Some (op.CheckCast c) → Q (Ref (name_read P c))
   pub library : (pc : ℕ) (c : List ℕ) (n : ℕ) → slice_get k.ops pc ≡ Some (op.InitLibrary c n) → Q (Ref c)
 
+-- What an instruction brings. `Q` is said of types that were there and of those without a name, and `B` of lists of types that it puts on top of a stack of such.
+pub record Brings (P : Program) (k : Method) (pc : ℕ) (Q : VType → Type 0) (B : List VType → Type 0) : Type 0 where
+  pub plain : (t : VType) → IsPlain t → Q t
+  pub there : (ls : List VType) → AllByRecursion Q ls → B ls
+  pub element : (n : List ℕ) → is_array n ≡ true → Q (Ref n) → B (Ref (element_class n) ∷ [])
+  pub object : B (Ref object_class ∷ [])
+  pub string : B (Ref string_class ∷ [])
+  pub context : B (Ref context_class ∷ [])
+  pub fields : (i : ℕ) (f : Field) → field_at P i ≡ Some f → B (stack_types f.declared)
+  pub gives : (m : ℕ) (c : Method) → method_at P m ≡ Some c → B (results c)
+  pub arrays : (t : ℕ) (r : Row) → row_at P t ≡ Some r → B (Ref r.read ∷ [])
+  pub casts : (c : List ℕ) → slice_get k.ops pc ≡ Some (op.CheckCast c) → B (Ref (name_read P c) ∷ [])
+  pub called : (m : ℕ) (c : Method) → slice_get k.ops pc ≡ Some (op.InvokeSpecial m) → method_at P m ≡ Some c → Q (Ref k.name.class) × Q (Ref c.name.class)
+  pub library : (c : List ℕ) (n : ℕ) → slice_get k.ops pc ≡ Some (op.InitLibrary c n) → Q (Ref k.name.class) × Q (Ref c)
+
 module _ (Q : VType → Type 0) where
   abbrev pub AllOf : List VType → Type 0
   AllOf ts = AllByRecursion Q ts
@@ -69,31 +84,33 @@ module _ (Q : VType → Type 0) where
   IsFine Wrong = Unit {0}
   IsFine (Leads tos x) = AllOf x.locals × AllOf x.stack
 
+-- flows over stacks of such types, of which something is asked that holds where an instruction goes nowhere
+module _ (Q : VType → Type 0) (F : Flow → Type 0) (wrong : F Wrong) where
   abbrev pub Goes : (List VType → Flow) → Type 0
-  Goes f = (s : List VType) → AllOf s → IsFine (f s)
+  Goes f = (s : List VType) → AllOf Q s → F (f s)
 
   abbrev pub GoesBy : (VType → List VType → Flow) → Type 0
-  GoesBy f = (t : VType) (s : List VType) → Q t → AllOf s → IsFine (f t s)
+  GoesBy f = (t : VType) (s : List VType) → Q t → AllOf Q s → F (f t s)
 
   -- under a condition
-  pub so_fine : (b : Bool) (f : Flow) → IsFine f → IsFine (if_so b f)
+  pub so_fine : (b : Bool) (f : Flow) → F f → F (if_so b f)
   so_fine true f g = g
-  so_fine false f g = tt
+  so_fine false f g = wrong
 
   -- where the condition may be used
-  pub so_if : (b : Bool) (f : Flow) → (b ≡ true → IsFine f) → IsFine (if_so b f)
+  pub so_if : (b : Bool) (f : Flow) → (b ≡ true → F f) → F (if_so b f)
   so_if true f g = g refl
-  so_if false f g = tt
+  so_if false f g = wrong
 
   -- behind an int
   pub int_fine : (f : List VType → Flow) → Goes f → Goes (λ s. on_int s f)
-  int_fine f g [] a = tt
+  int_fine f g [] a = wrong
   int_fine f g (Int ∷ s) a = g s a.1
-  int_fine f g (t ∷ s) a = tt
+  int_fine f g (t ∷ s) a = wrong
 
   -- behind what is on top
   pub top_fine : (f : VType → List VType → Flow) → GoesBy f → Goes (λ s. on_top s f)
-  top_fine f g [] a = tt
+  top_fine f g [] a = wrong
   top_fine f g (t ∷ s) a = g t s a.0 a.1
 
   -- behind a value of one place
@@ -101,33 +118,33 @@ module _ (Q : VType → Type 0) where
   one_fine f g = top_fine (λ t s. if_so (is_one t) (f t s)) (λ t s q a. so_fine (is_one t) (f t s) (g t s q a))
 
   -- behind a long, or two values
-  pub two_fine : (f : VType → VType → List VType → Flow) → ((t u : VType) (s : List VType) → Q t → Q u → AllOf s → IsFine (f t u s)) → Goes (λ s. on_two s f)
+  pub two_fine : (f : VType → VType → List VType → Flow) → ((t u : VType) (s : List VType) → Q t → Q u → AllOf Q s → F (f t u s)) → Goes (λ s. on_two s f)
   two_fine f g (Second ∷ Long ∷ s) a = g Second Long s a.0 a.1.0 a.1.1
   two_fine f g s a = one_fine (λ t s. on_one s (λ u s. f t u s)) (λ t s q b. one_fine (f t) (λ u s r c. g t u s q r c) s b) s a
 
   -- behind an array, or null
-  pub array_fine : (f : VType → List VType → Flow) → ((s : List VType) → AllOf s → IsFine (f Null s)) → ((n : List ℕ) (s : List VType) → is_array n ≡ true → Q (Ref n) → AllOf s → IsFine (f (Ref n) s)) → Goes (λ s. on_array s f)
-  array_fine f g r [] a = tt
+  pub array_fine : (f : VType → List VType → Flow) → ((s : List VType) → AllOf Q s → F (f Null s)) → ((n : List ℕ) (s : List VType) → is_array n ≡ true → Q (Ref n) → AllOf Q s → F (f (Ref n) s)) → Goes (λ s. on_array s f)
+  array_fine f g r [] a = wrong
   array_fine f g r (Null ∷ s) a = g s a.1
   array_fine f g r (Ref n ∷ s) a = so_if (is_array n) (f (Ref n) s) (λ e. r n s e a.0 a.1)
-  array_fine f g r (t ∷ s) a = tt
+  array_fine f g r (t ∷ s) a = wrong
 
-module _ (P : Program) (Q : VType → Type 0) where
+module _ (P : Program) (Q : VType → Type 0) (F : Flow → Type 0) (wrong : F Wrong) where
   -- behind a value of a type
-  pub on_fine : (t : VType) (f : List VType → Flow) → Goes Q f → Goes Q (λ s. on P t s f)
-  on_fine t f g [] a = tt
+  pub on_fine : (t : VType) (f : List VType → Flow) → Goes Q F wrong f → Goes Q F wrong (λ s. on P t s f)
+  on_fine t f g [] a = wrong
   on_fine t f g (u ∷ s) a = by (is_within P u t)
     where
-      by : (b : Bool) → IsFine Q (if b then f s else Wrong)
+      by : (b : Bool) → F (if b then f s else Wrong)
       by true = g s a.1
-      by false = tt
+      by false = wrong
 
   -- behind values of types
-  pub each_fine : (ts : List VType) (f : List VType → Flow) → Goes Q f → Goes Q (λ s. on_each P ts s f)
+  pub each_fine : (ts : List VType) (f : List VType → Flow) → Goes Q F wrong f → Goes Q F wrong (λ s. on_each P ts s f)
   each_fine [] f g = g
   each_fine (t ∷ ts) f g = on_fine t (λ s. on_each P ts s f) (each_fine ts f g)
 
   -- behind a number
-  pub number_fine : (w : Width) (f : List VType → Flow) → Goes Q f → Goes Q (λ s. on_number P w s f)
-  number_fine width.Int f g = int_fine Q f g
+  pub number_fine : (w : Width) (f : List VType → Flow) → Goes Q F wrong f → Goes Q F wrong (λ s. on_number P w s f)
+  number_fine width.Int f g = int_fine Q F wrong f g
   number_fine width.Long f g = each_fine (Second ∷ Long ∷ []) f g

@@ -36,3 +36,6 @@ pub mod Texts
 pub mod Runs
 pub mod Afters
 pub mod Settled
+pub mod Brought
+pub mod Halves
+pub mod Copies

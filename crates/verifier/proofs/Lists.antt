@@ -28,23 +28,14 @@ false_and true = refl
 false_and false = refl
 
 module _ (P : Program) where
-  -- one step of each test
-  pub within_step : (a b : List VType) (i : ℕ) (x y : VType) → i < length a → i < length b → x ≡ get_or a i x → y ≡ get_or b i y → are_within P (drop i a) (drop i b) ≡ (is_within P x y && are_within P (drop (i + 1) a) (drop (i + 1) b))
-  within_step [] b i x y h g e f = absurd (omega arith)
-  within_step (t ∷ a) [] i x y h g e f = absurd (omega arith)
-  within_step (t ∷ a) (u ∷ b) zero x y h g e f = rw (e, f) refl
-  within_step (t ∷ a) (u ∷ b) (suc i) x y h g e f = let h' : i < length a = omega arith in let g' : i < length b = omega arith in let n : suc i + 1 ≡ suc (i + 1) = omega arith in rw n (within_step a b i x y h' g' e f)
-
+  -- one step
   pub join_step : (a b : List VType) (i : ℕ) (x y : VType) → i < length a → i < length b → x ≡ get_or a i x → y ≡ get_or b i y → join_all P (drop i a) (drop i b) ≡ join P x y ∷ join_all P (drop (i + 1) a) (drop (i + 1) b)
   join_step [] b i x y h g e f = absurd (omega arith)
   join_step (t ∷ a) [] i x y h g e f = absurd (omega arith)
   join_step (t ∷ a) (u ∷ b) zero x y h g e f = rw (e, f) refl
   join_step (t ∷ a) (u ∷ b) (suc i) x y h g e f = let h' : i < length a = omega arith in let g' : i < length b = omega arith in let n : suc i + 1 ≡ suc (i + 1) = omega arith in rw n (join_step a b i x y h' g' e f)
 
-  -- at the end of each
-  pub within_end : (a b : List VType) (i : ℕ) → length a ≡ length b → length a ≤ i → are_within P (drop i a) (drop i b) ≡ true
-  within_end a b i e h = let h' : length b ≤ i = omega arith in let x = past a i h in let y = past b i h' in rw (x, y) refl
-
+  -- at the end
   pub join_end : (a b : List VType) (i : ℕ) → length a ≤ i → join_all P (drop i a) (drop i b) ≡ []
   join_end a b i h = let x = past a i h in rw x refl
 

@@ -1,14 +1,14 @@
 -- Types place by place, of lists in two parts and of one type over and over.
-use Rattle.std.proofs.Common.{◌≡◌, ℕ, zero, suc, ◌+◌, ◌<◌, List, [], ◌∷◌, ◌++◌, length, drop, replicate, Option, Bool, true, false, refl, sym, ap, ◌∙◌, arith, length-append}
+use Rattle.std.proofs.Common.{◌≡◌, ℕ, zero, suc, ◌+◌, ◌/◌, ◌<◌, List, [], ◌∷◌, ◌++◌, length, replicate, Bool, true, false, refl, sym, ap, ◌∙◌, arith, length-append}
 use Rattle.std.proofs.lemmas.List.{length-replicate, replicate-append-replicate}
-use Rattle.std.specs.Prelude.{◌&&◌, ◌||◌, slice_get}
+use Rattle.std.specs.Prelude.{◌&&◌, ◌||◌}
 use Rattle.jmodel.specs.declared.typing.VType.{VType}
 use Rattle.jmodel.specs.declared.typing.VType.TheVariants.{Int, Long, Second, Null, Ref, Uninit, UninitThis, Top}
 use Rattle.std.proofs.lemmas.Bool.Decides.{nat_tests}
 use Rattle.objects.specs.semantics.Program.{Program}
 use Rattle.objects.specs.typing.TypeOrder.{is_within}
 use Rattle.type_lists.specs.Named.{is_named, are_named}
-use Rattle.verifier.specs.Order.{are_within, is_place_within}
+use Rattle.verifier.specs.Order.{are_within}
 
 and_assoc : (a b c : Bool) → (a && (b && c)) ≡ ((a && b) && c)
 and_assoc true b c = refl
@@ -82,13 +82,32 @@ module _ (P : Program) where
       let b = plain_within ts p.1 in
       rw (a, b) refl
 
-  pub place_step : (a b : List VType) (i : ℕ) (x y : Option VType) → i < length a → length a ≡ length b → x ≡ slice_get a i → y ≡ slice_get b i
-      → are_within P (drop i a) (drop i b) ≡ (is_place_within P x y && are_within P (drop (i + 1) a) (drop (i + 1) b))
-  place_step [] b i x y h e f g = absurd (omega (arith, h))
-  place_step (t ∷ a) [] i x y h e f g = absurd (let z : suc (length a) ≡ 0 = e in omega (arith, z))
-  place_step (t ∷ a) (u ∷ b) zero x y h e f g = rw (f, g) refl
-  place_step (t ∷ a) (u ∷ b) (suc i) x y h e f g =
-      let h' : i < length a = omega (arith, h) in
-      let e' : length a ≡ length b = omega (arith, e) in
-      let n : suc i + 1 ≡ suc (i + 1) = omega arith in
-      rw n (place_step a b i x y h' e' f g)
+  -- top is above all types
+  pub under_top : (ts : List VType) → are_within P ts (replicate (length ts) Top) ≡ true
+  under_top [] = refl
+  under_top (t ∷ ts) = let a : is_within P t Top ≡ true = above t in let b = under_top ts in rw (a, b) refl
+    where
+      above : (t : VType) → is_within P t Top ≡ true
+      above Int = refl
+      above Long = refl
+      above Second = refl
+      above Null = refl
+      above (Ref n) = refl
+      above (Uninit p) = refl
+      above UninitThis = refl
+      above Top = refl
+
+  -- of lists of one length of which one is empty
+  pub none_within : (ts us : List VType) → length ts ≡ length us → ts ≡ [] → are_within P ts us ≡ true
+  none_within [] [] n e = refl
+  none_within [] (u ∷ us) n e = cc
+  none_within (t ∷ ts) us n e = cc
+
+  pub in_none : (ts us : List VType) → length ts ≡ length us → us ≡ [] → are_within P ts us ≡ true
+  in_none [] [] n e = refl
+  in_none (t ∷ ts) [] n e = cc
+  in_none ts (u ∷ us) n e = cc
+
+  -- forks of lists of one length divide at one place
+  pub halves_within : (ts us l r m s : List VType) → ts ≡ l ++ r → us ≡ m ++ s → length ts ≡ length us → length l ≡ length ts / 2 → length m ≡ length us / 2 → are_within P ts us ≡ (are_within P l m && are_within P r s)
+  halves_within ts us l r m s e f n h g = parts_within ts us l r m s e f (h ∙ ap (λ (n : ℕ). n / 2) n ∙ sym g)

@@ -8,12 +8,12 @@ use Rattle.jmodel.specs.declared.typing.VType.{VType}
 use Rattle.jmodel.specs.declared.typing.VType.TheVariants.{Int, Long, Second, Null, Ref, Uninit, UninitThis, Top}
 use Rattle.objects.specs.semantics.Program.{Declared, Row, Program}
 use Rattle.objects.specs.typing.TypeOrder.{object_class, conflict_classes, from_class, IsWithin, is_within, classes_from, is_array, is_class_above, without_last, is_element_within}
-use Rattle.objects.specs.typing.Typing.{Types}
+use Rattle.objects.specs.typing.Typing.{Types, FitsIn}
 use Rattle.objects.specs.typing.Source.{IsClass, IsUnder, AreTypes}
 use Rattle.objects.proofs.Order.{Among, first, class_row, by_found, free_is}
 use Rattle.objects.proofs.Elements.{Shape, deeper, under_object, class, same, shape, Within, arrays, object, classes, within}
 use Rattle.verifier.specs.Order.{first_common, join_class, join_element, join_name, ref_or_top, join, join_all, are_within, joined}
-use Rattle.verifier.proofs.Lists.{both}
+use Rattle.verifier.proofs.Lists.{both, of_within}
 
 module _ (P : Program) (C : AreTypes P) where
   abbrev BeginsWith : List ℕ → List (List ℕ) → Type 0
@@ -94,3 +94,6 @@ module _ (P : Program) (C : AreTypes P) where
 
   pub settled_is : (h : Types) → are_within P h.locals h.locals ≡ true → are_within P h.stack h.stack ≡ true → joined P h h ≡ h
   settled_is h e f = let a = all_self h.locals e in let b = all_self h.stack f in let c = and_same h.built in rw (a, b, c) refl
+
+  pub fits_settled : (h : Types) → FitsIn P h h → joined P h h ≡ h
+  fits_settled h f = settled_is h (of_within P h.locals h.locals f.locals) (of_within P h.stack h.stack f.stack)

@@ -7,20 +7,20 @@ use Rattle.objects.specs.declared.op.Op.{Op}
 use Rattle.objects.specs.semantics.Program.{Method, Program}
 use Rattle.objects.specs.typing.Typing.{Types, Flow, Leads, Wrong, flow, types_at}
 use Rattle.verifier.specs.Search.{State, Demands, Flows, Follows, IsVisit, Then, are_throwable, caught, demands, each_to, follows_at, follows_op, is_ready}
-use Rattle.verifier.specs.Visits.{Step, FollowsStep, step_of, step_in, step_at}
+use Rattle.verifier.specs.Visits.{Step, FollowsStep, step, step_of, step_in, step_at}
 
 module _ (P : Program) (k : Method) (pc : ℕ) (s n : State) (b : Bool) where
-  by_flow : (h : Types) (f : Flow) → FollowsStep P k pc (step_of P k pc h f) s n b → Follows P k pc h f s n b
-  by_flow h Wrong x = x
-  by_flow h (Leads tos g) x = go (nat_le (length g.stack) k.max_stack && are_throwable P k.catches pc) x
+  by_flow : (o : Op) (h : Types) (f : Flow) → FollowsStep P k pc (step_of P k pc o h f) s n b → Follows P k pc h f s n b
+  by_flow o h Wrong x = x
+  by_flow o h (Leads tos g) x = go (nat_le (length g.stack) k.max_stack && are_throwable P k.catches pc) x
     where
-      go : (t : Bool) → FollowsStep P k pc (if t then Some (record { before = h; to = tos; left = g }) else None) s n b → Then t (Flows P (demands P k pc h tos g) s n b) (b ≡ false)
+      go : (t : Bool) → FollowsStep P k pc (if t then Some (step P k o h tos g) else None) s n b → Then t (Flows P (demands P k pc h tos g) s n b) (b ≡ false)
       go true x = x
       go false x = x
 
   by_op : (h : Types) (o : Option Op) → FollowsStep P k pc (step_in P k pc h o) s n b → follows_op P k pc h o s n b
   by_op h None x = x
-  by_op h (Some o) x = by_flow h (flow P k pc o h) x
+  by_op h (Some o) x = by_flow o h (flow P k pc o h) x
 
   by_types : (o : Option Types) → FollowsStep P k pc (step_at P k pc o) s n b → follows_at P k pc o s n b
   by_types None x = x

@@ -1,9 +1,11 @@
 pub mod Names
 pub mod Order
 pub mod Search
+pub mod Settled
 pub mod Rules
 pub mod Flows
 pub mod Answer
 pub mod Bounded
 pub mod Check
 pub mod Visits
+pub mod Above

@@ -115,11 +115,6 @@ are_within P [] [] = true
 are_within P (t ∷ ts) (u ∷ us) = is_within P t u && are_within P ts us
 are_within P ts us = false
 
--- whether two places have types, the second at least as wide as the first
-abbrev pub is_place_within : Program → Option VType → Option VType → Bool
-is_place_within P (Some t) (Some u) = is_within P t u
-is_place_within P t u = false
-
 -- whether the second types are at least as wide as the first
 abbrev pub fits_in : Program → Types → Types → Bool
 fits_in P h g = are_within P h.locals g.locals && (are_within P h.stack g.stack && (not g.built || h.built))

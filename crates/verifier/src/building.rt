@@ -1,5 +1,5 @@
 //! Objects that aren't built: what makes them, and calls of constructors.
-ghost use Rattle.std.specs.Prelude.{◌≡◌, ◌+◌, ◌^◌, ◌<◌, ◌∷◌, true, IfOk, codes, drop, map, option_copied, replicate, slice_get};
+ghost use Rattle.std.specs.Prelude.{◌≡◌, ◌+◌, ◌^◌, ◌<◌, ◌∷◌, true, false, IfOk, codes, drop, map, option_copied, replicate, slice_get};
 ghost use Rattle.std.specs.List.{list_any};
 ghost use Rattle.jmodel.specs.declared.typing.VType.TheVariants as type;
 ghost use Rattle.objects.specs.semantics.Program.{row_at};
@@ -17,7 +17,7 @@ use hierarchy::{Method, Program, TypeEntry};
 use jmodel::VType;
 use objects::op::Op;
 use std::alloc::{AllocError, Global};
-use type_lists::{SharedType, TypeStack, TypeTree};
+use type_lists::{Parts, SharedType, TypeStack, TypeTree};
 
 /// Where an instruction stands: in a method of a program.
 #[derive(Drop)]
@@ -59,7 +59,20 @@ fn replaced(
     Ok(types)
 }
 
-/// Types of locals, with another in place of each copy of an object that isn't built.
+/// Whether locals have an object that isn't built.
+#[tactic(auto, using(crate::proofs::Copies::has_parts, crate::proofs::Copies::has_run))]
+fn has_local(locals: &TypeTree, object: &VType) -> bool
+    ensures { result ≡ list_any (is_uninit object.now) locals.now }
+{
+    match locals.parts() {
+        Parts::Empty => false,
+        Parts::Run(item) => is_uninit(object, item.as_type()),
+        Parts::Fork(left, right) => has_local(left, object) || has_local(right, object),
+    }
+}
+
+/// Types of locals, with another in place of each copy of an object that isn't built. Parts without a copy are shared.
+#[tactic(auto, using(crate::proofs::Copies::none_become, crate::proofs::Copies::run_becomes, crate::proofs::Copies::parts_become))]
 fn replaced_locals(
     alloc: Global,
     from: &TypeTree,
@@ -68,11 +81,36 @@ fn replaced_locals(
 ) -> Result<TypeTree, AllocError>
     ensures { IfOk result (λ l. l ≡ map (become object.now by.now) from.now) }
 {
-    let types = replaced(alloc, from.flat(alloc)?.as_slice(), object, by)?;
-    TypeTree::like(alloc, types.as_slice(), from, from)
+    if !has_local(from, object) {
+        return from.share();
+    }
+    match from.parts() {
+        Parts::Empty => Ok(TypeTree::new()),
+        Parts::Run(_) => Ok(TypeTree::run(by.share()?, from.len())),
+        Parts::Fork(left, right) => {
+            let left = replaced_locals(alloc, left, object, by)?;
+            let right = replaced_locals(alloc, right, object, by)?;
+            TypeTree::pair(alloc, left, right)
+        }
+    }
 }
 
-/// Types of a stack, with another in place of each copy of an object that isn't built.
+/// How many of the topmost places there are down to the last copy of an object that isn't built.
+fn last_copy(stack: &TypeStack, object: &VType) -> usize
+    ensures { list_any (is_uninit object.now) (drop result stack.now) ≡ false }
+{
+    let mut count = 0;
+    let mut left = stack;
+    while let Some((item, under)) = left.split() {
+        if is_uninit(object, item.as_type()) {
+            count = stack.len() - under.len();
+        }
+        left = under;
+    }
+    count
+}
+
+/// Types of a stack, with another in place of each copy of an object that isn't built. What lies under the last copy is shared.
 fn replaced_stack(
     alloc: Global,
     from: &TypeStack,
@@ -81,8 +119,10 @@ fn replaced_stack(
 ) -> Result<TypeStack, AllocError>
     ensures { IfOk result (λ s. s ≡ map (become object.now by.now) from.now) }
 {
-    let types = replaced(alloc, from.flat(alloc)?.as_slice(), object, by)?;
-    TypeStack::like(alloc, types, from, from)
+    let count = last_copy(from, object);
+    let top = from.top(alloc, count)?;
+    let types = replaced(alloc, top.as_slice(), object, by)?;
+    from.rest(count).share()?.push_all(alloc, types)
 }
 
 /// Whether a method is a constructor.

@@ -1,7 +1,8 @@
 //! The narrowest types above two.
-ghost use Rattle.std.specs.Prelude.{◌≡◌, ◌++◌, true, IfOk, IsTrue, Some, None, bytes_eq, drop, length, option_copied, option_map, replicate, if◌then◌else◌};
+ghost use Rattle.std.specs.Prelude.{◌≡◌, ◌≤◌, ◌++◌, true, IfOk, IfSome, IsTrue, Some, None, bytes_eq, drop, length, option_copied, option_map, replicate, if◌then◌else◌};
 ghost use Rattle.objects.specs.typing.Typing.{begins};
 ghost use Rattle.objects.specs.typing.Source.{AreTypes};
+ghost use Rattle.verifier.specs.Above.{above_of, IsOneSide};
 ghost use Rattle.verifier.specs.Order.{are_within, array_over, class_descriptor, common_depth, join, join_all, join_base, first_common, join_class, join_described, join_other, join_element, join_name, joined, object_over, ref_or_top, under_object, wrapped};
 
 use crate::names::{
@@ -311,6 +312,101 @@ fn join_all(
     Ok(types)
 }
 
+/// The narrowest types above those of two lists: the types of one of them, or others.
+#[derive(Drop)]
+enum Above {
+    First,
+    Second,
+    Own(TypeTree),
+}
+
+/// The narrowest types above two, in the memory of one of them where they are its own.
+fn above_of(above: Above, first: TypeTree, second: TypeTree) -> TypeTree
+    ensures { result ≡ above_of above first second }
+{
+    match above {
+        Above::First => first,
+        Above::Second => second,
+        Above::Own(types) => types,
+    }
+}
+
+/// The list that both halves are those of, if it is one.
+fn one_side(left: &Above, right: &Above) -> Option<Above>
+    ensures { IfSome result (λ j. IsOneSide j left.now right.now) }
+{
+    match (left, right) {
+        (Above::First, Above::First) => Some(Above::First),
+        (Above::Second, Above::Second) => Some(Above::Second),
+        _ => None,
+    }
+}
+
+/// The narrowest types above so many of one type and as many of another.
+fn join_runs(
+    alloc: Global,
+    program: &Program,
+    a: &SharedType,
+    b: &SharedType,
+    len: usize,
+) -> Result<Above, AllocError>
+    ensures { IfOk result (λ j. above_of j (replicate len a.now) (replicate len b.now) ≡ replicate len (join program.now a.now b.now)) }
+{
+    let item = join(alloc, program, a.as_type(), b.as_type())?;
+    if is_same(&item, b.as_type()) {
+        return Ok(Above::Second);
+    }
+    if is_same(&item, a.as_type()) {
+        return Ok(Above::First);
+    }
+    Ok(Above::Own(TypeTree::run(SharedType::new(alloc, item)?, len)))
+}
+
+/// The narrowest types above those of two lists of one length and of two types at least, half by half.
+#[cycle(joining)]
+fn join_halves(
+    alloc: Global,
+    program: &Program,
+    a: &TypeTree,
+    b: &TypeTree,
+) -> Result<Above, AllocError>
+    requires same { length a.now ≡ length b.now }
+    requires two { 2 ≤ length a.now }
+    ensures { IfOk result (λ j. above_of j a.now b.now ≡ join_all program.now a.now b.now) }
+{
+    let (first_left, first_right) = a.halves()?;
+    let (second_left, second_right) = b.halves()?;
+    let left = join_parts(alloc, program, &first_left, &second_left)?;
+    let right = join_parts(alloc, program, &first_right, &second_right)?;
+    if let Some(side) = one_side(&left, &right) {
+        return Ok(side);
+    }
+    let left = above_of(left, first_left, second_left);
+    let right = above_of(right, first_right, second_right);
+    Ok(Above::Own(TypeTree::pair(alloc, left, right)?))
+}
+
+/// The narrowest types above those of two lists of one length, part by part.
+#[cycle(joining)]
+fn join_parts(
+    alloc: Global,
+    program: &Program,
+    a: &TypeTree,
+    b: &TypeTree,
+) -> Result<Above, AllocError>
+    requires same { length a.now ≡ length b.now }
+    ensures { IfOk result (λ j. above_of j a.now b.now ≡ join_all program.now a.now b.now) }
+{
+    match (a.parts(), b.parts()) {
+        (Parts::Run(first), Parts::Run(second)) => {
+            join_runs(alloc, program, first, second, a.len())
+        }
+        (Parts::Fork(_, _), _) => join_halves(alloc, program, a, b),
+        (_, Parts::Fork(_, _)) => join_halves(alloc, program, a, b),
+        _ => Ok(Above::First),
+    }
+}
+
 /// The narrowest types above those of as many locals. Parts that are the same as one's are shared.
 fn joined_locals(
     alloc: Global,
@@ -321,9 +417,8 @@ fn joined_locals(
     requires { length a.now ≡ length b.now }
     ensures { IfOk result (λ l. l ≡ join_all program.now a.now b.now) }
 {
-    let (first, second) = (a.flat(alloc)?, b.flat(alloc)?);
-    let types = join_all(alloc, program, first.as_slice(), second.as_slice())?;
-    TypeTree::like(alloc, types.as_slice(), b, a)
+    let above = join_parts(alloc, program, a, b)?;
+    Ok(above_of(above, a.share()?, b.share()?))
 }
 
 /// The narrowest types above those of two stacks of one height. What lies under the last difference from one is shared.

@@ -1,7 +1,7 @@
 //! Types in their order: which are within others, and the narrowest ones above two.
 ghost use Rattle.std.specs.Prelude.{◌≡◌, ◌++◌, IfOk, OnOk, drop, length, option_copied, replicate};
 ghost use Rattle.objects.specs.typing.TypeOrder.{is_within};
-ghost use Rattle.verifier.specs.Order.{are_within, fits_in, is_place_within};
+ghost use Rattle.verifier.specs.Order.{are_within, fits_in};
 
 use crate::names::is_reference_within;
 use hierarchy::{Program, TypeEntry};
@@ -60,11 +60,14 @@ fn is_stack_within(program: &Program, narrow: &TypeStack, wide: &TypeStack) -> b
     }
 }
 
-/// Whether each type of a list is within one.
-#[tactic(auto, using(crate::proofs::Runs::within_run, crate::proofs::Runs::under_parts))]
+/// Whether each type of a list is within one. Top is above all of them.
+#[tactic(auto, using(crate::proofs::Runs::within_run, crate::proofs::Runs::under_parts, crate::proofs::Runs::under_top))]
 fn are_under(program: &Program, narrow: &TypeTree, wide: &VType) -> bool
     ensures { result ≡ are_within program.now narrow.now (replicate (length narrow.now) wide.now) }
 {
+    if matches!(wide, VType::Top) {
+        return true;
+    }
     match narrow.parts() {
         Parts::Empty => true,
         Parts::Run(item) => is_within(program, item.as_type(), wide),
@@ -88,32 +91,8 @@ fn are_over(program: &Program, narrow: &VType, wide: &TypeTree) -> bool
     }
 }
 
-/// Whether two places have types, the second at least as wide as the first.
-fn is_place_within(program: &Program, narrow: Option<&VType>, wide: Option<&VType>) -> bool
-    ensures { result ≡ is_place_within program.now (option_copied narrow.entry) (option_copied wide.entry) }
-{
-    match (narrow, wide) {
-        (Some(item), Some(wider)) => is_within(program, item, wider),
-        _ => false,
-    }
-}
-
-/// Whether each type is within the one at its place of another list of one length, place by place.
-#[tactic(auto, using(crate::proofs::Runs::place_step, crate::proofs::Lists::within_end))]
-fn are_each_within(program: &Program, narrow: &TypeTree, wide: &TypeTree) -> bool
-    requires { length narrow.now ≡ length wide.now }
-    ensures { result ≡ are_within program.now narrow.now wide.now }
-{
-    for i in 0..narrow.len() {
-        if !is_place_within(program, narrow.get(i), wide.get(i)) {
-            return false;
-        }
-    }
-    true
-}
-
 /// Whether each local's type is within the one at its place of another list.
-#[tactic(auto, using(crate::proofs::Runs::parts_within, crate::proofs::Lists::unlike))]
+#[tactic(auto, using(crate::proofs::Runs::none_within, crate::proofs::Runs::in_none, crate::proofs::Lists::unlike))]
 fn are_locals_within(program: &Program, narrow: &TypeTree, wide: &TypeTree) -> bool
     ensures { result ≡ are_within program.now narrow.now wide.now }
 {
@@ -121,16 +100,14 @@ fn are_locals_within(program: &Program, narrow: &TypeTree, wide: &TypeTree) -> b
         return false;
     }
     match (narrow.parts(), wide.parts()) {
+        (Parts::Empty, _) => true,
+        (_, Parts::Empty) => true,
         (Parts::Run(item), _) => are_over(program, item.as_type(), wide),
         (_, Parts::Run(item)) => are_under(program, narrow, item.as_type()),
         (Parts::Fork(left, right), Parts::Fork(left_wide, right_wide)) => {
-            if left.len() != left_wide.len() {
-                return are_each_within(program, narrow, wide);
-            }
             are_locals_within(program, left, left_wide)
                 && are_locals_within(program, right, right_wide)
         }
-        _ => are_each_within(program, narrow, wide),
     }
 }
 

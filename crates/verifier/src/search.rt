@@ -2,11 +2,15 @@
 ghost use Rattle.std.specs.Prelude.{◌≡◌, ℕ, ◌<◌, ◌≤◌, true, false, slice_get, IfOk, IfSome, IfNone, length, option_copied, replicate};
 ghost use Rattle.objects.specs.typing.Typing.{first_types, is_guarded, caught_type, types_at};
 ghost use Rattle.objects.specs.typing.Source.{AreTypes};
+ghost use Rattle.verifier.specs.Order.{joined};
 ghost use Rattle.verifier.specs.Search.{after_all, are_locals_after, are_throwable, caught, change_of, each_to, Flows, is_alike, is_entered, is_ready, IsPour, IsTaken, merged, next_local, starting, thrown, waits};
+ghost use Rattle.verifier.specs.Settled.{IsMarked};
 
+use crate::kept::Kept;
 use crate::merging::{joined, settled};
 use crate::names::{conflict_class, name_read, throwable_class};
 use crate::order::{class_type, fits_in, is_below};
+use crate::settling::is_top_itself;
 use hierarchy::{Method, Program, TypeEntry, Typing};
 use jmodel::VType;
 use objects::op::{Catch, Catches};
@@ -15,12 +19,14 @@ use std::collections::BTreeSet;
 use std::marker::Model;
 use type_lists::{Parts, SharedType, TypeStack, TypeTree};
 
-/// A table, the places whose types have changed since their instructions were looked at, and the place taken last.
+/// A table, the places whose types have changed since their instructions were looked at, the place taken last, and the types
+/// that were made.
 #[derive(Drop)]
 pub struct Search {
     table: Vec<Option<TypeEntry>>,
     waiting: BTreeSet<usize>,
     at: usize,
+    kept: Kept,
 }
 
 impl Model for Search {
@@ -121,6 +127,7 @@ fn merged(
     to: usize,
     out: &TypeEntry,
     entry: &TypeEntry,
+    kept: &mut Kept,
 ) -> Result<Change, AllocError>
     ensures { IfOk result (λ x. x ≡ merged program.now to out.now entry.now) }
 {
@@ -133,7 +140,33 @@ fn merged(
     if to == 0 {
         return Ok(Change::Refused);
     }
-    Ok(Change::Put(joined(alloc, program, entry, out)?))
+    Ok(Change::Put(kept.shared(joined(alloc, program, entry, out)?)?))
+}
+
+/// Types that flow on. Where they are marked as settled, they are within themselves.
+#[derive(Drop)]
+pub struct Outflow {
+    pub types: TypeEntry,
+    pub settled: bool,
+}
+
+/// The narrowest types above some. They are shared where they are marked as settled.
+#[tactic(auto, using(crate::proofs::Settled::fits_settled))]
+fn narrowest(
+    alloc: Global,
+    program: &Program,
+    out: &Outflow,
+    kept: &mut Kept,
+) -> Result<TypeEntry, AllocError>
+    requires types { AreTypes program.now }
+    requires marked { IsMarked program.now out.now }
+    ensures { IfOk result (λ h. h ≡ joined program.now out.now.types out.now.types) }
+{
+    if out.settled {
+        out.types.share()
+    } else {
+        kept.shared(settled(alloc, program, &out.types)?)
+    }
 }
 
 /// What types do to those of a place, if the table has the place.
@@ -142,15 +175,17 @@ fn change_at(
     program: &Program,
     table: &[Option<TypeEntry>],
     to: usize,
-    out: &TypeEntry,
+    out: &Outflow,
+    kept: &mut Kept,
 ) -> Result<Change, AllocError>
     requires types { AreTypes program.now }
-    ensures { IfOk result (λ x. x ≡ change_of program.now to out.now (slice_get table.now to)) }
+    requires marked { IsMarked program.now out.now }
+    ensures { IfOk result (λ x. x ≡ change_of program.now to out.now.types (slice_get table.now to)) }
 {
     match table.get(to) {
         None => Ok(Change::Refused),
-        Some(None) => Ok(Change::Put(settled(alloc, program, out)?)),
-        Some(Some(entry)) => merged(alloc, program, to, out, entry),
+        Some(None) => Ok(Change::Put(narrowest(alloc, program, out, kept)?)),
+        Some(Some(entry)) => merged(alloc, program, to, &out.types, entry, kept),
     }
 }
 
@@ -184,6 +219,22 @@ pub fn thrown(
     let of = SharedType::new(alloc, caught_type(alloc, program, &catch.catches)?)?;
     let stack = TypeStack::new().push(alloc, of)?;
     Ok(TypeEntry::new(entry.locals().share()?, stack, entry.built()))
+}
+
+/// An exception of an entry over the locals of others.
+fn thrown_over(
+    alloc: Global,
+    program: &Program,
+    over: &Outflow,
+    catch: &Catch,
+) -> Result<Outflow, AllocError>
+    requires marked { IsMarked program.now over.now }
+    ensures types { IfOk result (λ x. x.types ≡ thrown program.now over.now.types.locals over.now.types.built catch.now) }
+    ensures marked { IfOk result (IsMarked program.now) }
+{
+    let types = thrown(alloc, program, &over.types, catch)?;
+    let settled = over.settled && is_top_itself(program, types.stack());
+    Ok(Outflow { types, settled })
 }
 
 /// Whether each entry that guards a place takes exceptions.
@@ -225,6 +276,7 @@ impl Search {
             table,
             waiting,
             at: 0,
+            kept: Kept::new(alloc),
         })
     }
 
@@ -259,18 +311,29 @@ impl Search {
         Some(pc)
     }
 
+    /// Types that an instruction made, in the memory of equal ones that were made before.
+    pub fn shared(&mut self, made: Outflow) -> Result<Outflow, AllocError>
+        ensures same { IfOk result (λ x. x ≡ made) }
+        ensures search { self.new ≡ self.old }
+    {
+        let Outflow { types, settled } = made;
+        let types = self.kept.shared(types)?;
+        Ok(Outflow { types, settled })
+    }
+
     /// Lets types flow to a place. False where the place can't take them.
     fn flow_to(
         &mut self,
         alloc: Global,
         program: &Program,
         to: usize,
-        out: &TypeEntry,
+        out: &Outflow,
     ) -> Result<bool, AllocError>
         requires types { AreTypes program.now }
-        ensures { IfOk result (λ b. IsPour program.now to out.now self.old self.new b) }
+        requires marked { IsMarked program.now out.now }
+        ensures { IfOk result (λ b. IsPour program.now to out.now.types self.old self.new b) }
     {
-        match change_at(alloc, program, &self.table, to, out)? {
+        match change_at(alloc, program, &self.table, to, out, &mut self.kept)? {
             Change::Nothing => Ok(true),
             Change::Refused => Ok(false),
             Change::Put(types) => {
@@ -287,10 +350,11 @@ impl Search {
         alloc: Global,
         program: &Program,
         places: &[usize],
-        out: &TypeEntry,
+        out: &Outflow,
     ) -> Result<bool, AllocError>
         requires types { AreTypes program.now }
-        ensures { IfOk result (λ b. Flows program.now (each_to places.now out.now) self.old self.new b) }
+        requires marked { IsMarked program.now out.now }
+        ensures { IfOk result (λ b. Flows program.now (each_to places.now out.now.types) self.old self.new b) }
     {
         for to in places {
             if !self.flow_to(alloc, program, *to, out)? {
@@ -308,14 +372,15 @@ impl Search {
         program: &Program,
         catches: &[Catch],
         pc: usize,
-        over: &TypeEntry,
+        over: &Outflow,
     ) -> Result<bool, AllocError>
         requires types { AreTypes program.now }
-        ensures { IfOk result (λ b. Flows program.now (caught program.now catches.now pc over.now.locals over.now.built) self.old self.new b) }
+        requires marked { IsMarked program.now over.now }
+        ensures { IfOk result (λ b. Flows program.now (caught program.now catches.now pc over.now.types.locals over.now.types.built) self.old self.new b) }
     {
         for entry in catches {
             if is_guarded(entry, pc) {
-                let out = thrown(alloc, program, over, entry)?;
+                let out = thrown_over(alloc, program, over, entry)?;
                 if !self.flow_to(alloc, program, entry.at, &out)? {
                     return Ok(false);
                 }

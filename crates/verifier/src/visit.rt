@@ -1,22 +1,26 @@
 //! One turn of the search for a typing: the instruction of a place is looked at.
-ghost use Rattle.std.specs.Prelude.{◌≡◌, IfOk};
-ghost use Rattle.objects.specs.typing.Typing.{types_at};
+ghost use Rattle.std.specs.Prelude.{◌≡◌, IfOk, Some};
+ghost use Rattle.objects.specs.typing.Typing.{FitsIn, Types, types_at};
 ghost use Rattle.objects.specs.typing.Source.{AreTypes};
 ghost use Rattle.verifier.specs.Search.{demands, Flows, IsVisit};
+ghost use Rattle.verifier.specs.Settled.{IsMarked};
 ghost use Rattle.verifier.specs.Visits.{step_at};
 
+use crate::building::is_constructor;
 use crate::flow::flow;
-use crate::search::{Search, are_throwable, is_ready};
-use hierarchy::{Method, Program, TypeEntry};
+use crate::search::{Outflow, Search, are_throwable, is_ready};
+use crate::settling::brings_itself;
+use hierarchy::{Method, Program};
+use objects::op::Op;
 use std::alloc::{AllocError, Global};
 use std::marker::Model;
 
 /// The types before an instruction, where it goes on, and what it leaves there.
 #[derive(Drop)]
 struct Step {
-    before: TypeEntry,
+    before: Outflow,
     to: Vec<usize>,
-    left: TypeEntry,
+    left: Outflow,
 }
 
 impl Model for Step {
@@ -52,12 +56,48 @@ fn step_at(
     if !are_throwable(alloc, program, method.catches(), pc)? {
         return Ok(None);
     }
-    let before = before.share()?;
+    let settled = brings_itself(program, method, op, led.left.stack());
     Ok(Some(Step {
-        before,
+        before: Outflow {
+            types: before.share()?,
+            settled: true,
+        },
         to: led.to,
-        left: led.left,
+        left: Outflow {
+            types: led.left,
+            settled,
+        },
     }))
+}
+
+/// Whether an instruction is a call of a constructor, which makes a stack anew.
+fn constructs(program: &Program, op: Option<&Op>) -> bool {
+    match op {
+        Some(Op::InvokeSpecial(called)) => match program.method(*called) {
+            Some(called) => is_constructor(called),
+            None => false,
+        },
+        Some(Op::InitLibrary { .. }) => true,
+        _ => false,
+    }
+}
+
+/// A step as it was. What its instruction made lies in the memory of equal types that were made before.
+fn shared(
+    program: &Program,
+    op: Option<&Op>,
+    step: Step,
+    search: &mut Search,
+) -> Result<Step, AllocError>
+    ensures step { IfOk result (λ s. s ≡ step) }
+    ensures search { search.new ≡ search.old }
+{
+    if !constructs(program, op) {
+        return Ok(step);
+    }
+    let Step { before, to, left } = step;
+    let left = search.shared(left)?;
+    Ok(Step { before, to, left })
 }
 
 /// Lets what an instruction leaves flow on, and the exceptions of its place. False where a place can't take them.
@@ -70,7 +110,9 @@ fn follow(
     search: &mut Search,
 ) -> Result<bool, AllocError>
     requires types { AreTypes program.now }
-    ensures { IfOk result (λ b. Flows program.now (demands program.now method.now pc step.now.before step.now.to step.now.left) search.old search.new b) }
+    requires before { IsMarked program.now step.now.before }
+    requires left { IsMarked program.now step.now.left }
+    ensures { IfOk result (λ b. Flows program.now (demands program.now method.now pc step.now.before.types step.now.to step.now.left.types) search.old search.new b) }
 {
     if !search.flow_each(alloc, program, step.to.as_slice(), &step.left)? {
         return Ok(false);
@@ -92,10 +134,14 @@ pub fn visit(
     search: &mut Search,
 ) -> Result<bool, AllocError>
     requires types { AreTypes program.now }
+    requires itself { (h : Types) → types_at search.old.table pc ≡ Some h → FitsIn program.now h h }
     ensures { IfOk result (λ b. IsVisit program.now method.now pc search.old search.new b) }
 {
     match step_at(alloc, program, method, pc, search)? {
-        Some(step) => follow(alloc, program, method, pc, &step, search),
+        Some(step) => {
+            let step = shared(program, method.op(pc), step, search)?;
+            follow(alloc, program, method, pc, &step, search)
+        }
         None => Ok(false),
     }
 }

@@ -1,4 +1,5 @@
-use Rattle.std.proofs.Common.{◌≡◌, true, false, sym, subst, ◌∙◌}
+use Rattle.std.proofs.Common.{◌≡◌, Some, true, false, sym, subst, ◌∙◌}
+use Rattle.objects.specs.typing.Typing.{Table, types_at}
 use Rattle.verifier.specs.Bounded.{IsTableUpTo}
 use Rattle.verifier.specs.Search.{State, IsVisit}
 use Rattle.verifier.proofs.Infers.{Known, known_start, known_found, none_entered, turn_holds, turn_fails}
@@ -20,6 +21,9 @@ loop-pc-init c =
       known = subst (Known P k c.args.last) is (known_start P k c.args.last c.requires.some itself entered);
       low = subst (λ (s : State). AreLowIn P k s.table) is (start_low P c.requires.types k);
     }
+
+pub visit-requires-clause-itself : goal.visit-requires-clause-itself
+visit-requires-clause-itself c = λ h t. (c.loop-pc.invariant.known.entered c.in-Some.pc h (subst (λ (T : Table). types_at T c.in-Some.pc ≡ Some h) c.in-Some.ensures.table t)).itself
 
 pub returns-then-not-branch : goal.returns-then-not-branch
 returns-then-not-branch c =
