@@ -126,6 +126,13 @@ impl Descriptor {
     {
         read_descriptor(alloc, b)
     }
+
+    /// The signature that the bytes describe, None where they describe none whose parameters take at most 255 places.
+    pub fn find(alloc: Global, bytes: &[u8]) -> Result<Option<Descriptor>, AllocError>
+        ensures { IfOk result (λ o. o ≡ signature_of bytes.now) }
+    {
+        signature(alloc, bytes)
+    }
 }
 
 fn read_descriptor(alloc: Global, b: &[u8]) -> Result<Descriptor, Halt>

@@ -12,10 +12,10 @@ use crate::text::push_descriptor;
 use crate::texts::in_text_order;
 use bytecode::opcodes;
 use const_pool::{ClassFile, Pool};
-use hierarchy::code::decoded;
+use hierarchy::code::decoded_or_none;
 use hierarchy::declared::{Declared, methods_in};
 use hierarchy::taken::{are_taken_among, index_of, taken_among};
-use jmodel::{Bytes, Halt, Instr, NoMemory};
+use jmodel::{Bytes, Instr, NoMemory};
 use std::alloc::{AllocError, Global};
 
 // The array type over the class or the array of a name.
@@ -60,10 +60,9 @@ fn push_made_by(alloc: Global, method: &Declared, arrays: &mut Vec<Bytes>) -> Re
     ensures { OnOk result (arrays.new.items ≡ arrays.old.items ++ method_makes method.now) }
 {
     let class = method.class;
-    match decoded(alloc, class, method.member) {
-        Ok(coded) => Ok(push_made(alloc, &class.pool, coded.instrs.as_slice(), arrays)?),
-        Err(Halt::NoMemory) => Err(NoMemory),
-        Err(Halt::Refused(_)) => Ok(()),
+    match decoded_or_none(alloc, class, method.member)? {
+        Some(coded) => Ok(push_made(alloc, &class.pool, coded.instrs.as_slice(), arrays)?),
+        None => Ok(()),
     }
 }
 

@@ -1,7 +1,7 @@
 //! The code of methods, with its instructions.
 ghost use Rattle.std.specs.Prelude.{◌≡◌, ◌≤◌, [], length, IfOk, IfSome};
 ghost use Rattle.jmodel.specs.format.Instruction.{SpellsInstrs};
-ghost use Rattle.jmodel.specs.format.Reading.{Gives};
+ghost use Rattle.jmodel.specs.format.Reading.{Gives, IsReadOrNone};
 ghost use Rattle.jmodel.specs.declared.refusal.Halt.TheVariants as halts;
 ghost use Rattle.jmodel.specs.format.Name.{printed as printed_name};
 ghost use Rattle.objects.specs.linking.Members.{name_of as method_name};
@@ -10,7 +10,7 @@ ghost use Rattle.objects.specs.linking.Code.{code_in as code_of_member, in_metho
 use crate::symbols::{find_attribute, name_of};
 use bytecode::decode;
 use const_pool::{ClassFile, Code, Member, Pool};
-use jmodel::{Bytes, Halt, Instr, NoMemory, Refusal};
+use jmodel::{Bytes, Halt, Instr, NoMemory, Refusal, unless_refused};
 use std::alloc::{AllocError, Global};
 use std::marker::Model;
 
@@ -100,4 +100,15 @@ pub fn decoded(alloc: Global, class: &ClassFile, method: &Member) -> Result<Code
         Err(Halt::NoMemory) => Err(Halt::NoMemory),
         Err(Halt::Refused(fault)) => { Err(Halt::Refused(in_method(alloc, class, method, fault)?)) }
     }
+}
+
+/// The Code of a method with its instructions, None where it has no Code in the form or one of its instructions has a fault.
+pub fn decoded_or_none(
+    alloc: Global,
+    class: &ClassFile,
+    method: &Member,
+) -> Result<Option<Coded>, NoMemory>
+    ensures { IfOk result (λ o. IsReadOrNone o (decoded_of class.now method.now)) }
+{
+    unless_refused(decoded(alloc, class, method))
 }

@@ -7,7 +7,7 @@ ghost use Rattle.objects.specs.linking.Classes.{Declared as DeclaredForm, method
 ghost use Rattle.hierarchy.specs.Names.{named};
 ghost use Rattle.hierarchy.specs.Search.{class_for as class_of_key, method_key as key_of_method, instrs_call, starting, is_found, IsGrouped, VisitsOf, Finds};
 
-use crate::code::decoded;
+use crate::code::decoded_or_none;
 use crate::declared::{Declared, methods_in};
 use crate::names::{Groups, Names};
 use crate::reference::{Reference, member_reference};
@@ -15,7 +15,7 @@ use crate::symbols::{own_name, text};
 use crate::text::equal;
 use bytecode::opcodes;
 use const_pool::{ClassFile, Pool};
-use jmodel::{Halt, Instr, NoMemory, Operands};
+use jmodel::{Instr, NoMemory, Operands};
 use std::alloc::Global;
 use std::marker::Model;
 
@@ -176,10 +176,10 @@ impl<'a> Search<'a> {
         ensures { OnOk result (VisitsOf groups.now (code_calls method.now.class.pool (decoded_of method.now.class method.now.member)) self.old self.new) }
     {
         let class = method.class;
-        match decoded(alloc, class, method.member) {
-            Ok(coded) => self.find_all(&class.pool, groups, coded.instrs.as_slice()),
-            Err(Halt::Refused(_)) => Ok(()),
-            Err(Halt::NoMemory) => Err(NoMemory),
+        let found = decoded_or_none(alloc, class, method.member)?;
+        match found {
+            Some(coded) => self.find_all(&class.pool, groups, coded.instrs.as_slice()),
+            None => Ok(()),
         }
     }
 }

@@ -17,6 +17,6 @@ pub use class_file::{Constant, FieldType, Handler};
 pub use instruction::{EntryKind, Form, Instr, Operands, Pairs, Targets};
 pub use mark::{AnnotationFault, Atomic};
 pub use name::MethodName;
-pub use refusal::{Halt, NoMemory, Refusal};
+pub use refusal::{Halt, NoMemory, Refusal, unless_refused};
 pub use typing::VType;
 pub use value::{Answer, Stamp, Value};

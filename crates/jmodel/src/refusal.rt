@@ -1,5 +1,6 @@
 //! Why an input is refused.
 ghost use Rattle.std.specs.Prelude.{◌≡◌};
+ghost use Rattle.jmodel.specs.format.Reading.{GivesUnlessRefused};
 ghost use Rattle.jmodel.specs.history.Refusal.{number_of};
 ghost use Rattle.jmodel.specs.declared.refusal.Halt.TheVariants as halts;
 
@@ -126,6 +127,17 @@ pub struct NoMemory;
 pub enum Halt {
     Refused(Refusal),
     NoMemory,
+}
+
+/// What a part gives, None where it refuses. `NoMemory` where memory ran out.
+pub fn unless_refused<T>(given: Result<T, Halt>) -> Result<Option<T>, NoMemory>
+    ensures { GivesUnlessRefused given result }
+{
+    match given {
+        Ok(found) => Ok(Some(found)),
+        Err(Halt::Refused(_)) => Ok(None),
+        Err(Halt::NoMemory) => Err(NoMemory),
+    }
 }
 
 impl From<AllocError> for Halt {

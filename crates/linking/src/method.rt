@@ -16,7 +16,6 @@ use hierarchy::code::Coded;
 use hierarchy::numbered::Numbered;
 use hierarchy::symbols::{name_of, text};
 use hierarchy::{Body, BuildEnd, Method, Shape, retries_of};
-use jmodel::Halt;
 use std::alloc::{AllocError, Global};
 
 // What the code of a method means.
@@ -119,9 +118,8 @@ pub fn method_of(
 ) -> Result<Method, BuildEnd>
     ensures { Builds (λ m. m) result (meaning_of symbols.now counted method.now coded.now) }
 {
-    match Descriptor::read(alloc, descriptor_of(symbols, method)) {
-        Ok(signature) => method_by(alloc, symbols, counted, method, coded, &signature),
-        Err(Halt::Refused(_)) => Err(BuildEnd::NotBuilt),
-        Err(Halt::NoMemory) => Err(BuildEnd::NoMemory),
+    match Descriptor::find(alloc, descriptor_of(symbols, method))? {
+        Some(signature) => method_by(alloc, symbols, counted, method, coded, &signature),
+        None => Err(BuildEnd::NotBuilt),
     }
 }

@@ -8,7 +8,7 @@ use const_pool::ClassFile;
 use hierarchy::code::Coded;
 use hierarchy::declared::{Declared, methods_in};
 use hierarchy::taken::{are_taken_among, taken_among};
-use jmodel::{Halt, NoMemory};
+use jmodel::{NoMemory, unless_refused};
 use std::alloc::Global;
 
 fn pc_at(coded: &[Option<Coded>], method: usize, number: usize) -> Option<u16>
@@ -29,10 +29,9 @@ fn pc_among(
 ) -> Result<Option<u16>, NoMemory>
     ensures { IfOk result (λ pc. pc ≡ place_in method (all_of (map (λ m. m.now) methods.now)) number) }
 {
-    match all_decoded(alloc, methods) {
-        Ok(coded) => Ok(pc_at(coded.as_slice(), method, number)),
-        Err(Halt::Refused(_)) => Ok(None),
-        Err(Halt::NoMemory) => Err(NoMemory),
+    match unless_refused(all_decoded(alloc, methods))? {
+        Some(coded) => Ok(pc_at(coded.as_slice(), method, number)),
+        None => Ok(None),
     }
 }
 

@@ -19,7 +19,7 @@ use const_pool::ClassFile;
 use heap_layout::texts::text_places;
 use hierarchy::declared::Declared;
 use hierarchy::{BuildEnd, Method, Program};
-use jmodel::Halt;
+use jmodel::unless_refused;
 use std::alloc::{AllocError, Global};
 
 // What a method of a rewritten class means; its frames count or don't.
@@ -31,10 +31,9 @@ fn rewritten_method<'a>(
 ) -> Result<Method, BuildEnd>
     ensures { Builds (λ m. m) result (meaning_among scope.now.names.now scope.now.numbering.now scope.now.bases.now counted method.now) }
 {
-    match decoded_member(alloc, method) {
-        Ok(coded) => scope.method_of(alloc, counted, method, &coded),
-        Err(Halt::Refused(_)) => Err(BuildEnd::NotBuilt),
-        Err(Halt::NoMemory) => Err(BuildEnd::NoMemory),
+    match unless_refused(decoded_member(alloc, method))? {
+        Some(coded) => scope.method_of(alloc, counted, method, &coded),
+        None => Err(BuildEnd::NotBuilt),
     }
 }
 

@@ -14,11 +14,11 @@ use crate::calls::{kind_by_names, named_class, unknown_core};
 use crate::floats::{is_float_descriptor, kind_by_itself};
 use crate::resolution::Resolver;
 use const_pool::{Handler, Member, Pool};
-use hierarchy::code::{Coded, decoded, printed};
+use hierarchy::code::{Coded, decoded_or_none, printed};
 use hierarchy::declared::Declared;
 use hierarchy::places::Places;
 use hierarchy::symbols::text;
-use jmodel::{Bytes, Halt, Instr, NoMemory, Refusal};
+use jmodel::{Bytes, Instr, NoMemory, Refusal};
 use std::alloc::{AllocError, Global};
 
 // A construct of a kind, in a method, at a place of its code.
@@ -207,10 +207,9 @@ fn decoded_fault<'a>(
 ) -> Result<Option<Refusal>, NoMemory>
     ensures { IfOk result (λ o. o ≡ construct_in_code resolver.now method.now (decoded_of method.now.class method.now.member)) }
 {
-    match decoded(alloc, method.class, method.member) {
-        Ok(coded) => code_fault(alloc, resolver, method, &coded),
-        Err(Halt::Refused(_)) => Ok(None),
-        Err(Halt::NoMemory) => Err(NoMemory),
+    match decoded_or_none(alloc, method.class, method.member)? {
+        Some(coded) => code_fault(alloc, resolver, method, &coded),
+        None => Ok(None),
     }
 }
 

@@ -11,7 +11,7 @@ use bytecode::opcodes;
 use const_pool::{Constant, Descriptor, FieldType, Pool};
 use hierarchy::reference::{Reference, member_reference};
 use hierarchy::taken::{index_of, invoked};
-use jmodel::{Halt, Instr, NoMemory, Operands};
+use jmodel::{Instr, NoMemory, Operands};
 use std::alloc::Global;
 
 /// Whether a type is float or double. An array of these is none.
@@ -57,10 +57,9 @@ fn is_float_result(t: &Option<FieldType>) -> bool
 pub fn is_float_descriptor(alloc: Global, descriptor: &[u8]) -> Result<bool, NoMemory>
     ensures { IfOk result (λ b. b ≡ float_descriptor descriptor.now) }
 {
-    match Descriptor::read(alloc, descriptor) {
-        Ok(found) => Ok(has_floats(&found)),
-        Err(Halt::Refused(_)) => Ok(false),
-        Err(Halt::NoMemory) => Err(NoMemory),
+    match Descriptor::find(alloc, descriptor)? {
+        Some(found) => Ok(has_floats(&found)),
+        None => Ok(false),
     }
 }
 

@@ -19,10 +19,9 @@ use std::alloc::{AllocError, Global};
 pub fn parameter_types(alloc: Global, descriptor: &[u8]) -> Result<Vec<FieldType>, AllocError>
     ensures { IfOk result (λ v. v.items ≡ types_in (signature_of descriptor.now)) }
 {
-    match Descriptor::read(alloc, descriptor) {
-        Ok(found) => Ok(found.parameters),
-        Err(Halt::Refused(_)) => Ok(Vec::new(alloc)),
-        Err(Halt::NoMemory) => Err(AllocError),
+    match Descriptor::find(alloc, descriptor)? {
+        Some(found) => Ok(found.parameters),
+        None => Ok(Vec::new(alloc)),
     }
 }
 

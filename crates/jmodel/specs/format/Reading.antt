@@ -1,9 +1,10 @@
 -- Reading from the front: a field gives its value and the place after it, or the first fault.
-use Rattle.std.specs.Prelude.{◌≡◌, ℕ, zero, suc, ◌+◌, ◌-◌, ◌^◌, min, ℤ, pos, List, [], ◌∷◌, length, take, drop, Result, Ok, Err, nat_lt, if◌then◌else◌}
+use Rattle.std.specs.Prelude.{◌≡◌, ℕ, zero, suc, ◌+◌, ◌-◌, ◌^◌, min, ℤ, pos, List, [], ◌∷◌, length, take, drop, Result, Ok, Err, Option, Some, None, nat_lt, if◌then◌else◌}
 use Rattle.std.specs.Int.{Width, w16, w32, w64, byte_len, from_be_bytes}
 use Rattle.jmodel.specs.declared.refusal.Refusal.{Refusal}
 use Rattle.jmodel.specs.declared.refusal.Refusal.TheVariants.{Truncated}
 use Rattle.jmodel.specs.declared.refusal.Halt.{Halt}
+use Rattle.jmodel.specs.declared.refusal.NoMemory.{NoMemory}
 use Rattle.jmodel.specs.declared.refusal.Halt.TheVariants as halts
 
 infixl 10 ◌>>=◌
@@ -19,6 +20,17 @@ Fails (halts.Refused r) read = read ≡ Err r
 abbrev pub Gives : {X Y : Type 0} → (X → Y) → Result X Halt → Result Y Refusal → Type 0
 Gives view (Ok x) read = read ≡ Ok (view x)
 Gives view (Err e) read = Fails e read
+
+-- What was answered, and None in place of a refusal.
+abbrev pub GivesUnlessRefused : {X : Type 0} → Result X Halt → Result (Option X) NoMemory → Type 0
+GivesUnlessRefused given (Ok (Some x)) = given ≡ Ok x
+GivesUnlessRefused given (Ok None) = (r : Refusal) × given ≡ Err (halts.Refused r)
+GivesUnlessRefused given (Err _) = given ≡ Err halts.NoMemory
+
+-- What reading gives, None where it is refused.
+abbrev pub IsReadOrNone : {X : Type 0} → Option X → Result X Refusal → Type 0
+IsReadOrNone (Some x) read = read ≡ Ok x
+IsReadOrNone None read = (r : Refusal) × read ≡ Err r
 
 -- an offset, as it is printed
 abbrev pub place : ℕ → ℤ
