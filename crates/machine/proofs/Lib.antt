@@ -8,6 +8,7 @@ pub mod Knowing
 pub mod Seeing
 pub mod Moving
 pub mod Seen
+pub mod Leaving
 pub mod Losing
 pub mod Making
 pub mod Throwing

@@ -1,5 +1,6 @@
 -- What functions of the machine say of an instruction's meaning.
 use Rattle.std.specs.Prelude.{◌≡◌, ℕ, ℤ, ◌+◌, ◌<◌, ◌^◌, List, [], ◌∷◌, ◌++◌, replicate, Bool, true, false, Result, Ok, Err, Option, Some, None, slice_get}
+use Rattle.jmodel.specs.declared.value.Value.{Value}
 use Rattle.objects.specs.declared.op.Slot.{Slot}
 use Rattle.objects.specs.declared.op.Slot.TheVariants.{Empty, Int}
 use Rattle.objects.specs.declared.op.Op.{Op}
@@ -12,7 +13,7 @@ use Rattle.objects.specs.declared.op.Doing.TheVariants as doing
 use Rattle.objects.specs.declared.op.Request.{Request}
 use Rattle.objects.specs.declared.op.Request.TheVariants.{Look, Read, Write}
 use Rattle.objects.specs.declared.op.Asking.{Asking}
-use Rattle.objects.specs.declared.op.Asking.TheVariants.{Return, Throw, Make, Head, Ask}
+use Rattle.objects.specs.declared.op.Asking.TheVariants.{Go, Enter, Return, Throw, Make, Head, Ask}
 use Rattle.objects.specs.semantics.Program.{Program, op_at}
 use Rattle.objects.specs.semantics.Step.{Did, Does, Wrong, Frame, Frames, Asked, Asks, Fails, Took, TooFew, take_args, on_doing}
 use Rattle.machine.specs.declared.failure.Failure.{Failure}
@@ -80,6 +81,18 @@ abbrev pub IsStep : Result Asking Failure → Frames → Asked → Type 0
 IsStep (Ok a) fs x = IsAsked a fs x
 IsStep (Err failure.Wrong) fs x = x ≡ Fails
 IsStep (Err failure.NoMemory) fs x = Unit {0}
+
+-- what the entering of a method leaves to be done, where it answers whether there are too many frames then
+abbrev pub entered_asks : Result (Option Bool) Failure → Result Asking Failure
+entered_asks (Ok (Some deep)) = Ok (Enter deep)
+entered_asks (Ok None) = Ok Go
+entered_asks (Err e) = Err e
+
+-- what a frame leaves to be done that gives this, where there is a caller or none
+abbrev pub given_asks : Option Value → Result Bool Failure → Result Asking Failure
+given_asks v (Ok true) = Ok Go
+given_asks v (Ok false) = Ok (Return v)
+given_asks v (Err e) = Err e
 
 -- the place that a request names has an address of 64 bits
 abbrev pub HasAddress : Request → Type 0

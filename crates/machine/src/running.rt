@@ -415,6 +415,7 @@ impl Running {
     }
 
     /// Serves what an instruction asks of memory or of the transaction.
+    #[inline(always)]
     pub(crate) fn serve<E: Engine, G: Gate>(
         &mut self,
         program: &Program,

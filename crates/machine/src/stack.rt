@@ -392,12 +392,13 @@ impl Locals {
     pub(crate) fn take_args(&mut self, from: &mut Stack, count: usize) -> Result<(), Failure>
         ensures { MatchResult result (λ _. take_args count [] from.old ≡ Took self.new from.new) (λ e. e ≡ failure.Wrong → take_args count [] from.old ≡ TooFew) }
     {
-        self.items.clear();
-        for _ in 0..count {
-            let v = from.take()?;
-            self.push(v)?;
+        let len = from.items.len();
+        if len < count {
+            return Err(Failure::Wrong);
         }
-        self.items.reverse();
+        self.items.clear();
+        self.items.extend_from_slice(&from.items[len - count..])?;
+        from.items.truncate(len - count);
         Ok(())
     }
 }

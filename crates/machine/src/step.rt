@@ -3,7 +3,7 @@ ghost use Rattle.std.specs.Prelude.{◌≡◌, ◌∷◌, [], nat_lt, IfOk, ◌+
 ghost use Rattle.objects.specs.semantics.Step.{Frames, Frame as JFrame, step, on_doing, jumps, invokes, gives, unwinds, depth, trapped as trapped_of, found as found_of};
 ghost use Rattle.objects.specs.linking.Library.{trap_type as type_of};
 ghost use Rattle.objects.specs.semantics.Program.{method_at};
-ghost use Rattle.machine.specs.Meets.{IsStep, IsAsked, CanAsk, CanDo, GoesOn};
+ghost use Rattle.machine.specs.Meets.{IsStep, IsAsked, CanAsk, CanDo, GoesOn, entered_asks, given_asks};
 
 use crate::callers::Callers;
 use crate::calls::method_of;
@@ -108,7 +108,30 @@ fn jump(program: &Program, to: usize, frame: &mut Frame) -> Asking
     if counts { Asking::Turn } else { Asking::Go }
 }
 
-/// Enters a method, whose arguments it takes from the stack.
+/// Enters a method, whose arguments it takes from the stack. Answers whether there are too many frames then, where it is a turn.
+#[inline(always)]
+pub(crate) fn enter(
+    alloc: Global,
+    program: &Program,
+    method: usize,
+    frame: &mut Frame,
+    callers: &mut Callers,
+) -> Result<Option<bool>, Failure>
+    requires { frame.old.pc + 1 < 2 ^ 64 }
+    ensures { IsStep (entered_asks result) (frame.new ∷ callers.new) (invokes program.now (method_at program.now method) method frame.old callers.old) }
+{
+    let entry = method_of(program, method)?.entry();
+    let mut entered = callers.spare(alloc);
+    entered.enter(method, entry, &mut frame.stack)?;
+    callers.push(mem::replace(frame, entered))?;
+    Ok(if entry.counted {
+        Some(is_too_deep(program, frame, callers))
+    } else {
+        None
+    })
+}
+
+/// The same, as what the step leaves to be done.
 #[inline(always)]
 fn invoke(
     alloc: Global,
@@ -122,15 +145,10 @@ fn invoke(
     ensures can { IfOk result (λ a. CanAsk a frame.new) }
     ensures on { IfOk result GoesOn }
 {
-    let entry = method_of(program, method)?.entry();
-    let mut entered = callers.spare(alloc);
-    entered.enter(method, entry, &mut frame.stack)?;
-    callers.push(mem::replace(frame, entered))?;
-    Ok(if entry.counted {
-        Asking::Enter(is_too_deep(program, frame, callers))
-    } else {
-        Asking::Go
-    })
+    match enter(alloc, program, method, frame, callers)? {
+        Some(deep) => Ok(Asking::Enter(deep)),
+        None => Ok(Asking::Go),
+    }
 }
 
 /// Enters the method that was found for a call. Where there is none, the call throws.
@@ -168,21 +186,37 @@ fn is_too_deep(program: &Program, frame: &Frame, callers: &Callers) -> bool
     }
 }
 
-/// Leaves the frame, and gives its caller a value or none.
+/// Leaves the frame, and gives its caller a value or none. Answers whether there is a caller.
 #[inline(always)]
-fn give(value: Option<Value>, frame: &mut Frame, callers: &mut Callers) -> Result<Asking, Failure>
-    ensures step { IsStep result (frame.new ∷ callers.new) (gives value callers.old) }
-    ensures can { IfOk result (λ a. CanAsk a frame.new) }
+pub(crate) fn give_back(
+    value: Option<Value>,
+    frame: &mut Frame,
+    callers: &mut Callers,
+) -> Result<bool, Failure>
+    ensures { IsStep (given_asks value result) (frame.new ∷ callers.new) (gives value callers.old) }
 {
     let Some(caller) = callers.pop() else {
-        return Ok(Asking::Return(value));
+        return Ok(false);
     };
     callers.keep(mem::replace(frame, caller));
     match value {
         Some(value) => frame.resume_with(value)?,
         None => frame.advance(),
     }
-    Ok(Asking::Go)
+    Ok(true)
+}
+
+/// The same, as what the step leaves to be done.
+#[inline(always)]
+fn give(value: Option<Value>, frame: &mut Frame, callers: &mut Callers) -> Result<Asking, Failure>
+    ensures step { IsStep result (frame.new ∷ callers.new) (gives value callers.old) }
+    ensures can { IfOk result (λ a. CanAsk a frame.new) }
+{
+    if give_back(value, frame, callers)? {
+        Ok(Asking::Go)
+    } else {
+        Ok(Asking::Return(value))
+    }
 }
 
 /// Goes to the innermost handler of an exception of a type.

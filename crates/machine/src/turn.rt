@@ -6,17 +6,18 @@ ghost use Rattle.objects.specs.rewriting.Events.{AreOfAsking, Grows};
 ghost use Rattle.jmodel.specs.history.History.{Call, Entry};
 ghost use Rattle.machine.specs.declared.running.Stage.TheVariants as stage;
 ghost use Rattle.machine.specs.Machine.{bounds_of};
-ghost use Rattle.machine.specs.Meets.{CanAsk};
-ghost use Rattle.machine.specs.Running.{at, frames, meter, phase_of, Saw, Holds, IsWithin, Moves, IsTurn, HasTurned, Waits, IsNotHead};
+ghost use Rattle.machine.specs.Meets.{CanAsk, CanDo};
+ghost use Rattle.machine.specs.declared.running.Running.{Running as Whole};
+ghost use Rattle.machine.specs.Running.{at, frames, meter, phase_of, Saw, Holds, IsWithin, Moves, IsTurn, HasTurned, IsPlain, Waits, IsNotHead};
 
 use crate::failure::Failure;
 use crate::gate::Gate;
 use crate::machine::Limits;
 use crate::make::Making;
 use crate::running::{Running, Stage, Todo};
-use crate::step::settle;
+use crate::step::{enter, give_back, settle};
 use hierarchy::program::Program;
-use objects::op::Asking;
+use objects::op::{Asking, Doing};
 use std::alloc::Global;
 use tx_core::Engine;
 
@@ -145,6 +146,40 @@ impl Running {
         Err(Failure::NoMemory)
     }
 
+    /// Does what an instruction leaves to be done, and serves what that asks for. `a` is where the instructions of the turn began.
+    fn end_turn<E: Engine, G: Gate>(
+        &mut self,
+        alloc: Global,
+        program: &Program,
+        limits: Limits,
+        engine: &mut E,
+        gate: &mut G,
+        doing: Doing,
+    ) -> Result<Todo, Failure>
+        requires fits { limits.room.region * limits.room.size + limits.room.size < 2 ^ 64 }
+        requires can { CanDo doing }
+        requires next { self.old.frame.pc + 1 < 2 ^ 64 }
+        requires begun { self.old.stage ≡ stage.Open → E.is_open engine.old }
+        ensures run { (h : List Entry) (n : ℕ) (r w : Log) (k : Call) (used : ℕ) → E.awaits engine.old k used → Holds (E.stands engine.old h) (Saw E.is_shared E.begins E.allows h k used) n self.old.stage self.old.tried r w
+            → (a : Whole) → IsPlain program.now a self.old (Ok doing)
+            → HasTurned program.now (bounds_of limits) (at a w r) (Grows (G.told gate.old) (G.told gate.new)) (Holds (E.stands engine.new h) (Saw E.is_shared E.begins E.allows h k used) n self.new.stage self.new.tried) self.new result }
+        ensures moves { IfOk result (λ _. Moves self.old.stage self.old.tried self.new.stage self.new.tried) }
+        ensures attempts { (k : ℕ) → E.attempts engine.old (k + self.old.tried) → E.attempts engine.new (k + self.new.tried) }
+        ensures ticks { (t : ℕ) → IsWithin t limits.attempts (E.clock engine.old) self.old.stage self.old.tried
+            → IsWithin t limits.attempts (E.clock engine.new) self.new.stage self.new.tried }
+        ensures open { result ≡ Ok Todo.Commit → self.new.stage ≡ stage.Open }
+        ensures next { result ≡ Ok Todo.Commit → self.new.frame.pc + 1 < 2 ^ 64 }
+        ensures spent { result ≡ Ok Todo.Spent → self.new.stage ≡ stage.Ready }
+        ensures begun { IfOk result (λ _. self.new.stage ≡ stage.Open → E.is_open engine.new) }
+        ensures awaits { (c : Call) (used : ℕ) → E.awaits engine.old c used → E.awaits engine.new c used }
+        ensures budget { result ≡ Ok Todo.Budget → self.new.stage ≡ stage.Open }
+        ensures depth { result ≡ Ok Todo.Depth → self.new.stage ≡ stage.Open }
+        ensures heap { (wanted : ℕ) → result ≡ Ok (Todo.Heap wanted) → self.new.stage ≡ stage.Open }
+    {
+        let asking = settle(alloc, program, doing, &mut self.frame, &mut self.callers)?;
+        self.follow(alloc, program, limits, engine, gate, asking)
+    }
+
     /// Steps up to one that does more than go on in its method, and what is to be done then.
     pub fn turn<E: Engine, G: Gate>(
         &mut self,
@@ -172,7 +207,24 @@ impl Running {
         ensures heap { (wanted : ℕ) → result ≡ Ok (Todo.Heap wanted) → self.new.stage ≡ stage.Open }
     {
         let doing = self.go(alloc, program)?;
-        let asking = settle(alloc, program, doing, &mut self.frame, &mut self.callers)?;
-        self.follow(alloc, program, limits, engine, gate, asking)
+        match doing {
+            Doing::Ask(request) => self.serve(program, limits, engine, gate, request),
+            Doing::Give(value) => {
+                let given = give_back(value, &mut self.frame, &mut self.callers)?;
+                if given {
+                    Ok(Todo::Go)
+                } else {
+                    Err(Failure::Wrong)
+                }
+            }
+            Doing::Invoke(method) => {
+                let entered = enter(alloc, program, method, &mut self.frame, &mut self.callers)?;
+                match entered {
+                    Some(deep) => self.count(deep),
+                    None => Ok(Todo::Go),
+                }
+            }
+            doing => self.end_turn(alloc, program, limits, engine, gate, doing),
+        }
     }
 }

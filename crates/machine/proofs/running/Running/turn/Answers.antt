@@ -1,12 +1,13 @@
-use Rattle.std.proofs.Common.{[], ◌∷◌}
+use Rattle.std.proofs.Common.{[], ◌∷◌, Ok, inl, refl}
 use Rattle.std.proofs.lemmas.Result.{err_from_is_err_and}
-use Rattle.objects.specs.rewriting.Attempt.{On}
+use Rattle.objects.specs.rewriting.Attempt.{Gives}
+use Rattle.objects.specs.declared.op.Asking.TheVariants as asking
 use Rattle.machine.specs.Machine.{bounds_of}
-use Rattle.machine.specs.Running.{at, phase_of, meter}
-use Rattle.objects.specs.rewriting.Events.{Grows}
-use Rattle.machine.proofs.Ways.{grows_same}
-use Rattle.machine.proofs.Turning.{plain_fails, settle_fails, turned_from, waits_step, step_is}
+use Rattle.machine.specs.declared.running.Todo.TheVariants as todo
+use Rattle.machine.proofs.Leaving.{turned_asks}
 use Rattle.machine.proofs.Moving.{moves_if}
+use Rattle.machine.proofs.Turning.{answer_early, plain_fails, settle_fails, turn_of}
+use Rattle.machine.proofs.Ways.{grows_same}
 use Rattle.machine.proofs.running.Running.turn.Goals as goal
 
 pub returns-in_err-doing-clause-run : goal.returns-in_err-doing-clause-run
@@ -15,24 +16,66 @@ returns-in_err-doing-clause-run g c = λ h n r w k used a s.
     rw (p.1, p.2) (plain_fails c.args.program.now (bounds_of c.args.limits) c.args.self.now c.go.new.self c.go.new.self _ _ c.in_err-doing.field-0.0 w r
     c.in_err-doing.ensures.run (grows_same (g.G.Gate.told c.args.gate.now)) (rw (c.in_err-doing.ensures.stage, c.in_err-doing.ensures.tried) s))
 
-pub returns-in_err-asking-clause-run : goal.returns-in_err-asking-clause-run
-returns-in_err-asking-clause-run g c = λ h n r w k used a s.
-    let p = err_from_is_err_and c.from_residual-in_err-asking.result c.from_residual-in_err-asking.ensures.1 in
-    rw (p.1, p.2) (settle_fails c.args.program.now (bounds_of c.args.limits) c.args.self.now c.go.new.self _ c.in_ok-doing.doing (c.settle.new.frame ∷ c.settle.new.callers) _ _ c.in_err-asking.field-0.0 w r
-    c.in_ok-doing.ensures.run c.in_err-asking.ensures.step (grows_same (g.G.Gate.told c.args.gate.now)) (rw (c.in_ok-doing.ensures.stage, c.in_ok-doing.ensures.tried) s))
+pub returns-in_err-given-in-Give-clause-run : goal.returns-in_err-given-in-Give-clause-run
+returns-in_err-given-in-Give-clause-run g c = λ h n r w k used a s.
+    let p = err_from_is_err_and c.from_residual-in_err-given-in-Give.result c.from_residual-in_err-given-in-Give.ensures.1 in
+    let plain = rw c.in-Give.is at c.in_ok-doing.ensures.run in
+    rw (p.1, p.2) (settle_fails c.args.program.now (bounds_of c.args.limits) c.args.self.now c.go.new.self _ _ (c.give_back.new.frame ∷ c.give_back.new.callers) _ _ c.in_err-given-in-Give.field-0.0 w r
+    plain c.in_err-given-in-Give.ensures (grows_same (g.G.Gate.told c.args.gate.now)) (rw (c.in_ok-doing.ensures.stage, c.in_ok-doing.ensures.tried) s))
 
-pub returns-clause-run : goal.returns-clause-run
-returns-clause-run g c = λ h n r w k used a s.
-    let P = c.args.program.now in
-    let B = bounds_of c.args.limits in
-    let b = record c.go.new.self { frame = c.settle.new.frame; callers = c.settle.new.callers } in
-    let plain = c.in_ok-doing.ensures.run in
-    turned_from P B (at c.args.self.now w r) (On (phase_of c.go.new.self.stage) (plain.frame ∷ c.go.new.self.callers) (meter c.go.new.self) w r) [] (Grows (g.G.Gate.told c.args.gate.now) (g.G.Gate.told c.follow.new.gate)) _ _ _ _ (plain.comes B w r) tt (λ es t. t)
-    (c.follow.ensures.run h n r w k used a (rw (c.in_ok-doing.ensures.stage, c.in_ok-doing.ensures.tried) s) _
-    (waits_step P B b (plain.frame ∷ c.go.new.self.callers) c.in_ok-asking.asking w r (step_is (c.settle.new.frame ∷ c.settle.new.callers) c.in_ok-asking.asking _ _ (plain.does c.go.new.self.callers) c.in_ok-asking.ensures.step)))
+pub returns-in_err-entered-in-Invoke-clause-run : goal.returns-in_err-entered-in-Invoke-clause-run
+returns-in_err-entered-in-Invoke-clause-run g c = λ h n r w k used a s.
+    let p = err_from_is_err_and c.from_residual-in_err-entered-in-Invoke.result c.from_residual-in_err-entered-in-Invoke.ensures.1 in
+    let plain = rw c.in-Invoke.is at c.in_ok-doing.ensures.run in
+    rw (p.1, p.2) (settle_fails c.args.program.now (bounds_of c.args.limits) c.args.self.now c.go.new.self _ _ (c.enter.new.frame ∷ c.enter.new.callers) _ _ c.in_err-entered-in-Invoke.field-0.0 w r
+    plain c.in_err-entered-in-Invoke.ensures (grows_same (g.G.Gate.told c.args.gate.now)) (rw (c.in_ok-doing.ensures.stage, c.in_ok-doing.ensures.tried) s))
 
-pub returns-clause-ticks : goal.returns-clause-ticks
-returns-clause-ticks g c = λ t i. c.follow.ensures.ticks t (rw (c.in_ok-doing.ensures.stage, c.in_ok-doing.ensures.tried) i)
+pub returns-in-Ask-clause-run : goal.returns-in-Ask-clause-run
+returns-in-Ask-clause-run g c = λ h n r w k used a s.
+    let plain = rw c.in-Ask.is at c.in_ok-doing.ensures.run in
+    turned_asks c.args.program.now (bounds_of c.args.limits) c.args.self.now c.go.new.self c.go.new.self.frame c.go.new.self.callers c.serve.new.self _ (asking.Ask c.in-Ask.request) _ _ c.serve.result w r plain refl
+    (c.serve.ensures.run h n r w k used a (rw (c.in_ok-doing.ensures.stage, c.in_ok-doing.ensures.tried) s))
 
-pub returns-clause-moves : goal.returns-clause-moves
-returns-clause-moves g c = moves_if c.follow.result _ _ _ _ _ _ c.in_ok-doing.ensures.stage c.in_ok-doing.ensures.tried c.follow.ensures.moves
+pub returns-in-Ask-clause-ticks : goal.returns-in-Ask-clause-ticks
+returns-in-Ask-clause-ticks g c = λ t i. c.serve.ensures.ticks t (rw (c.in_ok-doing.ensures.stage, c.in_ok-doing.ensures.tried) i)
+
+pub returns-then-given-clause-run : goal.returns-then-given-clause-run
+returns-then-given-clause-run g c = λ h n r w k used a s.
+    let plain = rw c.in-Give.is at c.in_ok-doing.ensures.run in
+    turned_asks c.args.program.now (bounds_of c.args.limits) c.args.self.now c.go.new.self c.give_back.new.frame c.give_back.new.callers _ _ asking.Go _ _ (Ok todo.Go) w r plain (rw c.if-given.true at c.in_ok-given-in-Give.ensures)
+    (r, w, rw (c.in_ok-doing.ensures.stage, c.in_ok-doing.ensures.tried) s, (Gives 0, refl, ([], refl, tt, grows_same (g.G.Gate.told c.args.gate.now))))
+
+pub returns-else-given-clause-run : goal.returns-else-given-clause-run
+returns-else-given-clause-run g c = λ h n r w k used a s.
+    let plain = rw c.in-Give.is at c.in_ok-doing.ensures.run in
+    let b = record c.go.new.self { frame = c.give_back.new.frame; callers = c.give_back.new.callers } in
+    turned_asks c.args.program.now (bounds_of c.args.limits) c.args.self.now c.go.new.self c.give_back.new.frame c.give_back.new.callers b _ (asking.Return c.in-Give.value) _ _ _ w r plain (rw c.if-given.false at c.in_ok-given-in-Give.ensures)
+    (answer_early c.args.program.now (bounds_of c.args.limits) b (asking.Return c.in-Give.value) w r _ _ (inl (c.in-Give.value, refl)) tt (grows_same (g.G.Gate.told c.args.gate.now)) (rw (c.in_ok-doing.ensures.stage, c.in_ok-doing.ensures.tried) s))
+
+pub returns-in-Some-clause-run : goal.returns-in-Some-clause-run
+returns-in-Some-clause-run g c = λ h n r w k used a s.
+    let plain = rw c.in-Invoke.is at c.in_ok-doing.ensures.run in
+    turned_asks c.args.program.now (bounds_of c.args.limits) c.args.self.now c.go.new.self c.enter.new.frame c.enter.new.callers c.count.new.self _ (asking.Enter c.in-Some.deep) _ _ c.count.result w r plain (rw c.in-Some.is at c.in_ok-entered-in-Invoke.ensures)
+    (turn_of (bounds_of c.args.limits) _ _ _ _ c.count.new.self c.count.result r w (Gives 0) (rw (c.count.ensures.stage, c.count.ensures.tried, c.in_ok-doing.ensures.stage, c.in_ok-doing.ensures.tried) s) (c.count.ensures.run (bounds_of c.args.limits) r w) ([], refl, tt, grows_same (g.G.Gate.told c.args.gate.now)))
+
+pub returns-in-None-clause-run : goal.returns-in-None-clause-run
+returns-in-None-clause-run g c = λ h n r w k used a s.
+    let plain = rw c.in-Invoke.is at c.in_ok-doing.ensures.run in
+    turned_asks c.args.program.now (bounds_of c.args.limits) c.args.self.now c.go.new.self c.enter.new.frame c.enter.new.callers _ _ asking.Go _ _ (Ok todo.Go) w r plain (rw c.in-None.is at c.in_ok-entered-in-Invoke.ensures)
+    (r, w, rw (c.in_ok-doing.ensures.stage, c.in_ok-doing.ensures.tried) s, (Gives 0, refl, ([], refl, tt, grows_same (g.G.Gate.told c.args.gate.now))))
+
+pub returns-in_default : goal.returns-in_default
+returns-in_default g c = record {
+  run = λ h n r w k used a s. c.end_turn.ensures.run h n r w k used a (rw (c.in_ok-doing.ensures.stage, c.in_ok-doing.ensures.tried) s) c.args.self.now c.in_ok-doing.ensures.run;
+  attempts = λ j x. c.end_turn.ensures.attempts j (rw c.in_ok-doing.ensures.tried x);
+  ticks = λ t i. c.end_turn.ensures.ticks t (rw (c.in_ok-doing.ensures.stage, c.in_ok-doing.ensures.tried) i);
+  «open» = c.end_turn.ensures.open;
+  next = c.end_turn.ensures.next;
+  spent = c.end_turn.ensures.spent;
+  moves = moves_if c.end_turn.result _ _ _ _ _ _ c.in_ok-doing.ensures.stage c.in_ok-doing.ensures.tried c.end_turn.ensures.moves;
+  begun = c.end_turn.ensures.begun;
+  awaits = λ j u x. c.end_turn.ensures.awaits j u x;
+  budget = c.end_turn.ensures.budget;
+  depth = c.end_turn.ensures.depth;
+  heap = c.end_turn.ensures.heap;
+}

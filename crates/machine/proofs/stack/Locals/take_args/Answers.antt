@@ -1,19 +1,18 @@
-use Rattle.std.proofs.Common.{◌≡◌, [], ◌∷◌, suc, sym, arith, ◌-◌, reverse}
-use Rattle.std.proofs.lemmas.List.{reverse-append}
-use Rattle.std.proofs.lemmas.Result.{err_from_is_err_and}
-use Rattle.objects.specs.semantics.Step.{take_args}
+use Rattle.std.proofs.Common.{◌≡◌, ◌+◌, ◌-◌, ◌<◌, [], length, take, drop, arith}
+use Rattle.std.proofs.lemmas.List.{length-reverse, take_rest}
+use Rattle.machine.proofs.Slots.{args_behind, few_args}
 use Rattle.machine.proofs.stack.Locals.take_args.Goals as goal
 
-pub loop-preserved : goal.loop-preserved
-loop-preserved c = λ k e.
-    let h : take_args (suc k) (reverse c.loop.self) c.loop.from ≡ take_args c.args.count [] c.args.from.now = c.loop.invariant (suc k) (omega arith) in
-    rw (c.in_ok-push.ensures, reverse-append c.loop.self (c.in_ok-v.v ∷ [])) (rw c.in_ok-v.ensures.take at h)
+pub returns-then-len-count : goal.returns-then-len-count
+returns-then-len-count c = λ _.
+    let short : length c.from.inside.items.items < c.args.count = omega (arith, c.len-len.ensures, c.if-len-count.true) in
+    few_args c.args.count [] c.args.from.now (rw (← c.from.view_is, length-reverse c.from.inside.items.items) short)
 
 pub returns : goal.returns
-returns c = rw (c.reverse.ensures.items, c.self-2.view_is) (sym (c.loop.invariant 0 (omega arith)))
-
-pub returns-in_err-v : goal.returns-in_err-v
-returns-in_err-v c =
-    let p = err_from_is_err_and c.from_residual.result c.from_residual.ensures.1 in
-    let h : take_args (suc (c.args.count - c.loop.counter - 1)) (reverse c.loop.self) c.loop.from ≡ take_args c.args.count [] c.args.from.now = c.loop.invariant (suc (c.args.count - c.loop.counter - 1)) (omega arith) in
-    rw p.1 (λ e. sym (rw (c.in_err-v.ensures.none) at h))
+returns c =
+    let xs = c.from.inside.items.items in
+    let k = c.len-len.result - c.args.count in
+    let e : k + c.args.count ≡ length xs = omega (arith, c.len-len.ensures, c.if-len-count.false) in
+    let locals : c.extend_from_slice.new.self.items ≡ drop k xs = rw (c.in_ok-extend_from_slice.ensures.items, c.clear.ensures.items, c.deref.ensures.value) (take_rest xs k) in
+    let left : c.truncate.new.self.items ≡ take k xs = c.truncate.ensures.items in
+    rw (← c.from.view_is, locals, left) (args_behind xs k c.args.count e)
