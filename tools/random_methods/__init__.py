@@ -1,0 +1,1 @@
+"""Methods of random code, and what a Java machine's verifier says of them."""
