@@ -18,7 +18,8 @@ import tempfile
 sys.dont_write_bytecode = True
 
 from common.building import PROGRAM, compile_sources
-from common.class_files import additions, interface_calls, late_jumps, many_places, null_loads, reference_loads
+from common.class_files import additions, constructors, guarded_stores, interface_calls, late_jumps, many_places, merging_targets
+from common.class_files import null_loads, reference_loads
 from common.runs import apart, median, run
 
 ATOMIC = "import org.deuce.Atomic;\n"
@@ -167,6 +168,10 @@ CASES = {
     "199 late jumps, each of which widens one local more; 7,000 instructions before": (lambda: late_jumps(199, 7_000), made),
     "the same, 14,000 instructions before": (lambda: late_jumps(199, 14_000), made),
     "the same, 1,800 late jumps, 14,000 instructions before": (lambda: late_jumps(1_800, 14_000), made),
+    "the same, 3,400 late jumps, 2,000 instructions before them": (lambda: late_jumps(3_400, 2_000), made),
+    "6,000 targets, to which two stacks of 2,500 references flow": (lambda: merging_targets(6_000, 2_500), made),
+    "4,000 stores, each guarded by 60 handlers": (lambda: guarded_stores(4_000, 60), made),
+    "6,000 forks with a constructor over a stack of 8,000 places": (lambda: constructors(6_000, 8_000), made),
     "a method of 65,534 bytes, 65,534 locals and as much stack": (lambda: many_places(65_534, 65_534), made),
     "8,000 calls of an interface's method, whose descriptor has 60,000 bytes": (lambda: interface_calls(8_000, 59_995), made),
     "a script of 450,000 calls, refused": (counter, lambda: script([on_lanes(INC, 1, 450_000)])),
