@@ -4,8 +4,9 @@
     tools/random_methods.py --seed N --count N [--first N] [--program ./deuce] [--jobs N] [--keep FOLDER]
 
 Each method stands in a class file of version 49, of which a Java machine infers the types. The program rewrites it: it ends well, or
-refuses the method as Untypable. A line is printed for each method of which the two say different things, and a summary. The
-status is 1 where one differs. The class files of such methods are put under --keep. It needs javac and java of Java 17.
+refuses the method as Untypable. Here an interface reads as Object, so each class is made once more with Object in its place, and
+the two are to agree on that. A line is printed for each method of which they say different things, and a summary. The status
+is 1 where one differs. The class files of such methods are put under --keep. It needs javac and java of Java 17.
 A method depends on the seed and on its number alone.
 """
 
