@@ -261,6 +261,23 @@ fn all_behind(
     Ok(next)
 }
 
+/// For each class where a method is sought, by tables of what stands above each and of its superclasses.
+fn all_method_ways(
+    alloc: Global,
+    places: &Places,
+    ancestries: &[Vec<usize>],
+    lineages: &[Vec<usize>],
+) -> Result<Vec<Vec<usize>>, AllocError>
+    requires reached { AreReached places.now (length places.now) (map (λ e. e.items) ancestries.now) }
+    requires supers { AreNamedWays places.now (lineage_of_name places.now) (map (λ e. e.items) lineages.now) }
+    ensures { IfOk result (λ v. AreNamedWays places.now (method_way_of_name places.now) (map (λ e. e.items) v.items)) }
+{
+    let interfaces = all_interfaces(alloc, places)?;
+    let listed = all_joined(alloc, interfaces.as_slice(), lineages)?;
+    let above_listed = all_joined(alloc, ancestries, listed.as_slice())?;
+    all_behind(alloc, lineages, above_listed.as_slice())
+}
+
 /// Classes, and for each of them the places of what stands above it.
 #[derive(Drop)]
 pub struct Ways<'a> {
@@ -289,14 +306,16 @@ impl<'a> Ways<'a> {
         ensures { IfOk result (λ w. w ≡ map (λ c. c.now) classes.now) }
     {
         let places = Places::new(alloc, classes)?;
-        let interfaces = all_interfaces(alloc, &places)?;
         let direct = all_direct(alloc, &places)?;
-        let lineages = all_lineages(alloc, &places)?;
         let ancestries = reached(alloc, direct.as_slice())?;
         let aboves = all_joined(alloc, ancestries.as_slice(), direct.as_slice())?;
-        let listed = all_joined(alloc, interfaces.as_slice(), lineages.as_slice())?;
-        let above_listed = all_joined(alloc, ancestries.as_slice(), listed.as_slice())?;
-        let method_ways = all_behind(alloc, lineages.as_slice(), above_listed.as_slice())?;
+        let lineages = all_lineages(alloc, &places)?;
+        let method_ways = all_method_ways(
+            alloc,
+            &places,
+            ancestries.as_slice(),
+            lineages.as_slice(),
+        )?;
         Ok(Ways {
             places,
             ancestries,
