@@ -37,6 +37,14 @@ fn conflict_text(alloc: Global, conflict: Conflict) -> Result<String, AllocError
     }
 }
 
+/// The last conflict as a text, which is empty where there is none.
+fn last_text(alloc: Global, last: Option<Conflict>) -> Result<String, AllocError> {
+    match last {
+        Some(conflict) => conflict_text(alloc, conflict),
+        None => Ok(String::new(alloc)),
+    }
+}
+
 fn answer_text(alloc: Global, answer: &Answer) -> Result<String, AllocError> {
     match answer {
         Answer::Returned(Some(Value::Int(number))) => format!(in alloc; "{number}"),
@@ -60,29 +68,56 @@ fn record_text(alloc: Global, kept: Option<&Record>) -> Result<String, AllocErro
     format!(in alloc; "{answer}, {kind} at {at}")
 }
 
-/// Adds a line for the last call of a session: its answer and its stamp, or that it was spent; the used words of the region; and the attempts and the
-/// conflicts of the session until then, with the last conflict.
-fn push_line<E: Engine, X: Expecting>(
+/// What a line tells of a session's last call.
+#[derive(Clone, Copy)]
+struct Line<'a> {
+    /// Whether a wait before the call was in vain.
+    was_late: bool,
+    /// Whether the gate's wait was in vain.
+    is_late: bool,
+    /// The call, if it wasn't spent.
+    kept: Option<&'a Record>,
+    /// The used words of the region.
+    used: u64,
+    /// The attempts of the session until then.
+    attempts: u64,
+    /// The conflicts of the session until then, and the last of them.
+    conflicts: u64,
+    last: Option<Conflict>,
+}
+
+/// A line: the answer and the stamp, or that the call was spent, and then what is counted.
+fn line_text(alloc: Global, line: &Line<'_>) -> Result<String, AllocError> {
+    let was_late = if line.was_late { "late: " } else { "" };
+    let is_late = if line.is_late { "late: " } else { "" };
+    let record = record_text(alloc, line.kept)?;
+    let last = last_text(alloc, line.last)?;
+    let used = line.used;
+    let attempts = line.attempts;
+    let conflicts = line.conflicts;
+    format!(in alloc;
+        "{was_late}{is_late}{record}, used {used}, attempts {attempts}, conflicts {conflicts}{last}\n"
+    )
+}
+
+/// The line of the last call of a session, before which a wait was in vain or not.
+fn line_of<E: Engine, X: Expecting>(
     alloc: Global,
     session: &Session<'_, Heard<E, X>, HoldGate<'_>>,
-    out: &mut String,
-) -> Result<(), AllocError> {
+    was_late: bool,
+) -> Result<String, AllocError> {
     let gate = session.gate();
     let lane = session.journal();
-    if gate.is_late {
-        out.push_str("late: ")?;
-    }
-    let text = record_text(alloc, lane.placed.as_slice().last())?;
-    out.push_str(text.as_str())?;
-    let used = lane.used;
-    let attempts = gate.attempts;
-    let conflicts = session.engine.conflicts;
-    let counts = format!(in alloc; ", used {used}, attempts {attempts}, conflicts {conflicts}")?;
-    out.push_str(counts.as_str())?;
-    if let Some(last) = session.engine.last {
-        out.push_str(conflict_text(alloc, last)?.as_str())?;
-    }
-    out.push('\n')
+    let line = Line {
+        was_late,
+        is_late: gate.is_late,
+        kept: lane.placed.as_slice().last(),
+        used: lane.used,
+        attempts: gate.attempts,
+        conflicts: session.engine.conflicts,
+        last: session.engine.last,
+    };
+    line_text(alloc, &line)
 }
 
 /// The lines of a lane's call, which is made in its turn: that of lane 0, whose first attempt is held, or that of lane 1, once it is. A call that was spent
@@ -108,21 +143,16 @@ fn lines_of<E: Engine + Drop, X: Expecting>(
     requires fresh { IsFresh X.call X.used (E.stands session.engine.engine) (E.awaits session.engine.engine) }
 {
     let mut session = session;
-    let mut out = String::new(alloc);
-    if !signals.turn_comes(at.lane) {
-        out.push_str("late: ")?;
-    }
+    let is_late = !signals.turn_comes(at.lane);
     let is_made = session.call(at, call)?;
     signals.tell_end(at.lane);
-    push_line(alloc, &session, &mut out)?;
+    let mut lines = line_of(alloc, &session, is_late)?;
     if !is_made {
-        if !signals.other_ends(at.lane) {
-            out.push_str("late: ")?;
-        }
+        let is_late = !signals.other_ends(at.lane);
         session.call(at, call)?;
-        push_line(alloc, &session, &mut out)?;
+        lines.push_str(line_of(alloc, &session, is_late)?.as_str())?;
     }
-    Ok(out)
+    Ok(lines)
 }
 
 /// The lines of a lane's call over its pass.

@@ -17,6 +17,7 @@ use deuce::top::deuce;
 use deuce_io::{Folder, IoEnd, MemSink, RealFolder, names_in};
 use hierarchy::symbols::own_name;
 use hierarchy::{Program, Typing};
+use jmodel::Bytes;
 use linking::rebuild::rebuild;
 use program_rewriter::rewrite_program;
 use runner::instrument_files;
@@ -48,28 +49,39 @@ fn print_folder<R: Runtime + AllocGlobal + Threads + Sync>(
 ) -> io::Result<()> {
     let old = format!(in alloc; "folders/{name}")?;
     let new = format!(in alloc; "rewritten/{name}")?;
-    let mut words = Vec::new(alloc);
-    for word in ["rewrite", old.as_str(), new.as_str()] {
-        words.push(String::from_str(alloc, word)?)?;
-    }
     let mut folder = RealFolder::new(alloc, rt);
-    let mut out = MemSink::new(alloc, 64);
-    let mut gates = vec![in alloc; Open; LANES]?;
-    let status = deuce(
-        rt,
-        alloc,
-        words.as_slice(),
-        &mut folder,
-        &mut out,
-        &mut gates,
-    );
-    let text = str::from_utf8(out.written.as_slice()).unwrap_or("no text\n");
+    let (status, written) = rewrite_folder(rt, alloc, &mut folder, old.as_str(), new.as_str())?;
+    let text = str::from_utf8(written.as_slice()).unwrap_or("no text\n");
     print!(rt; "status {status}\n{text}")?;
     if status == 0 {
         print_put(rt, alloc, &mut folder, old.as_str(), new.as_str())
     } else {
         Ok(())
     }
+}
+
+/// The words of a rewriting from one folder into another.
+fn words_of(alloc: Global, old: &str, new: &str) -> Result<Vec<String>, AllocError> {
+    let mut words = Vec::new(alloc);
+    for word in ["rewrite", old, new] {
+        words.push(String::from_str(alloc, word)?)?;
+    }
+    Ok(words)
+}
+
+/// The status of the top call that rewrites one folder into another, and what it writes.
+fn rewrite_folder<R: Threads + Sync, F: Folder>(
+    rt: &R,
+    alloc: Global,
+    folder: &mut F,
+    old: &str,
+    new: &str,
+) -> Result<(u8, Bytes), AllocError> {
+    let words = words_of(alloc, old, new)?;
+    let mut out = MemSink::new(alloc, 64);
+    let mut gates = vec![in alloc; Open; LANES]?;
+    let status = deuce(rt, alloc, words.as_slice(), folder, &mut out, &mut gates);
+    Ok((status, out.written))
 }
 
 /// Prints what the class files under a folder mean, as the rewriting of those under another.

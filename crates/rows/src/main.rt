@@ -5,8 +5,9 @@
 use deuce::Open;
 use deuce::listing::class_paths;
 use deuce::top::deuce;
-use deuce_io::{MemSink, RealFolder, names_in};
-use std::alloc::Global;
+use deuce_io::{Folder, MemSink, RealFolder, names_in};
+use jmodel::Bytes;
+use std::alloc::{AllocError, Global};
 use std::rt::Runtime;
 use std::thread::Threads;
 use std::{fs, io};
@@ -29,20 +30,34 @@ fn print_row<R: Runtime + AllocGlobal + Threads + Sync>(
 ) -> io::Result<()> {
     let words = words_of(rt, alloc, name)?;
     let mut folder = RealFolder::new(alloc, rt);
+    let (status, written) = called(rt, alloc, words.as_slice(), &mut folder)?;
+    let text = str::from_utf8(written.as_slice()).unwrap_or("no text\n");
+    print!(rt; "== {name}\nstatus {status}\n{text}")?;
+    print_all_put(rt, alloc, &mut folder, name)
+}
+
+/// The status of the top call on words, and what it writes.
+fn called<R: Threads + Sync, F: Folder>(
+    rt: &R,
+    alloc: Global,
+    words: &[String],
+    folder: &mut F,
+) -> Result<(u8, Bytes), AllocError> {
     let mut out = MemSink::new(alloc, 64);
     let mut gates = vec![in alloc; Open; LANES]?;
-    let status = deuce(
-        rt,
-        alloc,
-        words.as_slice(),
-        &mut folder,
-        &mut out,
-        &mut gates,
-    );
-    let text = str::from_utf8(out.written.as_slice()).unwrap_or("no text\n");
-    print!(rt; "== {name}\nstatus {status}\n{text}")?;
+    let status = deuce(rt, alloc, words, folder, &mut out, &mut gates);
+    Ok((status, out.written))
+}
+
+/// Prints the files that a row put, in the order of their paths.
+fn print_all_put<R: Runtime + AllocGlobal, F: Folder>(
+    rt: &R,
+    alloc: Global,
+    folder: &mut F,
+    name: &str,
+) -> io::Result<()> {
     let put = format!(in alloc; "rows/{name}/out")?;
-    let Ok(files) = class_paths(alloc, &mut folder, put.as_str()) else {
+    let Ok(files) = class_paths(alloc, folder, put.as_str()) else {
         return Ok(());
     };
     for file in &files {

@@ -46,6 +46,15 @@ pub fn folder_of(alloc: Global, class: &[u8], script: &[u8]) -> Result<MemFolder
     Ok(folder)
 }
 
+/// Words as texts of their own.
+pub fn texts(alloc: Global, words: [&str; 3]) -> Result<Vec<String>, AllocError> {
+    let mut list = Vec::new(alloc);
+    for word in words {
+        list.push(String::from_str(alloc, word)?)?;
+    }
+    Ok(list)
+}
+
 /// The status of a top call on three words, and what the sink has then.
 pub fn call<R: Threads + Sync>(
     rt: &R,
@@ -54,16 +63,27 @@ pub fn call<R: Threads + Sync>(
     folder: &mut MemFolder,
     mut out: MemSink,
 ) -> Result<(u8, Bytes), AllocError> {
-    let mut list = Vec::new(alloc);
-    for word in words {
-        list.push(String::from_str(alloc, word)?)?;
-    }
+    let list = texts(alloc, words)?;
     let mut gates = vec![in alloc; Open; LANES]?;
     let status = deuce(rt, alloc, list.as_slice(), folder, &mut out, &mut gates);
     Ok((status, out.written))
 }
 
-/// Whether a top call over a folder ends with this status and writes this text.
+/// Whether a top call over a folder ends with this status and writes this text. What the call put
+/// is in the folder then.
+pub fn ends_with<R: Threads + Sync>(
+    rt: &R,
+    alloc: Global,
+    words: [&str; 3],
+    folder: &mut MemFolder,
+    status: u8,
+    text: &str,
+) -> Result<bool, AllocError> {
+    let (found, written) = call(rt, alloc, words, folder, MemSink::new(alloc, 64))?;
+    Ok(found == status && written.as_slice() == text.as_bytes())
+}
+
+/// The same of a folder that isn't looked at behind the call.
 pub fn gives<R: Threads + Sync>(
     rt: &R,
     alloc: Global,
@@ -72,6 +92,10 @@ pub fn gives<R: Threads + Sync>(
     status: u8,
     text: &str,
 ) -> Result<bool, AllocError> {
-    let (found, written) = call(rt, alloc, words, &mut folder, MemSink::new(alloc, 64))?;
-    Ok(found == status && written.as_slice() == text.as_bytes())
+    ends_with(rt, alloc, words, &mut folder, status, text)
+}
+
+/// Whether a folder has a file.
+pub fn has(folder: &mut MemFolder, path: &str) -> bool {
+    folder.read(path, 2000).is_ok()
 }

@@ -171,11 +171,7 @@ fn a_put_fails_by_its_number(rt: HostRuntime) -> Result<(), Fail> {
     let mut folder = folder_of(rt.alloc(), ["o/A"].as_slice())?;
     folder.fail_puts.push(2)?;
     for (path, fails) in [("o/B", true), ("o/A", false)] {
-        assert_eq!(rt;
-            folder.put(path, b"other".as_slice()).is_err(),
-            fails,
-            "{path}"
-        );
+        assert_eq!(rt; put_fails(&mut folder, path), fails, "{path}");
     }
     assert!(rt; is_last(&folder, CallKind::Put, "o/B"));
     assert_eq!(rt;

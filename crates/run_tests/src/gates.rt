@@ -1,7 +1,7 @@
 //! What gates are told of a run, that two lanes run at once, and what a lane that is held in the middle of an attempt does then.
 ghost use Rattle.std.specs.Prelude.{◌≡◌, length, IfOk};
 
-use crate::fixture::{COUNTER, LANES, THREE_CALLS, folder_of};
+use crate::fixture::{COUNTER, LANES, RUN, THREE_CALLS, folder_of, texts};
 use deuce::top::deuce;
 use deuce::{Event, Gate, LogGate};
 use deuce_io::{IoEnd, MemSink};
@@ -40,10 +40,7 @@ fn run_gated<R: Threads + Sync, G: Gate + Send + Drop>(
 ) -> Result<(u8, Bytes), IoEnd>
     requires { length gates.old.items ≡ 16 }
 {
-    let mut words = Vec::new(alloc);
-    for word in ["run", "d", "s"] {
-        words.push(String::from_str(alloc, word)?)?;
-    }
+    let words = texts(alloc, RUN)?;
     let mut folder = folder_of(alloc, COUNTER.as_slice(), script)?;
     let mut out = MemSink::new(alloc, 64);
     let status = deuce(rt, alloc, words.as_slice(), &mut folder, &mut out, gates);

@@ -1,6 +1,6 @@
 //! The machine's files: what is listed and read of them, and what is a fault.
 use crate::folders::{list_fails, list_names, read_fails, starts};
-use deuce_io::{Folder, RealFolder};
+use deuce_io::{Folder, IoEnd, RealFolder};
 use std::alloc::{AllocError, Global};
 use std::os::fd::AsRawFd;
 use std::os::unix::fs::symlink;
@@ -22,6 +22,23 @@ fn below(alloc: Global, folder: &str, name: &str) -> Result<String, AllocError> 
     Ok(path)
 }
 
+/// How many bytes are read of a file, of which this many are asked for.
+fn read_len<F: Folder>(folder: &mut F, path: &str, most: usize) -> Result<usize, IoEnd> {
+    Ok(folder.read(path, most)?.len())
+}
+
+/// Whether these are the names of what stands directly in the folder of a name below another.
+fn lists<F: Folder>(
+    alloc: Global,
+    folder: &mut F,
+    root: &str,
+    name: &str,
+    want: &str,
+) -> Result<bool, IoEnd> {
+    let dir = below(alloc, root, name)?;
+    Ok(list_names(alloc, folder, dir.as_str())?.as_str() == want)
+}
+
 #[test]
 fn reaches_the_files_of_the_machine(rt: HostRuntime) -> Result<(), Fail> {
     let alloc = rt.alloc();
@@ -30,13 +47,12 @@ fn reaches_the_files_of_the_machine(rt: HostRuntime) -> Result<(), Fail> {
     let mut folder = RealFolder::new(alloc, rt);
     folder.put(file.as_str(), [7u8; 5000].as_slice())?;
     for (most, want) in [(6000usize, 5000usize), (4097, 4097), (0, 0)] {
-        assert_eq!(rt; folder.read(file.as_str(), most)?.len(), want);
+        assert_eq!(rt; read_len(&mut folder, file.as_str(), most)?, want);
     }
     for (name, want) in [("", "p/ "), ("/p", "x.bin ")] {
-        let dir = below(alloc, root.as_str(), name)?;
-        assert_eq!(rt;
-            list_names(alloc, &mut folder, dir.as_str())?.as_str(),
-            want
+        assert!(rt;
+            lists(alloc, &mut folder, root.as_str(), name, want)?,
+            "{name}"
         );
     }
     fs::remove_dir_all(&rt, root.as_str())?;
@@ -46,6 +62,15 @@ fn reaches_the_files_of_the_machine(rt: HostRuntime) -> Result<(), Fail> {
     Ok(())
 }
 
+/// Makes a folder of this name below another, with a link in it, and gives the link's path.
+fn link_in(rt: &HostRuntime, root: &str, name: &str, to: &str) -> Result<String, Fail> {
+    let dir = below(rt.alloc(), root, name)?;
+    let link = below(rt.alloc(), dir.as_str(), "/link")?;
+    fs::create_dir_all(rt, dir.as_str())?;
+    symlink(rt, to, link.as_str())?;
+    Ok(link)
+}
+
 #[test]
 fn a_link_is_a_file_and_a_file_is_read_through_it(rt: HostRuntime) -> Result<(), Fail> {
     let alloc = rt.alloc();
@@ -53,14 +78,11 @@ fn a_link_is_a_file_and_a_file_is_read_through_it(rt: HostRuntime) -> Result<(),
     let file = below(alloc, root.as_str(), "/f")?;
     let mut folder = RealFolder::new(alloc, rt);
     folder.put(file.as_str(), b"content".as_slice())?;
-    for (dir, to, reads) in [("/d", root.as_str(), false), ("/e", file.as_str(), true)] {
-        let dir = below(alloc, root.as_str(), dir)?;
-        let link = below(alloc, dir.as_str(), "/link")?;
-        fs::create_dir_all(&rt, dir.as_str())?;
-        symlink(&rt, to, link.as_str())?;
-        assert_eq!(rt;
-            list_names(alloc, &mut folder, dir.as_str())?.as_str(),
-            "link "
+    for (name, to, reads) in [("/d", root.as_str(), false), ("/e", file.as_str(), true)] {
+        let link = link_in(&rt, root.as_str(), name, to)?;
+        assert!(rt;
+            lists(alloc, &mut folder, root.as_str(), name, "link ")?,
+            "{name}"
         );
         assert_eq!(rt;
             starts(&mut folder, link.as_str(), 9, "content").is_ok(),

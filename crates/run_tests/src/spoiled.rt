@@ -21,33 +21,43 @@ fn a_front_of_a_class_is_truncated(rt: HostRuntime) -> Result<(), Fail> {
     Ok(())
 }
 
-/// Whether a run of one call on a class ends: with its answer, with a fault of the file, of its name or superclass, of its annotations or of its code, with a
-/// construct that is left out, or with a call of no marked method.
+/// A status, and how the text begins that may come with it: the call's answer, a fault of the file,
+/// of its name or superclass, its annotations or its code, or a construct that is left out.
+const FRONTS: [(u8, &[u8]); 10] = [
+    (0, b"history 1\n"),
+    (3, b"error 3 d/Counter.class "),
+    (4, b"error 4 13 BadInstr Counter.inc()I "),
+    (4, b"error 4 14 BadTarget Counter.inc()I "),
+    (4, b"error 4 18 UnknownClass "),
+    (4, b"error 4 20 Construct "),
+    (4, b"error 4 21 ReservedName Counter"),
+    (4, b"error 4 22 BadAnnotation Counter.inc()I "),
+    (4, b"error 4 31 BadSuper Counter "),
+    (5, b"error 5 32 Untypable Counter.inc()I "),
+];
+
+/// A status, and the text that may come with it: a fault of the class's name or superclass, or a
+/// call of no marked method.
+const TEXTS: [(u8, &[u8]); 4] = [
+    (4, b"error 4 17 DoubledClass java/lang/Object\n"),
+    (4, b"error 4 19 Circular Counter\n"),
+    (6, b"error 6 27 UnknownMethod /phases/0/lanes/0/0/call\n"),
+    (6, b"error 6 28 NotAtomic /phases/0/lanes/0/0/call\n"),
+];
+
+/// Whether a status comes with the text that was written.
+fn is_end(status: u8, written: &[u8]) -> bool {
+    FRONTS.iter().any(|(with, front)| *with == status && written.starts_with(front))
+        || TEXTS
+            .iter()
+            .any(|(with, text)| *with == status && written == *text)
+}
+
+/// Whether a run of one call on a class ends with a status and a text that may come with it.
 fn ends<R: Threads + Sync>(rt: &R, alloc: Global, class: &[u8]) -> Result<bool, IoEnd> {
     let mut folder = folder_of(alloc, class, ONE_CALL)?;
     let (status, text) = call(rt, alloc, RUN, &mut folder, MemSink::new(alloc, 64))?;
-    let written = text.as_slice();
-    Ok(match status {
-        0 => written.starts_with(b"history 1\n"),
-        3 => written.starts_with(b"error 3 d/Counter.class "),
-        4 => {
-            written.starts_with(b"error 4 13 BadInstr Counter.inc()I ")
-                || written.starts_with(b"error 4 14 BadTarget Counter.inc()I ")
-                || written == b"error 4 17 DoubledClass java/lang/Object\n".as_slice()
-                || written.starts_with(b"error 4 18 UnknownClass ")
-                || written == b"error 4 19 Circular Counter\n".as_slice()
-                || written.starts_with(b"error 4 20 Construct ")
-                || written.starts_with(b"error 4 21 ReservedName Counter")
-                || written.starts_with(b"error 4 22 BadAnnotation Counter.inc()I ")
-                || written.starts_with(b"error 4 31 BadSuper Counter ")
-        }
-        5 => written.starts_with(b"error 5 32 Untypable Counter.inc()I "),
-        6 => {
-            written == b"error 6 27 UnknownMethod /phases/0/lanes/0/0/call\n".as_slice()
-                || written == b"error 6 28 NotAtomic /phases/0/lanes/0/0/call\n".as_slice()
-        }
-        _ => false,
-    })
+    Ok(is_end(status, text.as_slice()))
 }
 
 #[test]
