@@ -18,7 +18,7 @@ import tempfile
 sys.dont_write_bytecode = True
 
 from common.building import PROGRAM, compile_sources
-from common.class_files import additions, constructors, guarded_stores, interface_calls, late_jumps, many_places, merging_targets
+from common.class_files import additions, constructors, guarded_stores, interface_calls, late_jumps, many_places, merging_targets, other_constructors
 from common.class_files import null_loads, reference_loads
 from common.runs import apart, median, run
 
@@ -172,6 +172,7 @@ CASES = {
     "6,000 targets, to which two stacks of 2,500 references flow": (lambda: merging_targets(6_000, 2_500), made),
     "4,000 stores, each guarded by 60 handlers": (lambda: guarded_stores(4_000, 60), made),
     "6,000 forks with a constructor over a stack of 8,000 places": (lambda: constructors(6_000, 8_000), made),
+    "1,500 forks with a constructor, each over another object under 30,000 places": (lambda: other_constructors(1_500, 30_000), made),
     "a method of 65,534 bytes, 65,534 locals and as much stack": (lambda: many_places(65_534, 65_534), made),
     "8,000 calls of an interface's method, whose descriptor has 60,000 bytes": (lambda: interface_calls(8_000, 59_995), made),
     "a script of 450,000 calls, refused": (counter, lambda: script([on_lanes(INC, 1, 450_000)])),

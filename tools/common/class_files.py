@@ -161,6 +161,20 @@ def constructors(forks, deep):
     return {"Made": made.content()}
 
 
+def other_constructors(forks, deep):
+    """So many objects at the bottom of a deep stack. At each of as many forks a constructor runs over another of them."""
+    made = ClassMaker("Made")
+    owner = struct.pack(">H", made.class_("java/lang/Object"))
+    built = struct.pack(">H", made.method("java/lang/Object", "<init>", "()V"))
+    # each object: new; dup; wide astore
+    code = b"".join(b"\xbb" + owner + b"\x59\xc4\x3a" + struct.pack(">H", local) for local in range(1, forks + 1))
+    code += b"\x1a" * deep
+    # each fork: iload_0; ifeq to the next one; wide aload; invokespecial; ireturn
+    code += b"".join(b"\x1a\x99\0\x0b\xc4\x19" + struct.pack(">H", local) + b"\xb7" + built + b"\xac" for local in range(1, forks + 1))
+    made.marked("m", "(I)I", forks + deep + 4, forks + 1, code + b"\x03\xac")
+    return {"Made": made.content()}
+
+
 def interface_calls(count, letters):
     """So many calls of an interface's method, whose one parameter is of a class with a name of so many letters."""
     descriptor = f"(L{'n' * letters};)V"

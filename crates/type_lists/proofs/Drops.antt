@@ -1,27 +1,36 @@
 -- What is left of a list behind so many items.
-use Rattle.std.proofs.Common.{◌≡◌, ℕ, zero, suc, ◌+◌, ◌-◌, ◌<◌, List, [], ◌∷◌, drop, ◌++◌, ◌∙◌, take, slice_get, Some, None, refl, sym, ap, arith, append_assoc}
+use Rattle.std.proofs.Common.{◌≡◌, ℕ, zero, suc, ◌-◌, ◌<◌, ◌≤◌, length, List, [], ◌∷◌, drop, ◌++◌, ◌∙◌, take, slice_get, Some, None, refl, sym, ap, arith, append_assoc}
 use Rattle.std.proofs.lemmas.List.{take-append-drop}
 
-pub drop_step : {X : Type 0} → (c k : ℕ) (x : X) (xs : List X) → k < c → drop (c - (k + 1)) xs ≡ drop (c - k) (x ∷ xs)
-drop_step c k x xs h = let e : c - k ≡ suc (c - (k + 1)) = omega (arith, h) in sym (ap (λ (n : ℕ). drop n (x ∷ xs)) e)
+-- what is left behind a part, and within one
+pub under_part : {X : Type 0} → (n : ℕ) (xs ys : List X) → length xs ≤ n → drop (n - length xs) ys ≡ drop n (xs ++ ys)
+under_part n [] ys h = let e : n - 0 ≡ n = omega arith in ap (λ (n : ℕ). drop n ys) e
+under_part zero (x ∷ xs) ys h = absurd (omega (arith, h))
+under_part (suc n) (x ∷ xs) ys h =
+    let e : suc n - length (x ∷ xs) ≡ n - length xs = omega arith in
+    ap (λ (n : ℕ). drop n ys) e ∙ under_part n xs ys (omega (arith, h))
 
--- one more item in front, and one fewer behind
-pub take_step : {X : Type 0} → (c k : ℕ) (ts xs : List X) (x : X) → k < c → (ts ++ (x ∷ [])) ++ take (c - (k + 1)) xs ≡ ts ++ take (c - k) (x ∷ xs)
-take_step c k ts xs x h =
-    let e : c - k ≡ suc (c - (k + 1)) = omega (arith, h) in
-    append_assoc ts (x ∷ []) (take (c - (k + 1)) xs) ∙ sym (ap (λ (n : ℕ). ts ++ take n (x ∷ xs)) e)
+pub in_part : {X : Type 0} → (n : ℕ) (xs ys : List X) → n < length xs → drop n xs ++ ys ≡ drop n (xs ++ ys)
+in_part n [] ys h = absurd (omega (arith, h))
+in_part zero (x ∷ xs) ys h = refl
+in_part (suc n) (x ∷ xs) ys h = in_part n xs ys (omega (arith, h))
 
--- the item of a place is the first that is left behind those before it
-pub first_behind : {X : Type 0} → (n : ℕ) (xs : List X) (x : X) (r : List X) → drop n xs ≡ x ∷ r → Some x ≡ slice_get xs n
-first_behind zero [] x r e = cc
-first_behind (suc n) [] x r e = cc
-first_behind zero (y ∷ ys) x r e = cc
-first_behind (suc n) (y ∷ ys) x r e = first_behind n ys x r e
+-- the same in the halves of a list
+pub in_right : {X : Type 0} → (n h : ℕ) (xs l r : List X) → l ≡ take h xs → r ≡ drop h xs → length l ≤ n → drop (n - length l) r ≡ drop n xs
+in_right n h xs l r e f g =
+    let x : l ++ r ≡ xs = rw (e, f) (take-append-drop h xs) in
+    under_part n l r g ∙ ap (drop n) x
 
-pub none_behind : {X : Type 0} → (n : ℕ) (xs : List X) → drop n xs ≡ [] → None ≡ slice_get xs n
-none_behind n [] e = refl
-none_behind zero (y ∷ ys) e = cc
-none_behind (suc n) (y ∷ ys) e = none_behind n ys e
+pub in_left : {X : Type 0} → (n h : ℕ) (xs l r u : List X) → l ≡ take h xs → r ≡ drop h xs → n < length l → drop n l ++ (r ++ u) ≡ drop n xs ++ u
+in_left n h xs l r u e f g =
+    let x : l ++ r ≡ xs = rw (e, f) (take-append-drop h xs) in
+    sym (append_assoc (drop n l) r u) ∙ ap (λ (s : List _). s ++ u) (in_part n l r g ∙ ap (drop n) x)
 
-pub over_same : {X : Type 0} → (n : ℕ) (xs ys s : List X) → drop n xs ≡ drop n ys → s ≡ take n xs ++ drop n ys → s ≡ xs
-over_same {X = X} n xs ys s e f = f ∙ sym (ap (λ (r : List X). take n xs ++ r) e) ∙ take-append-drop n xs
+-- the topmost item, and what is under it
+pub top_is : {X : Type 0} → (xs s u : List X) (t v : X) → s ≡ xs → Some t ≡ slice_get s 0 → v ≡ t → u ≡ drop 1 s → xs ≡ v ∷ u
+top_is xs [] u t v e f g h = cc
+top_is xs (x ∷ s) u t v e f g h = cc
+
+pub no_top : {X : Type 0} → (xs s : List X) → s ≡ xs → None ≡ slice_get s 0 → xs ≡ []
+no_top xs [] e f = sym e
+no_top xs (x ∷ s) e f = cc

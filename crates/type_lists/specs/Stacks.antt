@@ -1,5 +1,5 @@
 -- Operand stacks of frames, the topmost place first.
-use Rattle.std.specs.Prelude.{List, [], ◌∷◌, Option, Some, None, Bool, true, false, not}
+use Rattle.std.specs.Prelude.{List, [], ◌∷◌, Option, Some, None, Bool, true, false, not, option_and_then}
 use Rattle.jmodel.specs.declared.typing.VType.{VType}
 use Rattle.jmodel.specs.declared.typing.VType.TheVariants.{Long, Second, Top}
 
@@ -19,3 +19,8 @@ next_under true t = None
 abbrev pub is_stack_under : Bool → List VType → Bool
 is_stack_under under [] = not under
 is_stack_under under (t ∷ s) = some_and (next_under under t) (λ (u : Bool). is_stack_under u s)
+
+-- what the place under a list of places is, as next_under has it, where the place just above them was the second one of a long or not
+abbrev pub under_all : Bool → List VType → Option Bool
+under_all under [] = Some under
+under_all under (t ∷ ts) = option_and_then (λ (u : Bool). under_all u ts) (next_under under t)

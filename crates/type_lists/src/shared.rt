@@ -1,6 +1,7 @@
 //! A type of one place that its copies share.
 ghost use Rattle.std.specs.Prelude.{◌≡◌, ◌↔◌, ◌++◌, IfOk, IsTrue};
 ghost use Rattle.type_lists.specs.Named.{is_named};
+ghost use Rattle.type_lists.specs.Stacks.{next_under};
 
 use jmodel::VType;
 use std::alloc::{AllocError, Global};
@@ -70,6 +71,20 @@ pub fn is_named(item: &VType) -> bool
     ensures { result ≡ is_named item.now }
 {
     matches!(item, VType::Ref(_))
+}
+
+/// Whether a place of the stack is the second one of a long, where the place just above it was one or not; none where the
+/// two don't go together.
+pub fn next_under(under: bool, item: &VType) -> Option<bool>
+    ensures { result ≡ next_under under item.now }
+{
+    match item {
+        VType::Long if under => Some(false),
+        VType::Second if !under => Some(true),
+        VType::Long | VType::Second | VType::Top => None,
+        _ if !under => Some(false),
+        _ => None,
+    }
 }
 
 /// Types, each so that it can be shared.

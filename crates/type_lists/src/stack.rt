@@ -1,16 +1,20 @@
-//! Types of an operand stack (JVM Specification, Java SE 7, section 4.10.1.2), whose copies share what is under their topmost places.
-ghost use Rattle.std.specs.Prelude.{◌≡◌, ◌∷◌, ◌++◌, ◌<◌, ◌+◌, ◌^◌, [], IfOk, IfSome, IfNone, OnOk, ◌≤◌, drop, take, length, option_copied, slice_get, true, false};
-ghost use Rattle.type_lists.specs.Stacks.{is_stack_under, next_under, some_and};
+//! Types of an operand stack (JVM Specification, Java SE 7, section 4.10.1.2), whose copies share the parts that are the same.
+ghost use Rattle.std.specs.Prelude.{◌≡◌, ◌∷◌, ◌++◌, ◌<◌, ◌+◌, ◌^◌, [], IfOk, IfSome, IfNone, OnOk, drop, length, option_copied, slice_get};
+ghost use Rattle.type_lists.specs.Stacks.{is_stack_under, some_and};
 ghost use Rattle.type_lists.specs.Named.{are_named};
 
-use crate::shared::{SharedType, is_named, is_same};
+use crate::shared::SharedType;
+use crate::tree::TypeTree;
 use jmodel::VType;
 use std::alloc::{AllocError, Global};
 use std::marker::Model;
 use std::rc::Rc;
 
-/// The types of an operand stack. A clause sees them as a list, the topmost first.
+/// The types of an operand stack, in parts. A clause sees them as a list, the topmost first.
+///
+/// Parts of one length are joined as types are pushed, so there are about as many parts as the number of places has binary digits.
 #[cycle(stack)]
+#[derive(Drop)]
 pub struct TypeStack {
     depth: usize,
     /// Whether these may be the types of an operand stack.
@@ -26,7 +30,7 @@ pub struct TypeStack {
 #[derive(Drop)]
 enum Link {
     Bottom,
-    Place(SharedType, Rc<TypeStack>),
+    Part(TypeTree, Rc<TypeStack>),
 }
 
 impl Model for TypeStack {
@@ -36,40 +40,15 @@ impl Model for TypeStack {
     ghost Value = { List JType };
 
     ghost use Rattle.type_lists.specs.Cells.{items, IsKept};
-    ghost use Rattle.std.proofs.Common.{arith};
+    ghost use Rattle.std.proofs.Common.{arith, length-append};
 
     ghost view = { λ s. items s.top };
 
-    ghost invariant = { λ s. IsKept (items s.top) s.depth s.whole s.under s.named };
+    ghost invariant = { λ s. IsKept s.top s.depth s.whole s.under s.named };
 
     ghost size = { length };
 
-    ghost size_decreases = { λ s h. Prim.grind (arith) };
-}
-
-impl Drop for TypeStack {
-    fn drop(mut self) {
-        loop {
-            match self.into_rest() {
-                Some(rest) => self = rest,
-                None => return,
-            }
-        }
-    }
-}
-
-/// Whether a place of the stack is the second one of a long, where the place just above it was one or not; none where the
-/// two don't go together.
-fn next_under(under: bool, item: &VType) -> Option<bool>
-    ensures { result ≡ next_under under item.now }
-{
-    match item {
-        VType::Long if under => Some(false),
-        VType::Second if !under => Some(true),
-        VType::Long | VType::Second | VType::Top => None,
-        _ if !under => Some(false),
-        _ => None,
-    }
+    ghost size_decreases = { λ s h. Prim.grind (arith, length-append) };
 }
 
 impl TypeStack {
@@ -92,24 +71,26 @@ impl TypeStack {
     {
         match &self.top {
             Link::Bottom => Ok(TypeStack::new()),
-            Link::Place(item, rest) => TypeStack::over(item.share()?, rest.clone()?),
+            Link::Part(part, rest) => TypeStack::over(part.share()?, rest.clone()?),
         }
     }
 
-    /// A type on top of a stack.
-    fn over(item: SharedType, rest: Rc<TypeStack>) -> Result<Self, AllocError>
-        ensures { IfOk result (λ s. s ≡ item ∷ rest.value) }
+    /// A part on top of a stack.
+    #[tactic(auto, using(crate::proofs::Places::over_under))]
+    fn over(part: TypeTree, rest: Rc<TypeStack>) -> Result<Self, AllocError>
+        requires { 0 < length part }
+        ensures { IfOk result (λ s. s ≡ part ++ rest.value) }
     {
-        let depth = rest.depth.checked_add(1).ok_or(AllocError)?;
-        let whole = rest.may_lie(next_under(false, item.as_type()));
-        let under = rest.may_lie(next_under(true, item.as_type()));
-        let named = is_named(item.as_type()) || rest.named;
+        let depth = part.len().checked_add(rest.depth).ok_or(AllocError)?;
+        let whole = rest.may_lie(part.under_all(false));
+        let under = rest.may_lie(part.under_all(true));
+        let named = part.has_names() || rest.named;
         Ok(TypeStack {
             depth,
             whole,
             under,
             named,
-            top: Link::Place(item, rest),
+            top: Link::Part(part, rest),
         })
     }
 
@@ -117,7 +98,7 @@ impl TypeStack {
     pub fn push(self, alloc: Global, item: SharedType) -> Result<Self, AllocError>
         ensures { IfOk result (λ s. s ≡ item ∷ self) }
     {
-        TypeStack::over(item, Rc::new(alloc, self)?)
+        gathered(alloc, TypeTree::run(item, 1), Rc::new(alloc, self)?)
     }
 
     /// Puts types on top, the topmost first.
@@ -132,20 +113,14 @@ impl TypeStack {
         Ok(stack)
     }
 
-    /// What lies under the topmost place, where nothing else shares it.
-    fn into_rest(self) -> Option<TypeStack>
-        ensures { IfSome result (λ s. length self ≡ length s + 1) }
+    /// Puts a part on top, as it is.
+    pub fn push_part(self, alloc: Global, part: TypeTree) -> Result<Self, AllocError>
+        ensures { IfOk result (λ s. s ≡ part ++ self) }
     {
-        let TypeStack {
-            depth: _,
-            whole: _,
-            under: _,
-            named: _,
-            top,
-        } = self;
-        match top {
-            Link::Bottom => None,
-            Link::Place(_, rest) => Rc::into_inner(rest),
+        if part.len() == 0 {
+            Ok(self)
+        } else {
+            TypeStack::over(part, Rc::new(alloc, self)?)
         }
     }
 
@@ -163,14 +138,15 @@ impl TypeStack {
         self.named
     }
 
-    /// The topmost type and the stack under it, where there is one.
-    pub fn split(&self) -> Option<(&SharedType, &TypeStack)>
+    /// The topmost part, which isn't empty, and the stack under it, where there is one.
+    pub fn split(&self) -> Option<(&TypeTree, &TypeStack)>
         ensures none { IfNone result (self.now ≡ []) }
-        ensures some { IfSome result (λ p. self.now ≡ p.0.now ∷ p.1.now) }
+        ensures some { IfSome result (λ p. self.now ≡ p.0.now ++ p.1.now) }
+        ensures part { IfSome result (λ p. 0 < length p.0.now) }
     {
         match &self.top {
             Link::Bottom => None,
-            Link::Place(item, rest) => Some((item, rest.as_ref())),
+            Link::Part(part, rest) => Some((part, rest.as_ref())),
         }
     }
 
@@ -191,27 +167,53 @@ impl TypeStack {
         }
     }
 
-    /// The stack under so many places.
-    pub fn rest(&self, count: usize) -> &TypeStack
-        ensures { result.now ≡ drop count self.now }
+    /// The stack under so many places. Its parts are shared.
+    #[tactic(auto, using(crate::proofs::Drops::under_part, crate::proofs::Drops::in_part))]
+    pub fn rest(&self, alloc: Global, count: usize) -> Result<Self, AllocError>
+        ensures { IfOk result (λ s. s ≡ drop count self.now) }
     {
-        let mut at = self;
-        for _ in 0..count {
-            match at.split() {
-                Some((_, rest)) => at = rest,
-                None => return at,
+        match &self.top {
+            Link::Bottom => Ok(TypeStack::new()),
+            Link::Part(part, rest) => {
+                if count < part.len() {
+                    behind(alloc, part, count, rest)
+                } else {
+                    rest.rest(alloc, count - part.len())
+                }
             }
         }
-        at
+    }
+
+    /// The type of a place, counted from the top, and the stack under it, where there is such a place.
+    #[tactic(auto, using(crate::proofs::Drops::top_is, crate::proofs::Drops::no_top))]
+    pub fn under(
+        &self,
+        alloc: Global,
+        place: usize,
+    ) -> Result<Option<(SharedType, Self)>, AllocError>
+        ensures none { IfOk result (λ o. IfNone o (drop place self.now ≡ [])) }
+        ensures some { IfOk result (λ o. IfSome o (λ p. drop place self.now ≡ p.0 ∷ p.1)) }
+    {
+        let stack = self.rest(alloc, place)?;
+        match stack.shared_at(0) {
+            Some(item) => Ok(Some((item.share()?, stack.rest(alloc, 1)?))),
+            None => Ok(None),
+        }
     }
 
     /// The type of a place, counted from the top, so that it can be shared.
     pub fn shared_at(&self, place: usize) -> Option<&SharedType>
         ensures { option_copied result ≡ slice_get self.now place }
     {
-        match self.rest(place).split() {
-            Some((item, _)) => Some(item),
-            None => None,
+        match &self.top {
+            Link::Bottom => None,
+            Link::Part(part, rest) => {
+                if place < part.len() {
+                    part.shared_at(place)
+                } else {
+                    rest.shared_at(place - part.len())
+                }
+            }
         }
     }
 
@@ -231,99 +233,54 @@ impl TypeStack {
             None => None,
         }
     }
-}
 
-/// How many of the topmost places of two lists of one length there are above those that are the same.
-fn apart(types: &[SharedType], others: &[SharedType]) -> usize
-    requires { length types.now ≡ length others.now }
-    ensures same { drop result types.now ≡ drop result others.now }
-    ensures some { result ≤ length types.now }
-{
-    let mut count = types.len();
-    while count > 0 && is_same(types[count - 1].as_type(), others[count - 1].as_type()) {
-        count -= 1;
-    }
-    count
-}
-
-/// So many of the topmost types, over what lies in a stack under as many places.
-fn over_rest(
-    alloc: Global,
-    types: Vec<SharedType>,
-    count: usize,
-    stack: &TypeStack,
-) -> Result<TypeStack, AllocError>
-    ensures { IfOk result (λ s. s ≡ take count types.items ++ drop count stack.now) }
-{
-    let mut types = types;
-    types.truncate(count);
-    stack.rest(count).share()?.push_all(alloc, types)
-}
-
-impl TypeStack {
-    /// Puts the types at the end of a list, the topmost first.
+    /// The types one behind another, the topmost first.
     pub fn flat(&self, alloc: Global) -> Result<Vec<SharedType>, AllocError>
         ensures { IfOk result (λ v. v.items ≡ self.now) }
     {
         let mut types = Vec::new(alloc);
         let mut at = self;
-        while let Some((item, rest)) = at.split() {
-            types.push(item.share()?)?;
+        while let Some((part, rest)) = at.split() {
+            part.push_to(&mut types)?;
             at = rest;
         }
         Ok(types)
     }
+}
 
-    /// So many of the topmost types.
-    pub fn top(&self, alloc: Global, count: usize) -> Result<Vec<SharedType>, AllocError>
-        ensures { IfOk result (λ v. v.items ≡ take count self.now) }
-    {
-        let mut types = Vec::new(alloc);
-        let mut at = self;
-        for _ in 0..count {
-            match at.split() {
-                Some((item, rest)) => {
-                    types.push(item.share()?)?;
-                    at = rest;
-                }
-                None => return Ok(types),
-            }
+/// A part on top of a stack, joined with those under it that are as long.
+fn gathered(alloc: Global, part: TypeTree, stack: Rc<TypeStack>) -> Result<TypeStack, AllocError>
+    requires { 0 < length part }
+    ensures { IfOk result (λ s. s ≡ part ++ stack.value) }
+{
+    match &stack.top {
+        Link::Part(first, rest) if first.len() == part.len() => {
+            let both = TypeTree::pair(alloc, part, first.share()?)?;
+            gathered(alloc, both, rest.clone()?)
         }
-        Ok(types)
+        _ => TypeStack::over(part, stack),
     }
+}
 
-    /// A stack of these types. Where places of it lie over the bottom as in another stack, they are shared.
-    #[tactic(auto, using(crate::proofs::Drops::over_same))]
-    fn beside(
-        alloc: Global,
-        types: Vec<SharedType>,
-        stack: &TypeStack,
-        count: usize,
-    ) -> Result<Self, AllocError>
-        requires { drop count types.items ≡ drop count stack.now }
-        ensures { IfOk result (λ s. s ≡ types.items) }
-    {
-        over_rest(alloc, types, count, stack)
+/// The types of a part behind so many of them, over a stack.
+#[tactic(auto, using(crate::proofs::Drops::in_right))]
+fn behind(
+    alloc: Global,
+    part: &TypeTree,
+    count: usize,
+    under: &Rc<TypeStack>,
+) -> Result<TypeStack, AllocError>
+    requires { count < length part.now }
+    ensures { IfOk result (λ s. s ≡ drop count part.now ++ under.now.value) }
+{
+    if count == 0 {
+        return TypeStack::over(part.share()?, under.clone()?);
     }
-
-    /// A stack of these types. Where places of it lie over the bottom as in one of two others, they are shared.
-    pub fn like(
-        alloc: Global,
-        types: Vec<SharedType>,
-        first: &TypeStack,
-        second: &TypeStack,
-    ) -> Result<Self, AllocError>
-        ensures { IfOk result (λ s. s ≡ types.items) }
-    {
-        if types.len() != first.len() || types.len() != second.len() {
-            return TypeStack::new().push_all(alloc, types);
-        }
-        let over_first = apart(types.as_slice(), first.flat(alloc)?.as_slice());
-        let over_second = apart(types.as_slice(), second.flat(alloc)?.as_slice());
-        if over_first <= over_second {
-            TypeStack::beside(alloc, types, first, over_first)
-        } else {
-            TypeStack::beside(alloc, types, second, over_second)
-        }
+    let (left, right) = part.halves()?;
+    if count < left.len() {
+        let under = Rc::new(alloc, TypeStack::over(right, under.clone()?)?)?;
+        behind(alloc, &left, count, &under)
+    } else {
+        behind(alloc, &right, count - left.len(), under)
     }
 }

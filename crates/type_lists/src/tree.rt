@@ -1,9 +1,10 @@
 //! Types of locals (JVM Specification, Java SE 7, section 4.10.1.2), whose copies share the parts that are the same.
-ghost use Rattle.std.specs.Prelude.{◌≡◌, ◌∷◌, ◌++◌, ◌<◌, ◌+◌, ◌/◌, ◌^◌, ◌↔◌, [], IfOk, IfSome, IsTrue, OnOk, drop, length, option_copied, replicate, slice_get, slice_set, take};
+ghost use Rattle.std.specs.Prelude.{◌≡◌, ◌∷◌, ◌++◌, ◌<◌, ◌+◌, ◌/◌, ◌^◌, ◌↔◌, [], IfOk, IfSome, IsTrue, OnOk, drop, length, option_and_then, option_copied, replicate, slice_get, slice_set, take};
 ghost use Rattle.type_lists.specs.Named.{are_named};
 ghost use Rattle.type_lists.specs.Parted.{IsParted};
+ghost use Rattle.type_lists.specs.Stacks.{under_all};
 
-use crate::shared::{SharedType, is_named, is_same, shared_types};
+use crate::shared::{SharedType, is_named, is_same, next_under};
 use jmodel::VType;
 use std::alloc::{AllocError, Global};
 use std::marker::Model;
@@ -16,6 +17,10 @@ pub struct TypeTree {
     len: usize,
     /// Whether one of them has a name.
     named: bool,
+    /// What the place under these is as part of a stack, as `under_all` has it: where the place above them is no second one of a long.
+    plain: Option<bool>,
+    /// The same where it is one.
+    under: Option<bool>,
     node: Node,
 }
 
@@ -38,7 +43,7 @@ impl Model for TypeTree {
 
     ghost view = { λ t. types t.len t.node };
 
-    ghost invariant = { λ t. IsTree t.len t.named t.node };
+    ghost invariant = { λ t. IsTree t.len t.named t.plain t.under t.node };
 
     ghost size = { length };
 
@@ -67,6 +72,18 @@ fn are_all(types: &[SharedType], item: &SharedType) -> bool
     true
 }
 
+/// What the place under so many of one type is in a stack: as `under_all` has it.
+#[tactic(auto, using(crate::proofs::Places::one_under, crate::proofs::Places::same_under, crate::proofs::Places::torn_under, crate::proofs::Places::none_under))]
+fn under_run(under: bool, item: &VType, len: usize) -> Option<bool>
+    requires { 0 < len }
+    ensures { result ≡ under_all under (replicate len item.now) }
+{
+    match next_under(under, item) {
+        Some(next) if len == 1 || next == under => Some(next),
+        _ => None,
+    }
+}
+
 impl TypeTree {
     /// No types. Takes no memory.
     pub fn new() -> Self
@@ -75,6 +92,8 @@ impl TypeTree {
         TypeTree {
             len: 0,
             named: false,
+            plain: Some(false),
+            under: Some(true),
             node: Node::Empty,
         }
     }
@@ -89,6 +108,8 @@ impl TypeTree {
         TypeTree {
             len,
             named: is_named(item.as_type()),
+            plain: under_run(false, item.as_type(), len),
+            under: under_run(true, item.as_type(), len),
             node: Node::Run(item),
         }
     }
@@ -107,7 +128,26 @@ impl TypeTree {
         self.named
     }
 
+    /// Whether the place under these types in a stack is the second one of a long, where the place above them is one or not; none
+    /// where they don't go together.
+    pub fn under_all(&self, under: bool) -> Option<bool>
+        ensures { result ≡ under_all under self.now }
+    {
+        if under { self.under } else { self.plain }
+    }
+
+    /// The same, by what the place above them is, if that fits.
+    fn then_under(&self, above: Option<bool>) -> Option<bool>
+        ensures { result ≡ option_and_then (λ u. under_all u self.now) above }
+    {
+        match above {
+            Some(under) => self.under_all(under),
+            None => None,
+        }
+    }
+
     /// The types of one list, and those of another behind them, which are as many or one more.
+    #[tactic(auto, using(crate::proofs::Places::fork_under))]
     fn fork(left: Rc<TypeTree>, right: Rc<TypeTree>) -> Result<Self, AllocError>
         requires some { 0 < length left.value }
         requires half { length left.value ≡ (length left.value + length right.value) / 2 }
@@ -115,9 +155,13 @@ impl TypeTree {
     {
         let len = left.len.checked_add(right.len).ok_or(AllocError)?;
         let named = left.named || right.named;
+        let plain = right.then_under(left.under_all(false));
+        let under = right.then_under(left.under_all(true));
         Ok(TypeTree {
             len,
             named,
+            plain,
+            under,
             node: Node::Fork(left, right),
         })
     }
@@ -316,7 +360,7 @@ impl TypeTree {
     }
 
     /// Puts the types at the end of others.
-    fn push_to(&self, types: &mut Vec<SharedType>) -> Result<(), AllocError>
+    pub(crate) fn push_to(&self, types: &mut Vec<SharedType>) -> Result<(), AllocError>
         ensures { OnOk result (types.new.items ≡ types.old.items ++ self.now) }
     {
         match &self.node {

@@ -1,8 +1,8 @@
 -- Copies of an object that isn't built, among types.
-use Rattle.std.proofs.Common.{◌≡◌, ℕ, zero, suc, ◌-◌, ◌<◌, ◌≤◌, List, [], ◌∷◌, ◌++◌, Bool, true, false, length, map, take, drop, replicate, refl, sym, ap, ◌∙◌, arith}
-use Rattle.std.proofs.lemmas.List.{map-append, length-map, take-append-drop}
+use Rattle.std.proofs.Common.{◌≡◌, ℕ, zero, suc, ◌<◌, List, [], ◌∷◌, ◌++◌, Bool, true, false, length, map, replicate, refl, sym, ap, ◌∙◌, arith}
+use Rattle.std.proofs.lemmas.List.{map-append}
 use Rattle.std.proofs.lemmas.List.Folds.{list_any-append}
-use Rattle.std.specs.Prelude.{◌||◌, if◌then◌else◌}
+use Rattle.std.specs.Prelude.{◌||◌}
 use Rattle.std.specs.List.{list_any}
 use Rattle.jmodel.specs.declared.typing.VType.{VType}
 use Rattle.objects.specs.typing.Typing.{become, is_uninit}
@@ -49,28 +49,3 @@ module _ (u v : VType) where
 
   pub parts_become : (ts l r : List VType) → ts ≡ l ++ r → map (become u v) l ++ map (become u v) r ≡ map (become u v) ts
   parts_become ts l r e = sym (ap (map (become u v)) e ∙ map-append (become u v) l r)
-
-  -- where no copy is left behind some types
-  pub stack_becomes : (n : ℕ) (ts x y s : List VType) → list_any (is_uninit u) (drop n ts) ≡ false → x ≡ map (become u v) (take n ts) → y ≡ drop n ts → s ≡ x ++ y → s ≡ map (become u v) ts
-  stack_becomes n ts x y s h e f g =
-      let rest : y ≡ map (become u v) (drop n ts) = f ∙ sym (none_become (drop n ts) h) in
-      g ∙ ap (λ (x : List VType). x ++ y) e ∙ ap (λ (y : List VType). map (become u v) (take n ts) ++ y) rest
-      ∙ sym (map-append (become u v) (take n ts) (drop n ts)) ∙ ap (map (become u v)) (take-append-drop n ts)
-
--- a type that is no copy
-pub skips : (u t : VType) (l r : List VType) → l ≡ t ∷ r → is_uninit u t ≡ false → list_any (is_uninit u) l ≡ list_any (is_uninit u) r
-skips u t l r e f = ap (list_any (is_uninit u)) e ∙ ap (λ (b : Bool). b || list_any (is_uninit u) r) f
-
--- one place further down a stack
-pub next_under : (s l r : List VType) (t : VType) → drop (length s - length l) s ≡ l → length l ≤ length s → l ≡ t ∷ r → (drop (length s - length r) s ≡ r) × (length r ≤ length s)
-next_under s l r t e h f =
-    let n : length l ≡ suc (length r) = ap length f in
-    let m : length s - length r ≡ suc (length s - length l) = omega (arith, n, h) in
-    let less : length r ≤ length s = omega (arith, n, h) in
-    (ap (λ (k : ℕ). drop k s) m ∙ behind (length s - length l) s t r (e ∙ f), less)
-  where
-    behind : (k : ℕ) (s : List VType) (t : VType) (r : List VType) → drop k s ≡ t ∷ r → drop (suc k) s ≡ r
-    behind zero [] t r e = cc
-    behind (suc k) [] t r e = cc
-    behind zero (x ∷ s) t r e = cc
-    behind (suc k) (x ∷ s) t r e = behind k s t r e

@@ -1,5 +1,5 @@
 -- Joins of lists half by half.
-use Rattle.std.proofs.Common.{◌≡◌, ℕ, zero, suc, ◌+◌, ◌-◌, ◌/◌, ◌<◌, ◌≤◌, List, [], ◌∷◌, ◌++◌, length, take, drop, replicate, refl, sym, ap, subst, ◌∙◌, arith, length-take, length-drop}
+use Rattle.std.proofs.Common.{◌≡◌, ℕ, zero, suc, ◌+◌, ◌-◌, ◌/◌, List, [], ◌∷◌, ◌++◌, length, take, drop, replicate, refl, sym, ap, ◌∙◌, arith, length-append, length-take, length-drop}
 use Rattle.std.proofs.lemmas.List.{take-append-drop}
 use Rattle.jmodel.specs.declared.typing.VType.{VType}
 use Rattle.objects.specs.semantics.Program.{Program}
@@ -15,6 +15,12 @@ pub record IsDivided (a l r : List VType) : Type 0 where
 
 whole : (a l r : List VType) → IsDivided a l r → l ++ r ≡ a
 whole a l r d = ap (λ (l : List VType). l ++ r) d.left ∙ ap (λ (r : List VType). take (length a / 2) a ++ r) d.right ∙ take-append-drop (length a / 2) a
+
+pub rest_length : (ts us l r m s : List VType) → ts ≡ l ++ r → us ≡ m ++ s → length ts ≡ length us → length l ≡ length m → length r ≡ length s
+rest_length ts us l r m s e f n k =
+    let p : length ts ≡ length l + length r = ap length e ∙ length-append l r in
+    let q : length us ≡ length m + length s = ap length f ∙ length-append m s in
+    omega (arith, n, k, p, q)
 
 module _ (P : Program) where
   join_none : (a : List VType) → join_all P a [] ≡ []
@@ -41,6 +47,18 @@ module _ (P : Program) where
   runs_are a b t u v n e f g =
       let h : b ≡ replicate (length a) u = f ∙ ap (λ (k : ℕ). replicate k u) (sym n) in
       g ∙ sym (ap (λ (a : List VType). join_all P a b) e ∙ ap (join_all P (replicate (length a) t)) h ∙ join_run (length a) t u)
+
+  join_behind : (a b c d : List VType) → length a ≡ length b → join_all P (a ++ c) (b ++ d) ≡ join_all P a b ++ join_all P c d
+  join_behind [] [] c d e = refl
+  join_behind [] (u ∷ b) c d e = cc
+  join_behind (t ∷ a) [] c d e = cc
+  join_behind (t ∷ a) (u ∷ b) c d e = let e' : length a ≡ length b = omega (arith, e) in ap (◌∷◌ (join P t u)) (join_behind a b c d e')
+
+  -- of stacks whose topmost parts are as long
+  pub stack_join : (ts us l r m s x y z : List VType) → ts ≡ l ++ r → us ≡ m ++ s → length l ≡ length m → x ≡ join_all P l m → y ≡ join_all P r s → z ≡ x ++ y → z ≡ join_all P ts us
+  stack_join ts us l r m s x y z e f n g h k =
+      k ∙ ap (λ (x : List VType). x ++ y) g ∙ ap (λ (y : List VType). join_all P l m ++ y) h
+      ∙ sym (ap (λ (ts : List VType). join_all P ts us) e ∙ ap (join_all P (l ++ r)) f ∙ join_behind l m r s n)
 
   -- what the halves come to
   module _ (a b l r m s : List VType) (same : length a ≡ length b) (d : IsDivided a l r) (e : IsDivided b m s) where

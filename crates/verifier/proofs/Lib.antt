@@ -3,6 +3,7 @@ pub mod Depths
 pub mod Joins
 pub mod Orders
 pub mod Parts
+pub mod Placed
 pub mod Lists
 pub mod Under
 pub mod Locals

@@ -111,3 +111,7 @@ module _ (P : Program) where
   -- forks of lists of one length divide at one place
   pub halves_within : (ts us l r m s : List VType) → ts ≡ l ++ r → us ≡ m ++ s → length ts ≡ length us → length l ≡ length ts / 2 → length m ≡ length us / 2 → are_within P ts us ≡ (are_within P l m && are_within P r s)
   halves_within ts us l r m s e f n h g = parts_within ts us l r m s e f (h ∙ ap (λ (n : ℕ). n / 2) n ∙ sym g)
+
+  -- of a stack whose topmost part is within itself
+  pub settled_part : (ts l r : List VType) → ts ≡ l ++ r → are_within P l l ≡ true → are_within P ts ts ≡ are_within P r r
+  settled_part ts l r e f = parts_within ts ts l r l r e e refl ∙ ap (λ (b : Bool). b && are_within P r r) f

@@ -167,7 +167,8 @@ pub fn store_element(
         return Ok(None);
     }
     let count = value.len();
-    match array_under(of, entry.stack().rest(count)) {
+    let under = entry.stack().rest(alloc, count)?;
+    match array_under(of, &under) {
         Some(_) => leaves(alloc, pc, entry, Vec::new(alloc), count + 2),
         None => Ok(None),
     }

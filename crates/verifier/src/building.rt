@@ -38,42 +38,21 @@ fn is_uninit(item: &VType, other: &VType) -> bool
     }
 }
 
-/// Types with another in place of each copy of an object that isn't built.
-fn replaced(
-    alloc: Global,
-    from: &[SharedType],
-    object: &VType,
-    by: &SharedType,
-) -> Result<Vec<SharedType>, AllocError>
-    ensures { IfOk result (λ v. v.items ≡ map (become object.now by.now) from.now) }
-{
-    let mut types = Vec::new(alloc);
-    for item in from {
-        let item = if is_uninit(object, item.as_type()) {
-            by
-        } else {
-            item
-        };
-        types.push(item.share()?)?;
-    }
-    Ok(types)
-}
-
-/// Whether locals have an object that isn't built.
+/// Whether a list has an object that isn't built.
 #[tactic(auto, using(crate::proofs::Copies::has_parts, crate::proofs::Copies::has_run))]
-fn has_local(locals: &TypeTree, object: &VType) -> bool
-    ensures { result ≡ list_any (is_uninit object.now) locals.now }
+fn has_copy(types: &TypeTree, object: &VType) -> bool
+    ensures { result ≡ list_any (is_uninit object.now) types.now }
 {
-    match locals.parts() {
+    match types.parts() {
         Parts::Empty => false,
         Parts::Run(item) => is_uninit(object, item.as_type()),
-        Parts::Fork(left, right) => has_local(left, object) || has_local(right, object),
+        Parts::Fork(left, right) => has_copy(left, object) || has_copy(right, object),
     }
 }
 
-/// Types of locals, with another in place of each copy of an object that isn't built. Parts without a copy are shared.
+/// Types of a list, with another in place of each copy of an object that isn't built. Parts without a copy are shared.
 #[tactic(auto, using(crate::proofs::Copies::none_become, crate::proofs::Copies::run_becomes, crate::proofs::Copies::parts_become))]
-fn replaced_locals(
+fn replaced_list(
     alloc: Global,
     from: &TypeTree,
     object: &VType,
@@ -81,36 +60,22 @@ fn replaced_locals(
 ) -> Result<TypeTree, AllocError>
     ensures { IfOk result (λ l. l ≡ map (become object.now by.now) from.now) }
 {
-    if !has_local(from, object) {
+    if !has_copy(from, object) {
         return from.share();
     }
     match from.parts() {
         Parts::Empty => Ok(TypeTree::new()),
         Parts::Run(_) => Ok(TypeTree::run(by.share()?, from.len())),
         Parts::Fork(left, right) => {
-            let left = replaced_locals(alloc, left, object, by)?;
-            let right = replaced_locals(alloc, right, object, by)?;
+            let left = replaced_list(alloc, left, object, by)?;
+            let right = replaced_list(alloc, right, object, by)?;
             TypeTree::pair(alloc, left, right)
         }
     }
 }
 
-/// How many of the topmost places there are down to the last copy of an object that isn't built.
-fn last_copy(stack: &TypeStack, object: &VType) -> usize
-    ensures { list_any (is_uninit object.now) (drop result stack.now) ≡ false }
-{
-    let mut count = 0;
-    let mut left = stack;
-    while let Some((item, under)) = left.split() {
-        if is_uninit(object, item.as_type()) {
-            count = stack.len() - under.len();
-        }
-        left = under;
-    }
-    count
-}
-
-/// Types of a stack, with another in place of each copy of an object that isn't built. What lies under the last copy is shared.
+/// Types of a stack, with another in place of each copy of an object that isn't built. Parts without a copy are shared.
+#[tactic(auto, using(crate::proofs::Copies::parts_become))]
 fn replaced_stack(
     alloc: Global,
     from: &TypeStack,
@@ -119,10 +84,14 @@ fn replaced_stack(
 ) -> Result<TypeStack, AllocError>
     ensures { IfOk result (λ s. s ≡ map (become object.now by.now) from.now) }
 {
-    let count = last_copy(from, object);
-    let top = from.top(alloc, count)?;
-    let types = replaced(alloc, top.as_slice(), object, by)?;
-    from.rest(count).share()?.push_all(alloc, types)
+    match from.split() {
+        Some((part, under)) => {
+            let part = replaced_list(alloc, part, object, by)?;
+            let under = replaced_stack(alloc, under, object, by)?;
+            under.push_part(alloc, part)
+        }
+        None => Ok(TypeStack::new()),
+    }
 }
 
 /// Whether a method is a constructor.
@@ -209,7 +178,7 @@ fn constructed(
         class
     };
     let built = SharedType::new(alloc, class_type(alloc, class)?)?;
-    let locals = replaced_locals(alloc, entry.locals(), object, &built)?;
+    let locals = replaced_list(alloc, entry.locals(), object, &built)?;
     let stack = replaced_stack(alloc, under, object, &built)?;
     Ok(TypeEntry::new(locals, stack, this || entry.built()))
 }
@@ -225,14 +194,14 @@ fn constructs(
     requires { site.now.pc + 1 < 2 ^ 64 }
     ensures { IfOk result (λ o. flow_of o ≡ on_top (drop places entry.now.stack) (λ t s. constructs site.now.program.now site.now.method.now site.now.pc class.now entry.now t s)) }
 {
-    let Some((object, under)) = entry.stack().rest(places).split() else {
+    let Some((object, under)) = entry.stack().under(alloc, places)? else {
         return Ok(None);
     };
     let object = object.as_type();
     if !may_construct(alloc, site, class, object)? {
         return Ok(None);
     }
-    let left = constructed(alloc, site.method, class, entry, object, under)?;
+    let left = constructed(alloc, site.method, class, entry, object, &under)?;
     let to = next(alloc, site.pc)?;
     Ok(Some(Led { to, left }))
 }
@@ -265,19 +234,14 @@ pub fn invoke_constructor(
 }
 
 /// Whether so many of the topmost places have strings.
+#[tactic(auto, using(crate::proofs::Texts::no_place_left))]
 fn are_texts(program: &Program, count: usize, stack: &TypeStack) -> bool
     ensures { result ≡ are_taken program.now (replicate count (type.Ref string_class)) stack.now }
 {
-    let mut left = stack;
-    for _ in 0..count {
-        match left.split() {
-            Some((item, under)) => {
-                if !is_below(program, item.as_type(), string_class()) {
-                    return false;
-                }
-                left = under;
-            }
-            None => return false,
+    for place in 0..count {
+        match stack.get(place) {
+            Some(item) if is_below(program, item, string_class()) => {}
+            _ => return false,
         }
     }
     true
@@ -306,8 +270,8 @@ fn has_object(stack: &TypeStack, object: &VType) -> bool
     ensures { result ≡ list_any (is_uninit object.now) stack.now }
 {
     let mut left = stack;
-    while let Some((item, under)) = left.split() {
-        if is_uninit(object, item.as_type()) {
+    while let Some((part, under)) = left.split() {
+        if has_copy(part, object) {
             return true;
         }
         left = under;
@@ -331,7 +295,7 @@ fn made_entry(alloc: Global, entry: &TypeEntry, object: VType) -> Result<TypeEnt
     ensures { IfOk result (λ h. h ≡ record entry.now { locals = map (become object type.Top) entry.now.locals; stack = object ∷ entry.now.stack }) }
 {
     let top = SharedType::new(alloc, VType::Top)?;
-    let locals = replaced_locals(alloc, entry.locals(), &object, &top)?;
+    let locals = replaced_list(alloc, entry.locals(), &object, &top)?;
     let made = SharedType::new(alloc, object)?;
     let stack = entry.stack().share()?.push(alloc, made)?;
     Ok(TypeEntry::new(locals, stack, entry.built()))

@@ -42,12 +42,12 @@ fn hash_type(of: u64, item: &VType) -> u64 {
     }
 }
 
-/// A hash of some types and those of locals, run by run.
-fn hash_locals(of: u64, types: &TypeTree) -> u64 {
+/// A hash of some types and those of a list, run by run.
+fn hash_list(of: u64, types: &TypeTree) -> u64 {
     match types.parts() {
         Parts::Empty => of,
         Parts::Run(item) => hash_type(hash(of, types.len() as u64), item.as_type()),
-        Parts::Fork(left, right) => hash_locals(hash_locals(of, left), right),
+        Parts::Fork(left, right) => hash_list(hash_list(of, left), right),
     }
 }
 
@@ -55,8 +55,8 @@ fn hash_locals(of: u64, types: &TypeTree) -> u64 {
 fn hash_stack(of: u64, types: &TypeStack) -> u64 {
     let mut of = of;
     let mut left = types;
-    while let Some((item, under)) = left.split() {
-        of = hash_type(of, item.as_type());
+    while let Some((part, under)) = left.split() {
+        of = hash_list(of, part);
         left = under;
     }
     of
@@ -64,12 +64,12 @@ fn hash_stack(of: u64, types: &TypeStack) -> u64 {
 
 /// The key by which types are kept.
 fn key(types: &TypeEntry) -> u64 {
-    let of = hash_locals(0xcbf2_9ce4_8422_2325, types.locals());
+    let of = hash_list(0xcbf2_9ce4_8422_2325, types.locals());
     hash(hash_stack(of, types.stack()), u64::from(types.built()))
 }
 
-/// Whether two lists of locals have the same types.
-fn are_same_locals(a: &TypeTree, b: &TypeTree) -> bool
+/// Whether two lists have the same types.
+fn are_same_lists(a: &TypeTree, b: &TypeTree) -> bool
     ensures { IsTrue result → (a.now ≡ b.now) }
 {
     if a.len() != b.len() {
@@ -79,7 +79,7 @@ fn are_same_locals(a: &TypeTree, b: &TypeTree) -> bool
         (Parts::Empty, Parts::Empty) => true,
         (Parts::Run(first), Parts::Run(second)) => is_same(first.as_type(), second.as_type()),
         (Parts::Fork(left, right), Parts::Fork(second_left, second_right)) => {
-            are_same_locals(left, second_left) && are_same_locals(right, second_right)
+            are_same_lists(left, second_left) && are_same_lists(right, second_right)
         }
         _ => false,
     }
@@ -94,8 +94,8 @@ fn are_same_stacks(a: &TypeStack, b: &TypeStack) -> bool
     loop {
         match (a.split(), b.split()) {
             (None, None) => return true,
-            (Some((item, under)), Some((other, under_other))) => {
-                if !is_same(item.as_type(), other.as_type()) {
+            (Some((part, under)), Some((other, under_other))) => {
+                if !are_same_lists(part, other) {
                     return false;
                 }
                 a = under;
@@ -111,7 +111,7 @@ fn are_same(a: &TypeEntry, b: &TypeEntry) -> bool
     ensures { IsTrue result → (a.now ≡ b.now) }
 {
     a.built() == b.built()
-        && are_same_locals(a.locals(), b.locals())
+        && are_same_lists(a.locals(), b.locals())
         && are_same_stacks(a.stack(), b.stack())
 }
 

@@ -31,16 +31,10 @@ impl Model for Led {
 pub fn are_taken(program: &Program, wants: &[VType], stack: &TypeStack) -> bool
     ensures { result ≡ are_taken program.now wants.now stack.now }
 {
-    let mut left = stack;
-    for want in wants {
-        match left.split() {
-            Some((item, under)) => {
-                if !is_within(program, item.as_type(), want) {
-                    return false;
-                }
-                left = under;
-            }
-            None => return false,
+    for (place, want) in wants.iter().enumerate() {
+        match stack.get(place) {
+            Some(item) if is_within(program, item, want) => {}
+            _ => return false,
         }
     }
     true
@@ -55,7 +49,7 @@ fn over(
 ) -> Result<TypeEntry, AllocError>
     ensures { IfOk result (λ h. h ≡ with_stack entry.now (types.items ++ drop takes entry.now.stack)) }
 {
-    let stack = entry.stack().rest(takes).share()?.push_all(alloc, types)?;
+    let stack = entry.stack().rest(alloc, takes)?.push_all(alloc, types)?;
     Ok(TypeEntry::new(entry.locals().share()?, stack, entry.built()))
 }
 

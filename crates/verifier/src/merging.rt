@@ -407,8 +407,8 @@ fn join_parts(
     }
 }
 
-/// The narrowest types above those of as many locals. Parts that are the same as one's are shared.
-fn joined_locals(
+/// The narrowest types above those of two lists of one length. Parts that are the same as one's are shared.
+fn joined_list(
     alloc: Global,
     program: &Program,
     a: &TypeTree,
@@ -421,7 +421,9 @@ fn joined_locals(
     Ok(above_of(above, a.share()?, b.share()?))
 }
 
-/// The narrowest types above those of two stacks of one height. What lies under the last difference from one is shared.
+/// The narrowest types above those of two stacks of one height: part by part, as far as their parts are as long. Parts that
+/// are the same as one's are shared.
+#[tactic(auto, using(crate::proofs::Halves::stack_join, crate::proofs::Halves::rest_length))]
 fn joined_stack(
     alloc: Global,
     program: &Program,
@@ -431,9 +433,18 @@ fn joined_stack(
     requires { length a.now ≡ length b.now }
     ensures { IfOk result (λ s. s ≡ join_all program.now a.now b.now) }
 {
-    let (first, second) = (a.flat(alloc)?, b.flat(alloc)?);
-    let types = join_all(alloc, program, first.as_slice(), second.as_slice())?;
-    TypeStack::like(alloc, types, b, a)
+    match (a.split(), b.split()) {
+        (Some((part, under)), Some((other, under_other))) if part.len() == other.len() => {
+            let part = joined_list(alloc, program, part, other)?;
+            let under = joined_stack(alloc, program, under, under_other)?;
+            under.push_part(alloc, part)
+        }
+        _ => {
+            let (first, second) = (a.flat(alloc)?, b.flat(alloc)?);
+            let types = join_all(alloc, program, first.as_slice(), second.as_slice())?;
+            TypeStack::new().push_all(alloc, types)
+        }
+    }
 }
 
 /// The narrowest types above two of as many places.
@@ -447,7 +458,7 @@ pub fn joined(
     requires stack { length a.now.stack ≡ length b.now.stack }
     ensures { IfOk result (λ h. h ≡ joined program.now a.now b.now) }
 {
-    let locals = joined_locals(alloc, program, a.locals(), b.locals())?;
+    let locals = joined_list(alloc, program, a.locals(), b.locals())?;
     let stack = joined_stack(alloc, program, a.stack(), b.stack())?;
     Ok(TypeEntry::new(locals, stack, a.built() && b.built()))
 }
@@ -467,21 +478,15 @@ fn are_settled(program: &Program, types: &TypeTree) -> bool
 }
 
 /// Whether each type of a stack is within itself, and so the narrowest above it.
+#[tactic(auto, using(crate::proofs::Runs::settled_part))]
 fn is_settled(program: &Program, stack: &TypeStack) -> bool
     ensures { IsTrue result → are_within program.now stack.now stack.now ≡ true }
 {
-    let top = VType::Top;
-    let mut known = &top;
     let mut left = stack;
-    while let Some((item, under)) = left.split() {
-        if !left.has_names() {
-            return true;
-        }
-        let item = item.as_type();
-        if !is_same(item, known) && !is_within(program, item, item) {
+    while let Some((part, under)) = left.split() {
+        if !are_settled(program, part) {
             return false;
         }
-        known = item;
         left = under;
     }
     true

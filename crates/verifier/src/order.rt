@@ -39,27 +39,6 @@ pub fn is_below(program: &Program, narrow: &VType, class: &[u8]) -> bool
     }
 }
 
-/// Whether each type of a stack is within the one at its place of another.
-fn is_stack_within(program: &Program, narrow: &TypeStack, wide: &TypeStack) -> bool
-    ensures { result ≡ are_within program.now narrow.now wide.now }
-{
-    let mut narrow = narrow;
-    let mut wide = wide;
-    loop {
-        match (narrow.split(), wide.split()) {
-            (None, None) => return true,
-            (Some((item, left)), Some((wider, left_wide))) => {
-                if !is_within(program, item.as_type(), wider.as_type()) {
-                    return false;
-                }
-                narrow = left;
-                wide = left_wide;
-            }
-            _ => return false,
-        }
-    }
-}
-
 /// Whether each type of a list is within one. Top is above all of them.
 #[tactic(auto, using(crate::proofs::Runs::within_run, crate::proofs::Runs::under_parts, crate::proofs::Runs::under_top))]
 fn are_under(program: &Program, narrow: &TypeTree, wide: &VType) -> bool
@@ -91,9 +70,9 @@ fn are_over(program: &Program, narrow: &VType, wide: &TypeTree) -> bool
     }
 }
 
-/// Whether each local's type is within the one at its place of another list.
+/// Whether each type of a list is within the one at its place of another.
 #[tactic(auto, using(crate::proofs::Runs::none_within, crate::proofs::Runs::in_none, crate::proofs::Lists::unlike))]
-fn are_locals_within(program: &Program, narrow: &TypeTree, wide: &TypeTree) -> bool
+fn are_lists_within(program: &Program, narrow: &TypeTree, wide: &TypeTree) -> bool
     ensures { result ≡ are_within program.now narrow.now wide.now }
 {
     if narrow.len() != wide.len() {
@@ -105,9 +84,38 @@ fn are_locals_within(program: &Program, narrow: &TypeTree, wide: &TypeTree) -> b
         (Parts::Run(item), _) => are_over(program, item.as_type(), wide),
         (_, Parts::Run(item)) => are_under(program, narrow, item.as_type()),
         (Parts::Fork(left, right), Parts::Fork(left_wide, right_wide)) => {
-            are_locals_within(program, left, left_wide)
-                && are_locals_within(program, right, right_wide)
+            are_lists_within(program, left, left_wide)
+                && are_lists_within(program, right, right_wide)
         }
+    }
+}
+
+/// The same of two stacks, place by place.
+#[tactic(auto, using(crate::proofs::Placed::within_step, crate::proofs::Placed::not_within, crate::proofs::Placed::no_narrow, crate::proofs::Placed::no_wide, crate::proofs::Placed::past_all, crate::proofs::Lists::unlike))]
+fn are_places_within(program: &Program, narrow: &TypeStack, wide: &TypeStack) -> bool
+    ensures { result ≡ are_within program.now narrow.now wide.now }
+{
+    if narrow.len() != wide.len() {
+        return false;
+    }
+    for place in 0..narrow.len() {
+        match (narrow.get(place), wide.get(place)) {
+            (Some(item), Some(wider)) if is_within(program, item, wider) => {}
+            _ => return false,
+        }
+    }
+    true
+}
+
+/// The same of two stacks: part by part, as far as their parts are as long.
+fn is_stack_within(program: &Program, narrow: &TypeStack, wide: &TypeStack) -> bool
+    ensures { result ≡ are_within program.now narrow.now wide.now }
+{
+    match (narrow.split(), wide.split()) {
+        (Some((part, under)), Some((wider, under_wider))) if part.len() == wider.len() => {
+            are_lists_within(program, part, wider) && is_stack_within(program, under, under_wider)
+        }
+        _ => are_places_within(program, narrow, wide),
     }
 }
 
@@ -115,7 +123,7 @@ fn are_locals_within(program: &Program, narrow: &TypeTree, wide: &TypeTree) -> b
 pub fn fits_in(program: &Program, narrow: &TypeEntry, wide: &TypeEntry) -> bool
     ensures { result ≡ fits_in program.now narrow.now wide.now }
 {
-    are_locals_within(program, narrow.locals(), wide.locals())
+    are_lists_within(program, narrow.locals(), wide.locals())
         && is_stack_within(program, narrow.stack(), wide.stack())
         && (!wide.built() || narrow.built())
 }

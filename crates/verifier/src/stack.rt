@@ -41,24 +41,24 @@ pub fn has_long(stack: &TypeStack) -> bool
 }
 
 /// Whether a long, or two values of one place, are on top.
-fn has_two(stack: &TypeStack) -> bool
-    ensures { result ≡ has_two stack.now }
+fn has_two(alloc: Global, stack: &TypeStack) -> Result<bool, AllocError>
+    ensures { IfOk result (λ b. b ≡ has_two stack.now) }
 {
-    has_long(stack) || has_one(stack) && has_one(stack.rest(1))
+    Ok(has_long(stack) || has_one(stack) && has_one(&stack.rest(alloc, 1)?))
 }
 
 /// Whether a stack has what is rearranged.
-fn is_arranged(op: StackOp, stack: &TypeStack) -> bool
-    ensures { result ≡ is_arranged op stack.now }
+fn is_arranged(alloc: Global, op: StackOp, stack: &TypeStack) -> Result<bool, AllocError>
+    ensures { IfOk result (λ b. b ≡ is_arranged op stack.now) }
 {
     match op {
-        StackOp::Nop => true,
-        StackOp::Pop | StackOp::Dup => has_one(stack),
-        StackOp::Pop2 | StackOp::Dup2 => has_two(stack),
-        StackOp::DupX1 | StackOp::Swap => has_one(stack) && has_one(stack.rest(1)),
-        StackOp::DupX2 => has_one(stack) && has_two(stack.rest(1)),
-        StackOp::Dup2X1 => has_two(stack) && has_one(stack.rest(2)),
-        StackOp::Dup2X2 => has_two(stack) && has_two(stack.rest(2)),
+        StackOp::Nop => Ok(true),
+        StackOp::Pop | StackOp::Dup => Ok(has_one(stack)),
+        StackOp::Pop2 | StackOp::Dup2 => has_two(alloc, stack),
+        StackOp::DupX1 | StackOp::Swap => { Ok(has_one(stack) && has_one(&stack.rest(alloc, 1)?)) }
+        StackOp::DupX2 => Ok(has_one(stack) && has_two(alloc, &stack.rest(alloc, 1)?)?),
+        StackOp::Dup2X1 => Ok(has_two(alloc, stack)? && has_one(&stack.rest(alloc, 2)?)),
+        StackOp::Dup2X2 => Ok(has_two(alloc, stack)? && has_two(alloc, &stack.rest(alloc, 2)?)?),
     }
 }
 
@@ -123,7 +123,7 @@ pub fn rearranged(
     requires { pc + 1 < 2 ^ 64 }
     ensures { IfOk result (λ o. flow_of o ≡ rearranged op pc entry.now) }
 {
-    if !is_arranged(op, entry.stack()) {
+    if !is_arranged(alloc, op, entry.stack())? {
         return Ok(None);
     }
     let types = picked(alloc, entry.stack(), arrangement(op))?;

@@ -51,7 +51,7 @@ fn set_local(
     }
     let freed = free(alloc, entry.locals(), local)?;
     let locals = freed.set(alloc, local, item)?;
-    let stack = entry.stack().rest(1).share()?;
+    let stack = entry.stack().rest(alloc, 1)?;
     let to = next(alloc, pc)?;
     let left = TypeEntry::new(locals, stack, entry.built());
     Ok(Some(Led { to, left }))
@@ -83,7 +83,7 @@ fn set_long(
         return Ok(None);
     }
     let locals = long_set(alloc, entry.locals(), local)?;
-    let stack = entry.stack().rest(2).share()?;
+    let stack = entry.stack().rest(alloc, 2)?;
     let to = next(alloc, pc)?;
     let left = TypeEntry::new(locals, stack, entry.built());
     Ok(Some(Led { to, left }))
@@ -120,8 +120,8 @@ fn store_reference(
     requires { pc + 1 < 2 ^ 64 }
     ensures { IfOk result (λ o. flow_of o ≡ stores program.now sort.Reference local pc entry.now) }
 {
-    match entry.stack().split() {
-        Some((item, _)) if is_reference(item.as_type()) => {
+    match entry.stack().shared_at(0) {
+        Some(item) if is_reference(item.as_type()) => {
             set_local(alloc, pc, entry, local, item.share()?)
         }
         _ => Ok(None),

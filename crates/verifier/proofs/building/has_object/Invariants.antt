@@ -3,8 +3,8 @@ use Rattle.std.specs.List.{list_any}
 use Rattle.objects.specs.typing.Typing.{is_uninit}
 use Rattle.verifier.proofs.building.has_object.Given as goal
 
-abbrev pub invariant-loop-item : goal.invariant-loop-item
-invariant-loop-item l = list_any (is_uninit l.object) l.stack ≡ list_any (is_uninit l.object) l.left
+abbrev pub invariant-loop-part : goal.invariant-loop-part
+invariant-loop-part l = list_any (is_uninit l.object) l.stack ≡ list_any (is_uninit l.object) l.left
 
-abbrev pub decreases-loop-item : goal.decreases-loop-item
-decreases-loop-item l = length l.left
+abbrev pub decreases-loop-part : goal.decreases-loop-part
+decreases-loop-part l = length l.left

@@ -1,5 +1,5 @@
 use Rattle.std.proofs.Common.{length}
 use Rattle.verifier.proofs.kept.hash_stack.Given as goal
 
-abbrev pub decreases-loop-item : goal.decreases-loop-item
-decreases-loop-item l = length l.left
+abbrev pub decreases-loop-part : goal.decreases-loop-part
+decreases-loop-part l = length l.left
