@@ -17,6 +17,8 @@ use Rattle.machine.specs.declared.plain.Outcome.{Outcome}
 use Rattle.machine.specs.declared.plain.Outcome.TheVariants as outcome
 use Rattle.machine.specs.declared.plain.Over.{Over}
 use Rattle.machine.specs.declared.plain.Over.TheVariants as over
+use Rattle.machine.specs.declared.plain.OverTwo.{OverTwo}
+use Rattle.machine.specs.declared.plain.OverTwo.TheVariants as over_two
 use Rattle.machine.specs.Meets.{Meets, IsDone, Flows, IsFlow, FlowsOn, IsOutcome, FlowsOver, IsOver, FlowsOverTwo, IsOverTwo, HasOps, with_int}
 use Rattle.machine.specs.Running.{at, meter, phase_of, Way, Reaches, HasDone, IsStraight, IsGone, IsPlain}
 use Rattle.machine.proofs.Ways.{way_here, way_trans, way_quiet, step_tells, jump_quiet}
@@ -55,10 +57,6 @@ done_of P f g fs o (Err failure.NoMemory) e h = tt
 
 pub done_none : (P : Program) (f : Frame) (fs : Frames) (e : Failure) → e ≡ failure.Wrong → op_at P f.method f.pc ≡ None → IsDone P (Err e) f fs (step P (f ∷ fs))
 done_none P f fs e q h = rw q (step_none P f fs h)
-
--- where there is none, nothing is said of the frame behind it
-pub missing_fails : (P : Program) (f g : Frame) (fs : Frames) (e : Failure) → e ≡ failure.Wrong → op_at P f.method f.pc ≡ None → IsDone P (Err e) g fs (step P (f ∷ fs))
-missing_fails P f g fs e q h = rw q (step_none P f fs h)
 
 pub has_ops : (P : Program) (m : ℕ) (k : Method) → method_at P m ≡ Some k → HasOps P m k.ops
 has_ops P m k e = λ pc. ap (λ (x : Option Method). option_and_then (λ (y : Method). slice_get y.ops pc) x) e
@@ -107,10 +105,12 @@ over_of P f g fs o (Ok (over.Flow w)) top e h = flow_of P f g fs o (Ok w) e h
 over_of P f g fs o (Err x) top e h = done_of P f g fs o (Err x) e h
 
 -- the same before which two ints are held
-pub over_two_of : (P : Program) (f g : Frame) (fs : Frames) (o : Op) (x : Result (Option Outcome) Failure) (y : ℤ) → op_at P f.method f.pc ≡ Some o → FlowsOverTwo x y g f (does P o f) → IsOverTwo P x y g f fs (step P (f ∷ fs))
-over_two_of P f g fs o (Ok (Some w)) y e h = outcome_of P f g fs o (Ok w) e h
-over_two_of P f g fs o (Ok None) y e h = h
-over_two_of P f g fs o (Err x) y e h = done_of P f g fs o (Err x) e h
+pub over_two_of : (P : Program) (f g : Frame) (fs : Frames) (o : Op) (r : Result OverTwo Failure) (x y : ℤ) → op_at P f.method f.pc ≡ Some o → FlowsOverTwo r x y g f (does P o f) → IsOverTwo P r x y g f fs (step P (f ∷ fs))
+over_two_of P f g fs o (Ok (over_two.Int z)) x y e h = step_does P f (with_int z g) fs o Next e h
+over_two_of P f g fs o (Ok (over_two.Third z)) x y e h = step_does P f (with_int z (with_int y (with_int x g))) fs o Next e h
+over_two_of P f g fs o (Ok (over_two.Flow w)) x y e h = flow_of P f g fs o (Ok w) e h
+over_two_of P f g fs o (Ok over_two.Under) x y e h = h
+over_two_of P f g fs o (Err z) x y e h = done_of P f g fs o (Err z) e h
 
 module _ (P : Program) (f g f' : Frame) where
   -- one more instruction of a frame that goes on to the next

@@ -3,6 +3,7 @@ pub mod Comes
 pub mod Ways
 pub mod Finishing
 pub mod Ends
+pub mod Closing
 pub mod Going
 pub mod Knowing
 pub mod Seeing

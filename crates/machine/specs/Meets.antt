@@ -1,5 +1,5 @@
 -- What functions of the machine say of an instruction's meaning.
-use Rattle.std.specs.Prelude.{◌≡◌, ℕ, ℤ, ◌+◌, ◌<◌, ◌^◌, List, [], ◌∷◌, ◌++◌, replicate, Bool, true, false, Result, Ok, Err, Option, Some, None, slice_get}
+use Rattle.std.specs.Prelude.{◌≡◌, ◌⊎◌, ℕ, ℤ, ◌+◌, ◌<◌, ◌^◌, length, List, [], ◌∷◌, ◌++◌, replicate, Bool, true, false, Result, Ok, Err, Option, Some, None, slice_get}
 use Rattle.jmodel.specs.declared.value.Value.{Value}
 use Rattle.objects.specs.declared.op.Slot.{Slot}
 use Rattle.objects.specs.declared.op.Slot.TheVariants.{Empty, Int}
@@ -24,6 +24,8 @@ use Rattle.machine.specs.declared.plain.Outcome.{Outcome}
 use Rattle.machine.specs.declared.plain.Outcome.TheVariants as outcome
 use Rattle.machine.specs.declared.plain.Over.{Over}
 use Rattle.machine.specs.declared.plain.Over.TheVariants as over
+use Rattle.machine.specs.declared.plain.OverTwo.{OverTwo}
+use Rattle.machine.specs.declared.plain.OverTwo.TheVariants as over_two
 
 -- memory may be short at any instruction
 abbrev pub Meets : Result Doing Failure → Frame → Did → Type 0
@@ -56,11 +58,13 @@ FlowsOver (Ok (over.Pair x)) top f g d = d ≡ Does doing.Next (with_int x (with
 FlowsOver (Ok (over.Flow w)) top f g d = Flows (Ok w) f g d
 FlowsOver (Err e) top f g d = Meets (Err e) f d
 
--- the same of an instruction before which two ints are held, of which this one is topmost: where nothing was done, it still is
-abbrev pub FlowsOverTwo : Result (Option Outcome) Failure → ℤ → Frame → Frame → Did → Type 0
-FlowsOverTwo (Ok (Some o)) y f g d = FlowsOn (Ok o) f g d
-FlowsOverTwo (Ok None) y f g d = with_int y f ≡ g
-FlowsOverTwo (Err e) y f g d = Meets (Err e) f d
+-- the same of an instruction before which these two ints are held: where nothing was done, the upper one still is
+abbrev pub FlowsOverTwo : Result OverTwo Failure → ℤ → ℤ → Frame → Frame → Did → Type 0
+FlowsOverTwo (Ok (over_two.Int z)) x y f g d = d ≡ Does doing.Next (with_int z f)
+FlowsOverTwo (Ok (over_two.Third z)) x y f g d = d ≡ Does doing.Next (with_int z (with_int y (with_int x f)))
+FlowsOverTwo (Ok (over_two.Flow w)) x y f g d = Flows (Ok w) f g d
+FlowsOverTwo (Ok over_two.Under) x y f g d = with_int y f ≡ g
+FlowsOverTwo (Err e) x y f g d = Meets (Err e) f d
 
 -- the instructions of a method of the program
 abbrev pub HasOps : Program → ℕ → List Op → Type 0
@@ -156,11 +160,70 @@ IsOver P (Ok (over.Pair i)) top f g fs x = x ≡ on_doing P doing.Next (with_int
 IsOver P (Ok (over.Flow w)) top f g fs x = IsFlow P (Ok w) f g fs x
 IsOver P (Err e) top f g fs x = IsDone P (Err e) f fs x
 
--- the same of an instruction before which two ints are held, of which this one is topmost
-abbrev pub IsOverTwo : Program → Result (Option Outcome) Failure → ℤ → Frame → Frame → Frames → Asked → Type 0
-IsOverTwo P (Ok (Some o)) y f g fs x = IsOutcome P (Ok o) f g fs x
-IsOverTwo P (Ok None) y f g fs x = with_int y f ≡ g
-IsOverTwo P (Err e) y f g fs x = IsDone P (Err e) f fs x
+-- the same of an instruction before which these two ints are held
+abbrev pub IsOverTwo : Program → Result OverTwo Failure → ℤ → ℤ → Frame → Frame → Frames → Asked → Type 0
+IsOverTwo P (Ok (over_two.Int z)) x y f g fs d = d ≡ on_doing P doing.Next (with_int z f) fs
+IsOverTwo P (Ok (over_two.Third z)) x y f g fs d = d ≡ on_doing P doing.Next (with_int z (with_int y (with_int x f))) fs
+IsOverTwo P (Ok (over_two.Flow w)) x y f g fs d = IsFlow P (Ok w) f g fs d
+IsOverTwo P (Ok over_two.Under) x y f g fs d = with_int y f ≡ g
+IsOverTwo P (Err e) x y f g fs d = IsDone P (Err e) f fs d
+
+-- an instruction that never goes on to the one behind it
+abbrev pub NeverGoesOn : Op → Type 0
+NeverGoesOn op.Return = Unit {0}
+NeverGoesOn (op.ReturnValue s) = Unit {0}
+NeverGoesOn op.Throw = Unit {0}
+NeverGoesOn (op.Goto to) = Unit {0}
+NeverGoesOn x = ⊥
+
+-- behind each instruction is another, but for those that never go on
+abbrev pub IsClosed : List Op → Type 0
+IsClosed ops = (pc : ℕ) (o : Op) → slice_get ops pc ≡ Some o → (pc + 1 < length ops) ⊎ NeverGoesOn o
+
+-- what doesn't lead to the next instruction
+abbrev pub StopsFlow : Flow → Type 0
+StopsFlow flow.Next = ⊥
+StopsFlow w = Unit {0}
+
+abbrev pub Stops : Outcome → Type 0
+Stops (outcome.Int x) = ⊥
+Stops (outcome.Flow w) = StopsFlow w
+
+abbrev pub StopsOver : Over → Type 0
+StopsOver (over.Int x) = ⊥
+StopsOver (over.Pair x) = ⊥
+StopsOver (over.Flow w) = StopsFlow w
+
+abbrev pub StopsOverTwo : OverTwo → Type 0
+StopsOverTwo (over_two.Int x) = ⊥
+StopsOverTwo (over_two.Third x) = ⊥
+StopsOverTwo (over_two.Flow w) = StopsFlow w
+StopsOverTwo over_two.Under = Unit {0}
+
+-- the next instruction is one of so many, if it is led to
+abbrev pub HasNext : ℕ → ℕ → Flow → Type 0
+HasNext n pc flow.Next = pc + 1 < n
+HasNext n pc w = Unit {0}
+
+abbrev pub HasNextOn : ℕ → ℕ → Outcome → Type 0
+HasNextOn n pc (outcome.Int x) = pc + 1 < n
+HasNextOn n pc (outcome.Flow w) = HasNext n pc w
+
+abbrev pub HasNextOver : ℕ → ℕ → Over → Type 0
+HasNextOver n pc (over.Int x) = pc + 1 < n
+HasNextOver n pc (over.Pair x) = pc + 1 < n
+HasNextOver n pc (over.Flow w) = HasNext n pc w
+
+abbrev pub HasNextOverTwo : ℕ → ℕ → OverTwo → Type 0
+HasNextOverTwo n pc (over_two.Int x) = pc + 1 < n
+HasNextOverTwo n pc (over_two.Third x) = pc + 1 < n
+HasNextOverTwo n pc (over_two.Flow w) = HasNext n pc w
+HasNextOverTwo n pc over_two.Under = Unit {0}
+
+-- the same behind instructions, where one goes on with an int held
+abbrev pub FlowHasNext : ℕ → ℕ → Outcome → Type 0
+FlowHasNext n pc (outcome.Int x) = Unit {0}
+FlowHasNext n pc (outcome.Flow w) = HasNext n pc w
 
 -- a frame at the start of a method, whose arguments were taken from the slots s and left s'
 abbrev pub IsEntered : ℕ → ℕ → ℕ → List Slot → List Slot → Frame → Result (Unit {0}) Failure → Type 0

@@ -25,6 +25,8 @@ use Rattle.machine.specs.declared.failure.Failure.{Failure}
 use Rattle.machine.specs.declared.failure.Failure.TheVariants as failure
 use Rattle.machine.specs.declared.plain.Flow.{Flow}
 use Rattle.machine.specs.declared.plain.Flow.TheVariants as flow
+use Rattle.machine.specs.declared.plain.Outcome.{Outcome}
+use Rattle.machine.specs.declared.plain.Outcome.TheVariants as outcome
 use Rattle.machine.specs.declared.running.Stage.{Stage}
 use Rattle.machine.specs.declared.running.Stage.TheVariants.{Ready, Open, Doomed}
 use Rattle.machine.specs.declared.running.Todo.{Todo}
@@ -33,7 +35,7 @@ use Rattle.machine.specs.declared.room.Thrown.{Thrown}
 use Rattle.machine.specs.declared.running.Running.{Running}
 use Rattle.machine.specs.declared.machine.End.{End}
 use Rattle.machine.specs.Machine.{IsUnplaced}
-use Rattle.machine.specs.Meets.{IsDone}
+use Rattle.machine.specs.Meets.{IsDone, with_int}
 use Rattle.machine.specs.Telling.{TellsNone}
 use Rattle.tx_core.specs.Engine.{IsAllowed, IsOfWrites, IsSnapshot, LeadsTo}
 use Rattle.machine.specs.declared.make.Fresh.{Fresh}
@@ -230,6 +232,12 @@ IsStraight P f f' (Ok (flow.Jump to)) = HasDone P f f' (Ok (doing.Jump to))
 IsStraight P f f' (Ok (flow.Trap t)) = HasDone P f f' (Ok (doing.Trap t))
 IsStraight P f f' (Ok flow.Other) = Reaches P f f'
 IsStraight P f f' (Err e) = HasDone P f f' (Err e)
+
+-- the same, where an int may be held behind them
+abbrev pub IsStraightOn : Program → Frame → Frame → Result Outcome Failure → Type 0
+IsStraightOn P f f' (Ok (outcome.Int x)) = Reaches P f (with_int x f')
+IsStraightOn P f f' (Ok (outcome.Flow w)) = IsStraight P f f' (Ok w)
+IsStraightOn P f f' (Err e) = IsStraight P f f' (Err e)
 
 -- instructions that ask for nothing but headers, and a turn of the machine behind them
 pub record HasTurned (P : Program) (B : Bounds) (c : Run) (T : List Event → Type 0) (H : Log → Log → Type 0) (a : Running) (result : Result Todo Failure) : Type 0 where

@@ -124,17 +124,32 @@ pub fn compared_longs(x: i64, y: i64) -> i32
     }
 }
 
+/// How two ints may lie to each other, each a bit.
+const LESS: u8 = 1;
+
+const EQUAL: u8 = 2;
+
+const GREATER: u8 = 4;
+
 /// Whether a test holds of two ints, with their signs.
 #[inline(always)]
 pub fn holds(test: Test, x: i32, y: i32) -> bool
     ensures { result ≡ test_holds test x y }
 {
-    match test {
-        Test::Equal => x == y,
-        Test::NotEqual => x != y,
-        Test::Less => x < y,
-        Test::GreaterOrEqual => y <= x,
-        Test::Greater => y < x,
-        Test::LessOrEqual => x <= y,
-    }
+    let order: u8 = if x < y {
+        LESS
+    } else if x == y {
+        EQUAL
+    } else {
+        GREATER
+    };
+    let wanted: u8 = match test {
+        Test::Equal => EQUAL,
+        Test::NotEqual => LESS | GREATER,
+        Test::Less => LESS,
+        Test::GreaterOrEqual => EQUAL | GREATER,
+        Test::Greater => GREATER,
+        Test::LessOrEqual => LESS | EQUAL,
+    };
+    wanted & order != 0
 }

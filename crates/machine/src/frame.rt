@@ -77,6 +77,17 @@ impl Frame {
         Ok(())
     }
 
+    /// Makes room on the stack for so many slots in all.
+    #[inline(always)]
+    pub(crate) fn make_room(&mut self, slots: usize) -> Result<(), AllocError>
+        ensures { self.new ≡ self.old }
+    {
+        if self.stack.is_below(slots) {
+            self.stack.make_room(slots)?;
+        }
+        Ok(())
+    }
+
     /// Becomes the same as another frame, with slots of its own.
     pub fn set_copy(&mut self, from: &Frame) -> Result<(), AllocError>
         ensures { OnOk result (self.new ≡ from.now) }

@@ -1,18 +1,18 @@
 //! Instructions that neither leave their frame nor ask anything of what lies outside it (JVM Specification, Java SE 7, chapter 6). They are small, so
 //! that they may all be inlined where they go on one after another. An int that one of them puts on the stack is
-//! held beside it until an instruction needs it there, and a second one above it until the next instruction. So ints that the next one takes needn't
-//! go through memory.
-ghost use Rattle.std.specs.Prelude.{◌≡◌, ◌∷◌, ◌+◌, ◌<◌, ◌≤◌, ◌^◌, IfOk, Ok, length};
+//! held beside it until an instruction needs it there, and so is a second one above it. So ints that the next instructions take needn't go through
+//! memory. The stack has room for them: room for all slots of a method is made before its instructions go on.
+ghost use Rattle.std.specs.Prelude.{◌≡◌, ◌⊎◌, ◌∷◌, ◌+◌, ◌<◌, ◌≤◌, ◌^◌, IfOk, IfSome, Some, length, slice_get};
 ghost use Rattle.objects.specs.semantics.Program.{Program as JProgram};
-ghost use Rattle.objects.specs.semantics.Step.{Frames, does, leaves, loads, stores, step};
+ghost use Rattle.objects.specs.semantics.Step.{Frame as JFrame, Frames, does, leaves, loads, stores, step, on_doing};
+ghost use Rattle.objects.specs.declared.op.Doing.TheVariants as doing;
 ghost use Rattle.objects.specs.declared.op.Op.TheVariants as op;
 ghost use Rattle.objects.specs.declared.op.Slot.TheVariants as slot;
 ghost use Rattle.objects.specs.declared.op.Sort.TheVariants as sort_of;
 ghost use Rattle.objects.specs.declared.op.Width.TheVariants as width;
-ghost use Rattle.machine.specs.Meets.{Flows, IsOutcome, FlowsOn, FlowsOver, FlowsOverTwo, IsOver, IsOverTwo, HasOps, with_int};
-ghost use Rattle.machine.specs.Running.{IsStraight};
+ghost use Rattle.machine.specs.Meets.{Flows, IsOutcome, FlowsOn, FlowsOver, FlowsOverTwo, IsOver, IsOverTwo, HasOps, with_int, NeverGoesOn, IsClosed, Stops, StopsOver, StopsOverTwo, HasNext, HasNextOn, HasNextOver, HasNextOverTwo, FlowHasNext};
+ghost use Rattle.machine.specs.Running.{IsStraight, IsStraightOn};
 
-use crate::act::op_in;
 use crate::arithmetic::{binary_ints, divided_ints, holds};
 use crate::branches::branched;
 use crate::failure::Failure;
@@ -36,7 +36,7 @@ pub enum Flow {
 /// The same, where an int that belongs on the stack is held beside it.
 #[derive(Clone, Copy, Debug)]
 pub enum Outcome {
-    /// The next instruction, with this int topmost: it is held, and the stack has room for it.
+    /// The next instruction, with this int topmost: it is held.
     Int(i32),
     Flow(Flow),
 }
@@ -46,9 +46,21 @@ pub enum Outcome {
 pub enum Over {
     /// The next instruction, with this int topmost in place of the held one.
     Int(i32),
-    /// The next instruction, with this int above the held one: the stack has room for both.
+    /// The next instruction, with this int above the held one.
     Pair(i32),
     Flow(Flow),
+}
+
+/// The same of an instruction before which two ints are held.
+#[derive(Clone, Copy, Debug)]
+pub enum OverTwo {
+    /// The next instruction, with this int topmost in place of both.
+    Int(i32),
+    /// The next instruction, with this int above both.
+    Third(i32),
+    Flow(Flow),
+    /// Nothing was done, and the lower int is on the stack.
+    Under,
 }
 
 impl Frame {
@@ -79,25 +91,13 @@ impl Frame {
         Ok(Flow::Next)
     }
 
-    /// Holds an int that belongs on the stack, if there is room for it.
-    #[inline(always)]
-    fn hold(&self, x: i32) -> Outcome
-        ensures { FlowsOn (Ok result) self.now self.now (leaves self.now (slot.Int x ∷ self.now.stack)) }
-    {
-        if self.stack.has_room(1) {
-            Outcome::Int(x)
-        } else {
-            Outcome::Flow(Flow::Other)
-        }
-    }
-
     #[inline(always)]
     fn constant(&mut self, value: Value) -> Result<Outcome, Failure>
         ensures does { (P : JProgram) → FlowsOn result self.new self.old (does P (op.Constant value) self.old) }
         ensures place { (self.new.method ≡ self.old.method) × (self.new.pc ≡ self.old.pc) }
     {
         match value {
-            Value::Int(x) => Ok(self.hold(x)),
+            Value::Int(x) => Ok(Outcome::Int(x)),
             Value::Long(x) => Ok(Outcome::Flow(self.put_long(x)?)),
             Value::Ref(object) => Ok(Outcome::Flow(self.put(Slot::Ref(object))?)),
         }
@@ -110,7 +110,7 @@ impl Frame {
         let Some(Slot::Int(x)) = self.locals.get(i) else {
             return Err(Failure::Wrong);
         };
-        Ok(self.hold(x))
+        Ok(Outcome::Int(x))
     }
 
     /// An object or the context.
@@ -191,30 +191,18 @@ impl Frame {
 }
 
 impl Frame {
-    /// Holds an int above the held one, if the stack has room for both. Else it puts that one on the stack.
-    #[inline(always)]
-    fn hold_over(&mut self, top: i32, x: i32) -> Result<Over, Failure>
-        ensures does { FlowsOver result top self.new (with_int top self.old) (leaves self.old (slot.Int x ∷ slot.Int top ∷ self.old.stack)) }
-        ensures place { (self.new.method ≡ self.old.method) × (self.new.pc ≡ self.old.pc) }
-    {
-        if self.stack.has_room_for_two() {
-            return Ok(Over::Pair(x));
-        }
-        self.stack.put(Slot::Int(top))?;
-        Ok(Over::Flow(Flow::Other))
-    }
-
     /// Does one instruction while the topmost int is held, if it is one of those that mostly stand behind an int. Else it puts the int on the stack,
     /// and does nothing.
     #[inline(always)]
     fn plain_over(&mut self, top: i32, op: &Op) -> Result<Over, Failure>
         ensures does { (P : JProgram) → FlowsOver result top self.new (with_int top self.old) (does P op.now (with_int top self.old)) }
+        ensures ends { NeverGoesOn op.now → IfOk result StopsOver }
         ensures place { (self.new.method ≡ self.old.method) × (self.new.pc ≡ self.old.pc) }
     {
         match op {
-            Op::Constant(Value::Int(x)) => self.hold_over(top, *x),
+            Op::Constant(Value::Int(x)) => Ok(Over::Pair(*x)),
             Op::Load(Sort::Int, i) => match self.locals.get(*i) {
-                Some(Slot::Int(x)) => self.hold_over(top, x),
+                Some(Slot::Int(x)) => Ok(Over::Pair(x)),
                 _ => Err(Failure::Wrong),
             },
             Op::Store(Sort::Int, i) => {
@@ -240,22 +228,38 @@ impl Frame {
         }
     }
 
-    /// Does one instruction while the two topmost ints are held, if it is one of those that mostly take both. Else it puts the
+    /// Does one instruction while the two topmost ints are held, if it is one of those that mostly stand behind two. Else it puts the
     /// lower one on the stack, and does nothing: the other one is still held.
     #[inline(always)]
-    fn plain_over_two(&mut self, x: i32, y: i32, op: &Op) -> Result<Option<Outcome>, Failure>
-        ensures does { (P : JProgram) → FlowsOverTwo result y self.new (with_int y (with_int x self.old)) (does P op.now (with_int y (with_int x self.old))) }
+    fn plain_over_two(&mut self, x: i32, y: i32, op: &Op) -> Result<OverTwo, Failure>
+        ensures does { (P : JProgram) → FlowsOverTwo result x y self.new (with_int y (with_int x self.old)) (does P op.now (with_int y (with_int x self.old))) }
+        ensures ends { NeverGoesOn op.now → IfOk result StopsOverTwo }
         ensures place { (self.new.method ≡ self.old.method) × (self.new.pc ≡ self.old.pc) }
     {
         match op {
-            Op::Binary(Width::Int, b) => Ok(Some(Outcome::Int(binary_ints(*b, x, y)))),
-            Op::BranchInts(test, to) => Ok(Some(Outcome::Flow(branched(holds(*test, x, y), *to)))),
+            Op::Binary(Width::Int, b) => Ok(OverTwo::Int(binary_ints(*b, x, y))),
+            Op::BranchInts(test, to) => Ok(OverTwo::Flow(branched(holds(*test, x, y), *to))),
+            Op::Constant(Value::Int(z)) => Ok(OverTwo::Third(*z)),
+            Op::Load(Sort::Int, i) => match self.locals.get(*i) {
+                Some(Slot::Int(z)) => Ok(OverTwo::Third(z)),
+                _ => Err(Failure::Wrong),
+            },
             _ => {
                 self.stack.put(Slot::Int(x))?;
-                Ok(None)
+                Ok(OverTwo::Under)
             }
         }
     }
+}
+
+/// The instruction at a place. In closed code another one is behind it, or it never goes on.
+#[inline(always)]
+fn op_of(ops: &[Op], pc: usize) -> &Op
+    requires within { pc < length ops.now }
+    ensures op { slice_get ops.now pc ≡ Some result.now }
+    ensures behind { IsClosed ops.now → (pc + 1 < length ops.now) ⊎ NeverGoesOn result.now }
+{
+    &ops[pc]
 }
 
 impl Frame {
@@ -263,6 +267,7 @@ impl Frame {
     #[inline(always)]
     pub(crate) fn plain(&mut self, op: &Op) -> Result<Outcome, Failure>
         ensures does { (P : JProgram) → FlowsOn result self.new self.old (does P op.now self.old) }
+        ensures ends { NeverGoesOn op.now → IfOk result Stops }
         ensures place { (self.new.method ≡ self.old.method) × (self.new.pc ≡ self.old.pc) }
     {
         let flow = match op {
@@ -286,51 +291,112 @@ impl Frame {
         Ok(Outcome::Flow(flow))
     }
 
-    /// Does the instruction that the frame stands at, of these of its method. `Wrong` where there is none.
+    /// Does the instruction that the frame stands at, of these of its method.
     #[inline(always)]
     fn plain_in(&mut self, ops: &[Op]) -> Result<Outcome, Failure>
+        requires closed { IsClosed ops.now }
+        requires within { self.old.pc < length ops.now }
         ensures does { (P : JProgram) (fs : Frames) → HasOps P self.old.method ops.now
             → IsOutcome P result self.new self.old fs (step P (self.old ∷ fs)) }
+        ensures inside { IfOk result (HasNextOn (length ops.now) self.old.pc) }
         ensures place { (self.new.method ≡ self.old.method) × (self.new.pc ≡ self.old.pc) }
-        ensures next { IfOk result (λ _. self.new.pc + 1 < 2 ^ 64) }
-        ensures within { IfOk result (λ _. self.new.pc < length ops.now) }
     {
-        let op = op_in(ops, self.pc)?;
+        let op = op_of(ops, self.pc);
         self.plain(op)
     }
 
     /// The same while the topmost int is held.
     #[inline(always)]
     fn plain_over_in(&mut self, top: i32, ops: &[Op]) -> Result<Over, Failure>
+        requires closed { IsClosed ops.now }
+        requires within { self.old.pc < length ops.now }
         ensures does { (P : JProgram) (fs : Frames) → HasOps P self.old.method ops.now
             → IsOver P result top self.new (with_int top self.old) fs (step P (with_int top self.old ∷ fs)) }
+        ensures inside { IfOk result (HasNextOver (length ops.now) self.old.pc) }
         ensures place { (self.new.method ≡ self.old.method) × (self.new.pc ≡ self.old.pc) }
-        ensures next { IfOk result (λ _. self.new.pc + 1 < 2 ^ 64) }
-        ensures within { IfOk result (λ _. self.new.pc < length ops.now) }
     {
-        let op = op_in(ops, self.pc)?;
+        let op = op_of(ops, self.pc);
         self.plain_over(top, op)
     }
 
     /// The same while the two topmost ints are held.
     #[inline(always)]
-    fn plain_over_two_in(&mut self, x: i32, y: i32, ops: &[Op]) -> Result<Option<Outcome>, Failure>
+    fn plain_over_two_in(&mut self, x: i32, y: i32, ops: &[Op]) -> Result<OverTwo, Failure>
+        requires closed { IsClosed ops.now }
+        requires within { self.old.pc < length ops.now }
         ensures does { (P : JProgram) (fs : Frames) → HasOps P self.old.method ops.now
-            → IsOverTwo P result y self.new (with_int y (with_int x self.old)) fs (step P (with_int y (with_int x self.old) ∷ fs)) }
+            → IsOverTwo P result x y self.new (with_int y (with_int x self.old)) fs (step P (with_int y (with_int x self.old) ∷ fs)) }
+        ensures inside { IfOk result (HasNextOverTwo (length ops.now) self.old.pc) }
         ensures place { (self.new.method ≡ self.old.method) × (self.new.pc ≡ self.old.pc) }
-        ensures next { IfOk result (λ _. self.new.pc + 1 < 2 ^ 64) }
     {
-        let op = op_in(ops, self.pc)?;
+        let op = op_of(ops, self.pc);
         self.plain_over_two(x, y, op)
+    }
+
+    /// The int that the instruction at hand makes of the two topmost ones, if it is one that does.
+    #[inline(always)]
+    fn combined_in(&self, x: i32, y: i32, ops: &[Op]) -> Option<i32>
+        requires closed { IsClosed ops.now }
+        requires within { self.now.pc < length ops.now }
+        ensures does { (P : JProgram) (f : JFrame) (fs : Frames) → HasOps P f.method ops.now → f.pc ≡ self.now.pc
+            → IfSome result (λ z. step P (with_int y (with_int x f) ∷ fs) ≡ on_doing P doing.Next (with_int z f) fs) }
+        ensures inside { IfSome result (λ _. self.now.pc + 1 < length ops.now) }
+    {
+        match op_of(ops, self.pc) {
+            Op::Binary(Width::Int, b) => Some(binary_ints(*b, x, y)),
+            _ => None,
+        }
+    }
+
+    /// Does instructions of its method while the two topmost ints are held, up to the first behind which one or none is.
+    #[inline(always)]
+    fn straight_over_two(&mut self, lower: i32, upper: i32, ops: &[Op]) -> Result<Outcome, Failure>
+        requires closed { IsClosed ops.now }
+        requires within { self.old.pc < length ops.now }
+        ensures run { (P : JProgram) → HasOps P self.old.method ops.now → IsStraightOn P (with_int upper (with_int lower self.old)) self.new result }
+        ensures method { self.new.method ≡ self.old.method }
+        ensures onward { self.old.pc ≤ self.new.pc }
+        ensures within { IfOk result (λ _. self.new.pc < length ops.now) }
+        ensures inside { IfOk result (FlowHasNext (length ops.now) self.new.pc) }
+    {
+        let mut x = lower;
+        let mut y = upper;
+        loop {
+            match self.plain_over_two_in(x, y, ops)? {
+                OverTwo::Int(z) => {
+                    self.advance();
+                    return Ok(Outcome::Int(z));
+                }
+                OverTwo::Third(z) => {
+                    self.advance();
+                    match self.combined_in(y, z, ops) {
+                        Some(combined) => {
+                            y = combined;
+                            self.advance();
+                        }
+                        None => {
+                            self.stack.put(Slot::Int(x))?;
+                            x = y;
+                            y = z;
+                        }
+                    }
+                }
+                OverTwo::Flow(flow) => return Ok(Outcome::Flow(flow)),
+                OverTwo::Under => return Ok(Outcome::Int(y)),
+            }
+        }
     }
 
     /// Does instructions of its method while the topmost int is held, up to the first behind which none is.
     #[inline(always)]
     fn straight_over(&mut self, held: i32, ops: &[Op]) -> Result<Flow, Failure>
+        requires closed { IsClosed ops.now }
+        requires within { self.old.pc < length ops.now }
         ensures run { (P : JProgram) → HasOps P self.old.method ops.now → IsStraight P (with_int held self.old) self.new result }
         ensures method { self.new.method ≡ self.old.method }
         ensures onward { self.old.pc ≤ self.new.pc }
-        ensures next { IfOk result (λ _. self.new.pc + 1 < 2 ^ 64) }
+        ensures within { IfOk result (λ _. self.new.pc < length ops.now) }
+        ensures inside { IfOk result (HasNext (length ops.now) self.new.pc) }
     {
         let mut top = held;
         loop {
@@ -341,13 +407,9 @@ impl Frame {
                 }
                 Over::Pair(y) => {
                     self.advance();
-                    match self.plain_over_two_in(top, y, ops)? {
-                        Some(Outcome::Int(x)) => {
-                            top = x;
-                            self.advance();
-                        }
-                        Some(Outcome::Flow(flow)) => return Ok(flow),
-                        None => top = y,
+                    match self.straight_over_two(top, y, ops)? {
+                        Outcome::Int(x) => top = x,
+                        Outcome::Flow(flow) => return Ok(flow),
                     }
                 }
                 Over::Flow(flow) => return Ok(flow),
@@ -358,8 +420,11 @@ impl Frame {
     /// Does instructions of its method up to the first that doesn't go on to the next one.
     #[inline(always)]
     pub(crate) fn straight(&mut self, ops: &[Op]) -> Result<Flow, Failure>
+        requires closed { IsClosed ops.now }
+        requires within { self.old.pc < length ops.now }
         ensures run { (P : JProgram) → HasOps P self.old.method ops.now → IsStraight P self.old self.new result }
         ensures method { self.new.method ≡ self.old.method }
+        ensures within { IfOk result (λ _. self.new.pc < length ops.now) }
         ensures next { IfOk result (λ _. self.new.pc + 1 < 2 ^ 64) }
     {
         loop {

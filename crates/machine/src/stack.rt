@@ -51,6 +51,12 @@ impl Stack {
         self.items.capacity().saturating_sub(self.items.len()) >= slots
     }
 
+    /// Whether it has room for fewer slots than these, those on it included.
+    #[inline(always)]
+    pub(crate) fn is_below(&self, slots: usize) -> bool {
+        self.items.capacity() < slots
+    }
+
     /// Makes room for so many slots more.
     pub(crate) fn make_room(&mut self, slots: usize) -> Result<(), AllocError>
         ensures { self.new ≡ self.old }
@@ -69,12 +75,6 @@ impl Stack {
         } else {
             Err(AllocError)
         }
-    }
-
-    /// Whether there is room for two slots more.
-    #[inline(always)]
-    pub(crate) fn has_room_for_two(&self) -> bool {
-        self.items.len() + 1 < self.items.capacity()
     }
 
     /// Puts a slot on top.
