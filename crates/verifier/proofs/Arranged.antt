@@ -1,18 +1,47 @@
 -- What a rearrangement of the stack does, by the places that it takes and puts.
-use Rattle.std.proofs.Common.{◌≡◌, ℕ, List, [], ◌∷◌, ◌++◌, map, drop, Bool, true, false, refl, ap, ◌∙◌}
-use Rattle.std.specs.Prelude.{◌&&◌}
+use Rattle.std.proofs.Common.{◌≡◌, ℕ, zero, suc, ◌+◌, List, [], ◌∷◌, ◌++◌, map, drop, Option, Some, None, Bool, true, false, refl, sym, ap, ◌∙◌, arith}
+use Rattle.std.proofs.lemmas.List.{drop-drop}
+use Rattle.std.specs.Prelude.{◌&&◌, ◌||◌, slice_get}
 use Rattle.jmodel.specs.declared.typing.VType.{VType}
 use Rattle.jmodel.specs.declared.typing.VType.TheVariants.{Long, Second, Top}
 use Rattle.objects.specs.declared.op.StackOp.{StackOp}
 use Rattle.objects.specs.declared.op.StackOp.TheVariants.{Nop, Pop, Pop2, Dup, DupX1, DupX2, Dup2, Dup2X1, Dup2X2, Swap}
 use Rattle.objects.specs.typing.Typing as typed
 use Rattle.objects.specs.typing.Typing.{Types, Flow, Wrong, if_so, is_one, on_one, on_two}
-use Rattle.verifier.specs.Flows.{type_at, has_one, has_two, is_arranged, arranged_places, arrangement}
+use Rattle.verifier.specs.Flows.{type_at, has_one, has_long, has_two, is_arranged, arranged_places, arrangement}
 
 -- two tests one after the other are both
 pub both_is : (a b : Bool) (f : Flow) → if_so a (if_so b f) ≡ if_so (a && b) f
 both_is true b f = refl
 both_is false b f = refl
+
+-- what a stack has from a place on
+pub one_at : (s : List VType) (n : ℕ) (t : VType) → Some t ≡ slice_get s n → is_one t ≡ has_one (drop n s)
+one_at [] n t e = cc
+one_at (u ∷ s) zero t e = cc
+one_at (u ∷ s) (suc n) t e = one_at s n t e
+
+pub none_at : (s : List VType) (n : ℕ) → None ≡ slice_get s n → has_one (drop n s) ≡ false
+none_at [] zero e = refl
+none_at [] (suc n) e = refl
+none_at (u ∷ s) zero e = cc
+none_at (u ∷ s) (suc n) e = none_at s n e
+
+pub two_at : (s : List VType) (n : ℕ) → has_two (drop n s) ≡ (has_long (drop n s) || (has_one (drop n s) && has_one (drop (n + 1) s)))
+two_at s n = ap (λ (r : List VType). has_long (drop n s) || (has_one (drop n s) && has_one r)) (drop-drop 1 n s)
+
+abbrev pub is_long_in : Option VType → Option VType → Bool
+is_long_in (Some Second) (Some Long) = true
+is_long_in t u = false
+
+pub long_at : (s : List VType) (n : ℕ) → has_long (drop n s) ≡ is_long_in (slice_get s n) (slice_get s (n + 1))
+long_at [] zero = refl
+long_at [] (suc n) = refl
+long_at (Second ∷ []) zero = refl
+long_at (Second ∷ Long ∷ s) zero = refl
+long_at (Second ∷ t ∷ s) zero = refl
+long_at (t ∷ s) zero = refl
+long_at (t ∷ s) (suc n) = let e : suc n + 1 ≡ suc (n + 1) = omega arith in long_at s n ∙ rw e refl
 
 -- a value of one place is taken
 one_is : (s : List VType) (k : VType → List VType → Flow) → on_one s k ≡ if_so (has_one s) (k (type_at s 0) (drop 1 s))
@@ -61,7 +90,7 @@ module _ (pc : ℕ) (h : Types) where
       go (t ∷ u ∷ s) = ap (if_so (has_two (t ∷ u ∷ s))) (two_is s (k t u)) ∙ both_is (has_two (t ∷ u ∷ s)) (has_two s) (k t u (type_at s 0) (type_at s 1) (drop 2 s))
 
   -- a rearrangement puts places of the stack in place of those that it takes
-  pub arranged_is : (r : StackOp) → typed.rearranged r pc h ≡ arranged r h.stack
+  arranged_is : (r : StackOp) → typed.rearranged r pc h ≡ arranged r h.stack
   arranged_is Nop = refl
   arranged_is Pop = one_is h.stack (λ t s. typed.leaves pc h s)
   arranged_is Pop2 = two_is h.stack (λ t u s. typed.leaves pc h s)
@@ -72,3 +101,16 @@ module _ (pc : ℕ) (h : Types) where
   arranged_is Dup2X1 = two_one h.stack (λ t u v s. typed.leaves pc h (t ∷ u ∷ v ∷ t ∷ u ∷ s))
   arranged_is Dup2X2 = two_two h.stack (λ t u v w s. typed.leaves pc h (t ∷ u ∷ v ∷ w ∷ t ∷ u ∷ s))
   arranged_is Swap = one_one h.stack (λ t u s. typed.leaves pc h (u ∷ t ∷ s))
+
+  -- for the code: by what its calls answered
+  pub not_arranged : (r : StackOp) (s : List VType) → s ≡ h.stack → is_arranged r s ≡ false → Wrong ≡ typed.rearranged r pc h
+  not_arranged r s e b =
+      sym (arranged_is r ∙ ap (λ (b : Bool). if_so b (typed.leaves pc h (map (type_at h.stack) (arrangement r) ++ drop (arranged_places r) h.stack))) (ap (is_arranged r) (sym e) ∙ b))
+
+  pub rearranged_by : (r : StackOp) (s t v : List VType) (p : List ℕ) (n : ℕ) → s ≡ h.stack → is_arranged r s ≡ true → t ≡ h.stack → v ≡ map (type_at t) p → p ≡ arrangement r → n ≡ arranged_places r
+      → typed.leaves pc h (v ++ drop n h.stack) ≡ typed.rearranged r pc h
+  rearranged_by r s t v p n e b f g i j =
+      let x : v ≡ map (type_at h.stack) (arrangement r) = g ∙ ap (λ (t : List VType). map (type_at t) p) f ∙ ap (map (type_at h.stack)) i in
+      ap (λ (v : List VType). typed.leaves pc h (v ++ drop n h.stack)) x
+      ∙ ap (λ (n : ℕ). typed.leaves pc h (map (type_at h.stack) (arrangement r) ++ drop n h.stack)) j
+      ∙ sym (arranged_is r ∙ ap (λ (b : Bool). if_so b (typed.leaves pc h (map (type_at h.stack) (arrangement r) ++ drop (arranged_places r) h.stack))) (ap (is_arranged r) (sym e) ∙ b))

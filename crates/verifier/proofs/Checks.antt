@@ -172,8 +172,8 @@ module _ (P : Program) (k : Method) (T : Table) where
       let b = caught P k.catches pc x.locals x.built in
       each_append (each_to tos x) (a ++ b) ∙ ap (λ (t : Bool). test.covers_each P k T (each_to tos x) && t) (each_append a b)
 
-  -- the test of a place, by those of what its instruction leaves
-  module _ (pc : ℕ) (h x : Types) (o : Op) (tos : List ℕ) (i : slice_get k.ops pc ≡ Some o) (f : flow P k pc o h ≡ Leads tos x) where
+  -- the test of what an instruction leaves, by those of its parts
+  module _ (pc : ℕ) (h x : Types) (tos : List ℕ) where
     abbrev goes_test : Bool
     goes_test = test.covers_each P k T (each_to tos x)
 
@@ -183,26 +183,29 @@ module _ (P : Program) (k : Method) (T : Table) where
     abbrev after_test : Bool
     after_test = test.covers_each P k T (caught P k.catches pc x.locals x.built)
 
+    abbrev left_test : Bool
+    left_test = test.keeps_flow P k T pc h (Leads tos x)
+
     -- the tests of what is left, one after another
-    keeps_is : test.keeps P k T pc h ≡ (test.stays P k pc x && (goes_test && (before_test && after_test)))
-    keeps_is = ap (test.keeps_op P k T pc h) i ∙ ap (test.keeps_flow P k T pc h) f ∙ ap (λ (b : Bool). test.stays P k pc x && b) (tests pc h x tos)
+    keeps_is : left_test ≡ (test.stays P k pc x && (goes_test && (before_test && after_test)))
+    keeps_is = ap (λ (b : Bool). test.stays P k pc x && b) (tests pc h x tos)
 
     -- where the first is passed
-    stays_on : test.stays P k pc x ≡ true → test.keeps P k T pc h ≡ (goes_test && (before_test && after_test))
+    stays_on : test.stays P k pc x ≡ true → left_test ≡ (goes_test && (before_test && after_test))
     stays_on s = keeps_is ∙ ap (λ (b : Bool). b && (goes_test && (before_test && after_test))) s
 
     -- where the first two are passed
-    goes_on : test.stays P k pc x ≡ true → goes_test ≡ true → test.keeps P k T pc h ≡ (before_test && after_test)
+    goes_on : test.stays P k pc x ≡ true → goes_test ≡ true → left_test ≡ (before_test && after_test)
     goes_on s g = stays_on s ∙ ap (λ (b : Bool). b && (before_test && after_test)) g
 
-    -- a place fails where one that its instruction goes on to does
-    pub goes_nowhere : test.stays P k pc x ≡ true → goes_test ≡ false → false ≡ test.keeps P k T pc h
+    -- what is left fails where a place that the instruction goes on to does
+    pub goes_nowhere : test.stays P k pc x ≡ true → goes_test ≡ false → false ≡ left_test
     goes_nowhere s g = sym (stays_on s ∙ ap (λ (b : Bool). b && (before_test && after_test)) g)
 
     -- where an entry does, over the locals before it
-    pub falls_before : test.stays P k pc x ≡ true → goes_test ≡ true → before_test ≡ false → false ≡ test.keeps P k T pc h
+    pub falls_before : test.stays P k pc x ≡ true → goes_test ≡ true → before_test ≡ false → false ≡ left_test
     falls_before s g b = sym (goes_on s g ∙ ap (λ (b : Bool). b && after_test) b)
 
     -- else the entries decide, over the locals after it
-    pub is_after : test.stays P k pc x ≡ true → goes_test ≡ true → before_test ≡ true → test.keeps P k T pc h ≡ after_test
+    pub is_after : test.stays P k pc x ≡ true → goes_test ≡ true → before_test ≡ true → left_test ≡ after_test
     is_after s g b = goes_on s g ∙ ap (λ (b : Bool). b && after_test) b

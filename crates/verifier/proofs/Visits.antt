@@ -34,6 +34,13 @@ module _ (P : Program) (k : Method) (pc : ℕ) (s n : State) (b : Bool) where
   pub visit_is : (o : Option Step) → o ≡ step_at P k pc (types_at s.table pc) → FollowsStep P k pc o s n b → IsVisit P k pc s n b
   visit_is o e x = by_types (types_at s.table pc) (subst (λ (o : Option Step). FollowsStep P k pc o s n b) e x)
 
+-- so where the calls that follow it have answered
+pub visited : {E : Type 0} (P : Program) (k : Method) (pc : ℕ) (r : Result Bool E) (x y : Step) (s m n : State) → y ≡ x → m ≡ s → Some x ≡ step_at P k pc (types_at s.table pc)
+    → IfOk r (λ (b : Bool). Flows P (demands P k pc y.before.types y.to y.left.types) m n b) → IfOk r (λ (b : Bool). IsVisit P k pc s n b)
+visited P k pc (Ok b) x y s m n e g h f =
+    visit_is P k pc s n b (Some x) h (subst (λ (m : State). Flows P (demands P k pc x.before.types x.to x.left.types) m n b) g (subst (λ (y : Step). Flows P (demands P k pc y.before.types y.to y.left.types) m n b) e f))
+visited P k pc (Err o) x y s m n e g h f = f
+
 module _ (P : Program) where
   -- where the first of two lists fails, both do
   pub flows_fail : (a ds : Demands) (s n : State) (b : Bool) → b ≡ false → Flows P a s n b → Flows P (a ++ ds) s n b

@@ -51,7 +51,6 @@ fn has_copy(types: &TypeTree, object: &VType) -> bool
 }
 
 /// Types of a list, with another in place of each copy of an object that isn't built. Parts without a copy are shared.
-#[tactic(auto, using(crate::proofs::Copies::none_become, crate::proofs::Copies::run_becomes, crate::proofs::Copies::parts_become))]
 fn replaced_list(
     alloc: Global,
     from: &TypeTree,
@@ -183,6 +182,26 @@ fn constructed(
     Ok(TypeEntry::new(locals, stack, this || entry.built()))
 }
 
+/// Runs a constructor of a class over an object, over what lies under it.
+fn constructs_over(
+    alloc: Global,
+    site: &Site,
+    class: &[u8],
+    entry: &TypeEntry,
+    object: &VType,
+    under: &TypeStack,
+) -> Result<Option<Led>, AllocError>
+    requires { site.now.pc + 1 < 2 ^ 64 }
+    ensures { IfOk result (λ o. flow_of o ≡ constructs site.now.program.now site.now.method.now site.now.pc class.now entry.now object.now under.now) }
+{
+    if !may_construct(alloc, site, class, object)? {
+        return Ok(None);
+    }
+    let to = next(alloc, site.pc)?;
+    let left = constructed(alloc, site.method, class, entry, object, under)?;
+    Ok(Some(Led { to, left }))
+}
+
 /// Runs a constructor of a class over the object under so many places.
 fn constructs(
     alloc: Global,
@@ -194,16 +213,12 @@ fn constructs(
     requires { site.now.pc + 1 < 2 ^ 64 }
     ensures { IfOk result (λ o. flow_of o ≡ on_top (drop places entry.now.stack) (λ t s. constructs site.now.program.now site.now.method.now site.now.pc class.now entry.now t s)) }
 {
-    let Some((object, under)) = entry.stack().under(alloc, places)? else {
-        return Ok(None);
-    };
-    let object = object.as_type();
-    if !may_construct(alloc, site, class, object)? {
-        return Ok(None);
+    match entry.stack().under(alloc, places)? {
+        Some((object, under)) => {
+            constructs_over(alloc, site, class, entry, object.as_type(), &under)
+        }
+        None => Ok(None),
     }
-    let left = constructed(alloc, site.method, class, entry, object, &under)?;
-    let to = next(alloc, site.pc)?;
-    Ok(Some(Led { to, left }))
 }
 
 /// A call of a constructor (JVM Specification, Java SE 7, section 4.10.1.9, invokespecial). It gives nothing.
@@ -318,7 +333,7 @@ pub fn make_new(
     if has_object(entry.stack(), &object) {
         return Ok(None);
     }
-    let left = made_entry(alloc, entry, object)?;
     let to = next(alloc, site.pc)?;
+    let left = made_entry(alloc, entry, object)?;
     Ok(Some(Led { to, left }))
 }

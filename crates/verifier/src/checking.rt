@@ -2,16 +2,19 @@
 ghost use Rattle.std.specs.Prelude.{◌≡◌, ◌+◌, ◌^◌, ◌<◌, ◌↔◌, IfOk, IsTrue, Some, length, slice_get};
 ghost use Rattle.objects.specs.semantics.Program.{Method as JMethod, method_at};
 ghost use Rattle.objects.specs.typing.Typing.{IsTyping, first_types};
-ghost use Rattle.verifier.specs.Check.{covers, covers_each, is_shaped, keeps, keeps_at, stays};
-ghost use Rattle.verifier.specs.Search.{caught, each_to};
+ghost use Rattle.verifier.specs.Check.{covers, covers_each, is_shaped, keeps, keeps_at, keeps_flow};
+ghost use Rattle.verifier.specs.Search.{caught, each_to, thrown};
 
+use crate::building::Site;
 use crate::flow::flow;
 use crate::inference::first_types;
+use crate::led::Led;
 use crate::order::fits_in;
-use crate::search::{are_locals, are_throwable, is_guarded, is_ready, thrown};
+use crate::search::{are_locals, is_guarded, is_ready, stays, thrown};
 use hierarchy::{Method, Program, TypeEntry, Typing};
+use objects::op::Catch;
 use std::alloc::{AllocError, Global};
-use type_lists::{SharedType, is_same};
+use type_lists::{SharedType, TypeStack, TypeTree, is_same};
 
 /// Whether two lists have the same types.
 fn are_same(a: &[SharedType], b: &[SharedType]) -> bool
@@ -28,18 +31,39 @@ fn are_same(a: &[SharedType], b: &[SharedType]) -> bool
     true
 }
 
+/// Whether two lists, in parts, have the same types.
+fn are_same_lists(alloc: Global, a: &TypeTree, b: &TypeTree) -> Result<bool, AllocError>
+    ensures { IfOk result (λ s. IsTrue s ↔ (a.now ≡ b.now)) }
+{
+    let a = a.flat(alloc)?;
+    let b = b.flat(alloc)?;
+    Ok(are_same(a.as_slice(), b.as_slice()))
+}
+
+/// Whether two stacks have the same types.
+fn are_same_stacks(alloc: Global, a: &TypeStack, b: &TypeStack) -> Result<bool, AllocError>
+    ensures { IfOk result (λ s. IsTrue s ↔ (a.now ≡ b.now)) }
+{
+    let a = a.flat(alloc)?;
+    let b = b.flat(alloc)?;
+    Ok(are_same(a.as_slice(), b.as_slice()))
+}
+
+/// Whether two entries are the same.
+fn are_same_entries(alloc: Global, a: &TypeEntry, b: &TypeEntry) -> Result<bool, AllocError>
+    ensures { IfOk result (λ s. IsTrue s ↔ (a.now ≡ b.now)) }
+{
+    let locals = are_same_lists(alloc, a.locals(), b.locals())?;
+    let stack = are_same_stacks(alloc, a.stack(), b.stack())?;
+    Ok(locals && stack && a.built() == b.built())
+}
+
 /// Whether these are the types before the method's first instruction.
 fn is_first(alloc: Global, method: &Method, entry: &TypeEntry) -> Result<bool, AllocError>
     ensures { IfOk result (λ b. IsTrue b ↔ (entry.now ≡ first_types method.now)) }
 {
     let first = first_types(alloc, method)?;
-    let locals = entry.locals().flat(alloc)?;
-    let stack = entry.stack().flat(alloc)?;
-    Ok(
-        are_same(locals.as_slice(), first.locals().flat(alloc)?.as_slice())
-            && are_same(stack.as_slice(), first.stack().flat(alloc)?.as_slice())
-            && entry.built() == first.built(),
-    )
+    are_same_entries(alloc, entry, &first)
 }
 
 /// Whether these are types of a frame of the method.
@@ -82,6 +106,21 @@ fn covers_ways(
     true
 }
 
+/// Whether the place of an exception entry has types that are at least as wide as these locals, with the exception.
+fn covers_thrown(
+    alloc: Global,
+    program: &Program,
+    method: &Method,
+    typing: &Typing,
+    entry: &Catch,
+    over: &TypeEntry,
+) -> Result<bool, AllocError>
+    ensures { IfOk result (λ b. b ≡ covers program.now method.now typing.now entry.now.at (thrown program.now over.now.locals over.now.built entry.now)) }
+{
+    let out = thrown(alloc, program, over, entry)?;
+    Ok(covers(program, method, typing, entry.at, &out))
+}
+
 /// Whether the place of each exception entry that guards a place has types that are at least as wide as these locals, with
 /// the exception.
 fn covers_caught(
@@ -95,30 +134,34 @@ fn covers_caught(
     ensures { IfOk result (λ b. b ≡ covers_each program.now method.now typing.now (caught program.now method.now.catches pc over.now.locals over.now.built)) }
 {
     for entry in method.catches() {
-        if is_guarded(entry, pc) {
-            let out = thrown(alloc, program, over, entry)?;
-            if !covers(program, method, typing, entry.at, &out) {
-                return Ok(false);
-            }
+        if is_guarded(entry, pc) && !covers_thrown(alloc, program, method, typing, entry, over)? {
+            return Ok(false);
         }
     }
     Ok(true)
 }
 
-/// Whether what an instruction leaves stays within the stack, and each entry that guards its place takes exceptions.
-fn stays(
+/// Whether an instruction keeps its rules over these types, by where it goes on and what it leaves there.
+fn keeps_flow(
     alloc: Global,
-    program: &Program,
-    method: &Method,
-    pc: usize,
-    left: &TypeEntry,
+    site: &Site,
+    typing: &Typing,
+    entry: &TypeEntry,
+    led: &Led,
 ) -> Result<bool, AllocError>
-    ensures { IfOk result (λ b. b ≡ stays program.now method.now pc left.now) }
+    ensures { IfOk result (λ b. b ≡ keeps_flow site.now.program.now site.now.method.now typing.now site.now.pc entry.now led.now) }
 {
-    if left.stack().len() > method.max_stack() {
+    let (program, method, pc) = (site.program, site.method, site.pc);
+    if !stays(alloc, program, method, pc, &led.left)? {
         return Ok(false);
     }
-    are_throwable(alloc, program, method.catches(), pc)
+    if !covers_ways(program, method, typing, led.to.as_slice(), &led.left) {
+        return Ok(false);
+    }
+    if !covers_caught(alloc, program, method, typing, pc, entry)? {
+        return Ok(false);
+    }
+    covers_caught(alloc, program, method, typing, pc, &led.left)
 }
 
 /// Whether the instruction of a place keeps its rules over these types.
@@ -136,19 +179,15 @@ fn keeps(
     let Some(op) = method.op(pc) else {
         return Ok(false);
     };
-    let Some(led) = flow(alloc, program, method, pc, op, entry)? else {
-        return Ok(false);
+    let site = Site {
+        program,
+        method,
+        pc,
     };
-    if !stays(alloc, program, method, pc, &led.left)? {
-        return Ok(false);
+    match flow(alloc, program, method, pc, op, entry)? {
+        Some(led) => keeps_flow(alloc, &site, typing, entry, &led),
+        None => Ok(false),
     }
-    if !covers_ways(program, method, typing, led.to.as_slice(), &led.left) {
-        return Ok(false);
-    }
-    if !covers_caught(alloc, program, method, typing, pc, entry)? {
-        return Ok(false);
-    }
-    covers_caught(alloc, program, method, typing, pc, &led.left)
 }
 
 /// Whether a place has no types, or such as its rules allow.

@@ -9,7 +9,7 @@ ghost use Rattle.verifier.specs.Rules.{call_rule, field_rule, only, row_rule, ru
 use crate::led::single;
 use crate::names::{name_read, object_class};
 use crate::order::{class_type, copies, copy, rest};
-use crate::rule::{StackRule, Want, constant, next, number_rule, rule};
+use crate::rule::{StackRule, Want, constant, next, number_rule, rule, want_types};
 use hierarchy::{Declared, Method, Program};
 use jmodel::VType;
 use objects::op::{Op, Sort, WordType};
@@ -19,32 +19,22 @@ use std::alloc::{AllocError, Global};
 pub fn stack_types(alloc: Global, declared: &Declared) -> Result<Vec<VType>, AllocError>
     ensures { IfOk result (λ v. v.items ≡ stack_types declared.now) }
 {
-    let mut types = Vec::new(alloc);
     match declared.word {
-        WordType::Long => {
-            types.push(VType::Second)?;
-            types.push(VType::Long)?;
-        }
-        WordType::Reference => types.push(class_type(alloc, declared.class.as_slice())?)?,
-        _ => types.push(VType::Int)?,
+        WordType::Long => want_types(alloc, &[Want::Second, Want::Long]),
+        WordType::Reference => single(alloc, class_type(alloc, declared.class.as_slice())?),
+        _ => single(alloc, VType::Int),
     }
-    Ok(types)
 }
 
 /// The types of what a method gives, the topmost place first.
 pub fn result_types(alloc: Global, gives: Option<&VType>) -> Result<Vec<VType>, AllocError>
     ensures { IfOk result (λ v. v.items ≡ result_types (option_copied gives.entry)) }
 {
-    let mut types = Vec::new(alloc);
     match gives {
-        Some(VType::Long) => {
-            types.push(VType::Second)?;
-            types.push(VType::Long)?;
-        }
-        Some(item) => types.push(copy(alloc, item)?)?,
-        None => {}
+        Some(VType::Long) => want_types(alloc, &[Want::Second, Want::Long]),
+        Some(item) => single(alloc, copy(alloc, item)?),
+        None => Ok(Vec::new(alloc)),
     }
-    Ok(types)
 }
 
 /// Types the other way round.
@@ -63,6 +53,20 @@ pub fn arguments(called: &Method) -> &[VType]
     rest(called.parameters(), 1)
 }
 
+/// A rule of these types that goes on to the next instruction.
+fn rule_on(
+    alloc: Global,
+    pc: usize,
+    takes: Vec<VType>,
+    leaves: Vec<VType>,
+) -> Result<Option<StackRule>, AllocError>
+    requires { pc + 1 < 2 ^ 64 }
+    ensures { IfOk result (λ r. r ≡ rule takes.items leaves.items (next_place pc)) }
+{
+    let to = next(alloc, pc)?;
+    Ok(Some(StackRule { takes, leaves, to }))
+}
+
 /// The rule of a call of a method.
 pub fn called_rule(
     alloc: Global,
@@ -74,8 +78,7 @@ pub fn called_rule(
 {
     let takes = reversed(alloc, called.parameters())?;
     let leaves = result_types(alloc, called.result())?;
-    let to = next(alloc, pc)?;
-    Ok(Some(StackRule { takes, leaves, to }))
+    rule_on(alloc, pc, takes, leaves)
 }
 
 /// The rule of a call of a method by its number.
@@ -127,10 +130,8 @@ fn get_static_rule(
     if field.base.is_none() {
         return Ok(None);
     }
-    let takes = Vec::new(alloc);
     let leaves = stack_types(alloc, &field.declared)?;
-    let to = next(alloc, pc)?;
-    Ok(Some(StackRule { takes, leaves, to }))
+    rule_on(alloc, pc, Vec::new(alloc), leaves)
 }
 
 /// The rule of a write of a static field.
@@ -150,9 +151,7 @@ fn put_static_rule(
         return Ok(None);
     }
     let takes = stack_types(alloc, &field.declared)?;
-    let leaves = Vec::new(alloc);
-    let to = next(alloc, pc)?;
-    Ok(Some(StackRule { takes, leaves, to }))
+    rule_on(alloc, pc, takes, Vec::new(alloc))
 }
 
 /// The rule of a read of an object's field.
@@ -170,8 +169,7 @@ pub fn get_field_rule(
     };
     let takes = single(alloc, class_type(alloc, field.class.as_slice())?)?;
     let leaves = stack_types(alloc, &field.declared)?;
-    let to = next(alloc, pc)?;
-    Ok(Some(StackRule { takes, leaves, to }))
+    rule_on(alloc, pc, takes, leaves)
 }
 
 /// The rule of a new array.
@@ -189,8 +187,7 @@ fn array_rule(
     };
     let takes = single(alloc, VType::Int)?;
     let leaves = single(alloc, class_type(alloc, row.read().as_slice())?)?;
-    let to = next(alloc, pc)?;
-    Ok(Some(StackRule { takes, leaves, to }))
+    rule_on(alloc, pc, takes, leaves)
 }
 
 /// The rule of a cast.
@@ -205,8 +202,7 @@ fn cast_rule(
 {
     let takes = single(alloc, class_type(alloc, object_class())?)?;
     let leaves = single(alloc, VType::Ref(name_read(alloc, program, class)?))?;
-    let to = next(alloc, pc)?;
-    Ok(Some(StackRule { takes, leaves, to }))
+    rule_on(alloc, pc, takes, leaves)
 }
 
 /// Whether a return of this sort gives what a method gives.

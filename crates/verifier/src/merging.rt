@@ -417,8 +417,11 @@ fn joined_list(
     requires { length a.now ≡ length b.now }
     ensures { IfOk result (λ l. l ≡ join_all program.now a.now b.now) }
 {
-    let above = join_parts(alloc, program, a, b)?;
-    Ok(above_of(above, a.share()?, b.share()?))
+    match join_parts(alloc, program, a, b)? {
+        Above::First => a.share(),
+        Above::Second => b.share(),
+        Above::Own(types) => Ok(types),
+    }
 }
 
 /// The narrowest types above those of two stacks of one height: part by part, as far as their parts are as long. Parts that

@@ -303,7 +303,6 @@ fn push_class(bytes: &mut Vec<u8>, name: &[u8]) -> Result<(), AllocError>
 }
 
 /// An array's descriptor as typing reads it.
-#[tactic(auto, using(crate::proofs::Bytes::read_array, crate::proofs::Bytes::read_class, crate::proofs::Bytes::read_other))]
 fn element_read(alloc: Global, program: &Program, name: &[u8]) -> Result<Bytes, AllocError>
     ensures { IfOk result (λ n. n ≡ element_read program.now name.now) }
 {

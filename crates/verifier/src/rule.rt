@@ -202,24 +202,30 @@ fn exits(alloc: Global, other: usize, cases: &Cases) -> Result<Vec<usize>, Alloc
     Ok(to)
 }
 
+/// The rule of an instruction that takes these types, and may jump.
+fn branch_rule(
+    alloc: Global,
+    pc: usize,
+    takes: &[Want],
+    target: usize,
+) -> Result<Option<StackRule>, AllocError>
+    requires { pc + 1 < 2 ^ 64 }
+    ensures { IfOk result (λ r. r ≡ rule (map want_type takes.now) [] ((pc + 1) ∷ target ∷ [])) }
+{
+    rule(alloc, takes, &[], either(alloc, pc, target)?)
+}
+
 /// The rule of an instruction that jumps, or asks for no more than the types on the stack.
 fn jump_rule(alloc: Global, pc: usize, op: &Op) -> Result<Option<StackRule>, AllocError>
     requires { pc + 1 < 2 ^ 64 }
     ensures { IfOk result (λ r. r ≡ jump_rule pc op.now) }
 {
     match op {
-        Op::Branch(_, to) => rule(alloc, &[Want::Int], &[], either(alloc, pc, *to)?),
-        Op::BranchInts(_, to) => {
-            rule(alloc, &[Want::Int, Want::Int], &[], either(alloc, pc, *to)?)
-        }
-        Op::BranchNull(_, to) => rule(alloc, &[Want::Object], &[], either(alloc, pc, *to)?),
+        Op::Branch(_, to) => branch_rule(alloc, pc, &[Want::Int], *to),
+        Op::BranchInts(_, to) => branch_rule(alloc, pc, &[Want::Int, Want::Int], *to),
+        Op::BranchNull(_, to) => branch_rule(alloc, pc, &[Want::Object], *to),
         Op::BranchReferences(_, to) => {
-            rule(
-                alloc,
-                &[Want::Object, Want::Object],
-                &[],
-                either(alloc, pc, *to)?,
-            )
+            branch_rule(alloc, pc, &[Want::Object, Want::Object], *to)
         }
         Op::Goto(to) => rule(alloc, &[], &[], one(alloc, *to)?),
         Op::Switch { other, cases } => {

@@ -2,6 +2,7 @@
 ghost use Rattle.std.specs.Prelude.{◌≡◌, ℕ, ◌<◌, ◌≤◌, true, false, slice_get, IfOk, IfSome, IfNone, length, option_copied, replicate};
 ghost use Rattle.objects.specs.typing.Typing.{first_types, is_guarded, caught_type, types_at};
 ghost use Rattle.objects.specs.typing.Source.{AreTypes};
+ghost use Rattle.verifier.specs.Check.{stays};
 ghost use Rattle.verifier.specs.Order.{joined};
 ghost use Rattle.verifier.specs.Search.{after_all, are_locals_after, are_throwable, caught, change_of, each_to, Flows, is_alike, is_entered, is_ready, IsPour, IsTaken, merged, next_local, starting, thrown, waits};
 ghost use Rattle.verifier.specs.Settled.{IsMarked};
@@ -238,7 +239,7 @@ fn thrown_over(
 }
 
 /// Whether each entry that guards a place takes exceptions.
-pub fn are_throwable(
+fn are_throwable(
     alloc: Global,
     program: &Program,
     catches: &[Catch],
@@ -255,6 +256,22 @@ pub fn are_throwable(
         }
     }
     Ok(true)
+}
+
+/// Whether what an instruction leaves stays within the stack, and each entry that guards its place takes exceptions.
+pub fn stays(
+    alloc: Global,
+    program: &Program,
+    method: &Method,
+    pc: usize,
+    left: &TypeEntry,
+) -> Result<bool, AllocError>
+    ensures { IfOk result (λ b. b ≡ stays program.now method.now pc left.now) }
+{
+    if left.stack().len() > method.max_stack() {
+        return Ok(false);
+    }
+    are_throwable(alloc, program, method.catches(), pc)
 }
 
 impl Search {
@@ -364,6 +381,22 @@ impl Search {
         Ok(true)
     }
 
+    /// Lets the exceptions of an entry flow, over these locals, to its place. False where that can't take them.
+    fn flow_thrown(
+        &mut self,
+        alloc: Global,
+        program: &Program,
+        entry: &Catch,
+        over: &Outflow,
+    ) -> Result<bool, AllocError>
+        requires types { AreTypes program.now }
+        requires marked { IsMarked program.now over.now }
+        ensures { IfOk result (λ b. IsPour program.now entry.now.at (thrown program.now over.now.types.locals over.now.types.built entry.now) self.old self.new b) }
+    {
+        let out = thrown_over(alloc, program, over, entry)?;
+        self.flow_to(alloc, program, entry.at, &out)
+    }
+
     /// Lets the exceptions of a place flow, over these locals, to the place of each entry that guards it. False where one
     /// can't take them.
     pub fn flow_caught(
@@ -379,11 +412,8 @@ impl Search {
         ensures { IfOk result (λ b. Flows program.now (caught program.now catches.now pc over.now.types.locals over.now.types.built) self.old self.new b) }
     {
         for entry in catches {
-            if is_guarded(entry, pc) {
-                let out = thrown_over(alloc, program, over, entry)?;
-                if !self.flow_to(alloc, program, entry.at, &out)? {
-                    return Ok(false);
-                }
+            if is_guarded(entry, pc) && !self.flow_thrown(alloc, program, entry, over)? {
+                return Ok(false);
             }
         }
         Ok(true)

@@ -1,5 +1,5 @@
 //! What rearranges the operand stack (JVM Specification, Java SE 7, section 4.10.1.9, dup, pop and swap).
-ghost use Rattle.std.specs.Prelude.{◌≡◌, ◌+◌, ◌^◌, ◌<◌, IfOk, map};
+ghost use Rattle.std.specs.Prelude.{◌≡◌, ◌+◌, ◌^◌, ◌<◌, IfOk, drop, map};
 ghost use Rattle.objects.specs.typing.Typing.{is_one, rearranged};
 ghost use Rattle.verifier.specs.Flows.{arranged_places, arrangement, flow_of, has_long, has_one, has_two, is_arranged, type_at};
 
@@ -20,13 +20,26 @@ fn is_one(item: &VType) -> bool
     )
 }
 
-/// Whether a value of one place is on top.
-fn has_one(stack: &TypeStack) -> bool
-    ensures { result ≡ has_one stack.now }
+/// Whether a place, counted from the top, has a value of one place.
+#[tactic(auto, using(crate::proofs::Arranged::one_at, crate::proofs::Arranged::none_at))]
+fn has_one(stack: &TypeStack, place: usize) -> bool
+    ensures { result ≡ has_one (drop place stack.now) }
 {
-    match stack.first() {
+    match stack.get(place) {
         Some(item) => is_one(item),
         None => false,
+    }
+}
+
+/// Whether a long is at a place and the next one.
+#[tactic(auto, using(crate::proofs::Arranged::long_at))]
+fn has_long_at(stack: &TypeStack, place: usize) -> bool
+    requires { place + 1 < 2 ^ 64 }
+    ensures { result ≡ has_long (drop place stack.now) }
+{
+    match stack.get(place) {
+        Some(VType::Second) => matches!(stack.get(place + 1), Some(VType::Long)),
+        _ => false,
     }
 }
 
@@ -34,31 +47,30 @@ fn has_one(stack: &TypeStack) -> bool
 pub fn has_long(stack: &TypeStack) -> bool
     ensures { result ≡ has_long stack.now }
 {
-    match (stack.first(), stack.get(1)) {
-        (Some(VType::Second), Some(VType::Long)) => true,
-        _ => false,
-    }
+    has_long_at(stack, 0)
 }
 
-/// Whether a long, or two values of one place, are on top.
-fn has_two(alloc: Global, stack: &TypeStack) -> Result<bool, AllocError>
-    ensures { IfOk result (λ b. b ≡ has_two stack.now) }
+/// Whether a long, or two values of one place, are at a place and the next one.
+#[tactic(auto, using(crate::proofs::Arranged::two_at))]
+fn has_two(stack: &TypeStack, place: usize) -> bool
+    requires { place + 1 < 2 ^ 64 }
+    ensures { result ≡ has_two (drop place stack.now) }
 {
-    Ok(has_long(stack) || has_one(stack) && has_one(&stack.rest(alloc, 1)?))
+    has_long_at(stack, place) || has_one(stack, place) && has_one(stack, place + 1)
 }
 
 /// Whether a stack has what is rearranged.
-fn is_arranged(alloc: Global, op: StackOp, stack: &TypeStack) -> Result<bool, AllocError>
-    ensures { IfOk result (λ b. b ≡ is_arranged op stack.now) }
+fn is_arranged(op: StackOp, stack: &TypeStack) -> bool
+    ensures { result ≡ is_arranged op stack.now }
 {
     match op {
-        StackOp::Nop => Ok(true),
-        StackOp::Pop | StackOp::Dup => Ok(has_one(stack)),
-        StackOp::Pop2 | StackOp::Dup2 => has_two(alloc, stack),
-        StackOp::DupX1 | StackOp::Swap => { Ok(has_one(stack) && has_one(&stack.rest(alloc, 1)?)) }
-        StackOp::DupX2 => Ok(has_one(stack) && has_two(alloc, &stack.rest(alloc, 1)?)?),
-        StackOp::Dup2X1 => Ok(has_two(alloc, stack)? && has_one(&stack.rest(alloc, 2)?)),
-        StackOp::Dup2X2 => Ok(has_two(alloc, stack)? && has_two(alloc, &stack.rest(alloc, 2)?)?),
+        StackOp::Nop => true,
+        StackOp::Pop | StackOp::Dup => has_one(stack, 0),
+        StackOp::Pop2 | StackOp::Dup2 => has_two(stack, 0),
+        StackOp::DupX1 | StackOp::Swap => has_one(stack, 0) && has_one(stack, 1),
+        StackOp::DupX2 => has_one(stack, 0) && has_two(stack, 1),
+        StackOp::Dup2X1 => has_two(stack, 0) && has_one(stack, 2),
+        StackOp::Dup2X2 => has_two(stack, 0) && has_two(stack, 2),
     }
 }
 
@@ -113,7 +125,6 @@ fn picked(alloc: Global, types: &TypeStack, places: &[usize]) -> Result<Vec<Shar
 }
 
 /// What a rearrangement of the stack does.
-#[tactic(auto, using(crate::proofs::Arranged::arranged_is))]
 pub fn rearranged(
     alloc: Global,
     op: StackOp,
@@ -123,7 +134,7 @@ pub fn rearranged(
     requires { pc + 1 < 2 ^ 64 }
     ensures { IfOk result (λ o. flow_of o ≡ rearranged op pc entry.now) }
 {
-    if !is_arranged(alloc, op, entry.stack())? {
+    if !is_arranged(op, entry.stack()) {
         return Ok(None);
     }
     let types = picked(alloc, entry.stack(), arrangement(op))?;

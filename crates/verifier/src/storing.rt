@@ -1,8 +1,8 @@
 //! What stores do to the types before them.
-ghost use Rattle.std.specs.Prelude.{◌≡◌, ◌+◌, ◌^◌, ◌<◌, IfOk, drop, length, nat_lt, slice_set};
+ghost use Rattle.std.specs.Prelude.{◌≡◌, ◌+◌, ◌^◌, ◌<◌, ◌∷◌, [], IfOk, drop, length, nat_lt, slice_set};
 ghost use Rattle.jmodel.specs.declared.typing.VType.TheVariants as type;
 ghost use Rattle.objects.specs.declared.op.Sort.TheVariants as sort;
-ghost use Rattle.objects.specs.typing.Typing.{freed, set_local, set_long, stores};
+ghost use Rattle.objects.specs.typing.Typing.{Leads, freed, set_local, set_long, stores};
 ghost use Rattle.verifier.specs.Flows.{flow_of};
 
 use crate::led::Led;
@@ -15,11 +15,11 @@ use objects::op::Sort;
 use std::alloc::{AllocError, Global};
 use type_lists::{SharedType, TypeTree};
 
-/// Leaves nothing in a local, if there is one.
-fn clear(alloc: Global, locals: &TypeTree, local: usize) -> Result<TypeTree, AllocError>
-    ensures { IfOk result (λ l. l ≡ slice_set locals.now local type.Top) }
+/// Puts a type into a local, if there is one.
+fn put(alloc: Global, locals: &TypeTree, local: usize, item: VType) -> Result<TypeTree, AllocError>
+    ensures { IfOk result (λ l. l ≡ slice_set locals.now local item) }
 {
-    locals.set(alloc, local, SharedType::new(alloc, VType::Top)?)
+    locals.set(alloc, local, SharedType::new(alloc, item)?)
 }
 
 /// Of a long whose one place is written, the other has nothing left.
@@ -29,10 +29,40 @@ fn free(alloc: Global, locals: &TypeTree, local: usize) -> Result<TypeTree, Allo
 {
     let _ = locals.len();
     match locals.get(local) {
-        Some(VType::Second) => clear(alloc, locals, local.saturating_sub(1)),
-        Some(VType::Long) => clear(alloc, locals, local + 1),
+        Some(VType::Second) => put(alloc, locals, local.saturating_sub(1), VType::Top),
+        Some(VType::Long) => put(alloc, locals, local + 1, VType::Top),
         _ => locals.share(),
     }
+}
+
+/// On to the next instruction with these locals, and without so many of the topmost places.
+fn with_locals(
+    alloc: Global,
+    pc: usize,
+    entry: &TypeEntry,
+    locals: TypeTree,
+    takes: usize,
+) -> Result<Option<Led>, AllocError>
+    requires { pc + 1 < 2 ^ 64 }
+    ensures { IfOk result (λ o. flow_of o ≡ Leads ((pc + 1) ∷ []) (record entry.now { locals = locals; stack = drop takes entry.now.stack })) }
+{
+    let stack = entry.stack().rest(alloc, takes)?;
+    let to = next(alloc, pc)?;
+    let left = TypeEntry::new(locals, stack, entry.built());
+    Ok(Some(Led { to, left }))
+}
+
+/// Locals with a value of one place in one of them.
+fn value_set(
+    alloc: Global,
+    locals: &TypeTree,
+    local: usize,
+    item: SharedType,
+) -> Result<TypeTree, AllocError>
+    requires { local < length locals.now }
+    ensures { IfOk result (λ l. l ≡ slice_set (freed local locals.now) local item) }
+{
+    free(alloc, locals, local)?.set(alloc, local, item)
 }
 
 /// A store of a value of one place.
@@ -49,12 +79,18 @@ fn set_local(
     if local >= entry.locals().len() {
         return Ok(None);
     }
-    let freed = free(alloc, entry.locals(), local)?;
-    let locals = freed.set(alloc, local, item)?;
-    let stack = entry.stack().rest(alloc, 1)?;
-    let to = next(alloc, pc)?;
-    let left = TypeEntry::new(locals, stack, entry.built());
-    Ok(Some(Led { to, left }))
+    let locals = value_set(alloc, entry.locals(), local, item)?;
+    with_locals(alloc, pc, entry, locals, 1)
+}
+
+/// Frees a local and the next one.
+fn free_two(alloc: Global, locals: &TypeTree, local: usize) -> Result<TypeTree, AllocError>
+    requires { local + 1 < length locals.now }
+    ensures { IfOk result (λ l. l ≡ freed (local + 1) (freed local locals.now)) }
+{
+    let _ = locals.len();
+    let first = free(alloc, locals, local)?;
+    free(alloc, &first, local + 1)
 }
 
 /// Locals with a long in two of them.
@@ -62,11 +98,9 @@ fn long_set(alloc: Global, locals: &TypeTree, local: usize) -> Result<TypeTree, 
     requires { local + 1 < length locals.now }
     ensures { IfOk result (λ l. l ≡ slice_set (slice_set (freed (local + 1) (freed local locals.now)) local type.Long) (local + 1) type.Second) }
 {
-    let _ = locals.len();
-    let freed = free(alloc, locals, local)?;
-    let freed = free(alloc, &freed, local + 1)?;
-    let first = freed.set(alloc, local, SharedType::new(alloc, VType::Long)?)?;
-    first.set(alloc, local + 1, SharedType::new(alloc, VType::Second)?)
+    let freed = free_two(alloc, locals, local)?;
+    let first = put(alloc, &freed, local, VType::Long)?;
+    put(alloc, &first, local + 1, VType::Second)
 }
 
 /// A store of a long.
@@ -83,10 +117,7 @@ fn set_long(
         return Ok(None);
     }
     let locals = long_set(alloc, entry.locals(), local)?;
-    let stack = entry.stack().rest(alloc, 2)?;
-    let to = next(alloc, pc)?;
-    let left = TypeEntry::new(locals, stack, entry.built());
-    Ok(Some(Led { to, left }))
+    with_locals(alloc, pc, entry, locals, 2)
 }
 
 /// A store of an int.

@@ -1,16 +1,18 @@
 //! One turn of the search for a typing: the instruction of a place is looked at.
-ghost use Rattle.std.specs.Prelude.{◌≡◌, IfOk, Some};
-ghost use Rattle.objects.specs.typing.Typing.{FitsIn, Types, types_at};
+ghost use Rattle.std.specs.Prelude.{◌≡◌, IfOk, None, Some, if◌then◌else◌};
+ghost use Rattle.objects.specs.typing.Typing.{FitsIn, Leads, Types, types_at};
 ghost use Rattle.objects.specs.typing.Source.{AreTypes};
+ghost use Rattle.verifier.specs.Check.{stays};
 ghost use Rattle.verifier.specs.Search.{demands, Flows, IsVisit};
 ghost use Rattle.verifier.specs.Settled.{IsMarked};
-ghost use Rattle.verifier.specs.Visits.{step_at};
+ghost use Rattle.verifier.specs.Visits.{step, step_at, step_of};
 
-use crate::building::is_constructor;
+use crate::building::{Site, is_constructor};
 use crate::flow::flow;
-use crate::search::{Outflow, Search, are_throwable, is_ready};
+use crate::led::Led;
+use crate::search::{Outflow, Search, is_ready, stays};
 use crate::settling::brings_itself;
-use hierarchy::{Method, Program};
+use hierarchy::{Method, Program, TypeEntry};
 use objects::op::Op;
 use std::alloc::{AllocError, Global};
 use std::marker::Model;
@@ -31,6 +33,69 @@ impl Model for Step {
     ghost view = { λ s. record { before = s.before; to = s.to.items; left = s.left } };
 }
 
+/// What an instruction does, by the types before it, where it goes on, and what it leaves there, each marked as settled or
+/// not.
+fn marked_step(
+    program: &Program,
+    method: &Method,
+    op: &Op,
+    before: TypeEntry,
+    to: Vec<usize>,
+    left: TypeEntry,
+) -> Step
+    ensures { result ≡ step program.now method.now op.now before to.items left }
+{
+    let settled = brings_itself(program, method, op, left.stack());
+    Step {
+        before: Outflow {
+            types: before,
+            settled: true,
+        },
+        to,
+        left: Outflow {
+            types: left,
+            settled,
+        },
+    }
+}
+
+/// The types before an instruction, shared, if the frame has room for those that it leaves, and each entry that guards its
+/// place takes exceptions.
+fn shared_before(
+    alloc: Global,
+    site: &Site,
+    before: &TypeEntry,
+    left: &TypeEntry,
+) -> Result<Option<TypeEntry>, AllocError>
+    ensures { IfOk result (λ o. o ≡ (if stays site.now.program.now site.now.method.now site.now.pc left.now then Some before.now else None)) }
+{
+    if !stays(alloc, site.program, site.method, site.pc, left)? {
+        return Ok(None);
+    }
+    Ok(Some(before.share()?))
+}
+
+/// What the instruction of a place does, by where it goes on and what it leaves there. None where the frame has no room, or
+/// where an entry that guards the place takes no exceptions.
+fn step_of(
+    alloc: Global,
+    site: &Site,
+    op: &Op,
+    before: &TypeEntry,
+    to: Vec<usize>,
+    left: TypeEntry,
+) -> Result<Option<Step>, AllocError>
+    ensures { IfOk result (λ o. o ≡ step_of site.now.program.now site.now.method.now site.now.pc op.now before.now (Leads to.items left)) }
+{
+    match shared_before(alloc, site, before, &left)? {
+        Some(before) => {
+            let step = marked_step(site.program, site.method, op, before, to, left);
+            Ok(Some(step))
+        }
+        None => Ok(None),
+    }
+}
+
 /// What the instruction of a place does, if its rules hold of the types there.
 fn step_at(
     alloc: Global,
@@ -47,27 +112,15 @@ fn step_at(
     if !is_ready(method, before) {
         return Ok(None);
     }
-    let Some(led) = flow(alloc, program, method, pc, op, before)? else {
-        return Ok(None);
+    let site = Site {
+        program,
+        method,
+        pc,
     };
-    if led.left.stack().len() > method.max_stack() {
-        return Ok(None);
+    match flow(alloc, program, method, pc, op, before)? {
+        Some(Led { to, left }) => step_of(alloc, &site, op, before, to, left),
+        None => Ok(None),
     }
-    if !are_throwable(alloc, program, method.catches(), pc)? {
-        return Ok(None);
-    }
-    let settled = brings_itself(program, method, op, led.left.stack());
-    Ok(Some(Step {
-        before: Outflow {
-            types: before.share()?,
-            settled: true,
-        },
-        to: led.to,
-        left: Outflow {
-            types: led.left,
-            settled,
-        },
-    }))
 }
 
 /// Whether an instruction is a call of a constructor, which makes a stack anew.
@@ -125,7 +178,6 @@ fn follow(
 
 /// Looks at the instruction of a place, and lets what it leaves flow on. False where its rules fail, or a place where it goes
 /// on can't take what flows there.
-#[tactic(auto, using(crate::proofs::Visits::visit_is))]
 pub fn visit(
     alloc: Global,
     program: &Program,
