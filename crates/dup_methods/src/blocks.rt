@@ -1,13 +1,15 @@
 //! The blocks of a duplicate: what stands there for each instruction.
-ghost use Rattle.std.specs.Prelude.{◌≡◌, ◌≤◌, [], ◌∷◌, IfOk, IfSome, option_copied};
+ghost use Rattle.std.specs.Prelude.{◌≡◌, ◌≤◌, [], ◌∷◌, IfOk, IfSome, Ok, option_copied};
+ghost use Rattle.jmodel.specs.format.ClassFile.{Pool as Entries};
 ghost use Rattle.std.specs.List.{AllByRecursion};
 ghost use Rattle.objects.specs.linking.Taken.{index_of as index_in};
 ghost use Rattle.objects.specs.rewriting.Rewriting.{array_under as type_under, helped as helped_by, word_places as places_of_word};
 ghost use Rattle.objects.specs.typing.TypeOrder.{element_class as class_of_element};
 ghost use Rattle.member_code.specs.Growing.{Grows, grow_from};
-ghost use Rattle.dup_methods.specs.Names.{getter_named as named_getter, setter_named as named_setter};
+ghost use Rattle.member_code.specs.Names.{duplicate_named as duplicate_name};
+ghost use Rattle.dup_methods.specs.Names.{getter_named as named_getter, setter_named as named_setter, load_named as named_load, as_name as as_named};
 ghost use Rattle.dup_methods.specs.Limits.{FitsOp, FitsCount};
-ghost use Rattle.dup_methods.specs.Duplicates.{call_of as calling, interface_call_of as calling_interface, accessor_call, duplicate_call as calling_duplicate, interface_call as calling_by_interface, class_cast as casting, after_load as after_loading, element_load as loading, element_store as storing, called as named_method, block_of as block_for, numbered_block};
+ghost use Rattle.dup_methods.specs.Duplicates.{call_of as calling, interface_call_of as calling_interface, accessor_call, helper_call as calling_helper, duplicate_call as calling_duplicate, interface_call as calling_by_interface, class_cast as casting, after_load as after_loading, element_load as loading, element_store as storing, called as named_method, block_of as block_for, numbered_block};
 
 use crate::limits::{count_of, moved_local_of};
 use crate::names::{as_name, getter_named, load_named, setter_named, store_named};
@@ -23,14 +25,14 @@ use objects::op::{Op, Sort, WordType};
 use std::alloc::{AllocError, Global};
 
 // An instruction that stays as it is.
-fn kept(alloc: Global, i: &Instr) -> Result<Vec<Instr>, AllocError>
-    ensures { IfOk result (λ v. v.items ≡ i.now ∷ []) }
+fn kept(alloc: Global, i: &Instr) -> Result<Vec<Instr>, Halt>
+    ensures { (pool : Entries) → Grows (λ v. v.items) result pool (Ok (i.now ∷ [], pool)) }
 {
     Ok(vec![in alloc; i.copy(alloc)?]?)
 }
 
-fn alone(alloc: Global, i: Instr) -> Result<Vec<Instr>, AllocError>
-    ensures { IfOk result (λ v. v.items ≡ i ∷ []) }
+fn alone(alloc: Global, i: Instr) -> Result<Vec<Instr>, Halt>
+    ensures { (pool : Entries) → Grows (λ v. v.items) result pool (Ok (i ∷ [], pool)) }
 {
     Ok(vec![in alloc; i]?)
 }
@@ -93,7 +95,7 @@ fn getter_call(
                 &name,
             )
         }
-        None => Ok(kept(alloc, i)?),
+        None => kept(alloc, i),
     }
 }
 
@@ -121,7 +123,7 @@ fn setter_call(
                 &name,
             )
         }
-        None => Ok(kept(alloc, i)?),
+        None => kept(alloc, i),
     }
 }
 
@@ -144,6 +146,14 @@ fn called<'a>(original: &Original<'a>, i: &Instr) -> Option<Reference<'a>>
     member_reference(&class.pool, index_of(&i.operands)?)
 }
 
+// The name of the duplicate of the method that a reference says.
+fn name_of_duplicate(alloc: Global, reference: &Reference<'_>) -> Result<MethodName, AllocError>
+    ensures { IfOk result (λ n. n ≡ duplicate_name (as_named reference.now)) }
+{
+    let name = as_name(alloc, reference)?;
+    duplicate_named(alloc, &name)
+}
+
 // A call, by an opcode, of the duplicate of the method that an instruction names.
 fn duplicate_call(
     alloc: Global,
@@ -157,10 +167,10 @@ fn duplicate_call(
 {
     match called(original, i) {
         Some(reference) => {
-            let name = duplicate_named(alloc, &as_name(alloc, &reference)?)?;
+            let name = name_of_duplicate(alloc, &reference)?;
             call_of(alloc, pool, original.context(), opcode, &name)
         }
-        None => Ok(kept(alloc, i)?),
+        None => kept(alloc, i),
     }
 }
 
@@ -177,11 +187,11 @@ fn interface_call(
 {
     match called(original, i) {
         Some(reference) => {
-            let name = duplicate_named(alloc, &as_name(alloc, &reference)?)?;
+            let name = name_of_duplicate(alloc, &reference)?;
             let count = count_of(&i.operands) + 1;
             interface_call_of(alloc, pool, original.context(), count, &name)
         }
-        None => Ok(kept(alloc, i)?),
+        None => kept(alloc, i),
     }
 }
 
@@ -228,7 +238,7 @@ fn class_cast(alloc: Global, pool: &mut Pool, name: &[u8]) -> Result<Vec<Instr>,
         return Ok(Vec::new(alloc));
     }
     let class = pool.add_class(name)?;
-    Ok(alone(alloc, check_cast(class))?)
+    alone(alloc, check_cast(class))
 }
 
 // What follows the load of an element of an array of this type.
@@ -297,6 +307,20 @@ fn extend(instrs: &mut Vec<Instr>, more: Vec<Instr>) -> Result<(), AllocError>
 
 ghost use Rattle.std.specs.Prelude.{OnOk, ◌++◌};
 
+// The call that loads an element of an array of this type.
+fn load_call(
+    alloc: Global,
+    pool: &mut Pool,
+    context: u16,
+    word: WordType,
+    array: Option<&VType>,
+) -> Result<Vec<Instr>, Halt>
+    ensures { Grows (λ v. v.items) result pool.new (calling_helper context (named_load (helped_by (option_copied array.entry) word)) pool.old) }
+{
+    let name = load_named(alloc, helped(array, word))?;
+    call_of(alloc, pool, context, opcodes::INVOKESTATIC, &name)
+}
+
 // A load of an element of an array of this type.
 #[tactic(auto, unfolding(crate::specs::Duplicates::element_load))]
 fn element_load(
@@ -308,8 +332,7 @@ fn element_load(
 ) -> Result<Vec<Instr>, Halt>
     ensures { Grows (λ v. v.items) result pool.new (loading context word (option_copied array.entry) pool.old) }
 {
-    let name = load_named(alloc, helped(array, word))?;
-    let mut block = call_of(alloc, pool, context, opcodes::INVOKESTATIC, &name)?;
+    let mut block = load_call(alloc, pool, context, word, array)?;
     let after = after_load(alloc, pool, word, array)?;
     extend(&mut block, after)?;
     Ok(block)
@@ -345,7 +368,7 @@ fn block_of(
     ensures { Grows (λ v. v.items) result pool.new (block_for original.now (option_copied op.entry) (option_copied types.entry) i.now pool.old) }
 {
     let Some(op) = op else {
-        return Ok(kept(alloc, i)?);
+        return kept(alloc, i);
     };
     let context = original.context();
     match op {
@@ -366,14 +389,12 @@ fn block_of(
             duplicate_call(alloc, pool, original, opcodes::INVOKEVIRTUAL, i)
         }
         Op::InvokeInterface { .. } => interface_call(alloc, pool, original, i),
-        Op::Load(sort, _) => { Ok(alone(alloc, load(*sort, moved_local_of(original.method, op)))?) }
-        Op::Store(sort, _) => {
-            Ok(alone(alloc, store(*sort, moved_local_of(original.method, op)))?)
-        }
+        Op::Load(sort, _) => alone(alloc, load(*sort, moved_local_of(original.method, op))),
+        Op::Store(sort, _) => alone(alloc, store(*sort, moved_local_of(original.method, op))),
         Op::Increment(_, add) => {
-            Ok(alone(alloc, increment(moved_local_of(original.method, op), *add))?)
+            alone(alloc, increment(moved_local_of(original.method, op), *add))
         }
-        _ => Ok(kept(alloc, i)?),
+        _ => kept(alloc, i),
     }
 }
 

@@ -6,6 +6,8 @@ ghost use Rattle.jmodel.specs.format.Relocation.{AreBlocks};
 ghost use Rattle.jmodel.specs.format.Instruction.{SpellsInstrs};
 ghost use Rattle.objects.specs.linking.Linking.{has_no_code as is_without_code, decoded_member as decoded_so};
 ghost use Rattle.member_code.specs.Growing.{Grows};
+ghost use Rattle.member_code.specs.Coding.{room_for, typed_name as name_typed};
+ghost use Rattle.member_code.specs.Names.{duplicate_named as duplicate_name};
 ghost use Rattle.dup_methods.specs.Limits.{added_locals as locals_added, AddsLittle, FitsOp, FitsCount};
 ghost use Rattle.dup_methods.specs.Duplicates.{stub as stub_of, refs_of as refs, duplicate_flags as flags_of_duplicate, duplicate_bytes as bytes_of_duplicate, texts_of as texts, made_duplicate as made, coded_duplicate as coded_copy, abstract_duplicate as abstract_copy, duplicate_of as duplicate};
 
@@ -74,13 +76,20 @@ fn duplicate_flags(flags: u16) -> u16
     flags & 0xff7f | 0x1000
 }
 
+// The name and the descriptor of a method's duplicate.
+fn typed_name_of(alloc: Global, pool: &mut Pool, method: &Method) -> Result<(u16, u16), Halt>
+    ensures { Grows (λ x. x) result pool.new (name_typed (duplicate_name method.now.name).name (duplicate_name method.now.name).descriptor pool.old) }
+{
+    let name = duplicate_named(alloc, method.name())?;
+    typed_name(pool, name.name.as_slice(), name.descriptor.as_slice())
+}
+
 // What else a duplicate names: its name and its descriptor, and the text Code.
 #[tactic(auto, unfolding(crate::specs::Duplicates::texts_of))]
 fn texts_of(alloc: Global, pool: &mut Pool, method: &Method) -> Result<((u16, u16), u16), Halt>
     ensures { Grows (λ x. x) result pool.new (texts method.now pool.old) }
 {
-    let name = duplicate_named(alloc, method.name())?;
-    let named = typed_name(pool, name.name.as_slice(), name.descriptor.as_slice())?;
+    let named = typed_name_of(alloc, pool, method)?;
     let text = pool.add_utf8(b"Code")?;
     Ok((named, text))
 }
@@ -145,8 +154,7 @@ fn abstract_duplicate(
     ensures { Grows (λ m. m) result pool.new (abstract_copy original.now pool.old) }
 {
     want_arguments(alloc, original.program, original.method, &[])?;
-    let name = duplicate_named(alloc, original.method.name())?;
-    let (name, descriptor) = typed_name(pool, name.name.as_slice(), name.descriptor.as_slice())?;
+    let (name, descriptor) = typed_name_of(alloc, pool, original.method)?;
     Ok(Member {
         flags: flags_of(original),
         name,
@@ -172,6 +180,14 @@ fn decoded_member(alloc: Global, original: &Original<'_>) -> Result<Option<Coded
     Ok(Some(decoded(alloc, original.class, original.member)?))
 }
 
+// Refuses the duplicate of a method whose class has no room for it.
+fn want_place(alloc: Global, room: usize, method: &Method) -> Result<(), Halt>
+    ensures { Gives (λ x. x) result (room_for room (duplicate_name method.now.name)) }
+{
+    let name = duplicate_named(alloc, method.name())?;
+    want_room(alloc, room, &name)
+}
+
 /// The duplicate of a method, whose class has room for so many more methods, with its entries in the class's pool. What iinc adds has two bytes in every
 /// method of a linked program (`little_law`). The duplicate is refused as
 ///
@@ -194,8 +210,7 @@ pub fn duplicate_of(
     ensures { Grows (λ m. m) result pool.new (duplicate room original.now pool.old) }
 {
     let coded = decoded_member(alloc, original)?;
-    let name = duplicate_named(alloc, original.method.name())?;
-    want_room(alloc, room, &name)?;
+    want_place(alloc, room, original.method)?;
     match coded {
         Some(coded) => coded_duplicate(alloc, pool, original, &coded),
         None => abstract_duplicate(alloc, pool, original),

@@ -1,5 +1,6 @@
 //! The types of objects, in the order of their numbers (JVM Specification, Java SE 7, sections 2.4 and 5.4).
 ghost use Rattle.std.specs.Prelude.{◌≡◌, ◌++◌, map, IfOk, OnOk};
+ghost use Rattle.objects.specs.linking.LibraryClasses.{library_rows as rows_of_library};
 ghost use Rattle.objects.specs.linking.Layout.{nameless as nameless_row, class_row as row_of_class, base_rows as rows_of_bases, array_row as row_of_array, primitive_arrays as arrays_of_primitives, rows as rows_of_classes};
 
 use crate::instances::{array_instances, class_instances, names_upward};
@@ -128,17 +129,24 @@ fn push_array_rows(
     Ok(())
 }
 
+// The types of the program of classes, where the taken methods make arrays with these descriptors.
+fn rows_with(alloc: Global, hierarchy: &Hierarchy, made: &[Bytes]) -> Result<Vec<Row>, NoMemory>
+    ensures { IfOk result (λ v. v.items ≡ rows_of_library ++ map (row_of_class hierarchy.now) hierarchy.now ++ rows_of_bases hierarchy.now ++ map (row_of_array hierarchy.now) arrays_of_primitives ++ map (row_of_array hierarchy.now) made.now) }
+{
+    let mut rows = library_rows(alloc)?;
+    push_class_rows(alloc, hierarchy, &mut rows)?;
+    push_base_rows(alloc, hierarchy, &mut rows)?;
+    push_primitive_rows(alloc, hierarchy, &mut rows)?;
+    push_array_rows(alloc, hierarchy, made, &mut rows)?;
+    Ok(rows)
+}
+
 /// The types of the program of classes: those of the library's classes, of classes, of static bases, of arrays of primitive types, and of the arrays
 /// that the taken methods make.
 pub fn rows<'a>(alloc: Global, classes: &'a [&'a ClassFile]) -> Result<Vec<Row>, NoMemory>
     ensures { IfOk result (λ v. v.items ≡ rows_of_classes (map (λ c. c.now) classes.now)) }
 {
-    let hierarchy = Hierarchy::new(alloc, classes)?;
     let made = made_arrays(alloc, classes)?;
-    let mut rows = library_rows(alloc)?;
-    push_class_rows(alloc, &hierarchy, &mut rows)?;
-    push_base_rows(alloc, &hierarchy, &mut rows)?;
-    push_primitive_rows(alloc, &hierarchy, &mut rows)?;
-    push_array_rows(alloc, &hierarchy, made.as_slice(), &mut rows)?;
-    Ok(rows)
+    let hierarchy = Hierarchy::new(alloc, classes)?;
+    rows_with(alloc, &hierarchy, made.as_slice())
 }

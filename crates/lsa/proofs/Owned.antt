@@ -1,5 +1,5 @@
 -- The stripes that an attempt holds, one more or none.
-use Rattle.std.proofs.Common.{◌≡◌, ◌≢◌, ◌⊎◌, ◌≤◌, ◌*◌, ◌%◌, ◌==◌, ◌&&◌, ◌||◌, ℕ, Bool, true, false, not, cond, List, [], ◌∷◌, ◌++◌, All, filter, length, take, reverse, slice_index_or, slice_set, refl, sym, ap, ◌∙◌, inl, inr, ⊎_elim, subst, eq-eqb, ne_eqb, arith}
+use Rattle.std.proofs.Common.{◌≡◌, ◌≢◌, ◌⊎◌, ◌<◌, ◌≤◌, ◌*◌, ◌%◌, ◌==◌, ◌&&◌, ◌||◌, ℕ, Bool, true, false, not, cond, List, [], ◌∷◌, ◌++◌, All, filter, length, take, reverse, slice_index_or, slice_set, refl, sym, ap, ◌∙◌, inl, inr, ⊎_elim, subst, eq-eqb, ne_eqb, arith}
 use mathlib.Core.Logic.{dite}
 use native.Mathlib.Decide.{ℕ_discrete}
 use mathlib.Core.Option.{Option, none, some}
@@ -11,7 +11,7 @@ use Rattle.std.proofs.lemmas.List.Elements.{All-nil, All-push, All-weaker, filte
 use Rattle.jmodel.specs.declared.access.Access.{Access}
 use Rattle.jmodel.specs.history.Log.{Log, access}
 use Rattle.tx_table.specs.Book.{Book, Face, Map, Has, lookup, pairs}
-use Rattle.tx_table.specs.Plays.{keys}
+use Rattle.tx_table.specs.Plays.{keys, logged}
 use Rattle.tx_table.proofs.MapLaws.{lookup_put, lookup_here}
 use Rattle.tl2.specs.declared.plan.Stripe.{Stripe}
 use Rattle.tl2.specs.Commits.{Holds}
@@ -82,6 +82,22 @@ owning_on ss own log v w face bound o = record {
   each = o.each;
   low = λ n x e. let l = o.low n x (ap (λ (f : Face). lookup f.held n) (sym face) ∙ e) in omega arith;
 }
+
+-- no stripe was taken or given back
+pub taken_still : (ss : List Stripe) (v w : Book) → w.face ≡ v.face → HasTaken ss v → HasTaken ss w
+taken_still ss v w face h = record { same = λ n. ap (λ (f : Face). lookup f.held n) face ∙ h.same n; once = h.once }
+
+-- a read was logged
+module _ (v w : Book) (a x : ℕ) (is : w ≡ logged v a x) where
+  pub owning_logged : (ss : List Stripe) (own : BTreeSet ℕ) (log : List Access) → IsOwning ss own log v → IsOwning ss own log w
+  owning_logged ss own log o = subst (IsOwning ss own log) (sym is) (owning_on ss own log v (logged v a x) refl (omega arith) o)
+
+  pub keys_logged : (words : ℕ) (reads more : List ℕ) → a < words → more ≡ reads ++ a ∷ [] → (reverse reads ≡ keys v.reads) × All (λ b. b < words) reads
+      → (reverse more ≡ keys w.reads) × All (λ b. b < words) more
+  keys_logged words reads more low push was = (
+    ap reverse push ∙ reverse-append reads (a ∷ []) ∙ ap (λ (k : List ℕ). a ∷ k) was.0 ∙ sym (ap (λ (b : Book). keys b.reads) is),
+    subst (All (λ b. b < words)) (sym push) (All-push (λ b. b < words) reads a was.1 low),
+  )
 
 module _ (ss : List Stripe) (own : BTreeSet ℕ) (log : List Access) (v : Book) (o : IsOwning ss own log v) (holds : Holds ss v) where
   held_when : (n : ℕ) → contains nat_cmp own n ≡ true → Has v.face.held n

@@ -6,7 +6,7 @@ ghost use Rattle.jmodel.specs.declared.refusal.Refusal.TheVariants.{UnknownClass
 ghost use Rattle.jmodel.specs.format.Pool.{class_name};
 ghost use Rattle.objects.specs.linking.Code.{decoded as decoded_of};
 ghost use Rattle.objects.specs.linking.Faults.{first_fault};
-ghost use Rattle.objects.specs.linking.Constructs.{named_class as class_named_by, has_flag as with_flag, construct as construct_of, whole_kinds, whole_fault as fault_of_whole, first_kind, unknown_in, instr_fault as fault_of_instr, place_fault as fault_of_place, code_construct as construct_in_code, construct_fault as fault_of_method};
+ghost use Rattle.objects.specs.linking.Constructs.{named_class as class_named_by, has_flag as with_flag, construct as construct_of, whole_kinds, whole_fault as fault_of_whole, first_kind, last_kinds, kind_fault as fault_of_kinds, unknown_in, instr_fault as fault_of_instr, place_fault as fault_of_place, code_construct as construct_in_code, construct_fault as fault_of_method};
 ghost use Rattle.objects.specs.linking.Linking.{taken_methods, constructs_fault as fault_of_taken};
 ghost use Rattle.resolution.specs.Catching.{AreCaught, NotesFirst, caught_at};
 
@@ -77,6 +77,25 @@ fn unknown_named<'a>(places: &Places<'a>, pool: &'a Pool, i: &Instr) -> Option<&
     unknown_core(places, named_class(pool, i)?)
 }
 
+// The fault of what an instruction names: an unknown class, else the first kind of construct.
+fn named_fault<'a>(
+    alloc: Global,
+    resolver: &Resolver<'a>,
+    method: &Declared<'a>,
+    i: &Instr,
+) -> Result<Option<Refusal>, NoMemory>
+    ensures { IfOk result (λ o. o ≡ option_or (unknown_in resolver.now (class_named_by method.now.class.pool i.now)) (fault_of_kinds method.now i.now.pc (last_kinds resolver.now method.now.class i.now))) }
+{
+    let class = method.class;
+    if let Some(name) = unknown_named(resolver.places(), &class.pool, i) {
+        return Ok(Some(unknown_class(alloc, name)?));
+    }
+    match kind_by_names(resolver, class, i) {
+        Some(kind) => Ok(Some(construct(alloc, method, i.pc, kind)?)),
+        None => Ok(None),
+    }
+}
+
 // The fault of an instruction.
 fn instr_fault<'a>(
     alloc: Global,
@@ -90,13 +109,7 @@ fn instr_fault<'a>(
     if let Some(kind) = kind_by_itself(alloc, &class.pool, i)? {
         return Ok(Some(construct(alloc, method, i.pc, kind)?));
     }
-    if let Some(name) = unknown_named(resolver.places(), &class.pool, i) {
-        return Ok(Some(unknown_class(alloc, name)?));
-    }
-    match kind_by_names(resolver, class, i) {
-        Some(kind) => Ok(Some(construct(alloc, method, i.pc, kind)?)),
-        None => Ok(None),
-    }
+    named_fault(alloc, resolver, method, i)
 }
 
 // An unknown class that an exception entry catches.

@@ -6,7 +6,7 @@ ghost use Rattle.objects.specs.linking.Members.{name_of as name_in};
 ghost use Rattle.const_pool.specs.Firsts.{or_at, text_known};
 ghost use Rattle.script.specs.Script.{can_be_named as can_be_named_by, is_callable as is_callable_by, is_called, call_text as call_text_of, number_named, names_method as names_method_of};
 
-use const_pool::ClassFile;
+use const_pool::{ClassFile, Member};
 use hierarchy::symbols::name_of;
 use hierarchy::{Method, Program};
 use jmodel::{Bytes, MethodName};
@@ -91,13 +91,32 @@ pub fn number_of(numbers: &Numbers, text: &[u8]) -> Option<usize>
     numbers.get(text).copied()
 }
 
+/// Whether a text names the method of a name, callable or not.
+fn calls(alloc: Global, text: &[u8], name: &MethodName) -> Result<bool, AllocError>
+    ensures { IfOk result (λ b. b ≡ is_called text.now name.now) }
+{
+    Ok(can_be_named(name) && name.printed(alloc)?.as_slice() == text)
+}
+
+/// Whether a text names a member of a class, as a method.
+fn names_member(
+    alloc: Global,
+    class: &ClassFile,
+    member: &Member,
+    text: &[u8],
+) -> Result<bool, AllocError>
+    ensures { IfOk result (λ b. b ≡ is_called text.now (name_in class.now member.now)) }
+{
+    let name = name_of(alloc, class, member)?;
+    calls(alloc, text, &name)
+}
+
 /// Whether a text names a method of a class, callable or not.
 fn names_method_of_class(alloc: Global, class: &ClassFile, text: &[u8]) -> Result<bool, AllocError>
     ensures { IfOk result (λ b. b ≡ list_any (λ m. is_called text.now (name_in class.now m)) class.now.methods) }
 {
     for member in &class.methods {
-        let name = name_of(alloc, class, member)?;
-        if can_be_named(&name) && name.printed(alloc)?.as_slice() == text {
+        if names_member(alloc, class, member, text)? {
             return Ok(true);
         }
     }

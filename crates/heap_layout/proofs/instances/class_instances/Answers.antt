@@ -1,8 +1,12 @@
 use Rattle.std.proofs.Common.{◌≡◌, List, ℕ, ◌++◌, ap, ◌∙◌}
+use Rattle.std.proofs.lemmas.Result.{IfOk-from_err}
 use Rattle.jmodel.specs.format.ClassFile.{ClassFile}
 use Rattle.objects.specs.linking.Layout.{names_upward}
 use Rattle.hierarchy.proofs.InOrder.{texts}
 use Rattle.heap_layout.proofs.instances.class_instances.Goals as goal
+
+pub returns-in_err-copies : goal.returns-in_err-copies
+returns-in_err-copies c = IfOk-from_err _ _ c.from_residual-in_err-copies.ensures.0
 
 pub returns : goal.returns
 returns c =

@@ -17,6 +17,23 @@ use Rattle.lsa.proofs.Owned.{holds_from, holding_of}
 use Rattle.lsa.proofs.Stepping.{inside_stands, outside_stands}
 use Rattle.lsa.proofs.attempt.Lsa.commit.Goals as goal
 
+pub finish_refused-requires-clause-allowed : goal.finish_refused-requires-clause-allowed
+finish_refused-requires-clause-allowed g c =
+    let m = c.requires.allowed in
+    let e : c.args.self.now.writes.items ≡ [] = grind (arith, common_steps) in
+    let q : m.writes ≡ [] = sym (inside_stands (inside _ _ _ c.requires.open.2) m.stands).writes ∙ ap reverse e in
+    record {
+      history = m.history;
+      conflicts = m.conflicts;
+      reads = m.reads;
+      writes = m.writes;
+      call = m.call;
+      used = m.used;
+      stands = m.stands;
+      awaits = m.awaits;
+      allowed = rw (q, m.allowed.stays (inl q)) at m.allowed;
+    }
+
 pub returns-then-is_empty-clause-run : goal.returns-then-is_empty-clause-run
 returns-then-is_empty-clause-run g c = λ h n r w s.
     let e : c.args.self.now.writes.items ≡ [] = grind (arith, common_steps) in
@@ -56,6 +73,12 @@ update-done-requires-clause-plan g c =
     let here = inside _ _ _ c.requires.open.2 in
     rw c.replace.ensures.value
     (holding_of e.stripes.items e.own e.writes.items (book e.pass) e.reads.items (book e.pass).reads c.in-Ok.read_elsewhere.items (e.owns here) (e.logged here).0 (rw c.deref.ensures.value at c.in-Ok.ensures))
+
+pub update-done-requires-clause-any : goal.update-done-requires-clause-any
+update-done-requires-clause-any g c = λ q.
+    let z : length (reverse c.args.self.now.writes.items) ≡ 0 = ap length q in
+    let y : length c.args.self.now.writes.items ≡ 0 = rw length-reverse at z in
+    grind (arith, common_steps)
 
 pub update-done-requires-clause-entry : goal.update-done-requires-clause-entry
 update-done-requires-clause-entry g c = λ t.

@@ -1,4 +1,5 @@
-use Rattle.std.proofs.Common.{◌≡◌, ◌<◌, ◌++◌, ◌∙◌, ℕ, true, false, [], ◌∷◌, refl, sym, ap, arith}
+use Rattle.std.proofs.Common.{◌≡◌, ◌<◌, ◌++◌, ◌-◌, ◌∙◌, ℕ, true, false, List, [], ◌∷◌, length, take, refl, sym, ap, subst, arith}
+use Rattle.std.proofs.lemmas.List.{length_push}
 use Rattle.jmodel.specs.declared.access.Access.{Access}
 use Rattle.jmodel.specs.history.Log.{access}
 use Rattle.tx_table.specs.Book.{Book, Face, Map}
@@ -7,7 +8,8 @@ use Rattle.tx_table.specs.Passes.{book}
 use Rattle.tl2.specs.declared.plan.Stripe.{Stripe}
 use Rattle.tl2.specs.declared.attempt.At.TheVariants.{Inside}
 use Rattle.tl2.proofs.Entries.{inside}
-use Rattle.lsa.proofs.Owned.{holds_from, holds_to, holds_taken, owning_taken, tells_more}
+use Rattle.lsa.specs.Owning.{HasTaken}
+use Rattle.lsa.proofs.Owned.{holds_from, holds_to, holds_taken, owning_taken, owning_wrote, take_last, taken_still, tells_more}
 use Rattle.lsa.proofs.Stepping.{standing, inside_stands, outside_stands, snapshot_still, stands_taken, stands_lost, stands_wrote}
 use Rattle.lsa.proofs.attempt.Lsa.on_write.Goals as goal
 
@@ -16,6 +18,16 @@ returns-then-contains-clause-run g c = λ h n r w s.
     let e = c.args.self.now in
     let low : c.args.address < e.shared.now.words = omega (arith, c.if-address-self.false) in
     standing refl (stands_wrote g.C.Calling.began e.shared.now.words e.at e.writes.items c.push.new.self.items e.pass h n r w (access c.args.address c.args.word) low c.in-Ok.ensures.items (inside_stands (inside _ _ _ c.requires.2) s))
+
+pub invariant_of-self-then-contains : goal.invariant_of-self-then-contains
+invariant_of-self-then-contains g c =
+    let e = c.args.self.now in
+    record {
+      sits = e.sits;
+      settled = e.settled;
+      logged = e.logged;
+      owns = λ z. owning_wrote e.stripes.items e.own e.writes.items c.push.new.self.items (book e.pass) (access c.args.address c.args.word) c.in-Ok.ensures.items (sym c.contains.ensures ∙ c.if-contains.true) (e.owns z);
+    }
 
 pub take_free-requires-clause-own : goal.take_free-requires-clause-own
 take_free-requires-clause-own g c =
@@ -65,6 +77,25 @@ returns-in-Ok-take_free-clause-snapshot g c =
     let e = c.args.self.now in
     let t = c.in-Ok-take_free.ensures.ok in
     snapshot_still (g.T.Story.story e.shared.now.table.shared.key.story.value) (book e.pass) (book c.take_free.new.pass) (ap (λ (b : Book). b.reads) t.took ∙ t.on.reads) (ap (λ (b : Book). b.regions) t.took ∙ t.on.regions)
+
+pub invariant_of-self-in-Err : goal.invariant_of-self-in-Err
+invariant_of-self-in-Err g c =
+    let e = c.args.self.now in
+    let v = book e.pass in
+    let w = book c.take_free.new.pass in
+    let face = c.in-Err.ensures.err.face in
+    let ss = e.stripes.items in
+    let more = c.make_room.new.stripes in
+    let place : Stripe = record { address = c.args.address; was_read = false; word = 0 } in
+    let made : more.items ≡ ss ++ place ∷ [] = c.in-Ok-make_room.ensures.ok in
+    let many : more.len - 1 ≡ length ss = omega (arith, more.ok.0, ap (λ (xs : List Stripe). length xs) made, length_push ss place) in
+    let left : c.pop.new.self.items ≡ ss = c.pop.ensures.rest ∙ ap (λ (n : ℕ). take n more.items) many ∙ ap (take (length ss)) made ∙ take_last ss place in
+    record {
+      sits = (c.take_free.ensures.same.0 ∙ e.sits.0, ap (λ (f : Face). f.stage) face ∙ e.sits.1, subst (λ (xs : List Stripe). HasTaken xs w) (sym left) (taken_still ss v w face e.sits.2));
+      settled = λ z. absurd (z refl);
+      logged = λ z. absurd (z refl);
+      owns = λ z. absurd (z refl);
+    }
 
 pub returns-in-Err-clause-run : goal.returns-in-Err-clause-run
 returns-in-Err-clause-run g c = λ h n r w s.
