@@ -17,14 +17,14 @@ use objects::op::{Sort, WordType};
 use std::alloc::{AllocError, Global};
 
 /// The helper's methods for a type of elements.
-#[derive(Debug, Drop)]
+#[derive(Drop)]
 pub struct ElementMethods {
     pub load: Member,
     pub store: Member,
 }
 
 // The indexes of the helper's class and of the one above it, and its methods.
-#[derive(Debug, Drop)]
+#[derive(Drop)]
 struct HelperParts {
     this_class: u16,
     super_class: u16,

@@ -8,7 +8,7 @@ use jmodel::Bytes;
 use std::alloc::{AllocError, Global};
 
 /// An instruction, by its opcode and what stands behind that.
-#[derive(Clone, Copy, Debug)]
+#[derive(Clone, Copy)]
 pub enum Instruction {
     Plain(u8),
     /// With a number of one byte.

@@ -7,7 +7,7 @@ use jmodel::Bytes;
 use std::alloc::{AllocError, Global};
 
 /// An entry of a pool, whose text is not yet copied.
-#[derive(Clone, Copy, Debug)]
+#[derive(Clone, Copy)]
 pub enum Entry {
     Text(&'static [u8]),
     Class(u16),

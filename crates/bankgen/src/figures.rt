@@ -7,7 +7,7 @@ use jmodel::Bytes;
 use std::alloc::{AllocError, Global};
 
 /// The numbers of a workload.
-#[derive(Clone, Copy, Debug)]
+#[derive(Clone, Copy)]
 pub struct Figures {
     pub seed: u32,
     pub accounts: u64,

@@ -6,7 +6,7 @@ ghost use Rattle.bankgen.specs.Script.{numbers};
 use std::alloc::{AllocError, Global};
 
 /// The accounts that an amount goes from and to, and the amount.
-#[derive(Clone, Copy, Debug)]
+#[derive(Clone, Copy)]
 pub struct Transfer {
     pub from: u64,
     pub to: u64,

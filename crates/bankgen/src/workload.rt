@@ -12,10 +12,18 @@ use jmodel::{Bytes, Halt, Refusal};
 use std::alloc::{AllocError, Global};
 
 /// The classes, in the order of their names, and the script that is run on them.
-#[derive(Debug, Drop)]
 pub struct Workload {
     pub classes: Vec<ClassFile>,
     pub script: Bytes,
+}
+
+impl Drop for Workload {
+    fn drop(self) {
+        let Self {
+            classes: _,
+            script: _,
+        } = self;
+    }
 }
 
 fn classes(alloc: Global, accounts: u16) -> Result<Vec<ClassFile>, AllocError>

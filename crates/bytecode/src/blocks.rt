@@ -6,7 +6,7 @@ use std::marker::Model;
 
 /// What stands in place of the instruction at a pc of older code. The targets of its instructions are places there; their own
 /// pcs say nothing.
-#[derive(Debug, Drop)]
+#[derive(Drop)]
 pub struct Block {
     pub pc: u16,
     pub instrs: Vec<Instr>,

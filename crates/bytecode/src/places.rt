@@ -11,7 +11,7 @@ use jmodel::Instr;
 use std::alloc::{AllocError, Global};
 
 /// The place of the block of each pc, and the place behind all blocks.
-#[derive(Debug, Drop)]
+#[derive(Drop)]
 pub struct Places {
     pub starts: Vec<u16>,
     pub end: u16,

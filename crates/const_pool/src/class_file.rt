@@ -4,10 +4,16 @@ use jmodel::Bytes;
 use std::marker::Model;
 
 /// An attribute: its name's index, and its bytes.
-#[derive(Debug, Drop)]
+#[derive(Debug)]
 pub struct Attribute {
     pub name: u16,
     pub bytes: Bytes,
+}
+
+impl Drop for Attribute {
+    fn drop(self) {
+        let Self { name: _, bytes: _ } = self;
+    }
 }
 
 impl Model for Attribute {
@@ -19,12 +25,22 @@ impl Model for Attribute {
 }
 
 /// A field or a method, with the indexes of its name and its descriptor.
-#[derive(Debug, Drop)]
 pub struct Member {
     pub flags: u16,
     pub name: u16,
     pub descriptor: u16,
     pub attributes: Vec<Attribute>,
+}
+
+impl Drop for Member {
+    fn drop(self) {
+        let Self {
+            flags: _,
+            name: _,
+            descriptor: _,
+            attributes: _,
+        } = self;
+    }
 }
 
 impl Model for Member {
@@ -36,7 +52,6 @@ impl Model for Member {
 }
 
 /// A class file. Classes are named by indexes of the pool.
-#[derive(Debug, Drop)]
 pub struct ClassFile {
     pub minor: u16,
     pub major: u16,
@@ -48,6 +63,23 @@ pub struct ClassFile {
     pub fields: Vec<Member>,
     pub methods: Vec<Member>,
     pub attributes: Vec<Attribute>,
+}
+
+impl Drop for ClassFile {
+    fn drop(self) {
+        let Self {
+            minor: _,
+            major: _,
+            pool: _,
+            flags: _,
+            this_class: _,
+            super_class: _,
+            interfaces: _,
+            fields: _,
+            methods: _,
+            attributes: _,
+        } = self;
+    }
 }
 
 impl Model for ClassFile {

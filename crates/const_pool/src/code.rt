@@ -16,13 +16,25 @@ use std::alloc::Global;
 use std::marker::Model;
 
 /// What a Code attribute holds.
-#[derive(Debug, Drop)]
+#[derive(Debug)]
 pub struct Code {
     pub max_stack: u16,
     pub max_locals: u16,
     pub code: Bytes,
     pub handlers: Vec<Handler>,
     pub attributes: Vec<Attribute>,
+}
+
+impl Drop for Code {
+    fn drop(self) {
+        let Self {
+            max_stack: _,
+            max_locals: _,
+            code: _,
+            handlers: _,
+            attributes: _,
+        } = self;
+    }
 }
 
 impl Model for Code {

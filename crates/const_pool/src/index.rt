@@ -18,12 +18,22 @@ use std::alloc::{AllocError, Global};
 use std::collections::BTreeMap;
 
 /// The first places among the first `count` entries of a pool, counted from 0.
-#[derive(Debug, Drop)]
 pub struct Index {
     count: usize,
     texts: Texts,
     names: Keys,
     members: Keys,
+}
+
+impl Drop for Index {
+    fn drop(self) {
+        let Self {
+            count: _,
+            texts: _,
+            names: _,
+            members: _,
+        } = self;
+    }
 }
 
 fn key(kind: Kind, class: u16, pair: u16) -> Key

@@ -14,7 +14,7 @@ use std::marker::Model;
 
 /// For each of the entries at the front of a pool the places of the parameters that it describes, None where it is no
 /// method descriptor.
-#[derive(Debug, Drop)]
+#[derive(Drop)]
 pub struct Places {
     counts: Vec<Option<u8>>,
 }

@@ -18,11 +18,20 @@ use std::alloc::{AllocError, Global};
 use std::marker::Model;
 
 /// A constant pool. A clause sees the list of its entries, from index 1.
-#[derive(Debug, Drop)]
 pub struct Pool {
     entries: Vec<Constant>,
     index: Index,
     places: Places,
+}
+
+impl Drop for Pool {
+    fn drop(self) {
+        let Self {
+            entries: _,
+            index: _,
+            places: _,
+        } = self;
+    }
 }
 
 impl Model for Pool {

@@ -18,7 +18,7 @@ use std::alloc::{AllocError, Global};
 use std::marker::Model;
 
 /// For each entry of a pool whether it is a field descriptor, and whether it is a method descriptor.
-#[derive(Debug, Drop)]
+#[derive(Drop)]
 pub struct Descriptors {
     uses: Vec<(bool, bool)>,
 }

@@ -20,7 +20,6 @@ pub const CLASS_LIMIT: usize = 1_048_576;
 pub const SCRIPT_LIMIT: usize = 16_777_216;
 
 /// A class file under a folder, with at most one byte over its limit.
-#[derive(Drop)]
 pub struct ClassInput {
     /// Its path from the folder.
     pub relative: String,
@@ -28,11 +27,29 @@ pub struct ClassInput {
     pub bytes: Bytes,
 }
 
+impl Drop for ClassInput {
+    fn drop(self) {
+        let Self {
+            relative: _,
+            path: _,
+            bytes: _,
+        } = self;
+    }
+}
+
 /// The class files, in the order of their paths, and the script of a run, each with at most one byte over its limit.
-#[derive(Drop)]
 pub struct Inputs {
     pub classes: Vec<ClassInput>,
     pub script: Bytes,
+}
+
+impl Drop for Inputs {
+    fn drop(self) {
+        let Self {
+            classes: _,
+            script: _,
+        } = self;
+    }
 }
 
 /// Why a command has no inputs, or no classes.

@@ -37,7 +37,7 @@ pub fn command_of(words: &[String]) -> Option<Command<'_>>
 }
 
 /// A bank: its numbers, and the engine that takes the place of its script's, if one is named.
-#[derive(Clone, Copy, Debug)]
+#[derive(Clone, Copy)]
 pub struct BankWords {
     pub figures: Figures,
     pub engine: Option<EngineKind>,

@@ -7,7 +7,7 @@ use crate::end::IoEnd;
 use std::alloc::Global;
 
 /// What a call of a folder was.
-#[derive(Clone, Copy, Debug, PartialEq, Eq)]
+#[derive(Clone, Copy, PartialEq, Eq)]
 pub enum CallKind {
     List,
     Read,
@@ -15,7 +15,7 @@ pub enum CallKind {
 }
 
 /// A call of a folder that failed.
-#[derive(Debug, Drop)]
+#[derive(Drop)]
 pub struct FailedCall {
     pub kind: CallKind,
     /// The path that it was given.

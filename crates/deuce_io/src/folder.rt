@@ -9,7 +9,7 @@ use crate::end::IoEnd;
 use jmodel::Bytes;
 
 /// A file or a folder, by its name in the folder that it stands in.
-#[derive(Debug, Drop)]
+#[derive(Drop)]
 pub struct Item {
     pub name: String,
     /// Whether it is a folder.

@@ -7,7 +7,6 @@ use session::Record;
 use std::alloc::{AllocError, Global};
 
 /// The calls of a run, and the memory that they left.
-#[derive(Drop)]
 pub struct Journal {
     /// Those that have a place in the history, in its order.
     pub placed: Vec<Record>,
@@ -17,6 +16,17 @@ pub struct Journal {
     pub words: Vec<u64>,
     /// How many words of each region are used then: of region 0, and of each lane's.
     pub used: Vec<u64>,
+}
+
+impl Drop for Journal {
+    fn drop(self) {
+        let Self {
+            placed: _,
+            unplaced: _,
+            words: _,
+            used: _,
+        } = self;
+    }
 }
 
 /// What is kept of the calls of a run, phase by phase.

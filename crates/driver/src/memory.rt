@@ -14,7 +14,7 @@ pub struct Memory {
 }
 
 /// What each call of a run may use: turns in each attempt, attempts, and a region of so many words.
-#[derive(Clone, Copy, Debug)]
+#[derive(Clone, Copy)]
 pub struct Limits {
     pub budget: u64,
     pub attempts: u64,

@@ -18,14 +18,14 @@ use objects::op::{Sort, WordType};
 use std::alloc::{AllocError, Global};
 
 /// The accessors of a field.
-#[derive(Debug, Drop)]
+#[derive(Drop)]
 pub struct Accessors {
     pub getter: Member,
     pub setter: Member,
 }
 
 /// What an accessor names to find its field: the static base, where the field is one of it, and the field that holds the place.
-#[derive(Clone, Copy, Debug)]
+#[derive(Clone, Copy)]
 pub struct Place {
     pub base: Option<u16>,
     pub address: u16,

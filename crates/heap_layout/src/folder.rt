@@ -14,10 +14,15 @@ use std::collections::BTreeMap;
 use std::marker::Model;
 
 /// The classes of a folder, with the place of the first class of each name.
-#[derive(Drop)]
 pub struct Folder<'a> {
     places: Places<'a>,
     own: BTreeMap<Vec<u8>, usize>,
+}
+
+impl Drop for Folder<'_> {
+    fn drop(self) {
+        let Self { places: _, own: _ } = self;
+    }
 }
 
 impl<'a> Model for Folder<'a> {

@@ -19,10 +19,15 @@ use std::alloc::{AllocError, Global};
 use std::marker::Model;
 
 /// The classes of a folder, with what stands above each.
-#[derive(Drop)]
 pub struct Hierarchy<'a> {
     folder: Folder<'a>,
     ways: Ways<'a>,
+}
+
+impl Drop for Hierarchy<'_> {
+    fn drop(self) {
+        let Self { folder: _, ways: _ } = self;
+    }
 }
 
 impl<'a> Model for Hierarchy<'a> {

@@ -29,10 +29,18 @@ use std::alloc::{AllocError, Global};
 const TEXT: u64 = 2 << 32;
 
 // String constants: their numbers by their texts, and the address of the first.
-#[derive(Drop)]
 struct TextPlaces<'a> {
     numbers: Numbers<'a>,
     from: u64,
+}
+
+impl Drop for TextPlaces<'_> {
+    fn drop(self) {
+        let Self {
+            numbers: _,
+            from: _,
+        } = self;
+    }
 }
 
 // The numbers of texts.

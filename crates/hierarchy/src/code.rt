@@ -15,10 +15,15 @@ use std::alloc::{AllocError, Global};
 use std::marker::Model;
 
 /// The Code of a method with its instructions, of which each switch has keys that ascend.
-#[derive(Drop)]
 pub struct Coded {
     pub code: Code,
     pub instrs: Vec<Instr>,
+}
+
+impl Drop for Coded {
+    fn drop(self) {
+        let Self { code: _, instrs: _ } = self;
+    }
 }
 
 impl Model for Coded {
@@ -84,8 +89,8 @@ fn in_method(
     ensures { IfOk result (λ r. r ≡ named (method_name class.now method.now) fault) }
 {
     match fault {
-        Refusal::BadInstr(_, pc) => Ok(Refusal::BadInstr(printed(alloc, class, method)?, pc)),
-        Refusal::BadTarget(_, pc) => Ok(Refusal::BadTarget(printed(alloc, class, method)?, pc)),
+        Refusal::BadInstr(.., pc) => Ok(Refusal::BadInstr(printed(alloc, class, method)?, pc)),
+        Refusal::BadTarget(.., pc) => Ok(Refusal::BadTarget(printed(alloc, class, method)?, pc)),
         other => Ok(other),
     }
 }

@@ -12,7 +12,7 @@ use std::alloc::{AllocError, Global};
 use std::marker::Model;
 
 /// A method, with the class that declares it.
-#[derive(Debug, Drop)]
+#[derive(Drop)]
 pub struct Declared<'a> {
     pub class: &'a ClassFile,
     pub member: &'a Member,

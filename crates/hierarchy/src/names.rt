@@ -11,7 +11,7 @@ use std::alloc::Global;
 use std::collections::{BTreeMap, BTreeSet};
 use std::marker::Model;
 
-#[derive(Clone, Copy, Debug, PartialEq, Eq, PartialOrd, Ord)]
+#[derive(Clone, Copy, PartialEq, Eq, PartialOrd, Ord)]
 struct Key<'a> {
     name: &'a [u8],
     descriptor: &'a [u8],
@@ -76,9 +76,14 @@ impl<'a> Names<'a> {
 }
 
 /// Methods by names.
-#[derive(Drop)]
 pub struct Groups<'a> {
     methods: BTreeMap<Key<'a>, Vec<&'a Declared<'a>>>,
+}
+
+impl Drop for Groups<'_> {
+    fn drop(self) {
+        let Self { methods: _ } = self;
+    }
 }
 
 impl<'a> Model for Groups<'a> {

@@ -7,7 +7,7 @@ use jmodel::{Halt, NoMemory, Refusal};
 use std::alloc::{AllocError, AllocFailed};
 
 /// Why no program is built.
-#[derive(Debug, Drop)]
+#[derive(Drop)]
 pub enum BuildEnd {
     /// The superclasses, the annotations of a method, or the code of one of the program's have this fault.
     Refused(Refusal),

@@ -12,11 +12,20 @@ use std::alloc::{AllocError, Global};
 use std::marker::Model;
 
 /// Classes, with the place of the first class of each name, and for each class the place of its superclass.
-#[derive(Drop)]
 pub struct Places<'a> {
     classes: &'a [&'a ClassFile],
     own: Numbers<'a>,
     above: Vec<Option<usize>>,
+}
+
+impl Drop for Places<'_> {
+    fn drop(self) {
+        let Self {
+            classes: _,
+            own: _,
+            above: _,
+        } = self;
+    }
 }
 
 impl<'a> Model for Places<'a> {

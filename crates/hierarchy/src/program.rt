@@ -16,7 +16,6 @@ use std::marker::Model;
 
 /// A field: its names and descriptor, the reference of its class's static fields where it is one of them, its place among the values of
 /// its object, and its type.
-#[derive(Debug, Drop)]
 pub struct Field {
     pub class: Bytes,
     pub name: Bytes,
@@ -26,6 +25,19 @@ pub struct Field {
     pub declared: Declared,
 }
 
+impl Drop for Field {
+    fn drop(self) {
+        let Self {
+            class: _,
+            name: _,
+            descriptor: _,
+            base: _,
+            index: _,
+            declared: _,
+        } = self;
+    }
+}
+
 impl Model for Field {
     ghost Value = { JField };
 
@@ -33,16 +45,24 @@ impl Model for Field {
 }
 
 /// How calls find a method, the types of the places of its parameters, the object first, and of what it gives.
-#[derive(Debug, Drop)]
 pub struct Shape {
     pub dispatch: Dispatch,
     pub parameters: Vec<VType>,
     pub result: Option<VType>,
 }
 
+impl Drop for Shape {
+    fn drop(self) {
+        let Self {
+            dispatch: _,
+            parameters: _,
+            result: _,
+        } = self;
+    }
+}
+
 /// A method's code: how many places all its locals have, and its operand stack at most; its instructions and exception entries. An abstract
 /// method has none, and locals for its parameters alone.
-#[derive(Debug, Drop)]
 pub struct Body {
     pub locals: usize,
     pub max_stack: usize,
@@ -50,8 +70,19 @@ pub struct Body {
     pub catches: Vec<Catch>,
 }
 
+impl Drop for Body {
+    fn drop(self) {
+        let Self {
+            locals: _,
+            max_stack: _,
+            ops: _,
+            catches: _,
+        } = self;
+    }
+}
+
 /// What entering a method needs: how many places its parameters and all its locals take, and whether it is a turn.
-#[derive(Clone, Copy, Debug)]
+#[derive(Clone, Copy)]
 pub struct Entry {
     pub places: usize,
     pub locals: usize,
@@ -59,13 +90,24 @@ pub struct Entry {
 }
 
 /// A method.
-#[derive(Debug, Drop)]
 pub struct Method {
     name: MethodName,
     shape: Shape,
     counted: bool,
     retries: Option<i32>,
     body: Body,
+}
+
+impl Drop for Method {
+    fn drop(self) {
+        let Self {
+            name: _,
+            shape: _,
+            counted: _,
+            retries: _,
+            body: _,
+        } = self;
+    }
 }
 
 impl Model for Method {
@@ -214,13 +256,24 @@ impl Method {
 }
 
 /// The types, the references of string constants, and the fields and methods by their numbers. Type t is row t - 1.
-#[derive(Debug, Drop)]
 pub struct Program {
     types: Vec<Row>,
     texts: Vec<u64>,
     fields: Vec<Field>,
     methods: Vec<Method>,
     selection: Selection,
+}
+
+impl Drop for Program {
+    fn drop(self) {
+        let Self {
+            types: _,
+            texts: _,
+            fields: _,
+            methods: _,
+            selection: _,
+        } = self;
+    }
 }
 
 impl Model for Program {

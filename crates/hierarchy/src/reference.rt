@@ -6,7 +6,7 @@ use const_pool::{Constant, Pool};
 use std::marker::Model;
 
 /// What a reference to a member says: the class, the name and the descriptor.
-#[derive(Debug, Drop)]
+#[derive(Drop)]
 pub struct Reference<'a> {
     pub class: &'a [u8],
     pub name: &'a [u8],

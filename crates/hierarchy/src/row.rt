@@ -7,7 +7,7 @@ use std::marker::Model;
 
 /// The type of a word as it is declared. Of a reference it has the class as typing reads it: an interface is Object there. An array has
 /// its descriptor.
-#[derive(Debug, Drop)]
+#[derive(Drop)]
 pub struct Declared {
     pub word: WordType,
     pub class: Bytes,
@@ -20,7 +20,7 @@ impl Model for Declared {
 }
 
 /// What the objects of a type hold.
-#[derive(Debug, Drop)]
+#[derive(Drop)]
 pub enum Holds {
     /// The words of their fields.
     Words(Vec<Declared>),
@@ -29,13 +29,24 @@ pub enum Holds {
 }
 
 /// A type of objects: a class, an array, or a class's static fields.
-#[derive(Debug, Drop)]
 pub struct Row {
     name: Bytes,
     read: Bytes,
     holds: Holds,
     lineage: Vec<Bytes>,
     instance_of: Vec<Bytes>,
+}
+
+impl Drop for Row {
+    fn drop(self) {
+        let Self {
+            name: _,
+            read: _,
+            holds: _,
+            lineage: _,
+            instance_of: _,
+        } = self;
+    }
 }
 
 impl Model for Row {

@@ -18,7 +18,6 @@ use std::collections::BTreeMap;
 
 /// A class has the number of the first method that it declares. A group has all methods of one name and descriptor, and the number of the
 /// first of them.
-#[derive(Debug, Drop)]
 pub(crate) struct Selection {
     /// For each type the numbers of its class and of those above it, the nearest first, without those that declare no method.
     classes: Vec<Vec<usize>>,
@@ -26,6 +25,16 @@ pub(crate) struct Selection {
     groups: Vec<Option<usize>>,
     /// Under a group and then under a class the first method of the group that the class declares and that calls may select.
     firsts: BTreeMap<usize, BTreeMap<usize, usize>>,
+}
+
+impl Drop for Selection {
+    fn drop(self) {
+        let Self {
+            classes: _,
+            groups: _,
+            firsts: _,
+        } = self;
+    }
 }
 
 // The numbers of the classes of methods.

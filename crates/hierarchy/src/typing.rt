@@ -7,11 +7,20 @@ use std::marker::Model;
 use type_lists::{TypeStack, TypeTree};
 
 /// The types before one instruction.
-#[derive(Drop)]
 pub struct TypeEntry {
     locals: TypeTree,
     stack: TypeStack,
     built: bool,
+}
+
+impl Drop for TypeEntry {
+    fn drop(self) {
+        let Self {
+            locals: _,
+            stack: _,
+            built: _,
+        } = self;
+    }
 }
 
 impl Model for TypeEntry {

@@ -5,9 +5,15 @@ use std::alloc::{AllocError, Global};
 use std::marker::Model;
 
 /// Bytes that their owner keeps. A clause sees them as the list of their numbers.
-#[derive(Debug, Drop)]
+#[derive(Debug)]
 pub struct Bytes {
     items: Vec<u8>,
+}
+
+impl Drop for Bytes {
+    fn drop(self) {
+        let Self { items: _ } = self;
+    }
 }
 
 impl Model for Bytes {

@@ -6,7 +6,7 @@ use std::alloc::{AllocError, Global};
 use std::marker::Model;
 
 /// Which entries of the pool an instruction takes.
-#[derive(Clone, Copy, Debug)]
+#[derive(Clone, Copy)]
 pub enum EntryKind {
     /// An Integer, a Float, a String or a Class.
     Single,
@@ -19,7 +19,7 @@ pub enum EntryKind {
 }
 
 /// What stands behind an opcode.
-#[derive(Clone, Copy, Debug)]
+#[derive(Clone, Copy)]
 pub enum Form {
     /// Nothing.
     Plain,

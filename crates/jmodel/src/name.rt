@@ -6,11 +6,20 @@ use crate::bytes::Bytes;
 use std::alloc::{AllocError, Global};
 
 /// A method by the name of its class, its own name and its descriptor.
-#[derive(Debug, Drop)]
 pub struct MethodName {
     pub class: Bytes,
     pub name: Bytes,
     pub descriptor: Bytes,
+}
+
+impl Drop for MethodName {
+    fn drop(self) {
+        let Self {
+            class: _,
+            name: _,
+            descriptor: _,
+        } = self;
+    }
 }
 
 impl MethodName {

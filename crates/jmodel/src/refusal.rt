@@ -6,9 +6,9 @@ ghost use Rattle.jmodel.specs.declared.refusal.Halt.TheVariants as halts;
 
 use crate::bytes::Bytes;
 use std::alloc::{AllocError, AllocFailed};
+use std::fmt::{self, Debug, Formatter, Write};
 
 /// A refusal, with the place that it names. The number before each is the one that is printed.
-#[derive(Debug, Drop)]
 pub enum Refusal {
     /// 1: The field at this offset isn't wholly in the file.
     Truncated(i64),
@@ -74,6 +74,53 @@ pub enum Refusal {
     BadSuper(Bytes, Bytes),
     /// 32: The method has no typing, for the instruction at this pc.
     Untypable(Bytes, i64),
+}
+
+/// Taken apart here alone, and not at the end of each scope that holds one.
+impl Drop for Refusal {
+    fn drop(self) {
+        match self {
+            Refusal::Truncated(_)
+            | Refusal::BadTag(_)
+            | Refusal::BadIndex(_)
+            | Refusal::WrongKind(_)
+            | Refusal::BadUtf8(_)
+            | Refusal::BadDescriptor(_)
+            | Refusal::PoolFull(_)
+            | Refusal::BadMagic
+            | Refusal::BadVersion(_)
+            | Refusal::Trailing(_)
+            | Refusal::BadCode(_)
+            | Refusal::Doubled(_)
+            | Refusal::BadInstr(_, _)
+            | Refusal::BadTarget(_, _)
+            | Refusal::CodeTooLarge(_)
+            | Refusal::BranchTooFar(_, _)
+            | Refusal::DoubledClass(_)
+            | Refusal::UnknownClass(_)
+            | Refusal::Circular(_)
+            | Refusal::Construct(_, _, _)
+            | Refusal::ReservedName(_)
+            | Refusal::BadAnnotation(_, _)
+            | Refusal::BadRetries(_, _)
+            | Refusal::TooManyPlaces(_, _)
+            | Refusal::NotJson
+            | Refusal::BadShape(_)
+            | Refusal::UnknownMethod(_)
+            | Refusal::NotAtomic(_)
+            | Refusal::BadArgs(_)
+            | Refusal::OverLimit(_, _)
+            | Refusal::BadSuper(_, _)
+            | Refusal::Untypable(_, _) => {}
+        }
+    }
+}
+
+/// Its number, as it is printed.
+impl Debug for Refusal {
+    fn fmt<W: Write>(&self, f: &mut Formatter<W>) -> fmt::Result {
+        write!(f, "Refusal {}", self.number())
+    }
 }
 
 impl Refusal {

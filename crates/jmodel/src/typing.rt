@@ -2,7 +2,7 @@
 use crate::bytes::Bytes;
 
 /// The type of one place.
-#[derive(Debug, Drop)]
+#[derive(Drop)]
 pub enum VType {
     Int,
     Long,

@@ -2,7 +2,7 @@
 use crate::bytes::Bytes;
 
 /// A value of the Java machine. A boolean, byte, char or short is an `Int`. Reference 0 is null.
-#[derive(Clone, Copy, Debug)]
+#[derive(Clone, Copy)]
 pub enum Value {
     Int(i32),
     Long(i64),
@@ -10,7 +10,7 @@ pub enum Value {
 }
 
 /// How a call ends.
-#[derive(Debug, Drop)]
+#[derive(Drop)]
 pub enum Answer {
     /// By return, with the value where the method has a result.
     Returned(Option<Value>),
@@ -29,7 +29,7 @@ pub enum Answer {
 }
 
 /// Where an entry stands in the commit history: the clock's value, and whether it wrote.
-#[derive(Clone, Copy, Debug)]
+#[derive(Clone, Copy)]
 pub struct Stamp {
     pub at: u64,
     pub update: bool,

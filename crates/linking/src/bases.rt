@@ -32,10 +32,18 @@ fn bases_of(alloc: Global, classes: &[&ClassFile]) -> Result<Vec<u64>, AllocErro
 }
 
 /// Classes, and where the object of each one's static fields lies.
-#[derive(Drop)]
 pub struct Bases<'a> {
     places: Places<'a>,
     bases: Vec<u64>,
+}
+
+impl Drop for Bases<'_> {
+    fn drop(self) {
+        let Self {
+            places: _,
+            bases: _,
+        } = self;
+    }
 }
 
 impl<'a> Model for Bases<'a> {

@@ -9,10 +9,18 @@ use std::alloc::Global;
 use std::marker::Model;
 
 /// Classes: where names lead among them, and how typing reads their names.
-#[derive(Drop)]
 pub struct Names<'a> {
     resolver: Resolver<'a>,
     folder: Folder<'a>,
+}
+
+impl Drop for Names<'_> {
+    fn drop(self) {
+        let Self {
+            resolver: _,
+            folder: _,
+        } = self;
+    }
 }
 
 impl<'a> Model for Names<'a> {

@@ -155,7 +155,6 @@ fn from_one(types: &[Row], place: Option<usize>) -> Option<usize>
 }
 
 /// The types, texts, fields and methods of a program, by their names.
-#[derive(Drop)]
 pub struct Numbering<'a> {
     layout: &'a Layout,
     methods: &'a [&'a Declared<'a>],
@@ -164,6 +163,20 @@ pub struct Numbering<'a> {
     text_numbers: Numbers<'a>,
     field_numbers: Numbers<'a>,
     method_numbers: Numbers<'a>,
+}
+
+impl Drop for Numbering<'_> {
+    fn drop(self) {
+        let Self {
+            layout: _,
+            methods: _,
+            type_numbers: _,
+            array_numbers: _,
+            text_numbers: _,
+            field_numbers: _,
+            method_numbers: _,
+        } = self;
+    }
 }
 
 impl<'a> Model for Numbering<'a> {

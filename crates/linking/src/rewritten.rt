@@ -56,12 +56,22 @@ fn field_counts<'a>(alloc: Global, program: &'a Program) -> Result<Numbers<'a>, 
 }
 
 // A program, the names of its methods, and how many methods and fields each class has in it.
-#[derive(Drop)]
 struct Counts<'a> {
     program: &'a Program,
     names: Names<'a>,
     methods: Numbers<'a>,
     fields: Numbers<'a>,
+}
+
+impl Drop for Counts<'_> {
+    fn drop(self) {
+        let Self {
+            program: _,
+            names: _,
+            methods: _,
+            fields: _,
+        } = self;
+    }
 }
 
 impl<'a> Model for Counts<'a> {

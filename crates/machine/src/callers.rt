@@ -9,10 +9,15 @@ use std::alloc::{AllocError, Global};
 use std::marker::Model;
 
 /// The frames below the current one, and frames that ended, whose memory the next ones take.
-#[derive(Drop)]
 pub struct Callers {
     items: Vec<Frame>,
     ended: Vec<Frame>,
+}
+
+impl Drop for Callers {
+    fn drop(self) {
+        let Self { items: _, ended: _ } = self;
+    }
 }
 
 impl Model for Callers {

@@ -2,7 +2,7 @@
 use std::alloc::AllocError;
 
 /// The code isn't well formed there, or memory ran out.
-#[derive(Clone, Copy, Debug)]
+#[derive(Clone, Copy)]
 pub enum Failure {
     Wrong,
     NoMemory,

@@ -11,12 +11,22 @@ use std::alloc::{AllocError, Global};
 use std::marker::Model;
 
 /// A frame. A caller's place is that of its call.
-#[derive(Drop)]
 pub struct Frame {
     pub method: usize,
     pub pc: usize,
     pub locals: Locals,
     pub stack: Stack,
+}
+
+impl Drop for Frame {
+    fn drop(self) {
+        let Self {
+            method: _,
+            pc: _,
+            locals: _,
+            stack: _,
+        } = self;
+    }
 }
 
 impl Model for Frame {

@@ -24,7 +24,7 @@ pub trait Gate {
 }
 
 /// The gate that does nothing and tells nothing.
-#[derive(Clone, Copy, Debug)]
+#[derive(Clone, Copy)]
 pub struct Open;
 
 impl Gate for Open {
@@ -34,7 +34,7 @@ impl Gate for Open {
 }
 
 /// A gate that keeps so many events, and tells them. Once one more has come it tells nothing.
-#[derive(Debug, Drop)]
+#[derive(Drop)]
 pub struct LogGate {
     /// The events that came, and behind them places for others.
     events: Vec<Event>,

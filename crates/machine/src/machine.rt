@@ -29,7 +29,7 @@ use std::snapshot::Snapshot;
 use tx_core::Engine;
 
 /// What a call may use: turns in each attempt, attempts, and words of a region.
-#[derive(Clone, Copy, Debug)]
+#[derive(Clone, Copy)]
 pub struct Limits {
     pub budget: u64,
     pub attempts: u64,
@@ -37,7 +37,7 @@ pub struct Limits {
 }
 
 /// How a call ended: its answer, its place in the history, and how many words of its region are used then.
-#[derive(Debug, Drop)]
+#[derive(Drop)]
 pub struct End {
     pub answer: Answer,
     pub stamp: Stamp,
@@ -46,14 +46,22 @@ pub struct End {
 
 /// The code isn't well formed: an instruction that isn't there, a stack or local that hasn't what an instruction needs,
 /// or a call of the context out of its place. A call of rewritten typed code never comes to it.
-#[derive(Clone, Copy, Debug)]
+#[derive(Clone, Copy)]
 pub struct Stuck;
 
 /// What runs calls, one after another. It keeps the memory of frames that ended, which those of the next call take; that has no meaning.
-#[derive(Drop)]
 pub struct Machine {
     alloc: Global,
     callers: Callers,
+}
+
+impl Drop for Machine {
+    fn drop(self) {
+        let Self {
+            alloc: _,
+            callers: _,
+        } = self;
+    }
 }
 
 impl Model for Machine {

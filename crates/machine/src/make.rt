@@ -31,14 +31,14 @@ use std::alloc::Global;
 use tx_core::{Engine, TxEnd};
 
 /// The words that a new object takes, and the word of its header.
-#[derive(Clone, Copy, Debug)]
+#[derive(Clone, Copy)]
 pub struct Fresh {
     pub words: u64,
     pub header: u64,
 }
 
 /// What an instruction makes: an object of the type with this number, of this length where it is an array, which is pushed or thrown.
-#[derive(Clone, Copy, Debug)]
+#[derive(Clone, Copy)]
 pub struct Making {
     pub of: usize,
     pub length: u64,

@@ -21,7 +21,7 @@ use jmodel::value::Value;
 use objects::op::{Binary, Division, Op, Slot, Sort, Trap, Width};
 
 /// What such an instruction leads to.
-#[derive(Clone, Copy, Debug)]
+#[derive(Clone, Copy)]
 pub enum Flow {
     /// The next instruction.
     Next,
@@ -34,7 +34,7 @@ pub enum Flow {
 }
 
 /// The same, where an int that belongs on the stack is held beside it.
-#[derive(Clone, Copy, Debug)]
+#[derive(Clone, Copy)]
 pub enum Outcome {
     /// The next instruction, with this int topmost: it is held.
     Int(i32),
@@ -42,7 +42,7 @@ pub enum Outcome {
 }
 
 /// The same of an instruction before which an int is held.
-#[derive(Clone, Copy, Debug)]
+#[derive(Clone, Copy)]
 pub enum Over {
     /// The next instruction, with this int topmost in place of the held one.
     Int(i32),
@@ -52,7 +52,7 @@ pub enum Over {
 }
 
 /// The same of an instruction before which two ints are held.
-#[derive(Clone, Copy, Debug)]
+#[derive(Clone, Copy)]
 pub enum OverTwo {
     /// The next instruction, with this int topmost in place of both.
     Int(i32),

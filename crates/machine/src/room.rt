@@ -6,7 +6,7 @@ ghost use Rattle.machine.specs.Machine.{region_of};
 use region::Region;
 
 /// The region that a call takes words from.
-#[derive(Clone, Copy, Debug)]
+#[derive(Clone, Copy)]
 pub struct Room {
     /// The region's number.
     pub region: u64,
@@ -17,7 +17,7 @@ pub struct Room {
 }
 
 /// An exception that was thrown, by the number of its type.
-#[derive(Clone, Copy, Debug)]
+#[derive(Clone, Copy)]
 pub struct Thrown {
     pub reference: u64,
     pub of: usize,

@@ -32,7 +32,7 @@ use std::thread::yield_now;
 use tx_core::{Engine, TxEnd};
 
 /// Where a call stands before its commit.
-#[derive(Clone, Copy, Debug)]
+#[derive(Clone, Copy)]
 pub enum Stage {
     /// Outside an attempt.
     Ready,
@@ -43,7 +43,7 @@ pub enum Stage {
 }
 
 /// What is to be done after a step.
-#[derive(Clone, Copy, Debug)]
+#[derive(Clone, Copy)]
 pub enum Todo {
     Go,
     /// The attempt is to be committed.

@@ -19,7 +19,7 @@ use objects::op::{Asking, Element, Place, Request, Slot, Trap, Use};
 use std::alloc::Global;
 
 /// An object, with the word of its header.
-#[derive(Clone, Copy, Debug)]
+#[derive(Clone, Copy)]
 pub struct Headed {
     pub object: u64,
     pub header: u64,

@@ -2,6 +2,8 @@
 //! prints whether the program that the class files there mean is the rewriting of the program that the folder's own mean.
 #![tactic(auto)]
 
+mod same;
+
 ghost use Rattle.std.specs.Prelude.{IfOk};
 ghost use Rattle.std.specs.List.{AllByRecursion};
 ghost use Rattle.jmodel.specs.format.ClassRules.{IsClassFile};
@@ -21,6 +23,7 @@ use jmodel::Bytes;
 use linking::rebuild::rebuild;
 use program_rewriter::rewrite_program;
 use runner::instrument_files;
+use same::same_program;
 use std::alloc::{AllocError, Global};
 use std::collections::BTreeMap;
 use std::io;
@@ -163,7 +166,7 @@ fn print_meaning<R: Runtime>(
     let before = made.classes.as_slice();
     match rebuild(alloc, before, classes.as_slice(), &made.original) {
         Ok(rebuilt) => print_rebuilt(rt, alloc, &made.original, made.typings.as_slice(), &rebuilt),
-        Err(end) => println!(rt; "{end:?}"),
+        Err(_) => println!(rt; "no program of the rewritten class files"),
     }
 }
 
@@ -181,8 +184,7 @@ fn print_rebuilt<R: Runtime>(
     let Ok(wanted) = rewrite_program(alloc, original, typings) else {
         return println!(rt; "no rewriting");
     };
-    let text = format!(in alloc; "{rebuilt:?}")?;
-    let is_meant = text.as_str() == format!(in alloc; "{wanted:?}")?.as_str();
+    let is_meant = same_program(rebuilt, &wanted);
     let methods = rebuilt.methods().len();
     println!(rt; "methods {methods}, as rewritten: {is_meant}")
 }

@@ -54,8 +54,8 @@ fn fault_of(alloc: Global, name: &MethodName, fault: Refusal) -> Result<Refusal,
     ensures { IfOk result (λ r. r ≡ fault_in (printed name.now) fault) }
 {
     match fault {
-        Refusal::CodeTooLarge(_) => Ok(Refusal::CodeTooLarge(name.printed(alloc)?)),
-        Refusal::BranchTooFar(_, pc) => Ok(Refusal::BranchTooFar(name.printed(alloc)?, pc)),
+        Refusal::CodeTooLarge(..) => Ok(Refusal::CodeTooLarge(name.printed(alloc)?)),
+        Refusal::BranchTooFar(.., pc) => Ok(Refusal::BranchTooFar(name.printed(alloc)?, pc)),
         other => Ok(other),
     }
 }

@@ -14,7 +14,7 @@ use jmodel::{Bytes, Halt, MethodName};
 use std::alloc::{AllocError, Global};
 
 /// How many places a method's operand stack takes at most, and all its locals.
-#[derive(Clone, Copy, Debug)]
+#[derive(Clone, Copy)]
 pub struct Frame {
     pub stack: u16,
     pub locals: u16,

@@ -5,7 +5,7 @@ use jmodel::{Bytes, Value};
 
 /// One place of a frame, among its locals or on its operand stack (JVM Specification, Java SE 7, section 2.6). A long
 /// takes two.
-#[derive(Clone, Copy, Debug)]
+#[derive(Clone, Copy)]
 pub enum Slot {
     Int(i32),
     /// The first place of a long.
@@ -23,7 +23,7 @@ pub enum Slot {
 }
 
 /// What a load, a store or a return says of the value that it moves.
-#[derive(Clone, Copy, Debug)]
+#[derive(Clone, Copy)]
 pub enum Sort {
     Int,
     Long,
@@ -31,7 +31,7 @@ pub enum Sort {
 }
 
 /// The type of the word of a field or an element, and what it keeps of an int that is stored there.
-#[derive(Clone, Copy, Debug)]
+#[derive(Clone, Copy)]
 pub enum WordType {
     /// The low bit, without a sign.
     Boolean,
@@ -47,7 +47,7 @@ pub enum WordType {
 }
 
 /// How calls find a method (JVM Specification, Java SE 7, sections 5.4.3 and 6.5).
-#[derive(Clone, Copy, Debug)]
+#[derive(Clone, Copy)]
 pub enum Dispatch {
     /// By its name: a static method.
     Static,
@@ -60,21 +60,21 @@ pub enum Dispatch {
 }
 
 /// A word's place: an object, and the distance from its header, from 1.
-#[derive(Clone, Copy, Debug)]
+#[derive(Clone, Copy)]
 pub struct Place {
     pub object: u64,
     pub index: u64,
 }
 
 /// Whether an operator is of ints or of longs.
-#[derive(Clone, Copy, Debug)]
+#[derive(Clone, Copy)]
 pub enum Width {
     Int,
     Long,
 }
 
 /// Two numbers to one, the second topmost.
-#[derive(Clone, Copy, Debug)]
+#[derive(Clone, Copy)]
 pub enum Binary {
     Add,
     Subtract,
@@ -87,7 +87,7 @@ pub enum Binary {
 }
 
 /// A number shifted by an int, which is topmost: of the int the low five bits count, or six for a long.
-#[derive(Clone, Copy, Debug)]
+#[derive(Clone, Copy)]
 pub enum Shift {
     Left,
     /// With copies of the sign.
@@ -97,7 +97,7 @@ pub enum Shift {
 }
 
 /// Two numbers to one, the second topmost, which isn't 0.
-#[derive(Clone, Copy, Debug)]
+#[derive(Clone, Copy)]
 pub enum Division {
     /// Cut to a whole number; of the least number by -1 that number itself.
     Quotient,
@@ -106,7 +106,7 @@ pub enum Division {
 }
 
 /// A number to another of its width.
-#[derive(Clone, Copy, Debug)]
+#[derive(Clone, Copy)]
 pub enum Unary {
     Negate,
     /// Of the least number that number itself.
@@ -114,7 +114,7 @@ pub enum Unary {
 }
 
 /// A number to one of another type.
-#[derive(Clone, Copy, Debug)]
+#[derive(Clone, Copy)]
 pub enum Conversion {
     /// The low eight bits, with their sign.
     IntToByte,
@@ -128,7 +128,7 @@ pub enum Conversion {
 }
 
 /// An exception that an instruction throws.
-#[derive(Clone, Copy, Debug)]
+#[derive(Clone, Copy)]
 pub enum Trap {
     /// A division by 0.
     Arithmetic,
@@ -149,7 +149,7 @@ pub enum Trap {
 }
 
 /// How a branch compares two ints, of which the second is topmost.
-#[derive(Clone, Copy, Debug)]
+#[derive(Clone, Copy)]
 pub enum Test {
     Equal,
     NotEqual,
@@ -160,7 +160,7 @@ pub enum Test {
 }
 
 /// What rearranges the operand stack, by the JVM's names. A long counts as two values, its second place topmost.
-#[derive(Clone, Copy, Debug)]
+#[derive(Clone, Copy)]
 pub enum StackOp {
     Nop,
     Pop,
@@ -175,7 +175,7 @@ pub enum StackOp {
 }
 
 /// A call of the transaction's context (Korland, Shavit, Felber, MULTIPROG 2010, in this project's form).
-#[derive(Clone, Copy, Debug)]
+#[derive(Clone, Copy)]
 pub enum ContextCall {
     /// Begins an attempt.
     Init,
@@ -196,7 +196,7 @@ pub enum ContextCall {
 }
 
 /// An instruction. Fields, methods and texts go by their numbers, types of objects by theirs, which begin at 1.
-#[derive(Debug, Drop)]
+#[derive(Drop)]
 pub enum Op {
     Constant(Value),
     /// A string constant.
@@ -260,7 +260,7 @@ pub enum Op {
 }
 
 /// Which exceptions an entry of an exception table takes.
-#[derive(Debug, Drop)]
+#[derive(Drop)]
 pub enum Catches {
     /// The conflict of a transaction.
     Conflict,
@@ -270,7 +270,7 @@ pub enum Catches {
 }
 
 /// An exception entry: instructions from one up to another, and where an exception in them goes.
-#[derive(Debug, Drop)]
+#[derive(Drop)]
 pub struct Catch {
     pub from: usize,
     pub to: usize,
@@ -279,7 +279,7 @@ pub struct Catch {
 }
 
 /// What an instruction asks of memory or of the transaction.
-#[derive(Clone, Copy, Debug)]
+#[derive(Clone, Copy)]
 pub enum Request {
     /// A plain load.
     Get(Place),
@@ -296,7 +296,7 @@ pub enum Request {
 }
 
 /// What is done with an element, once its index is known to be one of its array.
-#[derive(Clone, Copy, Debug)]
+#[derive(Clone, Copy)]
 pub enum Element {
     Load,
     Store(Value),
@@ -305,7 +305,7 @@ pub enum Element {
 }
 
 /// What an instruction does with an object, once its header is known.
-#[derive(Debug, Drop)]
+#[derive(Drop)]
 pub enum Use {
     /// Calls what its class selects for a method.
     Selects(usize),
@@ -328,14 +328,14 @@ pub enum Use {
 }
 
 /// What becomes of a new object.
-#[derive(Clone, Copy, Debug)]
+#[derive(Clone, Copy)]
 pub enum Made {
     Pushed,
     Raised,
 }
 
 /// What an instruction does, beside what it does to its frame.
-#[derive(Debug, Drop)]
+#[derive(Drop)]
 pub enum Doing {
     Next,
     Jump(usize),
@@ -355,7 +355,7 @@ pub enum Doing {
 }
 
 /// What a step of the machine leaves to be done.
-#[derive(Debug, Drop)]
+#[derive(Drop)]
 pub enum Asking {
     /// Nothing.
     Go,
@@ -378,7 +378,7 @@ pub enum Asking {
 }
 
 /// Where a call of a wrapper stands.
-#[derive(Clone, Copy, Debug)]
+#[derive(Clone, Copy)]
 pub enum Phase {
     /// Outside an attempt.
     Ready,

@@ -7,7 +7,7 @@ ghost use Rattle.objects.specs.typing.Typing.{exits};
 use std::marker::Model;
 
 /// The keys of a switch, which ascend, each with the number of the instruction that it leads to.
-#[derive(Debug, Drop)]
+#[derive(Drop)]
 pub struct Cases {
     items: Vec<(i32, usize)>,
 }
@@ -79,7 +79,7 @@ impl Cases {
 }
 
 /// The targets of a switch.
-#[derive(Debug, Drop)]
+#[derive(Drop)]
 pub struct Exits<'a> {
     other: usize,
     cases: &'a [(i32, usize)],

@@ -13,7 +13,7 @@ use std::alloc::{AllocFailed, Global};
 use verifier::TypeEnd;
 
 /// Why a program isn't typed. Methods go by their numbers, and places are counted in instructions.
-#[derive(Clone, Copy, Debug, PartialEq, Eq)]
+#[derive(Clone, Copy, PartialEq, Eq)]
 pub enum TypeFault {
     /// This method is the first that has code and no typing. No table meets the rules of its instructions up to this place,
     /// and for each lower place there is one that does.

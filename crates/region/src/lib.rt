@@ -6,7 +6,7 @@ ghost use Rattle.std.specs.Prelude.{◌≡◌, ◌+◌, ◌<◌, ◌≤◌, ◌^
 use std::marker::Model;
 
 /// The words from `base` on, of which the first `used` are taken. No call of it takes memory.
-#[derive(Debug, Drop)]
+#[derive(Drop)]
 pub struct Region {
     base: u64,
     size: u64,
@@ -25,7 +25,7 @@ impl Model for Region {
 }
 
 /// A region hasn't so many words more: how many of its words are used, how many were wanted, and how many it has.
-#[derive(Clone, Copy, Debug)]
+#[derive(Clone, Copy)]
 pub struct HeapFull {
     pub used: u64,
     pub wanted: u64,

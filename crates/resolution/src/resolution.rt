@@ -165,12 +165,22 @@ fn member_at<'a>(
 }
 
 /// Classes, with what stands above each and its members by their names.
-#[derive(Drop)]
 pub struct Resolver<'a> {
     ways: Ways<'a>,
     fields: Vec<Numbers<'a>>,
     methods: Vec<Numbers<'a>>,
     selected: Vec<Numbers<'a>>,
+}
+
+impl Drop for Resolver<'_> {
+    fn drop(self) {
+        let Self {
+            ways: _,
+            fields: _,
+            methods: _,
+            selected: _,
+        } = self;
+    }
 }
 
 impl<'a> Model for Resolver<'a> {

@@ -279,13 +279,24 @@ fn all_method_ways(
 }
 
 /// Classes, and for each of them the places of what stands above it.
-#[derive(Drop)]
 pub struct Ways<'a> {
     places: Places<'a>,
     ancestries: Vec<Vec<usize>>,
     aboves: Vec<Vec<usize>>,
     lineages: Vec<Vec<usize>>,
     method_ways: Vec<Vec<usize>>,
+}
+
+impl Drop for Ways<'_> {
+    fn drop(self) {
+        let Self {
+            places: _,
+            ancestries: _,
+            aboves: _,
+            lineages: _,
+            method_ways: _,
+        } = self;
+    }
 }
 
 impl<'a> Model for Ways<'a> {

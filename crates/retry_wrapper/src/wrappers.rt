@@ -18,7 +18,7 @@ use member_code::words::add_context_method;
 use std::alloc::{AllocError, Global};
 
 /// What a wrapper names to begin an attempt.
-#[derive(Clone, Copy, Debug)]
+#[derive(Clone, Copy)]
 pub struct Opening {
     pub get: u16,
     pub number: u16,
@@ -27,7 +27,7 @@ pub struct Opening {
 }
 
 /// What a wrapper names for the body of an attempt and for its end.
-#[derive(Clone, Copy, Debug)]
+#[derive(Clone, Copy)]
 pub struct Ending {
     pub duplicate: u16,
     pub commit: u16,

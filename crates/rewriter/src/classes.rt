@@ -28,7 +28,7 @@ fn in_class(alloc: Global, class: &ClassFile, fault: Refusal) -> Result<Refusal,
     ensures { IfOk result (λ r. r ≡ in_this_class (own_name_of class.now) fault) }
 {
     match fault {
-        Refusal::PoolFull(_) => Ok(Refusal::PoolFull(Bytes::from_slice(alloc, own_name(class))?)),
+        Refusal::PoolFull(..) => Ok(Refusal::PoolFull(Bytes::from_slice(alloc, own_name(class))?)),
         other => Ok(other),
     }
 }

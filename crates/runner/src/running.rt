@@ -28,10 +28,18 @@ use std::alloc::Global;
 use std::thread::Threads;
 
 /// The program of class files, and the calls of a run on them.
-#[derive(Drop)]
 struct Ran {
     program: Program,
     calls: Journal,
+}
+
+impl Drop for Ran {
+    fn drop(self) {
+        let Self {
+            program: _,
+            calls: _,
+        } = self;
+    }
 }
 
 /// How many calls of a run are placed and how many ran out of memory, and the text of the answer of one.

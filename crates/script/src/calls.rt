@@ -20,7 +20,7 @@ use std::alloc::{AllocError, Global};
 use std::marker::Model;
 
 /// A call of a method by its number, with its arguments.
-#[derive(Debug, Drop)]
+#[derive(Drop)]
 pub struct Known {
     pub method: usize,
     pub args: Vec<Value>,
@@ -35,7 +35,7 @@ impl Model for Known {
 }
 
 /// What a lane calls in a phase.
-#[derive(Debug, Drop)]
+#[derive(Drop)]
 pub struct LaneCalls {
     pub calls: Vec<Known>,
 }

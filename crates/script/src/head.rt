@@ -17,7 +17,7 @@ use std::alloc::{AllocError, Global};
 const MOST_WORDS: i64 = 1_048_576;
 
 /// The engine that a script names.
-#[derive(Clone, Copy, Debug)]
+#[derive(Clone, Copy)]
 pub enum EngineKind {
     /// Transactional Locking II.
     Tl2,
@@ -27,7 +27,7 @@ pub enum EngineKind {
 
 /// What a script says beside its phases: its engine, how many lanes it has, the turns and the attempts that each call may take, and the
 /// words of a region.
-#[derive(Clone, Copy, Debug)]
+#[derive(Clone, Copy)]
 pub struct Head {
     pub engine: EngineKind,
     pub lanes: i64,

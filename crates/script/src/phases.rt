@@ -3,7 +3,7 @@ use crate::calls::LaneCalls;
 use std::marker::Model;
 
 /// What a phase calls, by lane or from a bag.
-#[derive(Debug, Drop)]
+#[derive(Drop)]
 pub enum Calls {
     /// What the lanes call, from the first. Lanes that aren't there call nothing.
     Lanes(Vec<LaneCalls>),
@@ -12,7 +12,7 @@ pub enum Calls {
 }
 
 /// What a phase calls.
-#[derive(Debug, Drop)]
+#[derive(Drop)]
 pub struct PhaseCalls {
     pub calls: Calls,
 }

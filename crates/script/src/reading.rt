@@ -33,7 +33,6 @@ const KEYS: [&str; 7] = [
 ];
 
 /// A script: the engine of its calls, the turns and the attempts that each call may take, how many lanes there are, how many words each region has, and what each phase calls.
-#[derive(Debug, Drop)]
 pub struct Script {
     pub engine: EngineKind,
     pub budget: u64,
@@ -41,6 +40,19 @@ pub struct Script {
     pub lanes: u64,
     pub region: u64,
     pub phases: Vec<PhaseCalls>,
+}
+
+impl Drop for Script {
+    fn drop(self) {
+        let Self {
+            engine: _,
+            budget: _,
+            attempts: _,
+            lanes: _,
+            region: _,
+            phases: _,
+        } = self;
+    }
 }
 
 impl Model for Script {

@@ -4,7 +4,7 @@ use std::alloc::{AllocError, Global};
 use std::marker::Model;
 
 /// Where calls stand in a script: their phase, their lane, and the place of the first of them in that lane.
-#[derive(Clone, Copy, Debug)]
+#[derive(Clone, Copy)]
 pub struct Place {
     pub phase: u32,
     pub lane: u8,
@@ -12,7 +12,7 @@ pub struct Place {
 }
 
 /// What is kept of a call: where it stands in the script, the number of its method, its stamp and its answer.
-#[derive(Debug, Drop)]
+#[derive(Drop)]
 pub struct Record {
     pub phase: u32,
     pub lane: u8,

@@ -15,7 +15,7 @@ use tx_table::{Pass, Shared};
 pub use tx_table::{Calling, Ruled};
 
 /// Where an engine stands.
-#[derive(Clone, Copy, Debug)]
+#[derive(Clone, Copy)]
 pub enum At {
     /// Outside an attempt, or in one that met a conflict.
     Outside,

@@ -14,7 +14,7 @@ use tx_core::WriteLog;
 const STRIPES: u64 = 4096;
 
 /// A stripe that a commit takes.
-#[derive(Clone, Copy, Debug)]
+#[derive(Clone, Copy)]
 pub struct Stripe {
     /// An address on it that is written.
     pub address: u64,

@@ -4,7 +4,7 @@ use std::snapshot::Snapshot;
 
 /// Why an attempt was refused: an address that it reads or writes, the word seen there by which others tell who writes
 /// it, and the newest version that the attempt could have read.
-#[derive(Clone, Copy, Debug)]
+#[derive(Clone, Copy)]
 pub struct Conflict {
     pub address: u64,
     pub word: u64,
@@ -12,7 +12,7 @@ pub struct Conflict {
 }
 
 /// Why a call of an engine did nothing.
-#[derive(Clone, Copy, Debug)]
+#[derive(Clone, Copy)]
 pub enum TxEnd {
     Conflict(Conflict),
     NoMemory,

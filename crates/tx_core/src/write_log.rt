@@ -14,11 +14,19 @@ use std::snapshot::Snapshot;
 
 /// The last word that an attempt wrote to each address, in the order of the first writes. A clause sees the list of all
 /// writes, the oldest first, as `items`. A look-up takes constant time where hashes differ.
-#[derive(Drop)]
 pub struct WriteLog {
     words: IndexMap<u64, u64>,
     /// All writes, the oldest first, for contracts alone. A snapshot has no bytes.
     accesses: Vec<Snapshot<Access>>,
+}
+
+impl Drop for WriteLog {
+    fn drop(self) {
+        let Self {
+            words: _,
+            accesses: _,
+        } = self;
+    }
 }
 
 impl Model for WriteLog {

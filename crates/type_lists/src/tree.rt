@@ -12,7 +12,6 @@ use std::rc::Rc;
 
 /// The types of locals. A clause sees them as a list.
 #[cycle(tree)]
-#[derive(Drop)]
 pub struct TypeTree {
     len: usize,
     /// Whether one of them has a name.
@@ -22,6 +21,18 @@ pub struct TypeTree {
     /// The same where it is one.
     under: Option<bool>,
     node: Node,
+}
+
+impl Drop for TypeTree {
+    fn drop(self) {
+        let Self {
+            len: _,
+            named: _,
+            plain: _,
+            under: _,
+            node: _,
+        } = self;
+    }
 }
 
 #[cycle(tree)]

@@ -17,7 +17,7 @@ use std::alloc::{AllocError, Global};
 use type_lists::{TypeStack, TypeTree, shared_types};
 
 /// Why a method got no typing.
-#[derive(Clone, Copy, Debug, PartialEq, Eq)]
+#[derive(Clone, Copy, PartialEq, Eq)]
 pub enum TypeEnd {
     /// It has none. No table meets the rules of the instructions up to this place, counted in instructions, and for each
     /// lower place there is one that does.
