@@ -21,8 +21,11 @@ pub fn padding(pc: u16) -> usize
 fn keys_from(low: i32, high: i32) -> Option<u64>
     ensures { result ≡ keys low high }
 {
-    let count = i64::from(high) - i64::from(low) + 1;
-    if count > 0 { Some(count as u64) } else { None }
+    if low <= high {
+        Some(u64::from(high.abs_diff(low)) + 1)
+    } else {
+        None
+    }
 }
 
 fn target_list(

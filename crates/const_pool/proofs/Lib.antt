@@ -17,3 +17,4 @@ pub mod SameMeaning
 pub mod FirstLemmas
 pub mod TextTests
 pub mod Kept
+pub mod Longer

@@ -66,9 +66,16 @@ pub map_seen : {A B : Type 0} (f : A → B) (xs : List (Bor A)) → map (λ x. f
 map_seen f [] = refl
 map_seen {A} {B} f (x ∷ xs) = ap (λ (ys : List B). f x.now ∷ ys) (map_seen f xs)
 
+-- one more reference
+pub seen_next : {A : Type 0} (xs : List (Bor A)) (x : Bor A) (ys : List (Bor A)) → ys ≡ xs ++ x ∷ [] → map (λ y. y.now) ys ≡ map (λ y. y.now) xs ++ x.now ∷ []
+seen_next {A} xs x ys h = ap (map (λ (y : Bor A). y.now)) h ∙ map-append (λ (y : Bor A). y.now) xs (x ∷ [])
+
 -- one more item is seen
 pub map_next : {A B : Type 0} (f : A → B) (xs : List A) (i : ℕ) (x : A) → i < length xs → x ≡ get_or xs i x → map f (take (i + 1) xs) ≡ map f (take i xs) ++ f x ∷ []
 map_next {A} f xs i x inside is = map_more f xs i x inside ∙ ap (λ (y : A). map f (take i xs) ++ f y ∷ []) (sym is)
+
+pub filter_next : {A : Type 0} (p : A → Bool) (xs : List A) (i : ℕ) (x : A) → i < length xs → x ≡ get_or xs i x → filter p (take (i + 1) xs) ≡ filter p (take i xs) ++ cond (p x) (x ∷ []) []
+filter_next {A} p xs i x inside is = filter_more p xs i x inside ∙ ap (λ (y : A). filter p (take i xs) ++ cond (p y) (y ∷ []) []) (sym is)
 
 pub any_next : {A : Type 0} (test : A → Bool) (xs : List A) (i : ℕ) (x : A) → i < length xs → x ≡ get_or xs i x → list_any test (take (i + 1) xs) ≡ (list_any test (take i xs) || test x)
 any_next {A} test xs i x inside is =
@@ -90,7 +97,7 @@ reverse_seen {A} {B} f (x ∷ xs) =
 -- how many of them pass
 pub count_next : {A : Type 0} (p : A → Bool) (xs : List A) (i : ℕ) (x : A) → i < length xs → x ≡ get_or xs i x → length (filter p (take (i + 1) xs)) ≡ length (filter p (take i xs)) + (if p x then 1 else 0)
 count_next {A} p xs i x inside is =
-    ap (λ (l : List A). length l) (filter_more p xs i x inside ∙ ap (λ (y : A). filter p (take i xs) ++ cond (p y) (y ∷ []) []) (sym is)) ∙ go (p x)
+    ap (λ (l : List A). length l) (filter_next p xs i x inside is) ∙ go (p x)
   where
     go : (b : Bool) → length (filter p (take i xs) ++ cond b (x ∷ []) []) ≡ length (filter p (take i xs)) + (if b then 1 else 0)
     go true = length-append (filter p (take i xs)) (x ∷ [])

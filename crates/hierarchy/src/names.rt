@@ -144,12 +144,10 @@ impl<'a> Groups<'a> {
             descriptor,
             class,
         };
-        match self.methods.get_mut(&key) {
-            Some(group) => group.push(method)?,
-            None => {
-                self.methods.insert(key, vec![in alloc; method]?)?;
-            }
+        if let Some(group) = self.methods.get_mut(&key) {
+            return Ok(group.push(method)?);
         }
+        self.methods.insert(key, vec![in alloc; method]?)?;
         Ok(())
     }
 }

@@ -10,10 +10,10 @@ use crate::reserved::reserved_class;
 use crate::symbols::own_name;
 use const_pool::ClassFile;
 use jmodel::{Bytes, Halt, NoMemory, Refusal};
-use std::alloc::{AllocError, Global};
+use std::alloc::Global;
 use std::collections::{BTreeMap, BTreeSet};
 
-fn doubled(alloc: Global, name: &[u8]) -> Result<Option<Refusal>, AllocError>
+fn doubled(alloc: Global, name: &[u8]) -> Result<Option<Refusal>, NoMemory>
     ensures { IfOk result (λ o. o ≡ Some (DoubledClass name.now)) }
 {
     Ok(Some(Refusal::DoubledClass(Bytes::from_slice(alloc, name)?)))
@@ -27,7 +27,7 @@ fn doubled_class(alloc: Global, files: &[ClassFile]) -> Result<Option<Refusal>, 
     for file in files {
         let name = own_name(file);
         if !is_free_name(name) || !names.insert(name)? {
-            return Ok(doubled(alloc, name)?);
+            return doubled(alloc, name);
         }
     }
     Ok(None)

@@ -38,14 +38,12 @@ impl<'a> Reference<'a> {
 fn pair(pool: &Pool, i: u16) -> Option<(&[u8], &[u8])>
     ensures { option_map (λ p. (p.0.now, p.1.now)) result ≡ pair_of pool.now i }
 {
-    match pool.entry(i) {
-        Some(Constant::NameAndType { name, descriptor }) => {
-            let name = pool.utf8(*name)?;
-            let descriptor = pool.utf8(*descriptor)?;
-            Some((name.as_slice(), descriptor.as_slice()))
-        }
-        _ => None,
-    }
+    let Some(Constant::NameAndType { name, descriptor }) = pool.entry(i) else {
+        return None;
+    };
+    let name = pool.utf8(*name)?;
+    let descriptor = pool.utf8(*descriptor)?;
+    Some((name.as_slice(), descriptor.as_slice()))
 }
 
 /// What a reference to a member of this class and pair says.
@@ -54,11 +52,7 @@ pub fn named_reference(pool: &Pool, class: u16, i: u16) -> Option<Reference<'_>>
 {
     let class = pool.class_name(class)?;
     let (name, descriptor) = pair(pool, i)?;
-    Some(Reference {
-        class: class.as_slice(),
-        name,
-        descriptor,
-    })
+    Some(Reference::new(class.as_slice(), name, descriptor))
 }
 
 /// What a Fieldref says, None where the index isn't one's.

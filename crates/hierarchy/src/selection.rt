@@ -213,12 +213,25 @@ impl Selection {
     pub(crate) fn new(alloc: Global, types: &[Row], methods: &[Method]) -> Result<Self, NoMemory>
         ensures { IfOk result (λ s. (P : JProgram) → P.types ≡ types.now → P.methods ≡ methods.now → Selects s P) }
     {
-        let numbers = class_numbers(alloc, methods)?;
-        let shared = group_numbers(alloc, methods)?;
+        let classes = class_numbers(alloc, methods)?;
+        Selection::under(alloc, &classes, types, methods)
+    }
+
+    // The numbers under those of the classes.
+    fn under<'a>(
+        alloc: Global,
+        classes: &Numbers<'a>,
+        types: &'a [Row],
+        methods: &'a [Method],
+    ) -> Result<Self, NoMemory>
+        requires { AreFirst classes.now (map class_key methods.now) }
+        ensures { IfOk result (λ s. (P : JProgram) → P.types ≡ types.now → P.methods ≡ methods.now → Selects s P) }
+    {
+        let groups = group_numbers(alloc, methods)?;
         Ok(Selection {
-            classes: classes_of(alloc, &numbers, types)?,
-            groups: groups_of(alloc, &shared, methods)?,
-            firsts: firsts_of(alloc, &shared, &numbers, methods)?,
+            classes: classes_of(alloc, classes, types)?,
+            groups: groups_of(alloc, &groups, methods)?,
+            firsts: firsts_of(alloc, &groups, classes, methods)?,
         })
     }
 

@@ -85,9 +85,12 @@ pub fn is_static(member: &Member) -> bool
 pub fn name_of(alloc: Global, class: &ClassFile, method: &Member) -> Result<MethodName, AllocError>
     ensures { IfOk result (λ n. n ≡ method_name_of class.now method.now) }
 {
+    let own = own_name(class);
+    let name = text(&class.pool, method.name);
+    let descriptor = text(&class.pool, method.descriptor);
     Ok(MethodName {
-        class: Bytes::from_slice(alloc, own_name(class))?,
-        name: Bytes::from_slice(alloc, text(&class.pool, method.name))?,
-        descriptor: Bytes::from_slice(alloc, text(&class.pool, method.descriptor))?,
+        class: Bytes::from_slice(alloc, own)?,
+        name: Bytes::from_slice(alloc, name)?,
+        descriptor: Bytes::from_slice(alloc, descriptor)?,
     })
 }

@@ -85,10 +85,18 @@ fn grouped<'a>(alloc: Global, methods: &'a [Declared<'a>]) -> Result<Groups<'a>,
 }
 
 // The names that were called so far, and the methods found whose calls are still to be looked at.
-#[derive(Drop)]
 struct Search<'a> {
     called: Names<'a>,
     queue: Vec<&'a Declared<'a>>,
+}
+
+impl Drop for Search<'_> {
+    fn drop(self) {
+        let Self {
+            called: _,
+            queue: _,
+        } = self;
+    }
 }
 
 impl<'a> Model for Search<'a> {
@@ -129,11 +137,17 @@ impl<'a> Search<'a> {
     fn find(&mut self, groups: &Groups<'a>, call: &Reference<'a>) -> Result<(), NoMemory>
         ensures { OnOk result (VisitsOf groups.now (is_taken_by call.now) self.old self.new) }
     {
-        let class = class_for(call.name, call.class);
-        if self.called.insert(class, call.name, call.descriptor)? {
-            groups.append_to(class, call.name, call.descriptor, &mut self.queue)?;
+        let Reference {
+            class,
+            name,
+            descriptor,
+        } = call;
+        let class = class_for(name, class);
+        if self.called.insert(class, name, descriptor)? {
+            groups.append_to(class, name, descriptor, &mut self.queue)
+        } else {
+            Ok(())
         }
-        Ok(())
     }
 
     // Finds what an instruction calls.
@@ -182,6 +196,14 @@ impl<'a> Search<'a> {
             None => Ok(()),
         }
     }
+
+    // The names that were called.
+    fn into_called(self) -> Names<'a>
+        ensures { result ≡ self.entry.called }
+    {
+        let Self { called, queue: _ } = self;
+        called
+    }
 }
 
 // What taken methods call.
@@ -193,7 +215,7 @@ fn called<'a>(alloc: Global, methods: &'a [Declared<'a>]) -> Result<Names<'a>, N
     while let Some(method) = search.next() {
         search.visit(alloc, &groups, method)?;
     }
-    Ok(search.called)
+    Ok(search.into_called())
 }
 
 // Whether a method is marked or a static initialiser, or is called.

@@ -3,6 +3,7 @@ use Rattle.std.proofs.Common.{◌≡◌, ◌≢◌, ℕ, zero, suc, ◌+◌, ◌
 use Rattle.std.specs.Prelude.{slice_get, nat_eq, nat_lt, option_map}
 use Rattle.std.specs.List.{AllByRecursion}
 use Rattle.std.proofs.lemmas.List.{append-nil}
+use Rattle.std.proofs.lemmas.Option.{same_Some}
 use Rattle.jmodel.specs.declared.value.Value.{Value}
 use Rattle.jmodel.specs.declared.typing.VType.{VType}
 use Rattle.jmodel.specs.declared.typing.VType.TheVariants as type
@@ -236,7 +237,7 @@ module _ (P : Program) (Ts : List Table) (S : IsTypedProgram P Ts) (Q : Program)
     }
 
     typing_of : (args2 : List Slot) (fs1 : Frames) → AreTyped P Ts S τ (started m2 k2 args2 ∷ fs1) → HasTyping P Ts m2 k2
-    typing_of args2 fs1 typed = let same : typed.0 ≡ k2 = (let f : Some typed.0 ≡ Some k2 = sym typed.1.code ∙ is2 in cc) in subst (HasTyping P Ts m2) same typed.1.typing
+    typing_of args2 fs1 typed = let same = same_Some typed.0 k2 (sym typed.1.code ∙ is2) in subst (HasTyping P Ts m2) same typed.1.typing
 
     enters_taken : (taken : Taken) (Next : ℕ → Use → Frames → Type 0) → take_args k2.places [] s ≡ taken → IsFineWith Next (with_args P taken m2 k2 up fs) → Enters (with_args P taken m2 k2 up fs) (invokes Q (method_at Q (duplicate P m2)) (duplicate P m2) down gs)
     enters_taken TooFew Next e2 fine = absurd fine

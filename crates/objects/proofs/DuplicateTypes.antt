@@ -4,7 +4,7 @@ use Rattle.std.specs.Prelude.{slice_get, nat_lt, nat_le, ◌&&◌, ◌||◌, byt
 use Rattle.std.specs.List.{AllByRecursion, list_any}
 use Rattle.std.proofs.lemmas.Bool.Decides.{nat_tests}
 use Rattle.std.proofs.lemmas.Slice.Eq.{bytes_eq-Decides}
-use Rattle.std.proofs.lemmas.Option.{slice_get_within}
+use Rattle.std.proofs.lemmas.Option.{same_Some, slice_get_within}
 use Rattle.std.proofs.lemmas.List.{length-replicate}
 use Rattle.jmodel.specs.declared.value.Value.TheVariants as value
 use Rattle.jmodel.specs.declared.typing.VType.{VType}
@@ -712,6 +712,6 @@ module _ (P : Program) (Ts : List Table) (S : IsTypedProgram P Ts) (k : Method) 
 pub duplicate_typable : (P : Program) (Ts : List Table) → IsTypedProgram P Ts → (m : ℕ) (k : Method) (T : Table) → slice_get P.methods m ≡ Some k → slice_get Ts m ≡ Some T → has_code (Some k) ≡ true → IsRewritable P k T → IsTypable (rewritten P Ts) (duplicate_method P k T)
 duplicate_typable P Ts S m k T there table code W =
     let t = S.typed m k there code in
-    let same : t.table ≡ T = (let a = t.there in let e : Some t.table ≡ Some T = sym a ∙ table in cc) in
+    let same = same_Some t.table T (sym t.there ∙ table) in
     let src = each_at (IsSourceMethod P) P.methods m k S.source.methods there in
     subst (IsTypable (rewritten P Ts)) (sym (has_duplicate P k T code)) (copy_typable P Ts S k src T (subst (IsTyping P k) same t.typing) W)

@@ -3,6 +3,7 @@ use Rattle.std.proofs.Common.{◌≡◌, ◌≢◌, ◌⊎◌, inl, inr, ℕ, �
 use Rattle.std.specs.Prelude.{◌==◌, if◌then◌else◌, bytes_eq, codes, bit_and, option_map, IsSomeAnd, IsSome}
 use Rattle.std.specs.List.{AllByRecursion, flat_map}
 use Rattle.std.proofs.lemmas.Slice.Eq.{bytes_eq-Decides}
+use Rattle.std.proofs.lemmas.Option.{none-some, same_Some}
 use Rattle.std.proofs.lemmas.Bool.Decides.{Decides-eqb}
 use Rattle.jmodel.specs.declared.class_file.FieldType.{FieldType}
 use Rattle.jmodel.specs.declared.refusal.Refusal.{Refusal}
@@ -37,6 +38,7 @@ use Rattle.objects.specs.linking.Linking.{is_exact, dispatch_of, receiver_types,
 use Rattle.objects.specs.typing.Source.{AreTypes, IsReadType, AreParameters, IsResult, HasObject, HasCode, IsSourceOp, IsSourceCatch, IsSourceMethod, AreNamed}
 use Rattle.objects.specs.laws.LinkingLaw.{AreRead, IsUpward}
 use Rattle.objects.proofs.Items.{IsAt, item, each_many}
+use Rattle.objects.proofs.Elements.{never}
 use Rattle.objects.proofs.AsRead.{is_file, unreserved}
 use Rattle.objects.proofs.Flags.{abstract_by}
 use Rattle.objects.proofs.ClassTypes.{each_none}
@@ -92,6 +94,16 @@ some_text : (o : Option (List ℕ)) → IsSome o → o ≡ Some (text_or_none o)
 some_text None h = cc
 some_text (Some t) h = refl
 
+-- ways of calls that aren't abstract
+not_static : dispatch.Static ≡ dispatch.Abstract → ⊥
+not_static e = cc
+
+not_exact : dispatch.Exact ≡ dispatch.Abstract → ⊥
+not_exact e = cc
+
+not_virtual : dispatch.Virtual ≡ dispatch.Abstract → ⊥
+not_virtual e = cc
+
 -- a duplicate's descriptor has the name of the context
 context_inside : (d : List ℕ) → IsPart context_class (with_context d)
 context_inside d = part_in context_class context_type (with_context d)
@@ -109,10 +121,10 @@ is_body : (s : Symbols) (x : Coded) (b : Body) → coded_body s x ≡ Some b →
 is_body s x b e = go (ops_of s x.instrs) refl (each (catch_of s.class.pool x.instrs (length x.code.code)) x.code.handlers) refl e
   where
     go : (o : Option (List Op)) → ops_of s x.instrs ≡ o → (c : Option (List Catch)) → each (catch_of s.class.pool x.instrs (length x.code.code)) x.code.handlers ≡ c → with_catches x o c ≡ Some b → IsBody s x b
-    go None a c d e = cc
-    go (Some ops) a None d e = cc
+    go None a c d e = absurd (none-some b e)
+    go (Some ops) a None d e = absurd (none-some b e)
     go (Some ops) a (Some catches) d e =
-        let same : record { locals = x.code.max_locals; max_stack = x.code.max_stack; ops = ops; catches = catches } ≡ b = cc in
+        let same = same_Some (record { locals = x.code.max_locals; max_stack = x.code.max_stack; ops = ops; catches = catches }) b e in
         record { ops = a ∙ ap (λ (b : Body). Some b.ops) same; catches = d ∙ ap (λ (b : Body). Some b.catches) same }
 
 -- which members have code
@@ -215,7 +227,7 @@ module _ (cs : List ClassFile) (P : Program) (read : AreRead cs) (l : IsLinkedTo
           of dispatch.Abstract n e = (name_read P K.name.class, e)
 
           not_constructor : is_static d.member ≡ true → (b : Bool) → is_constructor K ≡ b → b ≡ false
-          not_constructor is true c = let fall : true ≡ false = sym is ∙ constructor_over_object cs read up l.constructs d taken marks (same_name (codes "<init>") c) in cc
+          not_constructor is true c = absurd (never (is_static d.member) is (constructor_over_object cs read up l.constructs d taken marks (same_name (codes "<init>") c)))
           not_constructor is false c = refl
 
           by : (b : Bool) → is_static d.member ≡ b → HasObject P K.dispatch K
@@ -236,8 +248,7 @@ module _ (cs : List ClassFile) (P : Program) (read : AreRead cs) (l : IsLinkedTo
         where
           without : o ≡ None → has_no_code d.member ≡ true → AreParts K
           without none flags =
-              let body : Some (no_body (length (receiver_types cs d.class d.member ++ parameter_types cs g))) ≡ Some b = ap (body_of s (length (receiver_types cs d.class d.member ++ parameter_types cs g))) (sym none) ∙ bodied in
-              let same : no_body (length (receiver_types cs d.class d.member ++ parameter_types cs g)) ≡ b = cc in
+              let same = same_Some (no_body (length (receiver_types cs d.class d.member ++ parameter_types cs g))) b (ap (body_of s (length (receiver_types cs d.class d.member ++ parameter_types cs g))) (sym none) ∙ bodied) in
               let retries = codeless_unmarked d.class d.member marks (clean_whole cs d (taken_clean cs l.constructs d taken)).native flags in
               subst (λ (b : Body). AreParts (method_with s true d.member g b)) same (record { code = (refl, retries); entries = tt; each_op = tt })
 
@@ -256,7 +267,7 @@ module _ (cs : List ClassFile) (P : Program) (read : AreRead cs) (l : IsLinkedTo
                 where
                   by : (b : Bool) → not b ≡ false → b ≡ true
                   by true e = refl
-                  by false e = cc
+                  by false e = absurd (never true refl e)
 
               not_abstract : is_abstract_member d.member ≡ false
               not_abstract = ap (λ n. not (n == 0)) (abstract_by d.member.flags (zero_is (bit_and d.member.flags 0x500) flags))
@@ -265,9 +276,9 @@ module _ (cs : List ClassFile) (P : Program) (read : AreRead cs) (l : IsLinkedTo
               no_abstract same = by (is_static d.member) (is_exact d.class d.member) (sym (ap (λ a. if is_static d.member then dispatch.Static else (if is_exact d.class d.member then dispatch.Exact else if a then dispatch.Abstract else dispatch.Virtual)) not_abstract) ∙ same)
                 where
                   by : (a b : Bool) → (if a then dispatch.Static else (if b then dispatch.Exact else dispatch.Virtual)) ≡ dispatch.Abstract → ⊥
-                  by true b e = cc
-                  by false true e = cc
-                  by false false e = cc
+                  by true b e = not_static e
+                  by false true e = not_exact e
+                  by false false e = not_virtual e
 
               has_code : (ops : List Op) → 0 < length ops → HasCode ops K
               has_code [] some = absurd (omega arith)
@@ -326,22 +337,18 @@ module _ (cs : List ClassFile) (P : Program) (read : AreRead cs) (l : IsLinkedTo
         let h = method_from cs P l j o b in
         let text : (full_name f.member).descriptor ≡ (full_name h.member).descriptor = sym (descriptor_is i k f) ∙ same ∙ descriptor_is j o h in
         let one : Some f.meant.signature ≡ Some h.meant.signature = sym f.meant.described ∙ ap signature_of text ∙ h.meant.described in
-        let signature : f.meant.signature ≡ h.meant.signature = cc in (
+        let signature = same_Some f.meant.signature h.meant.signature one in (
           arguments_are i k f (over_object i k f n) ∙ ap (parameter_types cs) signature ∙ sym (arguments_are j o h (over_object j o h m)),
           ap (λ (k : Method). k.result) f.meant.is ∙ ap (result_type cs) signature ∙ sym (ap (λ (k : Method). k.result) h.meant.is),
         );
     apart = λ i j k o a b same.
         let h = method_from cs P l j o b in
         let part : IsPart context_class (full_name h.member).descriptor = subst (IsPart context_class) (same ∙ descriptor_is j o h) (context_inside k.name.descriptor) in
-        clash (is_reserved (full_name h.member).descriptor) (context_reserved (full_name h.member).descriptor part) (descriptor_free h.member (j, h.there));
+        never (is_reserved (full_name h.member).descriptor) (context_reserved (full_name h.member).descriptor part) (descriptor_free h.member (j, h.there));
     initialisers = λ i k a same.
         let f = method_from cs P l i k a in
         ap (λ (k : Method). k.dispatch) f.meant.is ∙ static_dispatch f.member.class f.member.member (initialiser f.member (i, f.there) (sym (name_is i k f) ∙ same));
     reserved = λ i k a same.
         let f = method_from cs P l i k a in
-        clash (is_reserved (full_name f.member).name) (ap is_reserved (sym (name_is i k f) ∙ same)) (name_free f.member (i, f.there));
+        never (is_reserved (full_name f.member).name) (ap is_reserved (sym (name_is i k f) ∙ same)) (name_free f.member (i, f.there));
   }
-    where
-      clash : (b : Bool) → b ≡ true → b ≡ false → ⊥
-      clash true e f = cc
-      clash false e f = cc

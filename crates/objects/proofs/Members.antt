@@ -27,7 +27,7 @@ use Rattle.objects.specs.declared.op.Request.TheVariants as request
 use Rattle.objects.specs.declared.op.Asking.TheVariants as asking
 use Rattle.objects.specs.linking.Library.{trap_type}
 use Rattle.objects.specs.typing.TypeOrder.{object_class, element_class, IsWithin}
-use Rattle.objects.proofs.Elements.{order}
+use Rattle.objects.proofs.Elements.{never, order}
 use Rattle.objects.specs.semantics.Value.{word_of, value_of, pushed, kept_by, slots_of}
 use Rattle.objects.specs.semantics.Program.{Declared, Holds, Row, Field, Method, Program, field_at, op_at, row_at, is_counted, is_instance}
 use Rattle.objects.specs.semantics.Region.{Region}
@@ -67,11 +67,15 @@ use Rattle.objects.proofs.Heap.{held_at, put_keeps}
 use Rattle.objects.proofs.Wrapper.{value_sort}
 use Rattle.objects.proofs.SlotTypes.{pushed_on}
 use Rattle.std.proofs.lemmas.List.{append-nil}
+use Rattle.std.proofs.lemmas.Option.{same_Some}
 use Rattle.objects.proofs.TypedFrames.{AreTyped, frames_kept, AsksFine, GetsFine, PutsFine, MakesFine, Heads, NoHeads, LastHeads, Fine, IsIndexedAt, IsElementOf, IsReadAt, IsAt}
 use Rattle.objects.proofs.Safety.{step_fine}
 use Rattle.objects.proofs.Standing.{header_back, place_near}
 use Rattle.objects.proofs.Steps.{value_is, gets, cast_holds, puts, put_stands}
 use Rattle.objects.proofs.Rows.{known_field, known_static, far, cast_cases, static_end, field_end, returns, passes, cast_null, cast_asks, cast_returns, static_first, static_look, static_second, static_read, static_put, static_write, static_last, field_first, field_null, field_look, field_second, field_read, field_put, put_null, field_write, field_last, element_end, element_first, element_null, element_look, element_look_asks, element_second, element_read, element_put, element_put_null, element_write, element_write_asks, element_last}
+
+from_zero : (i : ℕ) → 0 + i ≡ i
+from_zero i = omega arith
 
 -- a value on top of a stack
 pub record Popped (t : Sort) (s : List Slot) : Type 0 where
@@ -182,7 +186,7 @@ module _ (P : Program) (Ts : List Table) (S : IsTypedProgram P Ts) (Q : Program)
 
     module _ (o : Op) (e : slice_get k.ops pc ≡ Some o) where
       typed_o : slice_get xs pc ≡ Some (record { op = o; types = types_at T pc })
-      typed_o = let y : 0 + pc ≡ pc = omega arith in typed_at 0 T k.ops pc o e ∙ ap (λ (i : ℕ). Some (record { op = o; types = types_at T i })) y
+      typed_o = typed_at 0 T k.ops pc o e ∙ ap (λ (i : ℕ). Some (record { op = o; types = types_at T i })) (from_zero pc)
 
       op_there : op_at P m pc ≡ Some o
       op_there = let is = t.is in rw is e
@@ -195,7 +199,7 @@ module _ (P : Program) (Ts : List Table) (S : IsTypedProgram P Ts) (Q : Program)
 
       -- what is said of the running frame's instruction is said of this one
       at_this : (s1 : List Slot) (A : Op → Types → Type 0) (x : IsAt P Ts (frame m pc l s1) A) → A o x.types
-      at_this s1 A x = let same : x.op ≡ o = let f : Some x.op ≡ Some o = sym x.op_is ∙ op_there in cc in subst (λ (o : Op). A o x.types) same x.holds
+      at_this s1 A x = let same = same_Some x.op o (sym x.op_is ∙ op_there) in subst (λ (o : Op). A o x.types) same x.holds
 
       above_two : (g pcg : ℕ) (z1 st s1 : List Slot) → first_added ≤ g → AboveCall Q first_added mn q over.0 (frame g pcg z1 st ∷ frame dn (a + 1) l' s1 ∷ gs)
       above_two g pcg z1 st s1 lowg = added_frame (frame g pcg z1 st) (frame dn (a + 1) l' s1 ∷ gs) lowg (added_frame (frame dn (a + 1) l' s1) gs added_dup over.2)
@@ -378,7 +382,7 @@ module _ (P : Program) (Ts : List Table) (S : IsTypedProgram P Ts) (Q : Program)
           setter_writes step last = writes_at n X τ M w r hr.reach hr.stands so_far over.0 over.1 hr.agrees p (word_of y) (writer pcg) before (above_two g pcg zl [] s1 lowg) step (goal.more n _ (goal.leads 0 n _ _ last put_goes))
 
     read_declared : (i : ℕ) (f : Field) (d : Declared) → slice_get P.fields i ≡ Some f → (x : Field) × (field_at P i ≡ Some x) × (x.declared ≡ d) → d ≡ f.declared
-    read_declared i f d there x = let same : x.0 ≡ f = let g : Some x.0 ≡ Some f = sym x.1 ∙ there in cc in sym x.2 ∙ ap (λ (f : Field). f.declared) same
+    read_declared i f d there x = let same = same_Some x.0 f (sym x.1 ∙ there) in sym x.2 ∙ ap (λ (f : Field). f.declared) same
 
     -- a static field that is read
     module _ (i : ℕ) (e : slice_get k.ops pc ≡ Some (op.GetStatic i)) (f : Field) (o : ℕ) (there : slice_get P.fields i ≡ Some f) (base : f.base ≡ Some (suc o)) where
@@ -608,9 +612,8 @@ module _ (P : Program) (Ts : List Table) (S : IsTypedProgram P Ts) (Q : Program)
       -- the types before this instruction
       types_this : (s1 : List Slot) (A : Op → Types → Type 0) (x : IsAt P Ts (frame m pc l s1) A) → x.types ≡ here.types
       types_this s1 A x =
-          let table : x.table ≡ T = let f : Some x.table ≡ Some T = sym x.table_is ∙ t.table in cc in
-          let f : Some x.types ≡ Some here.types = sym x.types_are ∙ ap (λ (T : Table). types_at T pc) table ∙ here.there in
-          cc
+          let table = same_Some x.table T (sym x.table_is ∙ t.table) in
+          same_Some x.types here.types (sym x.types_are ∙ ap (λ (T : Table). types_at T pc) table ∙ here.there)
 
       indexed_this : (s1 : List Slot) (d : Declared) → IsAt P Ts (frame m pc l s1) (λ o h. IsIndexedAt P o h d) → IsIndexedAt P o here.types d
       indexed_this s1 d x = subst (λ (h : Types). IsIndexedAt P o h d) (types_this s1 (λ o h. IsIndexedAt P o h d) x) (at_this o e s1 (λ o h. IsIndexedAt P o h d) x)
@@ -843,7 +846,7 @@ module _ (P : Program) (Ts : List Table) (S : IsTypedProgram P Ts) (Q : Program)
 
             positive : (y : ℤ) → in_bounds y (length_of array1) ≡ true → (x : ℕ) × (y ≡ pos x)
             positive (pos x) h = (x, refl)
-            positive (negsuc x) h = cc
+            positive (negsuc x) h = absurd (never false h refl)
 
             by : (b : Bool) → in_bounds i (length_of array1) ≡ b → (j : Log) → Agrees ws j → Goal n (attempt.followed (told Q (Indexes i element.Look) (suc o) array1.type (length_of array1) looker) M w j)
             by false is j agrees = outside1 is j agrees

@@ -21,7 +21,7 @@ use Rattle.objects.specs.history.Meaning.{IsObjectOf, IsReferenceTo, IsValueOf}
 use Rattle.objects.specs.typing.Source.{AreParametersAfter, AreArguments, AreTypes}
 use Rattle.objects.specs.typing.Typing.{freed_by, become, is_uninit, result_types}
 use Rattle.objects.proofs.WordTypes.{number_fits}
-use Rattle.objects.proofs.Elements.{order}
+use Rattle.objects.proofs.Elements.{never, order}
 use Rattle.objects.proofs.Heap.{KeepsTypes, object_kept, reference_kept}
 
 -- an object that an instruction of a method made
@@ -235,14 +235,14 @@ module _ (P : Program) (C : AreTypes P) (k : Method) (σ : State) where
   widen (Ref m) (Ref n) v w h = absurd h
   widen (Uninit p) (Uninit q) v w h = let s : p ≡ q = grind (arith, nat_tests) in subst (λ (p : ℕ). HasType P k σ (Uninit p) v) s h
   widen UninitThis UninitThis v w h = h
-  widen Int u v w h = cc
-  widen Top u v w h = cc
-  widen Long u v w h = cc
-  widen Second u v w h = cc
-  widen Null u v w h = cc
-  widen (Ref m) u v w h = cc
-  widen (Uninit p) u v w h = cc
-  widen UninitThis u v w h = cc
+  widen Int u v w h = absurd (never false w refl)
+  widen Top u v w h = absurd (never false w refl)
+  widen Long u v w h = absurd (never false w refl)
+  widen Second u v w h = absurd (never false w refl)
+  widen Null u v w h = absurd (never false w refl)
+  widen (Ref m) u v w h = absurd (never false w refl)
+  widen (Uninit p) u v w h = absurd (never false w refl)
+  widen UninitThis u v w h = absurd (never false w refl)
 
   pub widen_all : (ts us : List VType) (vs : List Slot) → AreWithin P ts us → HaveTypes P k σ ts vs → HaveTypes P k σ us vs
   widen_all [] [] vs w h = h

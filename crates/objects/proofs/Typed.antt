@@ -5,6 +5,7 @@ use Rattle.std.specs.Ordering.{int_eq}
 use Rattle.std.specs.Int.{w32, w64}
 use Rattle.std.specs.List.{list_any}
 use Rattle.std.proofs.lemmas.List.{reverse-reverse, length-reverse, length-set}
+use Rattle.std.proofs.lemmas.Option.{none-some, same_Some}
 use Rattle.std.proofs.lemmas.Bool.Decides.{nat_tests}
 use Rattle.std.proofs.lemmas.Slice.Eq.{bytes_eq-Decides}
 use mathlib.Core.List.{reverse_aux}
@@ -70,6 +71,9 @@ first_taken n acc [] args left e = cc
 first_taken zero acc (v ∷ s) args left e = let same : args ≡ v ∷ acc = cc in (v, acc, same, refl)
 first_taken (suc n) acc (v ∷ s) args left e = first_taken n (v ∷ acc) s args left e
 
+deepest : (v w : Slot) (r s : List Slot) → v ∷ r ≡ w ∷ s → w ≡ v
+deepest v w r s e = cc
+
 -- one argument more
 take_more : (n : ℕ) (acc s args left : List Slot) (v : Slot) → take_args n acc s ≡ Took args (v ∷ left) → take_args (suc n) acc s ≡ Took (v ∷ args) left
 take_more zero acc [] args left v e = cc
@@ -117,6 +121,17 @@ not_abstract : (d : Method) (os : List Op) → is_code os ≡ true → HasCode o
 not_abstract d [] h c = cc
 not_abstract d (o ∷ os) h c = c
 
+-- a method that calls can select has an object
+selectable_over : (y : Dispatch) → is_selectable y ≡ true → y ≢ dispatch.Static
+selectable_over dispatch.Static h a = let fall : ⊥ = cc in fall
+selectable_over dispatch.Abstract h a = let fall : ⊥ = cc in fall
+selectable_over dispatch.Exact h a = let fall : ⊥ = cc in fall
+selectable_over dispatch.Virtual h a = let fall : ⊥ = cc in fall
+
+-- equal types of references are of one class
+same_first : (a b : List ℕ) (ts us : List VType) → Ref a ∷ ts ≡ Ref b ∷ us → a ≡ b
+same_first a b ts us e = cc
+
 -- an object that isn't null is a reference
 pub reference_of : (P : Program) (σ : State) (n : List ℕ) (o : ℕ) → IsObjectOf P σ n o → IsReferenceTo P σ n o
 reference_of P σ n zero h = tt
@@ -140,7 +155,7 @@ module _ (P : Program) (size : ℕ) (σ : State) (H : IsHeap P size σ) (o : ℕ
   holding : IsHolding P σ row.holds b.array b.values
   holding =
       let t = H.typed o b there in
-      let same : t.row ≡ row = let e : Some t.row ≡ Some row = sym t.is ∙ is in cc in
+      let same = same_Some t.row row (sym t.is ∙ is) in
       subst (λ (r : Row). IsHolding P σ r.holds b.array b.values) same t.holds
 
   module _ (i : ℕ) (d : Declared) (v : Value) (at : slice_get b.values i ≡ Some v) where
@@ -150,7 +165,7 @@ module _ (P : Program) (size : ℕ) (σ : State) (H : IsHeap P size σ) (o : ℕ
     put_there : (y : Value) → IsHolding P σ row.holds b.array (slice_set b.values i y) → IsHeap P size (put σ (value_place i) y)
     put_there y holds =
         let x = held_at σ (value_place i) v held_there in
-        let same : b ≡ x.o = let t : Some b ≡ Some x.o = sym there ∙ x.object in cc in
+        let same = same_Some b x.o (sym there ∙ x.object) in
         let one : i ≡ x.i = let t = x.index in omega (arith, t) in
         let now : IsTyped P σ (record b { values = slice_set b.values i y }) = record { row = row; is = is; holds = holds } in
         heap_after_put σ (value_place i) y v x P size H
@@ -447,7 +462,7 @@ module _ (P : Program) (Ts : List Table) (S : IsTypedProgram P Ts) (size : ℕ) 
     object_fine (Ref n) v d e a p = absurd a
     object_fine (Uninit q) v d e a p = absurd a
     object_fine UninitThis v d e a p = absurd a
-    object_fine t v d e a p = cc
+    object_fine t v d e a p = absurd (never false e refl)
 
     load_int : (a : Option VType) (v : Option Slot) (j : Flow) (d : ℤ → Did) → HasTypeAt P k σ a v → (a ≡ Some Int → (x : ℤ) → FitsSigned w32 x → Keeps j → DidFine (d x)) → Keeps (typed.int_in a j) → DidFine (slot_in v (λ v. int_in v d))
     load_int None v j d ha p e = absurd e
@@ -662,7 +677,7 @@ module _ (P : Program) (Ts : List Table) (S : IsTypedProgram P Ts) (size : ℕ) 
     above_this c e = by (bytes_eq c k.name.class) refl e
       where
         named : (x : Option (List ℕ)) → direct_superclass P k.name.class ≡ x → is_named c x ≡ true → IsWithin P (Ref k.name.class) (Ref c)
-        named None is e = cc
+        named None is e = absurd (never false e refl)
         named (Some n) is e = superclass_within P C k.name.class c (is ∙ ap (λ (n : List ℕ). Some n) ((bytes_eq-Decides n c).0 e))
 
         by : (b : Bool) → bytes_eq c k.name.class ≡ b → (b || is_named c (direct_superclass P k.name.class)) ≡ true → IsWithin P (Ref k.name.class) (Ref c) ⊎ (c ≡ k.name.class)
@@ -748,7 +763,7 @@ module _ (P : Program) (Ts : List Table) (S : IsTypedProgram P Ts) (size : ℕ) 
             let taken : take_args d.places [] s ≡ Took (v ∷ args) left = ap (λ (n : ℕ). take_args n [] s) one ∙ take_more (length (arguments d)) [] s args left v is in
             let place : d.places - 1 ≡ length (arguments d) = omega (arith, one) in
             let at = first_taken (length (arguments d)) [] s (v ∷ args) left (take_more (length (arguments d)) [] s args left v is) in
-            let first : at.0 ≡ v = let z = at.2 in cc in (
+            let first : at.0 ≡ v = deepest v at.0 args at.1 at.2 in (
               record {
                 o = b.o;
                 rest = args;
@@ -773,7 +788,7 @@ module _ (P : Program) (Ts : List Table) (S : IsTypedProgram P Ts) (size : ℕ) 
 
         gives_nothing : (r : Option VType) → not (is_some r) ≡ true → r ≡ None
         gives_nothing None gives = refl
-        gives_nothing (Some y) gives = cc
+        gives_nothing (Some y) gives = absurd (never false gives refl)
 
         by : (b : Bool) → is_constructor x.method ≡ b → Keeps (typed.special b P k pc x.method h) → DidFine (over_object P c (here l s) (λ d o. runs (has_code (Some d)) c (here l s)))
         by true new e = if_so_fine (not (is_some x.method.result)) _ (DidFine (over_object P c (here l s) (λ d o. runs (has_code (Some d)) c (here l s)))) (λ gives e.
@@ -799,12 +814,6 @@ module _ (P : Program) (Ts : List Table) (S : IsTypedProgram P Ts) (size : ℕ) 
     target_of : (c : ℕ) (d : Method) → method_at P c ≡ Some d → d.dispatch ≢ dispatch.Static → (is_constructor d ≡ true → name_read P d.name.class ≡ d.name.class) → (n : List ℕ) → d.parameters ≡ Ref n ∷ arguments d → (o : ℕ) → 0 < o → (x : IsObjectOf P σ n o) → (to : ℕ) → selected P x.object.type c ≡ Some to → IsTarget d o to
     target_of c d there over named n first o past x to e = by (is_selectable d.dispatch) refl (ap (λ (m : Option Method). option_and_then (λ (k : Method). selected_by (is_selectable k.dispatch) P x.object.type c k) m) (sym there) ∙ e)
       where
-        not_static : (y : Dispatch) → is_selectable y ≡ true → y ≢ dispatch.Static
-        not_static dispatch.Static h a = let fall : ⊥ = cc in fall
-        not_static dispatch.Abstract h a = let fall : ⊥ = cc in fall
-        not_static dispatch.Exact h a = let fall : ⊥ = cc in fall
-        not_static dispatch.Virtual h a = let fall : ⊥ = cc in fall
-
         itself : has_code (Some d) ≡ true → c ≡ to → IsTarget d o to
         itself code same =
             let src = source_of c d there in
@@ -820,8 +829,7 @@ module _ (P : Program) (Ts : List Table) (S : IsTypedProgram P Ts) (size : ℕ) 
                 own = λ other. reference_of P σ n o x;
                 this = λ is.
                     let read = object_first P d over (not_abstract d d.ops code src.code) src.object in
-                    let both_first : Ref n ∷ arguments d ≡ Ref (name_read P d.name.class) ∷ arguments d = sym first ∙ read in
-                    let class : n ≡ name_read P d.name.class = cc in
+                    let class = same_first n (name_read P d.name.class) (arguments d) (arguments d) (sym first ∙ read) in
                     record { object = subst (λ (n : List ℕ). IsObjectOf P σ n o) (class ∙ named is) x; past = past };
               };
             }
@@ -836,7 +844,7 @@ module _ (P : Program) (Ts : List Table) (S : IsTypedProgram P Ts) (size : ℕ) 
             let class : m.name.class ≡ f.class = (bytes_eq-Decides m.name.class f.class).0 b.0 in
             let descriptor : m.name.descriptor ≡ d.name.descriptor = (bytes_eq-Decides m.name.descriptor d.name.descriptor).0 g.1 in
             let code : has_code (Some m) ≡ true = ap has_code (sym f.there) ∙ runs in
-            let dynamic = not_static m.dispatch a.0 in
+            let dynamic = selectable_over m.dispatch a.0 in
             let alike = S.source.names.described c to d m there f.there over dynamic (sym descriptor) in
             let among : Among f.class x.row.lineage = subst (λ (r : Option Row). Among f.class (lineage_in r)) x.is f.among in
             let within : IsWithin P (Ref x.row.read) (Ref m.name.class) = subst (λ (n : List ℕ). IsWithin P (Ref x.row.read) (Ref n)) (sym class) (class_within P C x.object.type x.row x.is f.class among) in
@@ -856,16 +864,16 @@ module _ (P : Program) (Ts : List Table) (S : IsTypedProgram P Ts) (size : ℕ) 
             }
 
         itself_runs : (b : Bool) → has_code (method_at P c) ≡ b → (if b then Some c else None) ≡ Some to → IsTarget d o to
-        itself_runs false code e = cc
-        itself_runs true code e = itself (ap has_code (sym there) ∙ code) cc
+        itself_runs false code e = absurd (none-some to e)
+        itself_runs true code e = itself (ap has_code (sym there) ∙ code) (same_Some c to e)
 
         runs_first : (a : Option ℕ) → first_in P d (lineage_in (row_at P x.object.type)) ≡ a → runnable P a ≡ Some to → IsTarget d o to
-        runs_first None is e = cc
+        runs_first None is e = absurd (none-some to e)
         runs_first (Some i) is e = go (has_code (method_at P i)) refl e
           where
             go : (b : Bool) → has_code (method_at P i) ≡ b → (if b then Some i else None) ≡ Some to → IsTarget d o to
-            go false is_code e = cc
-            go true is_code e = let same : i ≡ to = cc in declared (first_found P d _ to (is ∙ e)) (ap (λ (i : ℕ). has_code (method_at P i)) (sym same) ∙ is_code)
+            go false is_code e = absurd (none-some to e)
+            go true is_code e = let same = same_Some i to e in declared (first_found P d _ to (is ∙ e)) (ap (λ (i : ℕ). has_code (method_at P i)) (sym same) ∙ is_code)
 
         by : (b : Bool) → is_selectable d.dispatch ≡ b → selected_by (is_selectable d.dispatch) P x.object.type c d ≡ Some to → IsTarget d o to
         by false h e = itself_runs (has_code (method_at P c)) refl (ap (λ (b : Bool). selected_by b P x.object.type c d) (sym h) ∙ e)
@@ -997,7 +1005,7 @@ module _ (P : Program) (Ts : List Table) (S : IsTypedProgram P Ts) (size : ℕ) 
       where
         built : (t : VType) → is_uninit UninitThis t ≡ true → f.class ≡ k.name.class → HasType P k σ t v → HasType P k σ (Ref f.class) v
         built UninitThis is same x = subst (λ (n : List ℕ). HasType P k σ (Ref n) v) (sym same) (this_turns σ v x)
-        built t is same x = cc
+        built t is same x = absurd (never false is refl)
 
         by : (b : Bool) → (is_uninit UninitThis t && bytes_eq f.class k.name.class) ≡ b → (b || is_within P t (Ref f.class)) ≡ true → HasType P k σ (Ref f.class) v
         by false is e = widen P C k σ t (Ref f.class) v e x

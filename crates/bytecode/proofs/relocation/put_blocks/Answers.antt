@@ -2,7 +2,7 @@ use Rattle.std.proofs.Common.{sym, ◌∙◌, ap, subst, arith, length, ℕ, Lis
 use Rattle.jmodel.specs.declared.instruction.Instr.{Instr}
 use Rattle.jmodel.specs.format.Relocation.{all_instrs, behind}
 use Rattle.bytecode.specs.Places.{place_in, with_block, with_blocks}
-use Rattle.bytecode.proofs.PutLaws.{block_fits, fits_on, blocks_on}
+use Rattle.bytecode.proofs.PutLaws.{block_fits, fits_on, blocks_on, stub_left}
 use Rattle.bytecode.proofs.relocation.put_blocks.Goals as goal
 
 pub put_block-requires-clause-fits : goal.put_block-requires-clause-fits
@@ -23,3 +23,8 @@ loop-b-preserved c =
       fits = fits_on place blocks stub l.b-index c.b-item.result l.out (behind 0 (all_instrs blocks ++ stub)) after (omega arith) c.b-item.is put l.invariant.fits;
       so_far = blocks_on place blocks stub l.b-index c.b-item.result l.out (with_blocks place [] blocks) after (omega arith) c.b-item.is put l.invariant.so_far;
     }
+
+pub returns : goal.returns
+returns c =
+    let l = c.loop-b in
+    stub_left (place_in c.args.places.now) c.args.blocks.now c.args.stub.now l.b-index l.out c.loop-b-test.false l.invariant.so_far ∙ c.in_ok-put_block-2.ensures

@@ -5,6 +5,15 @@ use Rattle.objects.specs.linking.Layout.{names_upward}
 use Rattle.hierarchy.proofs.InOrder.{texts}
 use Rattle.heap_layout.proofs.instances.class_instances.Goals as goal
 
+pub returns-in_err-names : goal.returns-in_err-names
+returns-in_err-names c = IfOk-from_err _ _ c.from_residual.ensures.0
+
+pub returns-in_err-interfaces : goal.returns-in_err-interfaces
+returns-in_err-interfaces c = IfOk-from_err _ _ c.from_residual-in_err-interfaces.ensures.0
+
+pub returns-in_err-append : goal.returns-in_err-append
+returns-in_err-append c = IfOk-from_err _ _ c.from_residual-in_err-append.ensures.0
+
 pub returns-in_err-copies : goal.returns-in_err-copies
 returns-in_err-copies c = IfOk-from_err _ _ c.from_residual-in_err-copies.ensures.0
 

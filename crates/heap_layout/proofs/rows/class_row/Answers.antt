@@ -1,10 +1,26 @@
 use Rattle.std.proofs.Common.{◌≡◌, List, false, sym, ap, ◌∙◌}
+use Rattle.std.proofs.lemmas.Result.{IfOk-from_err}
 use Rattle.jmodel.specs.format.ClassFile.{ClassFile}
 use Rattle.objects.specs.linking.Members.{own_name}
 use Rattle.objects.specs.linking.Resolution.{is_interface}
 use Rattle.objects.specs.linking.Layout.{words_upward, names_upward, class_instances}
 use Rattle.heap_layout.proofs.ClassRows.{class_row_is}
 use Rattle.heap_layout.proofs.rows.class_row.Goals as goal
+
+pub returns-in_err-from_slice : goal.returns-in_err-from_slice
+returns-in_err-from_slice c = IfOk-from_err _ _ c.from_residual.ensures.0
+
+pub returns-in_err-from_slice-2 : goal.returns-in_err-from_slice-2
+returns-in_err-from_slice-2 c = IfOk-from_err _ _ c.from_residual-in_err-from_slice-2.ensures.0
+
+pub returns-in_err-words_upward : goal.returns-in_err-words_upward
+returns-in_err-words_upward c = IfOk-from_err _ _ c.from_residual-in_err-words_upward.ensures.0
+
+pub returns-in_err-names_upward : goal.returns-in_err-names_upward
+returns-in_err-names_upward c = IfOk-from_err _ _ c.from_residual-in_err-names_upward.ensures.0
+
+pub returns-in_err-class_instances : goal.returns-in_err-class_instances
+returns-in_err-class_instances c = IfOk-from_err _ _ c.from_residual-in_err-class_instances.ensures.0
 
 pub returns : goal.returns
 returns c =

@@ -1,10 +1,14 @@
 use Rattle.std.proofs.Common.{◌≡◌, List, Bor, ◌∷◌, [], ◌++◌, map, take, sym, ap, ◌∙◌, append_assoc}
-use Rattle.std.proofs.lemmas.List.{take_all}
+use Rattle.std.proofs.lemmas.List.{append-nil, take_all}
+use Rattle.std.proofs.lemmas.Result.{IfOk-from_err}
 use Rattle.jmodel.specs.format.ClassFile.{ClassFile}
 use Rattle.objects.specs.semantics.Program.{Row}
 use Rattle.objects.specs.linking.Layout.{class_row}
 use Rattle.hierarchy.proofs.Each.{map_next, map_seen}
 use Rattle.heap_layout.proofs.rows.push_class_rows.Goals as goal
+
+pub loop-class-init : goal.loop-class-init
+loop-class-init c = sym (append-nil c.args.rows.now.items)
 
 pub loop-class-preserved : goal.loop-class-preserved
 loop-class-preserved c =
@@ -18,6 +22,12 @@ loop-class-preserved c =
     ◌∙◌ {A = List Row} c.in_ok-push.ensures.items (ap (λ (r : Row). c.loop-class.rows.items ++ r ∷ []) c.in_ok-class_row.ensures) in
     put ∙ ap (λ (l : List Row). l ++ class_row cs class.now ∷ []) c.loop-class.invariant ∙ append_assoc before (map row (take i classes)) (class_row cs class.now ∷ [])
     ∙ ap (λ (l : List Row). before ++ l) (sym (map_next row classes i class c.loop-class-test.true c.class-item.is))
+
+pub returns-in_err-class_row : goal.returns-in_err-class_row
+returns-in_err-class_row c = IfOk-from_err _ _ c.from_residual.ensures.0
+
+pub returns-in_err-push : goal.returns-in_err-push
+returns-in_err-push c = IfOk-from_err _ _ c.from_residual-in_err-push.ensures.0
 
 pub returns : goal.returns
 returns c =

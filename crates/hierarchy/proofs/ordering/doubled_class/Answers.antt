@@ -1,6 +1,8 @@
-use Rattle.std.proofs.Common.{◌≡◌, ℕ, ◌+◌, true, false, ◌||◌, List, ◌++◌, drop, Some, sym, ap, ◌∙◌}
+use Rattle.std.proofs.Common.{◌≡◌, ℕ, ◌+◌, true, false, ◌||◌, List, ◌++◌, drop, Option, Some, IfOk, sym, ap, ◌∙◌}
 use Rattle.std.specs.Prelude.{bytes_eq}
 use Rattle.std.specs.List.{list_any}
+use Rattle.std.proofs.lemmas.Result.{IfOk-weaker}
+use Rattle.jmodel.specs.declared.refusal.Refusal.{Refusal}
 use Rattle.jmodel.specs.declared.refusal.Refusal.TheVariants.{DoubledClass}
 use Rattle.objects.specs.linking.Library.{library}
 use Rattle.objects.specs.linking.Members.{own_name}
@@ -21,8 +23,10 @@ returns-then-not-is_free_name c =
     let item = item_is files at file c.loop-file-test.true c.file-item.is in
     let name = c.own_name-name.result in
     let named : name.now ≡ own_name file = c.own_name-name.ensures in
-    let told : (list_any (bytes_eq (own_name file)) library || list_any (bytes_eq (own_name file)) keys) ≡ true → c.in_ok-doubled.field-0 ≡ doubled_among library files =
-    λ has. c.in_ok-doubled.ensures ∙ ap (λ (n : List ℕ). Some (DoubledClass n)) named ∙ sym (ap (doubled_among (library ++ keys)) item ∙ is_doubled keys file (drop (at + 1) files) has) ∙ c.loop-file.invariant in
+    let told : (list_any (bytes_eq (own_name file)) library || list_any (bytes_eq (own_name file)) keys) ≡ true → IfOk c.doubled.result (λ (o : Option Refusal). o ≡ doubled_among library files) =
+    λ has. IfOk-weaker c.doubled.result (λ (o : Option Refusal). o ≡ Some (DoubledClass name.now)) (λ (o : Option Refusal). o ≡ doubled_among library files)
+    (λ o is. is ∙ ap (λ (n : List ℕ). Some (DoubledClass n)) named ∙ sym (ap (doubled_among (library ++ keys)) item ∙ is_doubled keys file (drop (at + 1) files) has) ∙ c.loop-file.invariant)
+    c.doubled.ensures in
     elim c.then-not-is_free_name.branch [
       | then-not-is_free_name-via-then-not-is_free_name w ↦ (
           let taken = is_true (list_any (bytes_eq name.now) library) (sym c.is_free_name.ensures ∙ w.if-not-is_free_name.true) in

@@ -20,4 +20,4 @@ loop-method-smaller c =
     omega (arith, visits.less, ap (λ (ms : List Declared). length ms) c.in-Some.ensures.queue, length-append {A = Declared}, ap (λ (called : List MethodName). uncalled c.args.methods.now called) c.in-Some.ensures.called)
 
 pub returns : goal.returns
-returns c = λ cs are. let called = sym c.in_default.ensures.called ∙ sym (ap (λ (s : State). s.called) c.search-2.view_is) in subst (Finds cs) called (is_done cs c.loop-method.search c.in_default.ensures.queue (c.loop-method.invariant cs are))
+returns c = λ cs are. let called = sym c.in_default.ensures.called ∙ sym c.into_called.ensures in subst (Finds cs) called (is_done cs c.loop-method.search c.in_default.ensures.queue (c.loop-method.invariant cs are))

@@ -1,13 +1,11 @@
 use Rattle.std.proofs.Common.{◌≡◌, Bool, true, false, List, [], ◌∷◌, ◌++◌, map, take, cond, get_or, Bor, sym, ap, ◌∙◌}
 use Rattle.std.specs.Prelude.{filter}
-use Rattle.std.proofs.lemmas.List.{append-nil, map-append, take_all, get_or-map}
+use Rattle.std.proofs.lemmas.List.{append-nil, take_all, get_or-map}
 use Rattle.std.proofs.lemmas.List.Elements.{filter_more}
 use Rattle.objects.specs.linking.Classes.{Declared}
+use Rattle.hierarchy.proofs.Each.{seen_next}
 use Rattle.hierarchy.proofs.taken.taken_among.Goals as goal
 use Rattle.hierarchy.proofs.taken.taken_among.Goals.{then-taken-i+in_ok-push, else-taken-i}
-
-pushed : (xs : List (Bor Declared)) (x : Bor Declared) (ys : List (Bor Declared)) → ys ≡ xs ++ x ∷ [] → map (λ (m : Bor Declared). m.now) ys ≡ map (λ (m : Bor Declared). m.now) xs ++ x.now ∷ []
-pushed xs x ys h = ap (map (λ (m : Bor Declared). m.now)) h ∙ map-append (λ (m : Bor Declared). m.now) xs (x ∷ [])
 
 pub loop-i-preserved : goal.loop-i-preserved
 loop-i-preserved c = λ p flags.
@@ -20,7 +18,7 @@ loop-i-preserved c = λ p flags.
     elim c.if-taken-i.branch [
       | then-taken-i+in_ok-push w ↦ (
           let chosen : p (get_or methods c.loop-i.i method) ≡ true = sym flag ∙ w.if-taken-i.true in
-          ap (λ v. view v.items) w.chosen-is ∙ pushed _ _ _ w.in_ok-push.ensures.items ∙ ap (λ (ms : List Declared). ms ++ method ∷ []) so_far
+          ap (λ v. view v.items) w.chosen-is ∙ seen_next _ _ _ w.in_ok-push.ensures.items ∙ ap (λ (ms : List Declared). ms ++ method ∷ []) so_far
           ∙ ap (λ (m : Declared). filter p (take c.loop-i.i methods) ++ m ∷ []) c.index-methods-i.is
           ∙ sym (more ∙ ap (λ (b : Bool). filter p (take c.loop-i.i methods) ++ cond b (get_or methods c.loop-i.i method ∷ []) []) chosen))
       | else-taken-i w ↦ (

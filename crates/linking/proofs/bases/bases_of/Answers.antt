@@ -1,4 +1,5 @@
 use Rattle.std.proofs.Common.{◌≡◌, ◌+◌, [], ◌∷◌, length-append, arith}
+use Rattle.std.proofs.lemmas.Result.{IfOk-from_err}
 use Rattle.objects.specs.linking.StaticBases.{base_of}
 use Rattle.hierarchy.proofs.InOrder.{seen}
 use Rattle.heap_layout.proofs.Bases.{next_base}
@@ -17,3 +18,12 @@ loop-class-preserved c =
       many = omega (arith, length-append c.loop-class.bases.items (c.loop-class.base ∷ []), inv.many);
       each = one_more c.loop-class.bases.items (base_of (seen classes)) i c.loop-class.base inv.many inv.each inv.next;
     })
+
+pub returns-in_err-push : goal.returns-in_err-push
+returns-in_err-push c = IfOk-from_err _ _ c.from_residual.ensures.0
+
+pub returns-in_err-base_words : goal.returns-in_err-base_words
+returns-in_err-base_words c = IfOk-from_err _ _ c.from_residual-in_err-base_words.ensures.0
+
+pub returns-in_err-base : goal.returns-in_err-base
+returns-in_err-base c = IfOk-from_err _ _ c.from_residual-in_err-base.ensures.0
