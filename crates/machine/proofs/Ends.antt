@@ -15,6 +15,8 @@ use Rattle.machine.specs.declared.failure.Failure.TheVariants as failure
 use Rattle.machine.specs.declared.running.Running.{Running}
 use Rattle.machine.specs.declared.running.Stage.{Stage}
 use Rattle.machine.specs.declared.running.Stage.TheVariants.{Ready, Open}
+use Rattle.machine.specs.declared.running.Limit.{Limit}
+use Rattle.machine.specs.declared.running.Limit.TheVariants as limit
 use Rattle.machine.specs.declared.running.Todo.{Todo}
 use Rattle.machine.specs.declared.running.Todo.TheVariants.{Go}
 use Rattle.machine.specs.declared.machine.End.{End}
@@ -23,7 +25,7 @@ use Rattle.tx_core.specs.declared.engine.TxEnd.TheVariants.{Conflict, NoMemory}
 use Rattle.tx_core.specs.Engine.{raised, IsAllowed, IsOfWrites, Adds, MayEnd}
 use Rattle.machine.specs.Machine.{MayRun, MayStart, AddsEntry, AddsNone, AddsBy, AddsRun, Begins, HasTried, TriesBy, TriesRun}
 use Rattle.machine.specs.Telling.{TellsNone, TellsEntry, TellsBy, TellsRun}
-use Rattle.machine.specs.Running.{at, frames, meter, Way, Knows, Moves, Holds, Leaves, IsWithin, HasTurned, IsCommit, IsLast, IsStarted, HasAdded, Ends, OnWay, IsEndBy, IsEnd}
+use Rattle.machine.specs.Running.{at, frames, meter, Way, Knows, Moves, Holds, Leaves, IsWithin, HasTurned, IsCommit, IsLast, refusal, IsStarted, HasAdded, Ends, OnWay, IsEndBy, IsEnd}
 use Rattle.machine.proofs.Comes.{comes_on, comes_trans}
 use Rattle.machine.proofs.Ways.{none_told, nothing_told, none_after, open_append, comes_of}
 use Rattle.machine.proofs.Knowing.{knew_end}
@@ -141,6 +143,19 @@ ends_by P B c A allows T G S h n K e answer.NoMemory l t = absurd l
 pub end_by : (P : Program) (B : Bounds) (c : Run) (A : Call → ℕ → Type 0) (allows : Entry → Type 0) (T : ℕ → Type 0) (G : List Event → Type 0) (S : List Entry → ℕ → Log → Log → Type 0) (h : List Entry) (n : ℕ) (K : Log → Type 0) (e : End) (x : Answer)
     → e.answer ≡ x → IsEndBy x P B c A allows T G S h n K e → IsEndBy e.answer P B c A allows T G S h n K e
 end_by P B c A allows T G S h n K e x q t = subst (λ (y : Answer). IsEndBy y P B c A allows T G S h n K e) (sym q) t
+
+-- a refusal ends a run with an entry
+pub refused_by : (P : Program) (B : Bounds) (c : Run) (A : Call → ℕ → Type 0) (allows : Entry → Type 0) (T : ℕ → Type 0) (G : List Event → Type 0) (S : List Entry → ℕ → Log → Log → Type 0) (h : List Entry) (n : ℕ) (K : Log → Type 0) (e : End) (l : Limit) (used size : ℕ)
+    → Ends P B c A allows T G S h n K e → IsEndBy (refusal l used size) P B c A allows T G S h n K e
+refused_by P B c A allows T G S h n K e limit.Budget used size t = t
+refused_by P B c A allows T G S h n K e limit.Depth used size t = t
+refused_by P B c A allows T G S h n K e (limit.Heap wanted) used size t = t
+
+-- a refusal doesn't say that the attempts are used up
+pub refused_unlike : (l : Limit) (used size : ℕ) → refusal l used size ≢ answer.Spent
+refused_unlike limit.Budget used size q = cc
+refused_unlike limit.Depth used size q = cc
+refused_unlike (limit.Heap wanted) used size q = cc
 
 -- the attempts aren't used up at such an end
 pub last_made : (x : Answer) → IsLast x → x ≢ answer.Spent

@@ -14,7 +14,8 @@ use Rattle.objects.specs.rewriting.Attempt.{Log, Bounds, Reply, Gives, Refuses, 
 use Rattle.machine.specs.declared.failure.Failure.{Failure}
 use Rattle.machine.specs.declared.failure.Failure.TheVariants as failure
 use Rattle.machine.specs.declared.running.Running.{Running}
-use Rattle.machine.specs.declared.running.Todo.TheVariants.{Heap}
+use Rattle.machine.specs.declared.running.Todo.TheVariants.{Refuse}
+use Rattle.machine.specs.declared.running.Limit.TheVariants.{Heap}
 use Rattle.machine.specs.declared.make.Fresh.{Fresh}
 use Rattle.machine.specs.Running.{frames, meter, land, settled, IsTurn, IsFresh}
 use Rattle.machine.proofs.Ways.{nothing_told}
@@ -44,7 +45,7 @@ module _ (P : Program) (B : Bounds) (t n : ℕ) (d : Made) (a : Running) (w r : 
         roomy v ∙ ap (λ (k : ℕ). makes (has_words B.region a.used k) v d P B b (frames a) (meter a) w r) (sym f.words) ∙ ap (λ (y : Bool). makes y v d P B b (frames a) (meter a) w r) e
 
     -- the region has no room for the object
-    pub make_full : (v : Reply) → has_words B.region a.used x.words ≡ false → making Open t n d v P B (frames a) (meter a) w r ≡ land B a w r (Ok (Heap x.words))
+    pub make_full : (v : Reply) → has_words B.region a.used x.words ≡ false → making Open t n d v P B (frames a) (meter a) w r ≡ land B a w r (Ok (Refuse (Heap x.words)))
     make_full v full = by_room v false full ∙ rw f.words refl
 
     -- the engine refuses the write of its header

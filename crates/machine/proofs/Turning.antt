@@ -25,7 +25,7 @@ use Rattle.machine.specs.declared.failure.Failure.{Failure}
 use Rattle.machine.specs.declared.failure.Failure.TheVariants as failure
 use Rattle.machine.specs.declared.running.Running.{Running}
 use Rattle.machine.specs.declared.running.Todo.{Todo}
-use Rattle.machine.specs.declared.running.Todo.TheVariants.{Go, Commit, Budget, Depth, Heap, Spent}
+use Rattle.machine.specs.declared.running.Todo.TheVariants.{Go, Commit, Refuse, Spent}
 use Rattle.machine.specs.declared.running.Stage.{Stage}
 use Rattle.machine.specs.declared.running.Stage.TheVariants as stage
 use Rattle.machine.specs.Meets.{IsStep, GoesOn, loads_plain}
@@ -37,9 +37,7 @@ pub turn_of : (B : Bounds) (f : Reply → Run) (D : Reply → List Event → Typ
     → H r w → Lands B (f v) a w r result → Told (D v) T → IsTurn B f D T H a result
 turn_of B f D T H a (Ok Go) r w v h e t = (r, w, h, (v, e, t))
 turn_of B f D T H a (Ok Commit) r w v h e t = absurd e
-turn_of B f D T H a (Ok Budget) r w v h e t = (r, w, h, (v, e, t))
-turn_of B f D T H a (Ok Depth) r w v h e t = (r, w, h, (v, e, t))
-turn_of B f D T H a (Ok (Heap k)) r w v h e t = (r, w, h, (v, e, t))
+turn_of B f D T H a (Ok (Refuse l)) r w v h e t = (r, w, h, (v, e, t))
 turn_of B f D T H a (Ok Spent) r w v h e t = (r, w, h, (v, e, t))
 turn_of B f D T H a (Err failure.Wrong) r w v h e t = (r, w, h, (v, e, t))
 turn_of B f D T H a (Err failure.NoMemory) r w v h e t = (r, w, h, none_told (D v) T t)
@@ -76,9 +74,7 @@ pub turn_as : (B : Bounds) (f g : Reply → Run) (D D' : Reply → List Event �
     → ((v : Reply) → f v ≡ g v) → ((v : Reply) (es : List Event) → D' v es → D v es) → ((es : List Event) → T' es → T es) → IsTurn B g D' T' H a result → IsTurn B f D T H a result
 turn_as B f g D D' T T' H a (Ok Go) e d k t = (t.0, t.1, t.2, (t.3.0, e t.3.0 ∙ t.3.1, told_as (D' t.3.0) (D t.3.0) T' T (d t.3.0) k t.3.2))
 turn_as B f g D D' T T' H a (Ok Commit) e d k t = (t.0, t.1, t.2, (λ v. e v ∙ t.3 v), ((λ v. d v [] (t.4.0 v)), k [] t.4.1))
-turn_as B f g D D' T T' H a (Ok Budget) e d k t = (t.0, t.1, t.2, (t.3.0, e t.3.0 ∙ t.3.1, told_as (D' t.3.0) (D t.3.0) T' T (d t.3.0) k t.3.2))
-turn_as B f g D D' T T' H a (Ok Depth) e d k t = (t.0, t.1, t.2, (t.3.0, e t.3.0 ∙ t.3.1, told_as (D' t.3.0) (D t.3.0) T' T (d t.3.0) k t.3.2))
-turn_as B f g D D' T T' H a (Ok (Heap x)) e d k t = (t.0, t.1, t.2, (t.3.0, e t.3.0 ∙ t.3.1, told_as (D' t.3.0) (D t.3.0) T' T (d t.3.0) k t.3.2))
+turn_as B f g D D' T T' H a (Ok (Refuse l)) e d k t = (t.0, t.1, t.2, (t.3.0, e t.3.0 ∙ t.3.1, told_as (D' t.3.0) (D t.3.0) T' T (d t.3.0) k t.3.2))
 turn_as B f g D D' T T' H a (Ok Spent) e d k t = (t.0, t.1, t.2, (t.3.0, e t.3.0 ∙ t.3.1, told_as (D' t.3.0) (D t.3.0) T' T (d t.3.0) k t.3.2))
 turn_as B f g D D' T T' H a (Err failure.Wrong) e d k t = (t.0, t.1, t.2, (t.3.0, e t.3.0 ∙ t.3.1, told_as (D' t.3.0) (D t.3.0) T' T (d t.3.0) k t.3.2))
 turn_as B f g D D' T T' H a (Err failure.NoMemory) e d k t = (t.0, t.1, t.2, none_after T' T [] tt k t.3)

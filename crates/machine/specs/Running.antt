@@ -30,7 +30,9 @@ use Rattle.machine.specs.declared.plain.Outcome.TheVariants as outcome
 use Rattle.machine.specs.declared.running.Stage.{Stage}
 use Rattle.machine.specs.declared.running.Stage.TheVariants.{Ready, Open, Doomed}
 use Rattle.machine.specs.declared.running.Todo.{Todo}
-use Rattle.machine.specs.declared.running.Todo.TheVariants.{Commit, Budget, Depth, Heap, Spent}
+use Rattle.machine.specs.declared.running.Todo.TheVariants.{Commit, Refuse, Spent}
+use Rattle.machine.specs.declared.running.Limit.{Limit}
+use Rattle.machine.specs.declared.running.Limit.TheVariants as limit
 use Rattle.machine.specs.declared.room.Thrown.{Thrown}
 use Rattle.machine.specs.declared.running.Running.{Running}
 use Rattle.machine.specs.declared.machine.End.{End}
@@ -109,11 +111,15 @@ Moves Doomed t Doomed u = u ≡ t
 Moves Doomed t Ready u = u ≡ t
 Moves s t z u = ⊥
 
+-- the answer of an attempt that passes a limit, with so many words used of a region of this size
+abbrev pub refusal : Limit → ℕ → ℕ → Answer
+refusal limit.Budget used size = answer.Budget
+refusal limit.Depth used size = answer.Depth
+refusal (limit.Heap wanted) used size = answer.Heap used wanted size
+
 -- what the state and an answer stand for
 abbrev pub land : Bounds → Running → Log → Log → Result Todo Failure → Run
-land B a w r (Ok Budget) = Ended answer.Budget (set_back B (meter a)) [] r
-land B a w r (Ok Depth) = Ended answer.Depth (set_back B (meter a)) [] r
-land B a w r (Ok (Heap wanted)) = Ended (answer.Heap a.used wanted B.region.size) (set_back B (meter a)) [] r
+land B a w r (Ok (Refuse l)) = Ended (refusal l a.used B.region.size) (set_back B (meter a)) [] r
 land B a w r (Ok Spent) = Ended answer.Spent (meter a) [] []
 land B a w r (Ok t) = at a w r
 land B a w r (Err e) = Stuck r

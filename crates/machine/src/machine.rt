@@ -253,15 +253,9 @@ impl Running {
                         return Ok(end);
                     }
                 }
-                Todo::Budget => return Ok(refuse(tx, gate, limits, Answer::Budget)),
-                Todo::Depth => return Ok(refuse(tx, gate, limits, Answer::Depth)),
-                Todo::Heap(wanted) => {
-                    let full = Answer::Heap {
-                        used: self.used,
-                        wanted,
-                        size: limits.room.size,
-                    };
-                    return Ok(refuse(tx, gate, limits, full));
+                Todo::Refuse(limit) => {
+                    let answer = limit.answer(self.used, limits.room.size);
+                    return Ok(refuse(tx, gate, limits, answer));
                 }
                 Todo::Spent => return Ok(limits.unplaced(Answer::Spent)),
             }

@@ -21,7 +21,7 @@ use crate::failure::Failure;
 use crate::gate::Gate;
 use crate::machine::Limits;
 use crate::room::Thrown;
-use crate::running::{CONFLICT, Running, Stage, Todo};
+use crate::running::{CONFLICT, Limit, Running, Stage, Todo};
 use crate::told::{Headed, loads_plain, told, type_of};
 use hierarchy::program::Program;
 use hierarchy::row::Holds as RowHolds;
@@ -120,14 +120,12 @@ impl Running {
             → IsWithin t attempts (E.clock engine.new) self.new.stage self.new.tried }
         ensures begun { IfOk result (λ _. self.new.stage ≡ stage.Open → E.is_open engine.new) }
         ensures awaits { (c : Call) (used : ℕ) → E.awaits engine.old c used → E.awaits engine.new c used }
-        ensures budget { result ≡ Ok Todo.Budget → self.new.stage ≡ stage.Open }
-        ensures depth { result ≡ Ok Todo.Depth → self.new.stage ≡ stage.Open }
-        ensures heap { (wanted : ℕ) → result ≡ Ok (Todo.Heap wanted) → self.new.stage ≡ stage.Open }
+        ensures refuse { (limit : Limit) → result ≡ Ok (Todo.Refuse limit) → self.new.stage ≡ stage.Open }
     {
         let Making { of, length, made } = making;
         let object = fresh_of(program, of, length)?;
         let Some(reference) = limits.room.place(self.used, object.words) else {
-            return Ok(Todo::Heap(object.words));
+            return Ok(Todo::Refuse(Limit::Heap(object.words)));
         };
         match engine.on_write(reference, object.header) {
             Ok(()) => {
@@ -185,9 +183,7 @@ impl Running {
             → IsWithin t attempts (E.clock engine.new) self.new.stage self.new.tried }
         ensures begun { IfOk result (λ _. self.new.stage ≡ stage.Open → E.is_open engine.new) }
         ensures awaits { (c : Call) (used : ℕ) → E.awaits engine.old c used → E.awaits engine.new c used }
-        ensures budget { result ≡ Ok Todo.Budget → self.new.stage ≡ stage.Open }
-        ensures depth { result ≡ Ok Todo.Depth → self.new.stage ≡ stage.Open }
-        ensures heap { (wanted : ℕ) → result ≡ Ok (Todo.Heap wanted) → self.new.stage ≡ stage.Open }
+        ensures refuse { (limit : Limit) → result ≡ Ok (Todo.Refuse limit) → self.new.stage ≡ stage.Open }
     {
         match self.stage {
             Stage::Open => self.raise_by_type(program, engine, gate, exception),
@@ -218,9 +214,7 @@ impl Running {
             → IsWithin t attempts (E.clock engine.new) self.new.stage self.new.tried }
         ensures begun { IfOk result (λ _. self.new.stage ≡ stage.Open → E.is_open engine.new) }
         ensures awaits { (c : Call) (used : ℕ) → E.awaits engine.old c used → E.awaits engine.new c used }
-        ensures budget { result ≡ Ok Todo.Budget → self.new.stage ≡ stage.Open }
-        ensures depth { result ≡ Ok Todo.Depth → self.new.stage ≡ stage.Open }
-        ensures heap { (wanted : ℕ) → result ≡ Ok (Todo.Heap wanted) → self.new.stage ≡ stage.Open }
+        ensures refuse { (limit : Limit) → result ≡ Ok (Todo.Refuse limit) → self.new.stage ≡ stage.Open }
     {
         match read_header(engine, gate, exception) {
             Ok(header) => self.throw_known(program, exception, type_of(header)),

@@ -12,7 +12,7 @@ ghost use Rattle.machine.specs.declared.running.Stage.TheVariants as stage;
 ghost use Rattle.objects.specs.declared.op.Phase.TheVariants as phase;
 ghost use Rattle.machine.specs.Meets.{HasAddress};
 ghost use Rattle.machine.specs.Machine.{bounds_of};
-ghost use Rattle.machine.specs.Running.{at, frames, meter, phase_of, Saw, Holds, IsWithin, Moves, IsTurn, HasTurned, Waits, IsHeaded, thrown_of};
+ghost use Rattle.machine.specs.Running.{at, frames, meter, phase_of, Saw, Holds, IsWithin, Moves, IsTurn, HasTurned, Waits, IsHeaded, refusal, thrown_of};
 
 use crate::callers::Callers;
 use crate::calls::method_of;
@@ -24,7 +24,7 @@ use crate::room::Thrown;
 use crate::step::{settle, unwind};
 use crate::value::value_of;
 use hierarchy::program::Program;
-use jmodel::value::Value;
+use jmodel::value::{Answer, Value};
 use objects::event::Event;
 use objects::op::{Asking, Place, Request, Slot, WordType};
 use std::alloc::Global;
@@ -42,18 +42,38 @@ pub enum Stage {
     Doomed,
 }
 
-/// What is to be done after a step.
+/// A limit that an attempt passes.
 #[derive(Clone, Copy)]
-pub enum Todo {
-    Go,
-    /// The attempt is to be committed.
-    Commit,
+pub enum Limit {
     /// The turns are used up.
     Budget,
     /// There are too many frames.
     Depth,
     /// The region has no room for so many words more.
     Heap(u64),
+}
+
+impl Limit {
+    /// The answer of an attempt that passes it, with so many words used of a region of this size.
+    pub fn answer(self, used: u64, size: u64) -> Answer
+        ensures { result ≡ refusal self used size }
+    {
+        match self {
+            Limit::Budget => Answer::Budget,
+            Limit::Depth => Answer::Depth,
+            Limit::Heap(wanted) => Answer::Heap { used, wanted, size },
+        }
+    }
+}
+
+/// What is to be done after a step.
+#[derive(Clone, Copy)]
+pub enum Todo {
+    Go,
+    /// The attempt is to be committed.
+    Commit,
+    /// The attempt passes a limit, and is refused.
+    Refuse(Limit),
     /// The attempts are used up.
     Spent,
 }
@@ -143,10 +163,10 @@ impl Running {
             return Err(Failure::Wrong);
         }
         if self.turns == 0 {
-            return Ok(Todo::Budget);
+            return Ok(Todo::Refuse(Limit::Budget));
         }
         if deep {
-            return Ok(Todo::Depth);
+            return Ok(Todo::Refuse(Limit::Depth));
         }
         self.turns -= 1;
         Ok(Todo::Go)
@@ -263,9 +283,7 @@ impl Running {
             → IsWithin t limits.attempts (E.clock engine.new) self.new.stage self.new.tried }
         ensures open { IfOk result (λ _. self.new.stage ≡ stage.Open → E.is_open engine.new) }
         ensures awaits { (c : Call) (used : ℕ) → E.awaits engine.old c used → E.awaits engine.new c used }
-        ensures budget { result ≡ Ok Todo.Budget → self.new.stage ≡ stage.Open }
-        ensures depth { result ≡ Ok Todo.Depth → self.new.stage ≡ stage.Open }
-        ensures heap { (wanted : ℕ) → result ≡ Ok (Todo.Heap wanted) → self.new.stage ≡ stage.Open }
+        ensures refuse { (limit : Limit) → result ≡ Ok (Todo.Refuse limit) → self.new.stage ≡ stage.Open }
     {
         let most = u64::try_from(retries).unwrap_or(0).min(limits.attempts);
         if self.tried >= most {
@@ -439,9 +457,7 @@ impl Running {
         ensures spent { result ≡ Ok Todo.Spent → self.new.stage ≡ stage.Ready }
         ensures begun { IfOk result (λ _. self.new.stage ≡ stage.Open → E.is_open engine.new) }
         ensures awaits { (c : Call) (used : ℕ) → E.awaits engine.old c used → E.awaits engine.new c used }
-        ensures budget { result ≡ Ok Todo.Budget → self.new.stage ≡ stage.Open }
-        ensures depth { result ≡ Ok Todo.Depth → self.new.stage ≡ stage.Open }
-        ensures heap { (wanted : ℕ) → result ≡ Ok (Todo.Heap wanted) → self.new.stage ≡ stage.Open }
+        ensures refuse { (limit : Limit) → result ≡ Ok (Todo.Refuse limit) → self.new.stage ≡ stage.Open }
     {
         match (request, self.stage) {
             (Request::Begin(retries), Stage::Ready) => self.begin(limits, engine, gate, retries),

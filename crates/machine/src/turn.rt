@@ -4,6 +4,7 @@ ghost use Rattle.objects.specs.rewriting.Attempt.{Log, Run, on_asking, making as
 ghost use Rattle.objects.specs.declared.op.Asking.TheVariants as asking_of;
 ghost use Rattle.objects.specs.rewriting.Events.{AreOfAsking, Grows};
 ghost use Rattle.jmodel.specs.history.History.{Call, Entry};
+ghost use Rattle.machine.specs.declared.running.Limit.{Limit};
 ghost use Rattle.machine.specs.declared.running.Stage.TheVariants as stage;
 ghost use Rattle.machine.specs.Machine.{bounds_of};
 ghost use Rattle.machine.specs.Meets.{CanAsk, CanDo};
@@ -46,9 +47,7 @@ impl Running {
             → IsWithin t attempts (E.clock engine.new) self.new.stage self.new.tried }
         ensures begun { IfOk result (λ _. self.new.stage ≡ stage.Open → E.is_open engine.new) }
         ensures awaits { (c : Call) (used : ℕ) → E.awaits engine.old c used → E.awaits engine.new c used }
-        ensures budget { result ≡ Ok Todo.Budget → self.new.stage ≡ stage.Open }
-        ensures depth { result ≡ Ok Todo.Depth → self.new.stage ≡ stage.Open }
-        ensures heap { (wanted : ℕ) → result ≡ Ok (Todo.Heap wanted) → self.new.stage ≡ stage.Open }
+        ensures refuse { (limit : Limit) → result ≡ Ok (Todo.Refuse limit) → self.new.stage ≡ stage.Open }
     {
         match self.stage {
             Stage::Open => self.make(program, limits, engine, gate, making),
@@ -82,9 +81,7 @@ impl Running {
         ensures spent { result ≡ Ok Todo.Spent → self.new.stage ≡ stage.Ready }
         ensures begun { IfOk result (λ _. self.new.stage ≡ stage.Open → E.is_open engine.new) }
         ensures awaits { (c : Call) (used : ℕ) → E.awaits engine.old c used → E.awaits engine.new c used }
-        ensures budget { result ≡ Ok Todo.Budget → self.new.stage ≡ stage.Open }
-        ensures depth { result ≡ Ok Todo.Depth → self.new.stage ≡ stage.Open }
-        ensures heap { (wanted : ℕ) → result ≡ Ok (Todo.Heap wanted) → self.new.stage ≡ stage.Open }
+        ensures refuse { (limit : Limit) → result ≡ Ok (Todo.Refuse limit) → self.new.stage ≡ stage.Open }
     {
         match asking {
             Asking::Go => return Ok(Todo::Go),
@@ -127,9 +124,7 @@ impl Running {
         ensures spent { result ≡ Ok Todo.Spent → self.new.stage ≡ stage.Ready }
         ensures begun { IfOk result (λ _. self.new.stage ≡ stage.Open → E.is_open engine.new) }
         ensures awaits { (c : Call) (used : ℕ) → E.awaits engine.old c used → E.awaits engine.new c used }
-        ensures budget { result ≡ Ok Todo.Budget → self.new.stage ≡ stage.Open }
-        ensures depth { result ≡ Ok Todo.Depth → self.new.stage ≡ stage.Open }
-        ensures heap { (wanted : ℕ) → result ≡ Ok (Todo.Heap wanted) → self.new.stage ≡ stage.Open }
+        ensures refuse { (limit : Limit) → result ≡ Ok (Todo.Refuse limit) → self.new.stage ≡ stage.Open }
     {
         let mut asking = asking;
         for _ in 0..u64::MAX {
@@ -172,9 +167,7 @@ impl Running {
         ensures spent { result ≡ Ok Todo.Spent → self.new.stage ≡ stage.Ready }
         ensures begun { IfOk result (λ _. self.new.stage ≡ stage.Open → E.is_open engine.new) }
         ensures awaits { (c : Call) (used : ℕ) → E.awaits engine.old c used → E.awaits engine.new c used }
-        ensures budget { result ≡ Ok Todo.Budget → self.new.stage ≡ stage.Open }
-        ensures depth { result ≡ Ok Todo.Depth → self.new.stage ≡ stage.Open }
-        ensures heap { (wanted : ℕ) → result ≡ Ok (Todo.Heap wanted) → self.new.stage ≡ stage.Open }
+        ensures refuse { (limit : Limit) → result ≡ Ok (Todo.Refuse limit) → self.new.stage ≡ stage.Open }
     {
         let asking = settle(alloc, program, doing, &mut self.frame, &mut self.callers)?;
         self.follow(alloc, program, limits, engine, gate, asking)
@@ -202,9 +195,7 @@ impl Running {
         ensures spent { result ≡ Ok Todo.Spent → self.new.stage ≡ stage.Ready }
         ensures begun { IfOk result (λ _. self.new.stage ≡ stage.Open → E.is_open engine.new) }
         ensures awaits { (c : Call) (used : ℕ) → E.awaits engine.old c used → E.awaits engine.new c used }
-        ensures budget { result ≡ Ok Todo.Budget → self.new.stage ≡ stage.Open }
-        ensures depth { result ≡ Ok Todo.Depth → self.new.stage ≡ stage.Open }
-        ensures heap { (wanted : ℕ) → result ≡ Ok (Todo.Heap wanted) → self.new.stage ≡ stage.Open }
+        ensures refuse { (limit : Limit) → result ≡ Ok (Todo.Refuse limit) → self.new.stage ≡ stage.Open }
     {
         let doing = self.go(alloc, program)?;
         match doing {

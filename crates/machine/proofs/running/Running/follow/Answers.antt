@@ -76,9 +76,7 @@ returns-in_default g c = record {
   moves = moves_if c.answer.result _ _ _ _ _ _ c.loop.invariant.same.0 c.loop.invariant.same.1 c.answer.ensures.moves;
   begun = c.answer.ensures.begun;
   awaits = λ j u x. c.answer.ensures.awaits j u (c.loop.invariant.awaits j u x);
-  budget = c.answer.ensures.budget;
-  depth = c.answer.ensures.depth;
-  heap = c.answer.ensures.heap;
+  refuse = c.answer.ensures.refuse;
 }
 
 pub loop-preserved : goal.loop-preserved

@@ -5,12 +5,12 @@ use Rattle.jmodel.specs.declared.value.Answer.TheVariants as answer
 use Rattle.machine.specs.declared.running.Stage.TheVariants.{Ready, Open}
 use Rattle.objects.specs.rewriting.Attempt.{Gives, Refuses, on_commit}
 use Rattle.machine.specs.Machine.{bounds_of, Begins}
-use Rattle.machine.specs.Running.{at, frames, meter, Saw}
+use Rattle.machine.specs.Running.{at, frames, meter, Saw, refusal}
 use Rattle.objects.specs.declared.event.Event.{Event}
 use Rattle.objects.specs.rewriting.Events.{Grows}
 use Rattle.machine.proofs.Comes.{comes_trans}
 use Rattle.machine.proofs.Ways.{grows_same, grows_trans, open_append, nothing_told}
-use Rattle.machine.proofs.Ends.{within_open, within_end, way_start, way_on, told_turn, turn_fails, comes_turned, commit_ends, ends_by, end_by, last_made, leaves_of, added_as, may_refuse, refuses}
+use Rattle.machine.proofs.Ends.{within_open, within_end, way_start, way_on, told_turn, turn_fails, comes_turned, commit_ends, ends_by, end_by, last_made, leaves_of, added_as, may_refuse, refuses, refused_by, refused_unlike}
 use Rattle.machine.proofs.Knowing.{saw_fewer}
 use Rattle.machine.proofs.Seen.{seen_committed, seen_refused, seen_spent, seen_again}
 use Rattle.machine.proofs.running.Running.run.Goals as goal
@@ -79,46 +79,18 @@ returns-in-Some-clause-ticks g c =
     within_end _ _ _ _ _ (c.in_ok-end-in-Commit.ensures.ticks _ _ (rw e at (c.in_ok-turn.ensures.ticks _ c.loop.invariant.0)))
 
 pub refuse-requires-clause-open : goal.refuse-requires-clause-open
-refuse-requires-clause-open g c = c.in_ok-turn.ensures.begun ((rw c.in-Budget.is at c.in_ok-turn.ensures.budget) refl)
+refuse-requires-clause-open g c = c.in_ok-turn.ensures.begun ((rw c.in-Refuse.is at c.in_ok-turn.ensures.refuse) c.in-Refuse.limit refl)
 
 pub refuse-requires-clause-allowed : goal.refuse-requires-clause-allowed
 refuse-requires-clause-allowed g c = λ shared.
     let m = c.requires.ready shared in
     let o = c.loop.invariant.3 m.history m.conflicts m.call m.stands m.awaits in
-    let u = (rw c.in-Budget.is at c.in_ok-turn.ensures.run) m.history m.conflicts o.reads o.writes m.call c.args.limits.room.used (c.loop.invariant.2 m.call c.args.limits.room.used m.awaits) o.holds in
+    let u = (rw c.in-Refuse.is at c.in_ok-turn.ensures.run) m.history m.conflicts o.reads o.writes m.call c.args.limits.room.used (c.loop.invariant.2 m.call c.args.limits.room.used m.awaits) o.holds in
     let t = u.turn in
-    may_refuse c.args.program.now (bounds_of c.args.limits) (at c.args.self.now [] []) g.E.Engine.allows (g.E.Engine.stands c.args.tx.now) (g.E.Engine.stands c.turn.new.engine)
-    (g.E.Engine.awaits c.args.tx.now) (g.E.Engine.awaits c.turn.new.engine) m answer.Budget (meter c.turn.new.self) t.0 t.1 t.2.conflicts
-    (λ k used a. c.in_ok-turn.ensures.awaits k used (c.loop.invariant.2 k used a)) t.2.stands (λ q. cc)
-    (comes_turned c.args.program.now (bounds_of c.args.limits) (at c.args.self.now [] []) (at c.loop.self o.writes o.reads) o.events _ _ _ _ _ t.3.0 o.comes u t.3.1)
-
-pub refuse-requires-in-Depth-clause-open : goal.refuse-requires-in-Depth-clause-open
-refuse-requires-in-Depth-clause-open g c = c.in_ok-turn.ensures.begun ((rw c.in-Depth.is at c.in_ok-turn.ensures.depth) refl)
-
-pub refuse-requires-in-Depth-clause-allowed : goal.refuse-requires-in-Depth-clause-allowed
-refuse-requires-in-Depth-clause-allowed g c = λ shared.
-    let m = c.requires.ready shared in
-    let o = c.loop.invariant.3 m.history m.conflicts m.call m.stands m.awaits in
-    let u = (rw c.in-Depth.is at c.in_ok-turn.ensures.run) m.history m.conflicts o.reads o.writes m.call c.args.limits.room.used (c.loop.invariant.2 m.call c.args.limits.room.used m.awaits) o.holds in
-    let t = u.turn in
-    may_refuse c.args.program.now (bounds_of c.args.limits) (at c.args.self.now [] []) g.E.Engine.allows (g.E.Engine.stands c.args.tx.now) (g.E.Engine.stands c.turn.new.engine)
-    (g.E.Engine.awaits c.args.tx.now) (g.E.Engine.awaits c.turn.new.engine) m answer.Depth (meter c.turn.new.self) t.0 t.1 t.2.conflicts
-    (λ k used a. c.in_ok-turn.ensures.awaits k used (c.loop.invariant.2 k used a)) t.2.stands (λ q. cc)
-    (comes_turned c.args.program.now (bounds_of c.args.limits) (at c.args.self.now [] []) (at c.loop.self o.writes o.reads) o.events _ _ _ _ _ t.3.0 o.comes u t.3.1)
-
-pub refuse-requires-in-Heap-clause-open : goal.refuse-requires-in-Heap-clause-open
-refuse-requires-in-Heap-clause-open g c = c.in_ok-turn.ensures.begun ((rw c.in-Heap.is at c.in_ok-turn.ensures.heap) c.in-Heap.wanted refl)
-
-pub refuse-requires-in-Heap-clause-allowed : goal.refuse-requires-in-Heap-clause-allowed
-refuse-requires-in-Heap-clause-allowed g c = λ shared.
-    let m = c.requires.ready shared in
-    let o = c.loop.invariant.3 m.history m.conflicts m.call m.stands m.awaits in
-    let u = (rw c.in-Heap.is at c.in_ok-turn.ensures.run) m.history m.conflicts o.reads o.writes m.call c.args.limits.room.used (c.loop.invariant.2 m.call c.args.limits.room.used m.awaits) o.holds in
-    let t = u.turn in
-    may_refuse c.args.program.now (bounds_of c.args.limits) (at c.args.self.now [] []) g.E.Engine.allows (g.E.Engine.stands c.args.tx.now) (g.E.Engine.stands c.turn.new.engine)
-    (g.E.Engine.awaits c.args.tx.now) (g.E.Engine.awaits c.turn.new.engine) m (answer.Heap c.turn.new.self.used c.in-Heap.wanted c.args.limits.room.size) (meter c.turn.new.self) t.0 t.1 t.2.conflicts
-    (λ k used a. c.in_ok-turn.ensures.awaits k used (c.loop.invariant.2 k used a)) t.2.stands (λ q. cc)
-    (comes_turned c.args.program.now (bounds_of c.args.limits) (at c.args.self.now [] []) (at c.loop.self o.writes o.reads) o.events _ _ _ _ _ t.3.0 o.comes u t.3.1)
+    rw c.answer-answer.ensures (may_refuse c.args.program.now (bounds_of c.args.limits) (at c.args.self.now [] []) g.E.Engine.allows (g.E.Engine.stands c.args.tx.now) (g.E.Engine.stands c.turn.new.engine)
+    (g.E.Engine.awaits c.args.tx.now) (g.E.Engine.awaits c.turn.new.engine) m (refusal c.in-Refuse.limit c.turn.new.self.used c.args.limits.room.size) (meter c.turn.new.self) t.0 t.1 t.2.conflicts
+    (λ k used a. c.in_ok-turn.ensures.awaits k used (c.loop.invariant.2 k used a)) t.2.stands (refused_unlike c.in-Refuse.limit _ _)
+    (comes_turned c.args.program.now (bounds_of c.args.limits) (at c.args.self.now [] []) (at c.loop.self o.writes o.reads) o.events _ _ _ _ _ t.3.0 o.comes u t.3.1))
 
 pub commit-requires-clause-allowed : goal.commit-requires-clause-allowed
 commit-requires-clause-allowed g c = λ shared.
@@ -139,59 +111,24 @@ commit-requires-clause-allowed g c = λ shared.
           (comes_trans c.args.program.now B (at c.args.self.now [] []) _ _ (comes_turned c.args.program.now B (at c.args.self.now [] []) (at c.loop.self o.writes o.reads) o.events _ _ _ _ _ (Gives 0) o.comes u (t.3 (Gives 0))) comes);
     }
 
-pub returns-in-Budget-clause-run : goal.returns-in-Budget-clause-run
-returns-in-Budget-clause-run g c = λ h n kc s aw.
+pub returns-in-Refuse-clause-run : goal.returns-in-Refuse-clause-run
+returns-in-Refuse-clause-run g c = λ h n kc s aw.
     let o = c.loop.invariant.3 h n kc s aw in
-    let u = (rw c.in-Budget.is at c.in_ok-turn.ensures.run) h n o.reads o.writes kc c.args.limits.room.used (c.loop.invariant.2 kc c.args.limits.room.used aw) o.holds in
+    let u = (rw c.in-Refuse.is at c.in_ok-turn.ensures.run) h n o.reads o.writes kc c.args.limits.room.used (c.loop.invariant.2 kc c.args.limits.room.used aw) o.holds in
     let t = u.turn in
-    let e = (rw c.in-Budget.is at c.in_ok-turn.ensures.budget) refl in
+    let e = (rw c.in-Refuse.is at c.in_ok-turn.ensures.refuse) c.in-Refuse.limit refl in
     let k = c.refuse in
-    end_by c.args.program.now (bounds_of c.args.limits) (at c.args.self.now [] []) (g.E.Engine.awaits c.args.tx.now) g.E.Engine.allows (Begins (g.E.Engine.attempts c.args.tx.now) (g.E.Engine.attempts k.new.tx)) (Grows (g.G.Gate.told c.args.gate.now) (g.G.Gate.told k.new.gate)) (g.E.Engine.stands k.new.tx) h n (Saw g.E.Engine.is_shared g.E.Engine.begins g.E.Engine.allows h kc c.args.limits.room.used) k.result answer.Budget k.ensures.answer (refuses c.args.program.now (bounds_of c.args.limits) (at c.args.self.now [] []) g.E.Engine.allows (Begins (g.E.Engine.attempts c.args.tx.now) (g.E.Engine.attempts k.new.tx)) (Grows (g.G.Gate.told c.args.gate.now) (g.G.Gate.told k.new.gate)) (g.E.Engine.stands c.args.tx.now) (g.E.Engine.stands k.new.tx)
+    let q = k.ensures.answer ∙ c.answer-answer.ensures in
+    end_by c.args.program.now (bounds_of c.args.limits) (at c.args.self.now [] []) (g.E.Engine.awaits c.args.tx.now) g.E.Engine.allows (Begins (g.E.Engine.attempts c.args.tx.now) (g.E.Engine.attempts k.new.tx)) (Grows (g.G.Gate.told c.args.gate.now) (g.G.Gate.told k.new.gate)) (g.E.Engine.stands k.new.tx) h n (Saw g.E.Engine.is_shared g.E.Engine.begins g.E.Engine.allows h kc c.args.limits.room.used) k.result (refusal c.in-Refuse.limit c.turn.new.self.used c.args.limits.room.size) q (refused_by c.args.program.now (bounds_of c.args.limits) (at c.args.self.now [] []) (g.E.Engine.awaits c.args.tx.now) g.E.Engine.allows (Begins (g.E.Engine.attempts c.args.tx.now) (g.E.Engine.attempts k.new.tx)) (Grows (g.G.Gate.told c.args.gate.now) (g.G.Gate.told k.new.gate)) (g.E.Engine.stands k.new.tx) h n (Saw g.E.Engine.is_shared g.E.Engine.begins g.E.Engine.allows h kc c.args.limits.room.used) k.result c.in-Refuse.limit _ _ (refuses c.args.program.now (bounds_of c.args.limits) (at c.args.self.now [] []) g.E.Engine.allows (Begins (g.E.Engine.attempts c.args.tx.now) (g.E.Engine.attempts k.new.tx)) (Grows (g.G.Gate.told c.args.gate.now) (g.G.Gate.told k.new.gate)) (g.E.Engine.stands c.args.tx.now) (g.E.Engine.stands k.new.tx)
     (g.E.Engine.awaits c.args.tx.now) (g.E.Engine.awaits c.turn.new.engine) h n t.2.conflicts (Saw g.E.Engine.is_shared g.E.Engine.begins g.E.Engine.allows h kc c.args.limits.room.used) k.result (meter c.turn.new.self) t.0 (o.events ++ (u.events ++ t.3.2.0))
     (λ k used a. c.in_ok-turn.ensures.awaits k used (c.loop.invariant.2 k used a)) t.2.later (rw e at t.2.tries)
     (λ j a. k.ensures.attempts _ (c.in_ok-turn.ensures.attempts j (c.loop.invariant.4 j a)))
     (grows_trans _ _ _ (o.events ++ (u.events ++ t.3.2.0)) _ (grows_trans _ _ _ o.events (u.events ++ t.3.2.0) o.told t.3.2.3) k.ensures.told) k.ensures.used
-    (rw k.ensures.answer (seen_refused c.args.program.now (bounds_of c.args.limits) (Saw g.E.Engine.is_shared g.E.Engine.begins g.E.Engine.allows h kc c.args.limits.room.used) (saw_fewer g.E.Engine.is_shared g.E.Engine.begins g.E.Engine.allows h kc c.args.limits.room.used) (at c.args.self.now [] []) c.loop.self o.writes o.reads o.events t.3.2.0 _ _ c.turn.new.self _ _ t.0 t.3.0 o.comes o.knows u t.3.1 t.3.2.1 (λ q. cc) e c.in_ok-turn.ensures.moves t.2.knew))
-    (rw k.ensures.answer (k.ensures.run h t.2.conflicts t.0 t.1 t.2.stands)))
+    (rw q (seen_refused c.args.program.now (bounds_of c.args.limits) (Saw g.E.Engine.is_shared g.E.Engine.begins g.E.Engine.allows h kc c.args.limits.room.used) (saw_fewer g.E.Engine.is_shared g.E.Engine.begins g.E.Engine.allows h kc c.args.limits.room.used) (at c.args.self.now [] []) c.loop.self o.writes o.reads o.events t.3.2.0 _ _ c.turn.new.self _ _ t.0 t.3.0 o.comes o.knows u t.3.1 t.3.2.1 (refused_unlike c.in-Refuse.limit _ _) e c.in_ok-turn.ensures.moves t.2.knew))
+    (rw k.ensures.answer (k.ensures.run h t.2.conflicts t.0 t.1 t.2.stands))))
 
-pub returns-in-Budget-clause-ticks : goal.returns-in-Budget-clause-ticks
-returns-in-Budget-clause-ticks g c = rw c.refuse.ensures.ticks (within_end _ _ _ _ _ (c.in_ok-turn.ensures.ticks _ c.loop.invariant.0))
-
-pub returns-in-Depth-clause-run : goal.returns-in-Depth-clause-run
-returns-in-Depth-clause-run g c = λ h n kc s aw.
-    let o = c.loop.invariant.3 h n kc s aw in
-    let u = (rw c.in-Depth.is at c.in_ok-turn.ensures.run) h n o.reads o.writes kc c.args.limits.room.used (c.loop.invariant.2 kc c.args.limits.room.used aw) o.holds in
-    let t = u.turn in
-    let e = (rw c.in-Depth.is at c.in_ok-turn.ensures.depth) refl in
-    let k = c.refuse-in-Depth in
-    end_by c.args.program.now (bounds_of c.args.limits) (at c.args.self.now [] []) (g.E.Engine.awaits c.args.tx.now) g.E.Engine.allows (Begins (g.E.Engine.attempts c.args.tx.now) (g.E.Engine.attempts k.new.tx)) (Grows (g.G.Gate.told c.args.gate.now) (g.G.Gate.told k.new.gate)) (g.E.Engine.stands k.new.tx) h n (Saw g.E.Engine.is_shared g.E.Engine.begins g.E.Engine.allows h kc c.args.limits.room.used) k.result answer.Depth k.ensures.answer (refuses c.args.program.now (bounds_of c.args.limits) (at c.args.self.now [] []) g.E.Engine.allows (Begins (g.E.Engine.attempts c.args.tx.now) (g.E.Engine.attempts k.new.tx)) (Grows (g.G.Gate.told c.args.gate.now) (g.G.Gate.told k.new.gate)) (g.E.Engine.stands c.args.tx.now) (g.E.Engine.stands k.new.tx)
-    (g.E.Engine.awaits c.args.tx.now) (g.E.Engine.awaits c.turn.new.engine) h n t.2.conflicts (Saw g.E.Engine.is_shared g.E.Engine.begins g.E.Engine.allows h kc c.args.limits.room.used) k.result (meter c.turn.new.self) t.0 (o.events ++ (u.events ++ t.3.2.0))
-    (λ k used a. c.in_ok-turn.ensures.awaits k used (c.loop.invariant.2 k used a)) t.2.later (rw e at t.2.tries)
-    (λ j a. k.ensures.attempts _ (c.in_ok-turn.ensures.attempts j (c.loop.invariant.4 j a)))
-    (grows_trans _ _ _ (o.events ++ (u.events ++ t.3.2.0)) _ (grows_trans _ _ _ o.events (u.events ++ t.3.2.0) o.told t.3.2.3) k.ensures.told) k.ensures.used
-    (rw k.ensures.answer (seen_refused c.args.program.now (bounds_of c.args.limits) (Saw g.E.Engine.is_shared g.E.Engine.begins g.E.Engine.allows h kc c.args.limits.room.used) (saw_fewer g.E.Engine.is_shared g.E.Engine.begins g.E.Engine.allows h kc c.args.limits.room.used) (at c.args.self.now [] []) c.loop.self o.writes o.reads o.events t.3.2.0 _ _ c.turn.new.self _ _ t.0 t.3.0 o.comes o.knows u t.3.1 t.3.2.1 (λ q. cc) e c.in_ok-turn.ensures.moves t.2.knew))
-    (rw k.ensures.answer (k.ensures.run h t.2.conflicts t.0 t.1 t.2.stands)))
-
-pub returns-in-Depth-clause-ticks : goal.returns-in-Depth-clause-ticks
-returns-in-Depth-clause-ticks g c = rw c.refuse-in-Depth.ensures.ticks (within_end _ _ _ _ _ (c.in_ok-turn.ensures.ticks _ c.loop.invariant.0))
-
-pub returns-in-Heap-clause-run : goal.returns-in-Heap-clause-run
-returns-in-Heap-clause-run g c = λ h n kc s aw.
-    let o = c.loop.invariant.3 h n kc s aw in
-    let u = (rw c.in-Heap.is at c.in_ok-turn.ensures.run) h n o.reads o.writes kc c.args.limits.room.used (c.loop.invariant.2 kc c.args.limits.room.used aw) o.holds in
-    let t = u.turn in
-    let e = (rw c.in-Heap.is at c.in_ok-turn.ensures.heap) c.in-Heap.wanted refl in
-    let k = c.refuse-in-Heap in
-    end_by c.args.program.now (bounds_of c.args.limits) (at c.args.self.now [] []) (g.E.Engine.awaits c.args.tx.now) g.E.Engine.allows (Begins (g.E.Engine.attempts c.args.tx.now) (g.E.Engine.attempts k.new.tx)) (Grows (g.G.Gate.told c.args.gate.now) (g.G.Gate.told k.new.gate)) (g.E.Engine.stands k.new.tx) h n (Saw g.E.Engine.is_shared g.E.Engine.begins g.E.Engine.allows h kc c.args.limits.room.used) k.result (answer.Heap c.turn.new.self.used c.in-Heap.wanted c.args.limits.room.size) k.ensures.answer (refuses c.args.program.now (bounds_of c.args.limits) (at c.args.self.now [] []) g.E.Engine.allows (Begins (g.E.Engine.attempts c.args.tx.now) (g.E.Engine.attempts k.new.tx)) (Grows (g.G.Gate.told c.args.gate.now) (g.G.Gate.told k.new.gate)) (g.E.Engine.stands c.args.tx.now) (g.E.Engine.stands k.new.tx)
-    (g.E.Engine.awaits c.args.tx.now) (g.E.Engine.awaits c.turn.new.engine) h n t.2.conflicts (Saw g.E.Engine.is_shared g.E.Engine.begins g.E.Engine.allows h kc c.args.limits.room.used) k.result (meter c.turn.new.self) t.0 (o.events ++ (u.events ++ t.3.2.0))
-    (λ k used a. c.in_ok-turn.ensures.awaits k used (c.loop.invariant.2 k used a)) t.2.later (rw e at t.2.tries)
-    (λ j a. k.ensures.attempts _ (c.in_ok-turn.ensures.attempts j (c.loop.invariant.4 j a)))
-    (grows_trans _ _ _ (o.events ++ (u.events ++ t.3.2.0)) _ (grows_trans _ _ _ o.events (u.events ++ t.3.2.0) o.told t.3.2.3) k.ensures.told) k.ensures.used
-    (rw k.ensures.answer (seen_refused c.args.program.now (bounds_of c.args.limits) (Saw g.E.Engine.is_shared g.E.Engine.begins g.E.Engine.allows h kc c.args.limits.room.used) (saw_fewer g.E.Engine.is_shared g.E.Engine.begins g.E.Engine.allows h kc c.args.limits.room.used) (at c.args.self.now [] []) c.loop.self o.writes o.reads o.events t.3.2.0 _ _ c.turn.new.self _ _ t.0 t.3.0 o.comes o.knows u t.3.1 t.3.2.1 (λ q. cc) e c.in_ok-turn.ensures.moves t.2.knew))
-    (rw k.ensures.answer (k.ensures.run h t.2.conflicts t.0 t.1 t.2.stands)))
-
-pub returns-in-Heap-clause-ticks : goal.returns-in-Heap-clause-ticks
-returns-in-Heap-clause-ticks g c = rw c.refuse-in-Heap.ensures.ticks (within_end _ _ _ _ _ (c.in_ok-turn.ensures.ticks _ c.loop.invariant.0))
+pub returns-in-Refuse-clause-ticks : goal.returns-in-Refuse-clause-ticks
+returns-in-Refuse-clause-ticks g c = rw c.refuse.ensures.ticks (within_end _ _ _ _ _ (c.in_ok-turn.ensures.ticks _ c.loop.invariant.0))
 
 pub returns-in-Spent-clause-run : goal.returns-in-Spent-clause-run
 returns-in-Spent-clause-run g c = λ h n kc s aw.

@@ -75,7 +75,5 @@ returns-in_default g c = record {
   moves = moves_if c.end_turn.result _ _ _ _ _ _ c.in_ok-doing.ensures.stage c.in_ok-doing.ensures.tried c.end_turn.ensures.moves;
   begun = c.end_turn.ensures.begun;
   awaits = λ j u x. c.end_turn.ensures.awaits j u x;
-  budget = c.end_turn.ensures.budget;
-  depth = c.end_turn.ensures.depth;
-  heap = c.end_turn.ensures.heap;
+  refuse = c.end_turn.ensures.refuse;
 }
