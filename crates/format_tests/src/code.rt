@@ -156,8 +156,8 @@ fn fault(alloc: Global, code: &[u8]) -> Option<(u8, i64)>
 {
     match instructions(alloc, code) {
         Err(Halt::Refused(refusal)) => match refusal {
-            Refusal::BadInstr(_, pc) => Some((13, pc)),
-            Refusal::BadTarget(_, pc) => Some((14, pc)),
+            Refusal::BadInstr(.., pc) => Some((13, pc)),
+            Refusal::BadTarget(.., pc) => Some((14, pc)),
             _ => None,
         },
         _ => None,
