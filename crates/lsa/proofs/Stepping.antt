@@ -1,5 +1,5 @@
 -- What an engine stands for after a step of an attempt.
-use Rattle.std.proofs.Common.{◌≡◌, ◌≢◌, ◌<◌, ◌≤◌, ◌+◌, ◌%◌, ℕ, List, [], ◌∷◌, ◌++◌, length, reverse, refl, sym, ap, ◌∙◌, subst, arith}
+use Rattle.std.proofs.Common.{◌≡◌, ◌≢◌, ◌<◌, ◌≤◌, ◌+◌, ◌%◌, ℕ, true, List, [], ◌∷◌, ◌++◌, length, reverse, refl, sym, ap, ◌∙◌, subst, arith}
 use Rattle.std.specs.Prelude.{Option, None, unwrap_or}
 use Rattle.std.proofs.lemmas.List.Elements.{All-nil, All-cons}
 use Rattle.std.proofs.lemmas.List.{reverse-append}
@@ -16,11 +16,11 @@ use Rattle.tx_table.specs.Passes.{book, IsSame}
 use Rattle.tl2.specs.declared.attempt.At.{At}
 use Rattle.tl2.specs.declared.attempt.At.TheVariants.{Outside, Inside}
 use Rattle.tl2.specs.Commits.{IsRest}
-use Rattle.tl2.specs.Standing.{Awaits, Keeps, Stands}
+use Rattle.tl2.specs.Standing.{Awaits, IsOpen, Keeps, Stands}
 use Rattle.tl2.proofs.Keeping.{keeps_still}
 use Rattle.tl2.proofs.Stepping.{stands_begun}
 use Rattle.lsa.specs.Conflicts.{IsLost}
-use Rattle.lsa.specs.Owning.{IsOn, IsTaken}
+use Rattle.lsa.specs.Owning.{IsAkin, IsOn, IsTaken}
 use Rattle.lsa.specs.Standing.{StandsFor}
 
 -- the writes that count are those of the log
@@ -48,9 +48,13 @@ snapshot_still S v w reads regions s = record {
   regions = λ r g e. s.regions r g (rw regions at e);
 }
 
--- the same regions await the same call
-pub awaits_still : (named : Call) (v w : Book) → w.regions ≡ v.regions → (c : Call) (used : ℕ) → Awaits named v c used → Awaits named w c used
-awaits_still named v w e c used a = (a.0, a.1, (a.2.0, ap (λ (m : Map Region). lookup m c.region) e ∙ a.2.1, a.2.2, a.2.3))
+-- a read that is logged leaves what the pass may hand on
+pub akin_logged : (v w : Book) (a x : ℕ) → w ≡ logged v a x → IsAkin v w
+akin_logged v w a x e = (ap (λ (b : Book). b.numbers) e, ap (λ (b : Book). b.fresh) e, ap (λ (b : Book). b.ticks) e, ap (λ (b : Book). b.regions) e)
+
+-- as a conflict does
+pub akin_lost : (v w : Book) (e : Conflict) → IsLost v w e → IsAkin v w
+akin_lost v w e l = (l.numbers, l.fresh, l.ticks, l.regions)
 
 module _ (began : TableId → Book → Type 0) (words : ℕ) (at : At) (kept : List Access) (p q : Pass) (h : List Entry) (n : ℕ) (r w : Log) (same : IsSame p q)
     (s : Stands began words at kept p h n r w) where
@@ -164,19 +168,6 @@ stands_out began words at kept p h n r w s = record {
   bound = λ z. absurd (z refl);
   keeps = s.keeps;
 }
-
--- one write more
-pub stands_wrote : (began : TableId → Book → Type 0) (words : ℕ) (at : At) (kept log : List Access) (p : Pass) (h : List Entry) (n : ℕ) (r w : Log) (l : Access)
-    → l.address < words → log ≡ kept ++ l ∷ [] → Stands began words at kept p h n r w → Stands began words at log p h n r (l ∷ w)
-stands_wrote began words at kept log p h n r w l low more s = subst (λ (k : List Access). Stands began words at k p h n r (l ∷ w)) (sym more) (record {
-  entries = s.entries;
-  lost = s.lost;
-  reads = s.reads;
-  writes = reverse-append kept (l ∷ []) ∙ ap (λ (k : Log). l ∷ k) s.writes;
-  within = All-cons (λ (k : Access). k.address < words) l w low s.within;
-  bound = s.bound;
-  keeps = s.keeps;
-})
 
 -- before the first attempt
 pub stands_first : (began : TableId → Book → Type 0) (words : ℕ) (p : Pass) (h : List Entry) → (book p).entries ≡ reverse h → Keeps began p

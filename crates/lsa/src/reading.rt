@@ -1,5 +1,5 @@
 //! The steps of an attempt that reads.
-ghost use Rattle.std.specs.Prelude.{◌≡◌, ◌⊎◌, ◌≤◌, ◌+◌, ◌^◌, [], ℕ, List, None, reverse, MatchResult, IfOk, IfErr, IsOk};
+ghost use Rattle.std.specs.Prelude.{◌≡◌, ◌⊎◌, ◌≤◌, ◌+◌, ◌^◌, [], ◌∷◌, ◌++◌, ℕ, List, None, true, reverse, MatchBool, MatchResult, IfOk, IfErr, IsOk};
 ghost use Rattle.jmodel.specs.history.Log.{Log, answered, recorded, written};
 ghost use Rattle.jmodel.specs.history.History.{Call, Entry};
 ghost use Rattle.tx_core.specs.Engine.{raised};
@@ -19,6 +19,13 @@ use tl2::commit::give_back;
 use tl2::reading::begin_at;
 use tx_core::{Conflict, TxEnd};
 use tx_table::{Calling, Ruled};
+
+/// Logs a read at an address where it is due, and says whether it did: it does not where memory is wanting.
+fn log_read(reads: &mut Vec<u64>, address: u64, due: bool) -> bool
+    ensures logged { MatchBool result ((due ≡ true) × (reads.new.items ≡ reads.old.items ++ address ∷ [])) (reads.new.items ≡ reads.old.items) }
+{
+    due && reads.push(address).is_ok()
+}
 
 impl<'a, T: Ruled, C: Calling> Lsa<'a, T, C> {
     /// Begins an attempt. Stripes that an attempt before still held are given back first. No memory.
@@ -127,7 +134,7 @@ impl<'a, T: Ruled, C: Calling> Lsa<'a, T, C> {
             return Ok(word);
         }
         if self.own.contains(&(address % STRIPES)) {
-            if address >= self.shared.words || self.reads.push(address).is_err() {
+            if !log_read(&mut self.reads, address, address < self.shared.words) {
                 return Err(TxEnd::NoMemory);
             }
             let word = self.pass.load_own(self.shared, address);
@@ -137,7 +144,7 @@ impl<'a, T: Ruled, C: Calling> Lsa<'a, T, C> {
         let At::Loaded(loaded) = self.at else {
             return Err(TxEnd::NoMemory);
         };
-        if loaded.address != address || self.reads.push(address).is_err() {
+        if !log_read(&mut self.reads, address, loaded.address == address) {
             return Err(TxEnd::NoMemory);
         }
         match self.pass.recheck(self.shared, address) {

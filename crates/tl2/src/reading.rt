@@ -185,7 +185,10 @@ impl<'a, T: Ruled, C: Calling> Tl2<'a, T, C> {
         ensures snapshot { Learns (T.story self.old.shared.now.table.shared.key.story.value) (book self.old.pass) → Learns (T.story self.new.shared.now.table.shared.key.story.value) (book self.new.pass) }
         ensures err { IfErr result (λ end. end ≡ TxEnd.NoMemory) }
     {
-        if address >= self.shared.words || self.writes.push(Access { address, word }).is_err() {
+        if address >= self.shared.words {
+            return Err(TxEnd::NoMemory);
+        }
+        if self.writes.push(Access { address, word }).is_err() {
             return Err(TxEnd::NoMemory);
         }
         Ok(())

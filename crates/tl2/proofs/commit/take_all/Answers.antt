@@ -73,3 +73,28 @@ loop-i-preserved g c =
       settled = rw c.in-Ok.ensures.ok at c.take_one.ensures.settled;
       means = λ a. ⊎_elim (λ (e : a ≡ s.address). inr (subst (λ (k : ℕ). In k all) (sym e) here)) (i.means a);
     })
+
+pub take_one-requires-clause-table : goal.take_one-requires-clause-table
+take_one-requires-clause-table g c = c.loop-i.invariant.same.0 ∙ c.requires.table
+
+pub take_one-requires-clause-ready : goal.take_one-requires-clause-ready
+take_one-requires-clause-ready g c = (c.loop-i.invariant.taking.stage, c.loop-i.invariant.taking.live)
+
+pub take_one-requires-clause-settled : goal.take_one-requires-clause-settled
+take_one-requires-clause-settled g c = c.loop-i.invariant.settled
+
+pub give_back-requires-clause-table : goal.give_back-requires-clause-table
+give_back-requires-clause-table g c = c.take_one.ensures.same.0 ∙ c.loop-i.invariant.same.0 ∙ c.requires.table
+
+pub returns-in-Err-clause-same : goal.returns-in-Err-clause-same
+returns-in-Err-clause-same g c =
+    let back = c.give_back.ensures.same in
+    let step = c.take_one.ensures.same in
+    let was = c.loop-i.invariant.same in
+    (back.0 ∙ step.0 ∙ was.0, back.1 ∙ step.1 ∙ was.1)
+
+pub returns-clause-same : goal.returns-clause-same
+returns-clause-same g c = c.loop-i.invariant.same
+
+pub returns-clause-settled : goal.returns-clause-settled
+returns-clause-settled g c = c.loop-i.invariant.settled

@@ -1,6 +1,7 @@
 use Rattle.std.proofs.Common.{◌≡◌, ◌%◌, ℕ, true, None, Some, List, [], ◌∷◌, ◌++◌, is_some, slice_index, sym, ap, ◌∙◌}
 use Rattle.std.specs.Ordering.{nat_cmp}
 use Rattle.std.specs.BTreeMap.{get}
+use Rattle.std.proofs.lemmas.Result.{IfOk-from_err}
 use Rattle.tl2.specs.declared.plan.Stripe.{Stripe}
 use Rattle.tl2.proofs.Plans.{marks_found, marks_missed, elsewhere_found, elsewhere_missed}
 use Rattle.tl2.proofs.plan.mark_read.Goals as goal
@@ -31,3 +32,6 @@ loop-address-preserved c =
             elsewhere = ap (λ (xs : List ℕ). xs ++ slice_index reads i ∷ []) c.loop-address.invariant.elsewhere ∙ sym (elsewhere_missed reads i more first old marks missed);
           }))
     ]
+
+pub returns-in_err-push-in-None-clause-elsewhere : goal.returns-in_err-push-in-None-clause-elsewhere
+returns-in_err-push-in-None-clause-elsewhere c = IfOk-from_err _ _ c.from_residual.ensures.0

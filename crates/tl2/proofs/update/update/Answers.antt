@@ -1,4 +1,6 @@
-use Rattle.std.proofs.Common.{◌≡◌, ◌<◌, ◌%◌, ℕ, List, All, reverse, refl, sym, ap, ◌∙◌, inl, inr, ⊎_elim, subst, arith}
+use Rattle.std.proofs.Common.{◌≡◌, ◌<◌, ◌%◌, false, true, ℕ, List, All, length, reverse, refl, sym, ap, ◌∙◌, inl, inr, ⊎_elim, subst, arith}
+use Rattle.std.proofs.lemmas.Result.{IfOk-from_err}
+use Rattle.std.proofs.Math.Seq.{take-append_seam}
 use mathlib.Core.Option.{none}
 use Rattle.tx_table.specs.Book.{Book, Map, Has, In, lookup, pairs}
 use Rattle.tx_table.specs.Plays.{ticked_up, update_entry}
@@ -163,3 +165,79 @@ returns-in-Err-clause-sole g c = λ whole.
     let same : addresses_of taken ≡ addresses_of c.args.plan.stripes.items = ok.2 ∙ ap addresses_of c.deref_mut.ensures.value in
     let free : All (λ (a : ℕ). lookup (book c.take_all.new.pass).face.held (a % 4096) ≡ none) c.deref.result.now = rw c.deref.ensures.value (elsewhere_free (book c.args.pass.now).reads (holding c.requires.plan) taken same (book c.take_all.new.pass) ok.1) in
     c.in-Err.ensures.sole (ok.0.rest.numbers ∙ whole) free
+
+pub returns-in_err-take_all-clause-same : goal.returns-in_err-take_all-clause-same
+returns-in_err-take_all-clause-same g c = c.take_all.ensures.same
+
+pub returns-in_err-take_all-clause-free : goal.returns-in_err-take_all-clause-free
+returns-in_err-take_all-clause-free g c = (c.in_err-take_all.ensures.err.1, c.in_err-take_all.ensures.err.2)
+
+pub returns-in_err-take_all-clause-ok : goal.returns-in_err-take_all-clause-ok
+returns-in_err-take_all-clause-ok g c = IfOk-from_err _ _ c.from_residual.ensures.0
+
+pub returns-in_err-take_all-clause-err : goal.returns-in_err-take_all-clause-err
+returns-in_err-take_all-clause-err g c =
+    let rest = c.in_err-take_all.ensures.err.0 in
+    err_says c.from_residual.result c.from_residual.ensures.1 (λ e q. rw q (0, omega arith, rest))
+
+pub returns-in_err-take_all-clause-other : goal.returns-in_err-take_all-clause-other
+returns-in_err-take_all-clause-other g c = err_says c.from_residual.result c.from_residual.ensures.1 (λ e q. rw q c.in_err-take_all.ensures.other)
+
+pub returns-in-Ok-clause-same : goal.returns-in-Ok-clause-same
+returns-in-Ok-clause-same g c =
+    let step = c.release_all.ensures.same in
+    let store = c.store_all.ensures.same in
+    let tick = c.tick_checked.ensures.same in
+    let take = c.take_all.ensures.same in
+    (step.0 ∙ store.0 ∙ tick.0 ∙ take.0, step.1 ∙ store.1 ∙ tick.1 ∙ take.1)
+
+pub returns-in-Ok-clause-free : goal.returns-in-Ok-clause-free
+returns-in-Ok-clause-free g c = c.release_all.ensures.free
+
+pub returns-in-Err-clause-same : goal.returns-in-Err-clause-same
+returns-in-Err-clause-same g c =
+    let step = c.give_back.ensures.same in
+    let tick = c.tick_checked.ensures.same in
+    let take = c.take_all.ensures.same in
+    (step.0 ∙ tick.0 ∙ take.0, step.1 ∙ tick.1 ∙ take.1)
+
+pub take_all-requires-clause-table : goal.take_all-requires-clause-table
+take_all-requires-clause-table g c = c.requires.table
+
+pub take_all-requires-clause-ready : goal.take_all-requires-clause-ready
+take_all-requires-clause-ready g c = (c.requires.ready.0, c.requires.ready.1, c.requires.ready.2)
+
+pub take_all-requires-clause-settled : goal.take_all-requires-clause-settled
+take_all-requires-clause-settled g c = c.requires.settled
+
+pub take_all-requires-clause-ascending : goal.take_all-requires-clause-ascending
+take_all-requires-clause-ascending g c = rw c.deref_mut.ensures.value c.requires.plan.ascending
+
+pub returns-in_err-take_all-clause-sole : goal.returns-in_err-take_all-clause-sole
+returns-in_err-take_all-clause-sole g c = λ whole. let no : false ≡ true = c.in_err-take_all.ensures.sole whole in cc no
+
+pub release_all-requires-clause-table : goal.release_all-requires-clause-table
+release_all-requires-clause-table g c = c.store_all.ensures.same.0 ∙ c.tick_checked.ensures.same.0 ∙ c.take_all.ensures.same.0 ∙ c.requires.table
+
+pub release_all-requires-clause-stage : goal.release_all-requires-clause-stage
+release_all-requires-clause-stage g c = ap (λ (b : Book). b.face.stage) c.store_all.ensures.book.2
+
+pub release_all-requires-clause-left : goal.release_all-requires-clause-left
+release_all-requires-clause-left g c = λ b x e. c.store_all.ensures.book.1 b x (sym (ap (λ (k : Book). lookup k.face.left b) c.store_all.ensures.book.2) ∙ e)
+
+pub release_all-requires-clause-held : goal.release_all-requires-clause-held
+release_all-requires-clause-held g c =
+    let taken : List Stripe = c.take_all.new.stripes in
+    let many : c.args.plan.stripes.len ≡ length taken = omega arith in
+    let same : c.deref-in-Ok.result.now ≡ taken = rw (c.deref-in-Ok.ensures.value, many) (take-append_seam taken _) in
+    rw same (subst (λ (m : Map ℕ). IsListed m (words_of taken)) (sym (ap (λ (b : Book). b.face.held) c.store_all.ensures.book.2 ∙ ap (λ (b : Book). b.face.held) c.in-Ok.ensures.ok.1.1)) c.in_ok-take_all.ensures.ok.1)
+
+pub give_back-requires-clause-table : goal.give_back-requires-clause-table
+give_back-requires-clause-table g c = c.tick_checked.ensures.same.0 ∙ c.take_all.ensures.same.0 ∙ c.requires.table
+
+pub give_back-requires-clause-held : goal.give_back-requires-clause-held
+give_back-requires-clause-held g c =
+    let taken : List Stripe = c.take_all.new.stripes in
+    let many : c.args.plan.stripes.len ≡ length taken = omega arith in
+    let same : c.deref-in-Err.result.now ≡ taken = rw (c.deref-in-Err.ensures.value, many) (take-append_seam taken _) in
+    rw same (subst (λ (m : Map ℕ). IsListed m (words_of taken)) (sym (ap (λ (b : Book). b.face.held) c.in-Err.ensures.err.2.1)) c.in_ok-take_all.ensures.ok.1)

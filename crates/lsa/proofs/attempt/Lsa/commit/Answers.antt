@@ -1,4 +1,4 @@
-use Rattle.std.proofs.Common.{◌≡◌, ◌≢◌, ◌<◌, inl, true, false, ℕ, List, [], All, reverse, length, sym, ap, ◌∙◌, subst, arith}
+use Rattle.std.proofs.Common.{◌≡◌, ◌≢◌, ◌<◌, inl, true, false, ℕ, List, [], All, reverse, length, refl, sym, ap, ◌∙◌, subst, arith}
 use Rattle.std.proofs.lemmas.List.{length-reverse}
 use Rattle.std.proofs.lemmas.Grind.{common_steps}
 use Rattle.jmodel.specs.declared.access.Access.{Access}
@@ -7,13 +7,16 @@ use Rattle.tx_core.specs.declared.engine.Conflict.{Conflict}
 use Rattle.tx_table.specs.Book.{In}
 use Rattle.tx_table.specs.Steps.{IsPast}
 use Rattle.tx_table.specs.Passes.{book}
+use Rattle.tl2.specs.declared.plan.Stripe.{Stripe}
 use Rattle.tl2.specs.Commits.{IsAdded, update_of}
 use Rattle.tl2.specs.Standing.{Awaits}
-use Rattle.tl2.proofs.Entries.{inside, awaits_used, adds_nothing, update_fits, adds_update, lost_stands}
+use Rattle.tl2.proofs.Entries.{inside, awaits_used, adds_nothing, update_fits, update_region, adds_update, lost_stands}
 use Rattle.tl2.proofs.Members.{all_turned, in_reversed}
 use Rattle.lsa.specs.Conflicts.{Meets}
+use Rattle.lsa.specs.Owning.{HasTaken}
 use Rattle.lsa.specs.Standing.{StandsFor}
-use Rattle.lsa.proofs.Owned.{holds_from, holding_of}
+use Rattle.lsa.proofs.Owned.{holds_from, holds_none, holds_to, holding_of}
+use Rattle.tl2.proofs.Stepping.{awaits_still}
 use Rattle.lsa.proofs.Stepping.{inside_stands, outside_stands}
 use Rattle.lsa.proofs.attempt.Lsa.commit.Goals as goal
 
@@ -135,3 +138,126 @@ returns-clause-seen g c = λ e q.
       },
       in_reversed c.args.self.now.reads.items c.in-Err.conflict.address (subst (In c.in-Err.conflict.address) (sym read.0) k.2),
     )
+
+pub finish_refused-requires-clause-open : goal.finish_refused-requires-clause-open
+finish_refused-requires-clause-open g c = c.requires.open
+
+pub returns-then-is_empty-clause-begins : goal.returns-then-is_empty-clause-begins
+returns-then-is_empty-clause-begins g c = c.finish_refused.ensures.begins
+
+pub returns-then-is_empty-clause-ticks : goal.returns-then-is_empty-clause-ticks
+returns-then-is_empty-clause-ticks g c =
+    let t = c.finish_refused.ensures.ticks in
+    omega (arith, t)
+
+pub returns-then-is_empty-clause-same : goal.returns-then-is_empty-clause-same
+returns-then-is_empty-clause-same g c = c.finish_refused.ensures.same
+
+pub returns-then-is_empty-clause-free : goal.returns-then-is_empty-clause-free
+returns-then-is_empty-clause-free g c = c.finish_refused.ensures.free
+
+pub returns-then-is_empty-clause-means : goal.returns-then-is_empty-clause-means
+returns-then-is_empty-clause-means g c = λ a i. inl (subst (In a) c.finish_refused.ensures.wants i)
+
+pub returns-in_default-clause-run : goal.returns-in_default-clause-run
+returns-in_default-clause-run g c = c.rollback.ensures.run
+
+pub returns-in_default-clause-awaits : goal.returns-in_default-clause-awaits
+returns-in_default-clause-awaits g c = c.rollback.ensures.awaits
+
+pub returns-in_default-clause-begins : goal.returns-in_default-clause-begins
+returns-in_default-clause-begins g c = c.rollback.ensures.rest.begins
+
+pub returns-in_default-clause-ticks : goal.returns-in_default-clause-ticks
+returns-in_default-clause-ticks g c =
+    let t = c.rollback.ensures.rest.ticks in
+    omega (arith, t)
+
+pub returns-in_default-clause-regions : goal.returns-in_default-clause-regions
+returns-in_default-clause-regions g c = c.rollback.ensures.rest.regions
+
+pub returns-in_default-clause-same : goal.returns-in_default-clause-same
+returns-in_default-clause-same g c = (c.rollback.ensures.same, c.rollback.ensures.rest.numbers, c.rollback.ensures.rest.fresh)
+
+pub returns-in_default-clause-memory : goal.returns-in_default-clause-memory
+returns-in_default-clause-memory g c = λ _. c.rollback.ensures.rest
+
+pub returns-in_default-clause-free : goal.returns-in_default-clause-free
+returns-in_default-clause-free g c = c.rollback.ensures.free
+
+pub returns-in_default-clause-means : goal.returns-in_default-clause-means
+returns-in_default-clause-means g c = λ a i. inl (subst (In a) c.rollback.ensures.wants i)
+
+pub update-done-requires-clause-table : goal.update-done-requires-clause-table
+update-done-requires-clause-table g c = c.args.self.now.sits.0
+
+pub update-done-requires-clause-ready : goal.update-done-requires-clause-ready
+update-done-requires-clause-ready g c = (c.args.self.now.sits.1, c.requires.open.0, c.requires.clock)
+
+pub update-done-requires-clause-settled : goal.update-done-requires-clause-settled
+update-done-requires-clause-settled g c = (c.args.self.now.settled (inside _ _ _ c.requires.open.2)).0
+
+pub returns-in-Ok-done-clause-begins : goal.returns-in-Ok-done-clause-begins
+returns-in-Ok-done-clause-begins g c = c.in-Ok-done.ensures.ok.2.begins
+
+pub returns-in-Ok-done-clause-ticks : goal.returns-in-Ok-done-clause-ticks
+returns-in-Ok-done-clause-ticks g c =
+    let t = c.in-Ok-done.ensures.ok.2.ticks in
+    omega (arith, t)
+
+pub returns-in-Ok-done-clause-region : goal.returns-in-Ok-done-clause-region
+returns-in-Ok-done-clause-region g c = λ k used a.
+    let v = book c.args.self.now.pass in
+    update_region (g.C.Calling.call c.args.self.now.call.value) v (book c.update-done.new.pass) c.in-Ok-done.stamp.at (reverse c.args.self.now.writes.items) c.args.answer.value k used c.args.used.value c.requires.open.1
+    c.in-Ok-done.ensures.ok.2 a
+
+pub returns-in-Ok-done-clause-same : goal.returns-in-Ok-done-clause-same
+returns-in-Ok-done-clause-same g c = (c.update-done.ensures.same, c.in-Ok-done.ensures.ok.2.numbers, c.in-Ok-done.ensures.ok.2.fresh)
+
+pub returns-in-Ok-done-clause-free : goal.returns-in-Ok-done-clause-free
+returns-in-Ok-done-clause-free g c = c.update-done.ensures.free
+
+pub returns-in-Ok-done-clause-means : goal.returns-in-Ok-done-clause-means
+returns-in-Ok-done-clause-means g c = c.update-done.ensures.means
+
+pub returns-clause-awaits : goal.returns-clause-awaits
+returns-clause-awaits g c = λ k used a.
+    awaits_still (g.C.Calling.call c.args.self.now.call.value) (book c.args.self.now.pass) (book c.update-done.new.pass) c.in-Err.ensures.err.regions k used a
+
+pub returns-clause-begins : goal.returns-clause-begins
+returns-clause-begins g c = c.in-Err.ensures.err.begins
+
+pub returns-clause-ticks : goal.returns-clause-ticks
+returns-clause-ticks g c =
+    let t = c.in-Err.ensures.err.ticks in
+    omega (arith, t)
+
+pub returns-clause-sole : goal.returns-clause-sole
+returns-clause-sole g c = λ whole. let no : false ≡ true = c.in-Err.ensures.sole whole in cc no
+
+pub returns-clause-regions : goal.returns-clause-regions
+returns-clause-regions g c = c.in-Err.ensures.err.regions
+
+pub returns-clause-same : goal.returns-clause-same
+returns-clause-same g c = (c.update-done.ensures.same, c.in-Err.ensures.err.numbers, c.in-Err.ensures.err.fresh)
+
+pub returns-clause-free : goal.returns-clause-free
+returns-clause-free g c = c.update-done.ensures.free
+
+pub returns-clause-means : goal.returns-clause-means
+returns-clause-means g c = c.update-done.ensures.means
+
+pub invariant_of-self-2 : goal.invariant_of-self-2
+invariant_of-self-2 g c =
+    let w = book c.update-done.new.pass in
+    let empty : c.replace.new.dest.items ≡ [] = rw c.replace.ensures.after c.new.ensures.items in
+    record {
+      sits = (
+        c.update-done.ensures.same.0 ∙ c.args.self.now.sits.0,
+        c.update-done.ensures.free.1,
+        subst (λ (ss : List Stripe). HasTaken ss w) (sym empty) (holds_to [] w (holds_none w c.update-done.ensures.free.0)),
+      );
+      settled = λ z. absurd (z refl);
+      logged = λ z. absurd (z refl);
+      owns = λ z. absurd (z refl);
+    }

@@ -3,7 +3,8 @@ use Rattle.tx_table.specs.Book.{Book}
 use Rattle.tx_table.specs.Passes.{book}
 use Rattle.tl2.proofs.Entries.{reader_fits, adds_reader, inside}
 use Rattle.lsa.proofs.Owned.{holds_from}
-use Rattle.lsa.proofs.Stepping.{awaits_still, inside_stands, outside_stands, stands_resting}
+use Rattle.tl2.proofs.Stepping.{awaits_still}
+use Rattle.lsa.proofs.Stepping.{inside_stands, outside_stands, stands_resting}
 use Rattle.lsa.proofs.attempt.Lsa.finish_refused.Goals as goal
 
 pub give_back_reading-requires-clause-held : goal.give_back_reading-requires-clause-held

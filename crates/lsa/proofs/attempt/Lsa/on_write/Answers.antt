@@ -10,7 +10,8 @@ use Rattle.tl2.specs.declared.attempt.At.TheVariants.{Inside}
 use Rattle.tl2.proofs.Entries.{inside}
 use Rattle.lsa.specs.Owning.{HasTaken}
 use Rattle.lsa.proofs.Owned.{holds_from, holds_to, holds_taken, owning_taken, owning_wrote, take_last, taken_still, tells_more}
-use Rattle.lsa.proofs.Stepping.{standing, inside_stands, outside_stands, snapshot_still, stands_taken, stands_lost, stands_wrote}
+use Rattle.tl2.proofs.Stepping.{awaits_still, stands_wrote}
+use Rattle.lsa.proofs.Stepping.{standing, inside_stands, outside_stands, snapshot_still, stands_taken, stands_lost}
 use Rattle.lsa.proofs.attempt.Lsa.on_write.Goals as goal
 
 pub returns-then-contains-clause-run : goal.returns-then-contains-clause-run
@@ -107,3 +108,49 @@ pub returns-in-Err-clause-snapshot : goal.returns-in-Err-clause-snapshot
 returns-in-Err-clause-snapshot g c =
     let e = c.args.self.now in
     snapshot_still (g.T.Story.story e.shared.now.table.shared.key.story.value) (book e.pass) (book c.take_free.new.pass) c.in-Err.ensures.err.meets.reads c.in-Err.ensures.err.regions
+
+pub take_free-requires-clause-table : goal.take_free-requires-clause-table
+take_free-requires-clause-table g c = c.args.self.now.sits.0
+
+pub take_free-requires-clause-heap : goal.take_free-requires-clause-heap
+take_free-requires-clause-heap g c = rw c.deref.ensures.value (omega (arith, c.if-address-self.false), (c.args.self.now.logged (inside _ _ _ c.requires.2)).1)
+
+pub take_free-requires-clause-settled : goal.take_free-requires-clause-settled
+take_free-requires-clause-settled g c = (c.args.self.now.settled (inside _ _ _ c.requires.2)).0
+
+pub take_free-requires-clause-ready : goal.take_free-requires-clause-ready
+take_free-requires-clause-ready g c = (c.args.self.now.sits.1, c.requires.0)
+
+pub take_free-requires-clause-reads : goal.take_free-requires-clause-reads
+take_free-requires-clause-reads g c = rw c.deref.ensures.value ((c.args.self.now.logged (inside _ _ _ c.requires.2)).0)
+
+pub take_free-requires-clause-even : goal.take_free-requires-clause-even
+take_free-requires-clause-even g c = (c.args.self.now.settled (inside _ _ _ c.requires.2)).1
+
+pub returns-in-Ok-take_free-clause-awaits : goal.returns-in-Ok-take_free-clause-awaits
+returns-in-Ok-take_free-clause-awaits g c = λ k used a.
+    awaits_still (g.C.Calling.call c.args.self.now.call.value) (book c.args.self.now.pass) (book c.take_free.new.pass) (ap (λ (b : Book). b.regions) c.in-Ok-take_free.ensures.ok.took ∙ c.in-Ok-take_free.ensures.ok.on.regions) k used a
+
+pub returns-in-Ok-take_free-clause-begins : goal.returns-in-Ok-take_free-clause-begins
+returns-in-Ok-take_free-clause-begins g c = ap (λ (b : Book). b.begins) c.in-Ok-take_free.ensures.ok.took ∙ c.in-Ok-take_free.ensures.ok.on.begins
+
+pub returns-in-Ok-take_free-clause-ticks : goal.returns-in-Ok-take_free-clause-ticks
+returns-in-Ok-take_free-clause-ticks g c = ap (λ (b : Book). b.ticks) c.in-Ok-take_free.ensures.ok.took ∙ c.in-Ok-take_free.ensures.ok.on.ticks
+
+pub returns-in-Ok-take_free-clause-same : goal.returns-in-Ok-take_free-clause-same
+returns-in-Ok-take_free-clause-same g c =
+    let t = c.in-Ok-take_free.ensures.ok in
+    (c.take_free.ensures.same, (ap (λ (b : Book). b.numbers) t.took ∙ t.on.numbers, ap (λ (b : Book). b.fresh) t.took ∙ t.on.fresh, ap (λ (b : Book). b.ticks) t.took ∙ t.on.ticks, ap (λ (b : Book). b.regions) t.took ∙ t.on.regions))
+
+pub returns-in-Err-clause-awaits : goal.returns-in-Err-clause-awaits
+returns-in-Err-clause-awaits g c = λ k used a.
+    awaits_still (g.C.Calling.call c.args.self.now.call.value) (book c.args.self.now.pass) (book c.take_free.new.pass) c.in-Err.ensures.err.regions k used a
+
+pub returns-in-Err-clause-begins : goal.returns-in-Err-clause-begins
+returns-in-Err-clause-begins g c = c.in-Err.ensures.err.begins
+
+pub returns-in-Err-clause-ticks : goal.returns-in-Err-clause-ticks
+returns-in-Err-clause-ticks g c = c.in-Err.ensures.err.ticks
+
+pub returns-in-Err-clause-same : goal.returns-in-Err-clause-same
+returns-in-Err-clause-same g c = (c.take_free.ensures.same, (c.in-Err.ensures.err.numbers, c.in-Err.ensures.err.fresh, c.in-Err.ensures.err.ticks, c.in-Err.ensures.err.regions))

@@ -1,4 +1,4 @@
-use Rattle.std.proofs.Common.{◌⊎◌, inl, inr, ⊎_elim, ◌≡◌, ◌≢◌, ◌<◌, true, false, ℕ, List, [], All, reverse, length, sym, ap, ◌∙◌, subst, arith}
+use Rattle.std.proofs.Common.{◌⊎◌, inl, inr, ⊎_elim, ◌≡◌, ◌≢◌, ◌<◌, true, false, ℕ, List, [], All, reverse, length, refl, sym, ap, ◌∙◌, subst, arith}
 use Rattle.std.proofs.lemmas.List.{length-reverse, reverse-reverse}
 use Rattle.std.proofs.lemmas.Grind.{common_steps}
 use Rattle.jmodel.specs.declared.access.Access.{Access}
@@ -10,7 +10,8 @@ use Rattle.tx_table.specs.Passes.{book}
 use Rattle.tl2.specs.Commits.{IsAdded, update_of}
 use Rattle.tl2.specs.Conflicts.{Meets}
 use Rattle.tl2.specs.Standing.{Awaits, Stands}
-use Rattle.tl2.proofs.Entries.{inside, awaits_used, adds_nothing, update_fits, adds_update, lost_stands}
+use Rattle.tl2.proofs.Entries.{inside, awaits_used, adds_nothing, update_fits, update_region, adds_update, lost_stands}
+use Rattle.tl2.proofs.Stepping.{awaits_still}
 use Rattle.tl2.proofs.Members.{all_turned, in_reversed}
 use Rattle.tl2.proofs.attempt.Tl2.commit.Goals as goal
 
@@ -110,3 +111,87 @@ returns-in-Err-clause-run g c = λ h n r w s.
     let rest = c.in-Err.ensures.err in
     rw c.clear.ensures.items (lost_stands g.C.Calling.began e.shared.now.words rest.0 n e.at e.writes.items e.pass c.update-done.new.pass h r w _
     c.in-Err.ensures.same (λ whole. let no : false ≡ true = c.in-Err.ensures.sole whole in cc no) rest.2 s)
+
+pub finish_refused-requires-clause-open : goal.finish_refused-requires-clause-open
+finish_refused-requires-clause-open g c = c.requires.open
+
+pub returns-then-is_empty-clause-begins : goal.returns-then-is_empty-clause-begins
+returns-then-is_empty-clause-begins g c = c.finish_refused.ensures.begins
+
+pub returns-then-is_empty-clause-ticks : goal.returns-then-is_empty-clause-ticks
+returns-then-is_empty-clause-ticks g c =
+    let t = c.finish_refused.ensures.ticks in
+    omega (arith, t)
+
+pub returns-then-is_empty-clause-same : goal.returns-then-is_empty-clause-same
+returns-then-is_empty-clause-same g c = c.finish_refused.ensures.same
+
+pub returns-in_default-clause-ticks : goal.returns-in_default-clause-ticks
+returns-in_default-clause-ticks g c = omega arith
+
+pub update-done-requires-clause-table : goal.update-done-requires-clause-table
+update-done-requires-clause-table g c = c.args.self.now.sits.0
+
+pub update-done-requires-clause-ready : goal.update-done-requires-clause-ready
+update-done-requires-clause-ready g c = (c.args.self.now.sits.1, c.args.self.now.sits.2, c.requires.open.0, c.requires.clock)
+
+pub update-done-requires-clause-settled : goal.update-done-requires-clause-settled
+update-done-requires-clause-settled g c = c.args.self.now.settled (inside _ _ _ c.requires.open.2)
+
+pub update-done-requires-clause-any : goal.update-done-requires-clause-any
+update-done-requires-clause-any g c = λ q.
+    let z : length (reverse c.args.self.now.writes.items) ≡ 0 = ap length q in
+    let y : length c.args.self.now.writes.items ≡ 0 = rw length-reverse at z in
+    grind (arith, common_steps)
+
+pub returns-in-Ok-done-clause-begins : goal.returns-in-Ok-done-clause-begins
+returns-in-Ok-done-clause-begins g c = c.in-Ok-done.ensures.ok.2.begins
+
+pub returns-in-Ok-done-clause-ticks : goal.returns-in-Ok-done-clause-ticks
+returns-in-Ok-done-clause-ticks g c =
+    let t = c.in-Ok-done.ensures.ok.2.ticks in
+    omega (arith, t)
+
+pub returns-in-Ok-done-clause-region : goal.returns-in-Ok-done-clause-region
+returns-in-Ok-done-clause-region g c = λ k used a.
+    let v = book c.args.self.now.pass in
+    update_region (g.C.Calling.call c.args.self.now.call.value) v (book c.update-done.new.pass) c.in-Ok-done.stamp.at (reverse c.args.self.now.writes.items) c.args.answer.value k used c.args.used.value c.requires.open.1
+    c.in-Ok-done.ensures.ok.2 a
+
+pub returns-in-Ok-done-clause-same : goal.returns-in-Ok-done-clause-same
+returns-in-Ok-done-clause-same g c = (c.update-done.ensures.same, c.in-Ok-done.ensures.ok.2.numbers, c.in-Ok-done.ensures.ok.2.fresh)
+
+pub returns-in-Ok-done-clause-means : goal.returns-in-Ok-done-clause-means
+returns-in-Ok-done-clause-means g c = c.update-done.ensures.means
+
+pub returns-in-Err-clause-awaits : goal.returns-in-Err-clause-awaits
+returns-in-Err-clause-awaits g c = λ k used a.
+    awaits_still (g.C.Calling.call c.args.self.now.call.value) (book c.args.self.now.pass) (book c.update-done.new.pass) c.in-Err.ensures.err.2.regions k used a
+
+pub returns-in-Err-clause-begins : goal.returns-in-Err-clause-begins
+returns-in-Err-clause-begins g c = c.in-Err.ensures.err.2.begins
+
+pub returns-in-Err-clause-ticks : goal.returns-in-Err-clause-ticks
+returns-in-Err-clause-ticks g c =
+    let t = c.in-Err.ensures.err.2.ticks in
+    let most = c.in-Err.ensures.err.1 in
+    omega (arith, t, most)
+
+pub returns-in-Err-clause-sole : goal.returns-in-Err-clause-sole
+returns-in-Err-clause-sole g c = λ whole. let no : false ≡ true = c.in-Err.ensures.sole whole in cc no
+
+pub returns-in-Err-clause-regions : goal.returns-in-Err-clause-regions
+returns-in-Err-clause-regions g c = c.in-Err.ensures.err.2.regions
+
+pub returns-in-Err-clause-same : goal.returns-in-Err-clause-same
+returns-in-Err-clause-same g c = (c.update-done.ensures.same, c.in-Err.ensures.err.2.numbers, c.in-Err.ensures.err.2.fresh)
+
+pub returns-in-Err-clause-means : goal.returns-in-Err-clause-means
+returns-in-Err-clause-means g c = c.update-done.ensures.means
+
+pub invariant_of-self-2 : goal.invariant_of-self-2
+invariant_of-self-2 g c = record {
+  sits = (c.update-done.ensures.same.0 ∙ c.args.self.now.sits.0, c.update-done.ensures.free.0, c.update-done.ensures.free.1);
+  settled = λ z. absurd (z refl);
+  logged = λ z. absurd (z refl);
+}
