@@ -6,6 +6,7 @@ use Rattle.tx_table.specs.Passes.{book}
 use Rattle.session.specs.declared.record.Record.{Record}
 use Rattle.session.specs.Rule.{IsCallOf}
 use Rattle.machine.specs.declared.machine.Limits.{Limits as CallLimits}
+use Rattle.std.proofs.lemmas.Result.{IfOk-from_err}
 use Rattle.driver.specs.declared.side.Part.{Part}
 use Rattle.driver.specs.Sides.{AreWhole}
 use Rattle.driver.specs.Passing.{IsResting}
@@ -132,3 +133,51 @@ loop-number-preserved g c =
           (subst (λ b. HasTold c.args.self.now.rewritten.now (bounds_of c.in_region.result) (IsRecordOf (record { phase = c.args.phase; lane = n; first = first }) (drop first cs)) more (Grows (T old) b)) (sym after) has))
           (told_set_long T gs n gate) (told_set_other T gs n gate) i.told placed_is);
     }
+
+pub returns-in_err-made-clause-made : goal.returns-in_err-made-clause-made
+returns-in_err-made-clause-made g c = IfOk-from_err _ _ c.from_residual.ensures.0
+
+pub returns-in_err-made-clause-whole : goal.returns-in_err-made-clause-whole
+returns-in_err-made-clause-whole g c = IfOk-from_err _ _ c.from_residual.ensures.0
+
+pub returns-in_err-made-clause-used : goal.returns-in_err-made-clause-used
+returns-in_err-made-clause-used g c = IfOk-from_err _ _ c.from_residual.ensures.0
+
+pub returns-in_err-made-clause-told : goal.returns-in_err-made-clause-told
+returns-in_err-made-clause-told g c = IfOk-from_err _ _ c.from_residual.ensures.0
+
+pub returns-in_err-insert-clause-made : goal.returns-in_err-insert-clause-made
+returns-in_err-insert-clause-made g c = IfOk-from_err _ _ c.from_residual-in_err-insert.ensures.0
+
+pub returns-in_err-insert-clause-whole : goal.returns-in_err-insert-clause-whole
+returns-in_err-insert-clause-whole g c = IfOk-from_err _ _ c.from_residual-in_err-insert.ensures.0
+
+pub returns-in_err-insert-clause-used : goal.returns-in_err-insert-clause-used
+returns-in_err-insert-clause-used g c = IfOk-from_err _ _ c.from_residual-in_err-insert.ensures.0
+
+pub returns-in_err-insert-clause-told : goal.returns-in_err-insert-clause-told
+returns-in_err-insert-clause-told g c = IfOk-from_err _ _ c.from_residual-in_err-insert.ensures.0
+
+pub returns-in_err-append-clause-made : goal.returns-in_err-append-clause-made
+returns-in_err-append-clause-made g c = IfOk-from_err _ _ c.from_residual-in_err-append.ensures.0
+
+pub returns-in_err-append-clause-whole : goal.returns-in_err-append-clause-whole
+returns-in_err-append-clause-whole g c = IfOk-from_err _ _ c.from_residual-in_err-append.ensures.0
+
+pub returns-in_err-append-clause-used : goal.returns-in_err-append-clause-used
+returns-in_err-append-clause-used g c = IfOk-from_err _ _ c.from_residual-in_err-append.ensures.0
+
+pub returns-in_err-append-clause-told : goal.returns-in_err-append-clause-told
+returns-in_err-append-clause-told g c = IfOk-from_err _ _ c.from_residual-in_err-append.ensures.0
+
+pub returns-in_err-push-clause-made : goal.returns-in_err-push-clause-made
+returns-in_err-push-clause-made g c = IfOk-from_err _ _ c.from_residual-in_err-push.ensures.0
+
+pub returns-in_err-push-clause-whole : goal.returns-in_err-push-clause-whole
+returns-in_err-push-clause-whole g c = IfOk-from_err _ _ c.from_residual-in_err-push.ensures.0
+
+pub returns-in_err-push-clause-used : goal.returns-in_err-push-clause-used
+returns-in_err-push-clause-used g c = IfOk-from_err _ _ c.from_residual-in_err-push.ensures.0
+
+pub returns-in_err-push-clause-told : goal.returns-in_err-push-clause-told
+returns-in_err-push-clause-told g c = IfOk-from_err _ _ c.from_residual-in_err-push.ensures.0

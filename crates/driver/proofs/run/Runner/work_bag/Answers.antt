@@ -7,6 +7,7 @@ use Rattle.std.specs.declared.vec.Vec.{Vec}
 use Rattle.tx_table.specs.Passes.{book}
 use Rattle.session.specs.declared.record.Record.{Record}
 use Rattle.session.specs.Rule.{IsCallOf}
+use Rattle.std.proofs.lemmas.Result.{IfOk-from_err}
 use Rattle.driver.specs.Bags.{lists, as_lanes, IsOfWorker, numbered}
 use Rattle.driver.specs.Over.{AddsPhase}
 use Rattle.driver.specs.Passing.{call_count, IsMidway}
@@ -165,3 +166,51 @@ returns-clause-told g c = λ lanes some.
     let few : length (lists taken) ≤ lanes = omega (arith, c.in_ok-first.ensures.len, length-map taken (λ (v : Vec ℕ Global). v.items), some) in
     told_in_bag n B (lists taken) are Q limits lanes few made.placed.items old.placed.items c.append.new.self.placed.items x z all
     (appended ∙ ap (λ l. old.placed.items ++ l) placed)
+
+pub returns-in_err-first-clause-whole : goal.returns-in_err-first-clause-whole
+returns-in_err-first-clause-whole g c = IfOk-from_err _ _ c.from_residual.ensures.0
+
+pub returns-in_err-first-clause-used : goal.returns-in_err-first-clause-used
+returns-in_err-first-clause-used g c = IfOk-from_err _ _ c.from_residual.ensures.0
+
+pub returns-in_err-first-clause-adds : goal.returns-in_err-first-clause-adds
+returns-in_err-first-clause-adds g c = λ _ _. IfOk-from_err _ _ c.from_residual.ensures.0
+
+pub returns-in_err-first-clause-told : goal.returns-in_err-first-clause-told
+returns-in_err-first-clause-told g c = λ _ _. IfOk-from_err _ _ c.from_residual.ensures.0
+
+pub returns-in_err-by_worker-clause-whole : goal.returns-in_err-by_worker-clause-whole
+returns-in_err-by_worker-clause-whole g c = IfOk-from_err _ _ c.from_residual-in_err-by_worker.ensures.0
+
+pub returns-in_err-by_worker-clause-used : goal.returns-in_err-by_worker-clause-used
+returns-in_err-by_worker-clause-used g c = IfOk-from_err _ _ c.from_residual-in_err-by_worker.ensures.0
+
+pub returns-in_err-by_worker-clause-adds : goal.returns-in_err-by_worker-clause-adds
+returns-in_err-by_worker-clause-adds g c = λ _ _. IfOk-from_err _ _ c.from_residual-in_err-by_worker.ensures.0
+
+pub returns-in_err-by_worker-clause-told : goal.returns-in_err-by_worker-clause-told
+returns-in_err-by_worker-clause-told g c = λ _ _. IfOk-from_err _ _ c.from_residual-in_err-by_worker.ensures.0
+
+pub returns-in_err-left-clause-whole : goal.returns-in_err-left-clause-whole
+returns-in_err-left-clause-whole g c = IfOk-from_err _ _ c.from_residual-in_err-left.ensures.0
+
+pub returns-in_err-left-clause-used : goal.returns-in_err-left-clause-used
+returns-in_err-left-clause-used g c = IfOk-from_err _ _ c.from_residual-in_err-left.ensures.0
+
+pub returns-in_err-left-clause-adds : goal.returns-in_err-left-clause-adds
+returns-in_err-left-clause-adds g c = λ _ _. IfOk-from_err _ _ c.from_residual-in_err-left.ensures.0
+
+pub returns-in_err-left-clause-told : goal.returns-in_err-left-clause-told
+returns-in_err-left-clause-told g c = λ _ _. IfOk-from_err _ _ c.from_residual-in_err-left.ensures.0
+
+pub returns-in_err-append-clause-whole : goal.returns-in_err-append-clause-whole
+returns-in_err-append-clause-whole g c = IfOk-from_err _ _ c.from_residual-in_err-append.ensures.0
+
+pub returns-in_err-append-clause-used : goal.returns-in_err-append-clause-used
+returns-in_err-append-clause-used g c = IfOk-from_err _ _ c.from_residual-in_err-append.ensures.0
+
+pub returns-in_err-append-clause-adds : goal.returns-in_err-append-clause-adds
+returns-in_err-append-clause-adds g c = λ _ _. IfOk-from_err _ _ c.from_residual-in_err-append.ensures.0
+
+pub returns-in_err-append-clause-told : goal.returns-in_err-append-clause-told
+returns-in_err-append-clause-told g c = λ _ _. IfOk-from_err _ _ c.from_residual-in_err-append.ensures.0

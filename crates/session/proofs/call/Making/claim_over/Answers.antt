@@ -1,4 +1,5 @@
 use Rattle.std.proofs.Common.{suc, inl, inr, ◌≡◌, ◌≤◌, ◌<◌, ◌+◌, ◌*◌, ◌++◌, ◌∷◌, ℕ, List, [], Some, None, length, reverse, get_or, sym, ◌∙◌, ap, subst, arith}
+use Rattle.std.proofs.lemmas.Result.{IfOk-from_err}
 use Rattle.std.proofs.lemmas.List.{get_or_default, length_push, reverse-reverse}
 use Rattle.claims.specs.Claims.{HasClaimed}
 use Rattle.claims.specs.Passes.{claims_of}
@@ -151,14 +152,14 @@ returns-clause-made g c = rw c.into_parts-engine.ensures (
     elim c.loop-count-test.branch [
       | else-loop-count-test w ↦
           let e = c.loop-count.session.engine in
-          let engine : c.into_parts-engine.result.0 ≡ e = ap (λ p. p.0) c.into_parts-engine.ensures ∙ cc in
+          let engine : c.into_parts-engine.result.0 ≡ e = ap (λ p. p.0) c.into_parts-engine.ensures ∙ ap (λ x. x.engine) w.session-is in
           let rest = subst (λ x. IsRest [] 0 (book (pass_of x)) (book c.into_pass-pass.result)) engine c.into_pass-pass.ensures.rest in
           let keeps = subst (λ x. Keeps g.K.Beginning.began (pass_of x) → Keeps g.K.Beginning.began c.into_pass-pass.result) engine c.into_pass-pass.ensures.keeps in
-          let indexes : c.loop-count.indexes.items ≡ c.loop-count-test.indexes.items = cc in
+          let indexes : c.loop-count.indexes.items ≡ c.loop-count-test.indexes.items = sym (ap (λ x. x.items) w.indexes-is) in
           let same_long = ap length indexes in
           let n = length c.loop-count-test.indexes.items in
           let within : (book (pass_of e)).ticks ≤ b.ticks + n * 1000000 = omega (arith, same_long, long, c.loop-count.invariant.ticks) in
-          let lane : c.loop-count.session.lane ≡ c.loop-count-test.session.lane = cc in
+          let lane : c.loop-count.session.lane ≡ c.loop-count-test.session.lane = sym (ap (λ x. x.lane) w.session-is) in
           let left = subst Left lane (
             ending g.K.Beginning.began t b c.args.at c.args.self.now.limits.room.used n c.loop-count.session.lane.made c.loop-count.session.lane.used c.into_pass-pass.result so.history so.conflicts
                 c.requires.began (rests_after g.K.Beginning.began (pass_of e) c.into_pass-pass.result (first ++ so.history) so.conflicts rest keeps (rests g.K.Beginning.began e (first ++ so.history) so.conflicts [] [] so.stands))
@@ -168,14 +169,14 @@ returns-clause-made g c = rw c.into_parts-engine.ensures (
           (so.history, left.0, left.1)
       | then-loop-count-test+in_default-claim w ↦
           let e = c.loop-count.session.engine in
-          let engine : c.into_parts-engine.result.0 ≡ e = ap (λ p. p.0) c.into_parts-engine.ensures ∙ cc in
+          let engine : c.into_parts-engine.result.0 ≡ e = ap (λ p. p.0) c.into_parts-engine.ensures ∙ ap (λ x. x.engine) w.session-is in
           let rest = subst (λ x. IsRest [] 0 (book (pass_of x)) (book c.into_pass-pass.result)) engine c.into_pass-pass.ensures.rest in
           let keeps = subst (λ x. Keeps g.K.Beginning.began (pass_of x) → Keeps g.K.Beginning.began c.into_pass-pass.result) engine c.into_pass-pass.ensures.keeps in
-          let indexes : c.loop-count.indexes.items ≡ c.loop-count-test.indexes.items = cc in
+          let indexes : c.loop-count.indexes.items ≡ c.loop-count-test.indexes.items = sym (ap (λ x. x.items) w.indexes-is) in
           let same_long = ap length indexes in
           let n = length c.loop-count-test.indexes.items in
           let within : (book (pass_of e)).ticks ≤ b.ticks + n * 1000000 = omega (arith, same_long, long, c.loop-count.invariant.ticks) in
-          let lane : c.loop-count.session.lane ≡ c.loop-count-test.session.lane = cc in
+          let lane : c.loop-count.session.lane ≡ c.loop-count-test.session.lane = sym (ap (λ x. x.lane) w.session-is) in
           let left = subst Left lane (
             ending g.K.Beginning.began t b c.args.at c.args.self.now.limits.room.used n c.loop-count.session.lane.made c.loop-count.session.lane.used c.into_pass-pass.result so.history so.conflicts
                 c.requires.began (rests_after g.K.Beginning.began (pass_of e) c.into_pass-pass.result (first ++ so.history) so.conflicts rest keeps (rests g.K.Beginning.began e (first ++ so.history) so.conflicts [] [] so.stands))
@@ -185,10 +186,10 @@ returns-clause-made g c = rw c.into_parts-engine.ensures (
           (so.history, left.0, left.1)
       | then-loop-count-test+in-Some-claim+in_ok-push+in_ok-is_made+then-not-is_made w ↦
           let e = w.call.new.self.engine in
-          let engine : c.into_parts-engine.result.0 ≡ e = ap (λ p. p.0) c.into_parts-engine.ensures ∙ cc in
+          let engine : c.into_parts-engine.result.0 ≡ e = ap (λ p. p.0) c.into_parts-engine.ensures ∙ ap (λ x. x.engine) w.session-is in
           let rest = subst (λ x. IsRest [] 0 (book (pass_of x)) (book c.into_pass-pass.result)) engine c.into_pass-pass.ensures.rest in
           let keeps = subst (λ x. Keeps g.K.Beginning.began (pass_of x) → Keeps g.K.Beginning.began c.into_pass-pass.result) engine c.into_pass-pass.ensures.keeps in
-          let indexes : w.push.new.self.items ≡ c.loop-count-test.indexes.items = cc in
+          let indexes : w.push.new.self.items ≡ c.loop-count-test.indexes.items = sym (ap (λ x. x.items) w.indexes-is) in
           let before = ap (λ (p : Pass). (book p).ticks) w.set_call.ensures.pass in
           let same_long = ap length indexes in
           let pushed = ap length w.in_ok-push.ensures.items ∙ length_push c.loop-count.indexes.items w.in-Some-claim.index in
@@ -201,7 +202,7 @@ returns-clause-made g c = rw c.into_parts-engine.ensures (
           ((rw c.loop-count.invariant.making at w.in_ok-is_made.ensures.adds) (first ++ so.history) so.conflicts (w.set_call.ensures.stands (first ++ so.history) so.conflicts [] [] so.stands)) in
           let made = made_next c.args.at c.args.self.now.limits.room.used calls c.loop-count.indexes.items w.push.new.self.items w.in-Some-claim.index so.history c.loop-count.session.lane
           w.in_ok-push.ensures.items so.made in
-          let last : w.call.new.self.lane ≡ c.loop-count-test.session.lane = cc in
+          let last : w.call.new.self.lane ≡ c.loop-count-test.session.lane = sym (ap (λ x. x.lane) w.session-is) in
           let left = subst Left (sym still.0 ∙ last) (
             ending g.K.Beginning.began t b c.args.at c.args.self.now.limits.room.used n c.loop-count.session.lane.made c.loop-count.session.lane.used c.into_pass-pass.result so.history (so.conflicts + still.1.tried)
                 c.requires.began (rests_after g.K.Beginning.began (pass_of e) c.into_pass-pass.result (first ++ so.history) (so.conflicts + still.1.tried) rest keeps
@@ -219,23 +220,23 @@ returns-clause-stopped g c = rw c.into_parts-engine.ensures (λ some_left.
     let made : c.loop-count.session.lane.made ≡ length c.loop-count.indexes.items = c.loop-count.invariant.count ∙ sym c.loop-count.invariant.claiming.long in
     elim c.loop-count-test.branch [
       | else-loop-count-test w ↦
-          let indexes : c.loop-count.indexes.items ≡ c.loop-count-test.indexes.items = cc in
-          let lane : c.loop-count.session.lane ≡ c.loop-count-test.session.lane = cc in
+          let indexes : c.loop-count.indexes.items ≡ c.loop-count-test.indexes.items = sym (ap (λ x. x.items) w.indexes-is) in
+          let lane : c.loop-count.session.lane ≡ c.loop-count-test.session.lane = sym (ap (λ x. x.lane) w.session-is) in
           absurd (some_left (ap (λ (l : Lane). l.made) (sym lane) ∙ made ∙ ap length indexes))
       | then-loop-count-test+in_default-claim w ↦
-          let indexes : c.loop-count.indexes.items ≡ c.loop-count-test.indexes.items = cc in
-          let lane : c.loop-count.session.lane ≡ c.loop-count-test.session.lane = cc in
+          let indexes : c.loop-count.indexes.items ≡ c.loop-count-test.indexes.items = sym (ap (λ x. x.items) w.indexes-is) in
+          let lane : c.loop-count.session.lane ≡ c.loop-count-test.session.lane = sym (ap (λ x. x.lane) w.session-is) in
           absurd (some_left (ap (λ (l : Lane). l.made) (sym lane) ∙ made ∙ ap length indexes))
       | then-loop-count-test+in-Some-claim+in_ok-push+in_ok-is_made+then-not-is_made w ↦
           let e = w.call.new.self.engine in
-          let engine : c.into_parts-engine.result.0 ≡ e = ap (λ p. p.0) c.into_parts-engine.ensures ∙ cc in
+          let engine : c.into_parts-engine.result.0 ≡ e = ap (λ p. p.0) c.into_parts-engine.ensures ∙ ap (λ x. x.engine) w.session-is in
           let rest = subst (λ x. IsRest [] 0 (book (pass_of x)) (book c.into_pass-pass.result)) engine c.into_pass-pass.ensures.rest in
           let keeps = subst (λ x. Keeps g.K.Beginning.began (pass_of x) → Keeps g.K.Beginning.began c.into_pass-pass.result) engine c.into_pass-pass.ensures.keeps in
           let calls = c.args.calls.now in
           let i = w.in-Some-claim.index in
           let old = c.loop-count.indexes.items in
           let new = w.push.new.self.items in
-          let indexes : new ≡ c.loop-count-test.indexes.items = cc in
+          let indexes : new ≡ c.loop-count-test.indexes.items = sym (ap (λ x. x.items) w.indexes-is) in
           let pushed = w.in_ok-push.ensures.items in
           let call = w.index-calls-index.result in
           let S = StandsIn g.K.Beginning.began e in
@@ -251,7 +252,7 @@ returns-clause-stopped g c = rw c.into_parts-engine.ensures (λ some_left.
           let left : c.loop-count.session.lane.made < length (calls_at calls new) = omega (arith, length_calls calls new, longer, made) in
           let Spent : List ℕ → Lane → Type 0 =
           λ l n. HasSpent c.args.self.now.original.now c.args.self.now.rewritten.now c.args.self.now.limits (calls_at calls l) n.made n.used (book c.args.pass) c.into_pass-pass.result in
-          let last : w.call.new.self.lane ≡ c.loop-count-test.session.lane = cc in
+          let last : w.call.new.self.lane ≡ c.loop-count-test.session.lane = sym (ap (λ x. x.lane) w.session-is) in
           subst (Spent c.loop-count-test.indexes.items) (sym still.0 ∙ last) (subst (λ (l : List ℕ). Spent l c.loop-count.session.lane) indexes
           (has_spent c.args.self.now.original.now c.args.self.now.rewritten.now c.args.self.now.limits (calls_at calls new) c.loop-count.session.lane.made c.loop-count.session.lane.used call
           g.K.Beginning.began (book c.args.pass) c.into_pass-pass.result (first ++ so.history) so.conflicts still.1.tried left next so.later still.1.used_up
@@ -269,18 +270,18 @@ returns-clause-emptied g c = rw c.into_parts-engine.ensures (λ all.
     let claiming = c.loop-count.invariant.claiming in
     elim c.loop-count-test.branch [
       | else-loop-count-test w ↦
-          let indexes : old ≡ c.loop-count-test.indexes.items = cc in
+          let indexes : old ≡ c.loop-count-test.indexes.items = sym (ap (λ x. x.items) w.indexes-is) in
           let whole : count ≡ n = omega (arith, w.loop-count-test.false) in
           emptied_whole n count v (claims_of c.loop-count-test.claims) old c.loop-count-test.indexes.items whole indexes claiming
       | then-loop-count-test+in_default-claim w ↦
-          let indexes : old ≡ c.loop-count-test.indexes.items = cc in
-          let claims : claims_of w.claim.new.self ≡ claims_of c.loop-count-test.claims = cc in
+          let indexes : old ≡ c.loop-count-test.indexes.items = sym (ap (λ x. x.items) w.indexes-is) in
+          let claims : claims_of w.claim.new.self ≡ claims_of c.loop-count-test.claims = sym (ap claims_of w.claims-is) in
           let claim = subst (λ (k : ℕ). HasClaimed k v (claims_of w.claim.new.self) None) c.requires.bag.1 w.in_default-claim.ensures.claims in
           emptied_behind n count v (claims_of w.claim.new.self) (claims_of c.loop-count-test.claims) old c.loop-count-test.indexes.items claims indexes claim claiming
       | then-loop-count-test+in-Some-claim+in_ok-push+in_ok-is_made+then-not-is_made w ↦
           let i = w.in-Some-claim.index in
           let new = w.push.new.self.items in
-          let indexes : new ≡ c.loop-count-test.indexes.items = cc in
+          let indexes : new ≡ c.loop-count-test.indexes.items = sym (ap (λ x. x.items) w.indexes-is) in
           let claim = subst (λ (k : ℕ). HasClaimed k v (claims_of w.claim.new.self) (Some i)) c.requires.bag.1 w.in-Some-claim.ensures.claims in
           let more = claiming_more n count i v (claims_of w.claim.new.self) old new w.loop-count-test.true claim w.in_ok-push.ensures.items claiming in
           let long : length c.loop-count-test.indexes.items ≡ count + 1 = ap length (sym indexes) ∙ more.long in
@@ -290,7 +291,7 @@ returns-clause-emptied g c = rw c.into_parts-engine.ensures (λ all.
           let still = was_left w.in_ok-is_made.is_made c.args.self.now.original.now c.args.self.now.rewritten.now (bounds_with c.args.self.now.limits c.loop-count.session.lane.used) (call_of c.args.self.now.limits.room w.onward-here.result w.index-calls-index.result)
           (StandsIn g.K.Beginning.began e) (first ++ so.history) so.conflicts c.loop-count.session.lane w.call.new.self.lane w.if-not-is_made.true
           ((rw c.loop-count.invariant.making at w.in_ok-is_made.ensures.adds) (first ++ so.history) so.conflicts (w.set_call.ensures.stands (first ++ so.history) so.conflicts [] [] so.stands)) in
-          let last : w.call.new.self.lane ≡ c.loop-count-test.session.lane = cc in
+          let last : w.call.new.self.lane ≡ c.loop-count-test.session.lane = sym (ap (λ x. x.lane) w.session-is) in
           let kept = ap (λ (l : Lane). l.made) (sym last ∙ still.0) in
           absurd (omega (arith, all, long, kept, c.loop-count.invariant.count))
     ])
@@ -305,12 +306,12 @@ returns-clause-claims g c =
     let claiming = c.loop-count.invariant.claiming in
     elim c.loop-count-test.branch [
       | else-loop-count-test w ↦
-          let indexes : old ≡ c.loop-count-test.indexes.items = cc in
-          let claims : v ≡ claims_of c.loop-count-test.claims = cc in
+          let indexes : old ≡ c.loop-count-test.indexes.items = sym (ap (λ x. x.items) w.indexes-is) in
+          let claims : v ≡ claims_of c.loop-count-test.claims = sym (ap claims_of w.claims-is) in
           taken_at n v (claims_of c.loop-count-test.claims) old c.loop-count-test.indexes.items claims indexes (has_taken n count v old claiming)
       | then-loop-count-test+in_default-claim w ↦
-          let indexes : old ≡ c.loop-count-test.indexes.items = cc in
-          let claims : claims_of w.claim.new.self ≡ claims_of c.loop-count-test.claims = cc in
+          let indexes : old ≡ c.loop-count-test.indexes.items = sym (ap (λ x. x.items) w.indexes-is) in
+          let claims : claims_of w.claim.new.self ≡ claims_of c.loop-count-test.claims = sym (ap claims_of w.claims-is) in
           let claim = subst (λ (k : ℕ). HasClaimed k v (claims_of w.claim.new.self) None) c.requires.bag.1 w.in_default-claim.ensures.claims in
           let room : count ≤ n = omega (arith, w.loop-count-test.true) in
           taken_at n (claims_of w.claim.new.self) (claims_of c.loop-count-test.claims) old c.loop-count-test.indexes.items claims indexes
@@ -318,8 +319,8 @@ returns-clause-claims g c =
       | then-loop-count-test+in-Some-claim+in_ok-push+in_ok-is_made+then-not-is_made w ↦
           let i = w.in-Some-claim.index in
           let new = w.push.new.self.items in
-          let indexes : new ≡ c.loop-count-test.indexes.items = cc in
-          let claims : claims_of w.claim.new.self ≡ claims_of c.loop-count-test.claims = cc in
+          let indexes : new ≡ c.loop-count-test.indexes.items = sym (ap (λ x. x.items) w.indexes-is) in
+          let claims : claims_of w.claim.new.self ≡ claims_of c.loop-count-test.claims = sym (ap claims_of w.claims-is) in
           let claim = subst (λ (k : ℕ). HasClaimed k v (claims_of w.claim.new.self) (Some i)) c.requires.bag.1 w.in-Some-claim.ensures.claims in
           taken_at n (claims_of w.claim.new.self) (claims_of c.loop-count-test.claims) new c.loop-count-test.indexes.items claims indexes
           (has_taken n (count + 1) (claims_of w.claim.new.self) new
@@ -345,22 +346,22 @@ returns-clause-told g c = rw c.into_parts-engine.ensures (
     let all = c.loop-count-test.indexes.items in
     elim c.loop-count-test.branch [
       | else-loop-count-test w ↦
-          let indexes : c.loop-count.indexes.items ≡ all = cc in
-          let lane : c.loop-count.session.lane ≡ c.loop-count-test.session.lane = cc in
-          let gate : c.loop-count.session.gate ≡ c.loop-count-test.session.gate = cc in
+          let indexes : c.loop-count.indexes.items ≡ all = sym (ap (λ x. x.items) w.indexes-is) in
+          let lane : c.loop-count.session.lane ≡ c.loop-count-test.session.lane = sym (ap (λ x. x.lane) w.session-is) in
+          let gate : c.loop-count.session.gate ≡ c.loop-count-test.session.gate = sym (ap (λ x. x.gate) w.session-is) in
           subst (λ (is : List ℕ). Told is c.loop-count-test.session.lane c.loop-count-test.session.gate) indexes
           (subst (λ (l : Lane). Told c.loop-count.indexes.items l c.loop-count-test.session.gate) lane (subst (Told c.loop-count.indexes.items c.loop-count.session.lane) gate c.loop-count.invariant.told))
       | then-loop-count-test+in_default-claim w ↦
-          let indexes : c.loop-count.indexes.items ≡ all = cc in
-          let lane : c.loop-count.session.lane ≡ c.loop-count-test.session.lane = cc in
-          let gate : c.loop-count.session.gate ≡ c.loop-count-test.session.gate = cc in
+          let indexes : c.loop-count.indexes.items ≡ all = sym (ap (λ x. x.items) w.indexes-is) in
+          let lane : c.loop-count.session.lane ≡ c.loop-count-test.session.lane = sym (ap (λ x. x.lane) w.session-is) in
+          let gate : c.loop-count.session.gate ≡ c.loop-count-test.session.gate = sym (ap (λ x. x.gate) w.session-is) in
           subst (λ (is : List ℕ). Told is c.loop-count-test.session.lane c.loop-count-test.session.gate) indexes
           (subst (λ (l : Lane). Told c.loop-count.indexes.items l c.loop-count-test.session.gate) lane (subst (Told c.loop-count.indexes.items c.loop-count.session.lane) gate c.loop-count.invariant.told))
       | then-loop-count-test+in-Some-claim+in_ok-push+in_ok-is_made+then-not-is_made w ↦
           let i = w.in-Some-claim.index in
           let old = c.loop-count.indexes.items in
           let new = w.push.new.self.items in
-          let indexes : new ≡ all = cc in
+          let indexes : new ≡ all = sym (ap (λ x. x.items) w.indexes-is) in
           let pushed = w.in_ok-push.ensures.items in
           let so = c.loop-count.invariant.stood in
           let entries = reverse (book c.args.pass).entries in
@@ -368,9 +369,9 @@ returns-clause-told g c = rw c.into_parts-engine.ensures (
           let still = was_left w.in_ok-is_made.is_made c.args.self.now.original.now Q (bounds_with c.args.self.now.limits c.loop-count.session.lane.used) (call_of c.args.self.now.limits.room w.onward-here.result w.index-calls-index.result) S
           (entries ++ so.history) so.conflicts c.loop-count.session.lane w.call.new.self.lane w.if-not-is_made.true
           ((rw c.loop-count.invariant.making at w.in_ok-is_made.ensures.adds) (entries ++ so.history) so.conflicts (w.set_call.ensures.stands (entries ++ so.history) so.conflicts [] [] so.stands)) in
-          let last : w.call.new.self.lane ≡ c.loop-count-test.session.lane = cc in
+          let last : w.call.new.self.lane ≡ c.loop-count-test.session.lane = sym (ap (λ x. x.lane) w.session-is) in
           let lane : c.loop-count.session.lane ≡ c.loop-count-test.session.lane = sym still.0 ∙ last in
-          let gate : w.call.new.self.gate ≡ c.loop-count-test.session.gate = cc in
+          let gate : w.call.new.self.gate ≡ c.loop-count-test.session.gate = sym (ap (λ x. x.gate) w.session-is) in
           let lost = was_lost w.in_ok-is_made.is_made Q (bounds_with c.args.self.now.limits c.loop-count.session.lane.used) w.onward-here.result w.index-calls-index.result c.loop-count.session.lane w.call.new.self.lane _
           w.if-not-is_made.true (rw c.loop-count.invariant.making at w.in_ok-is_made.ensures.told) in
           let longer = told_weaker Q B (C old) (C new) (record_longer c.args.at (calls_at calls old) (calls_at calls (i ∷ [])) (calls_at calls new) (calls_push calls old new i pushed)) c.loop-count.session.lane.placed.items _
@@ -382,3 +383,33 @@ returns-clause-told g c = rw c.into_parts-engine.ensures (
 
 pub call-requires-clause-rule : goal.call-requires-clause-rule
 call-requires-clause-rule g c = rw c.loop-count.invariant.making c.requires.rule
+
+pub returns-in_err-push-clause-made : goal.returns-in_err-push-clause-made
+returns-in_err-push-clause-made g c = IfOk-from_err _ _ c.from_residual.ensures.0
+
+pub returns-in_err-push-clause-stopped : goal.returns-in_err-push-clause-stopped
+returns-in_err-push-clause-stopped g c = IfOk-from_err _ _ c.from_residual.ensures.0
+
+pub returns-in_err-push-clause-emptied : goal.returns-in_err-push-clause-emptied
+returns-in_err-push-clause-emptied g c = IfOk-from_err _ _ c.from_residual.ensures.0
+
+pub returns-in_err-push-clause-claims : goal.returns-in_err-push-clause-claims
+returns-in_err-push-clause-claims g c = IfOk-from_err _ _ c.from_residual.ensures.0
+
+pub returns-in_err-push-clause-told : goal.returns-in_err-push-clause-told
+returns-in_err-push-clause-told g c = IfOk-from_err _ _ c.from_residual.ensures.0
+
+pub returns-in_err-is_made-clause-made : goal.returns-in_err-is_made-clause-made
+returns-in_err-is_made-clause-made g c = IfOk-from_err _ _ c.from_residual-in_err-is_made.ensures.0
+
+pub returns-in_err-is_made-clause-stopped : goal.returns-in_err-is_made-clause-stopped
+returns-in_err-is_made-clause-stopped g c = IfOk-from_err _ _ c.from_residual-in_err-is_made.ensures.0
+
+pub returns-in_err-is_made-clause-emptied : goal.returns-in_err-is_made-clause-emptied
+returns-in_err-is_made-clause-emptied g c = IfOk-from_err _ _ c.from_residual-in_err-is_made.ensures.0
+
+pub returns-in_err-is_made-clause-claims : goal.returns-in_err-is_made-clause-claims
+returns-in_err-is_made-clause-claims g c = IfOk-from_err _ _ c.from_residual-in_err-is_made.ensures.0
+
+pub returns-in_err-is_made-clause-told : goal.returns-in_err-is_made-clause-told
+returns-in_err-is_made-clause-told g c = IfOk-from_err _ _ c.from_residual-in_err-is_made.ensures.0

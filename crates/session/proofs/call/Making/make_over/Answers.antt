@@ -1,4 +1,5 @@
 use Rattle.std.proofs.Common.{suc, inl, inr, ◌≡◌, ◌≤◌, ◌<◌, ◌+◌, ◌*◌, ◌++◌, ℕ, [], length, get_or, reverse, sym, ◌∙◌, ap, subst, arith}
+use Rattle.std.proofs.lemmas.Result.{IfOk-from_err}
 use Rattle.std.proofs.lemmas.List.{reverse-reverse}
 use Rattle.tx_table.specs.declared.shared.Pass.{Pass}
 use Rattle.tx_table.specs.Passes.{book}
@@ -106,10 +107,10 @@ returns-clause-made g c = rw c.into_parts-engine.ensures (
     elim c.loop-index-test.branch [
       | else-loop-index-test w ↦
           let e = c.loop-index.session.engine in
-          let engine : c.into_parts-engine.result.0 ≡ e = ap (λ p. p.0) c.into_parts-engine.ensures ∙ cc in
+          let engine : c.into_parts-engine.result.0 ≡ e = ap (λ p. p.0) c.into_parts-engine.ensures ∙ ap (λ x. x.engine) w.session-is in
           let rest = subst (λ x. IsRest [] 0 (book (pass_of x)) (book c.into_pass.result)) engine c.into_pass.ensures.rest in
           let keeps = subst (λ x. Keeps g.K.Beginning.began (pass_of x) → Keeps g.K.Beginning.began c.into_pass.result) engine c.into_pass.ensures.keeps in
-          let lane : c.loop-index.session.lane ≡ c.loop-index-test.session.lane = cc in
+          let lane : c.loop-index.session.lane ≡ c.loop-index-test.session.lane = sym (ap (λ x. x.lane) w.session-is) in
           let within : (book (pass_of e)).ticks ≤ b.ticks + count * 1000000 = omega (arith, c.loop-index.invariant.ticks) in
           let left = subst Left lane (
             ending g.K.Beginning.began t b c.args.at c.args.self.now.limits.room.used count c.loop-index.session.lane.made c.loop-index.session.lane.used c.into_pass.result so.history so.conflicts
@@ -120,7 +121,7 @@ returns-clause-made g c = rw c.into_parts-engine.ensures (
           (so.history, left.0, left.1)
       | then-loop-index-test+in_ok-is_made+then-not-is_made w ↦
           let e = w.call.new.self.engine in
-          let engine : c.into_parts-engine.result.0 ≡ e = ap (λ p. p.0) c.into_parts-engine.ensures ∙ cc in
+          let engine : c.into_parts-engine.result.0 ≡ e = ap (λ p. p.0) c.into_parts-engine.ensures ∙ ap (λ x. x.engine) w.session-is in
           let rest = subst (λ x. IsRest [] 0 (book (pass_of x)) (book c.into_pass.result)) engine c.into_pass.ensures.rest in
           let keeps = subst (λ x. Keeps g.K.Beginning.began (pass_of x) → Keeps g.K.Beginning.began c.into_pass.result) engine c.into_pass.ensures.keeps in
           let before = ap (λ (p : Pass). (book p).ticks) w.set_call.ensures.pass in
@@ -130,7 +131,7 @@ returns-clause-made g c = rw c.into_parts-engine.ensures (
           let still = was_left w.in_ok-is_made.is_made c.args.self.now.original.now c.args.self.now.rewritten.now (bounds_with c.args.self.now.limits c.loop-index.session.lane.used) (call_of c.args.self.now.limits.room w.onward-here.result w.index-calls-index.result) S
           (first ++ so.history) so.conflicts c.loop-index.session.lane w.call.new.self.lane w.if-not-is_made.true
           ((rw c.loop-index.invariant.making at w.in_ok-is_made.ensures.adds) (first ++ so.history) so.conflicts (w.set_call.ensures.stands (first ++ so.history) so.conflicts [] [] so.stands)) in
-          let last : w.call.new.self.lane ≡ c.loop-index-test.session.lane = cc in
+          let last : w.call.new.self.lane ≡ c.loop-index-test.session.lane = sym (ap (λ x. x.lane) w.session-is) in
           let lane : c.loop-index.session.lane ≡ c.loop-index-test.session.lane = sym still.0 ∙ last in
           let left = subst Left lane (
             ending g.K.Beginning.began t b c.args.at c.args.self.now.limits.room.used count c.loop-index.session.lane.made c.loop-index.session.lane.used c.into_pass.result so.history (so.conflicts + still.1.tried)
@@ -148,12 +149,12 @@ returns-clause-stopped g c = rw c.into_parts-engine.ensures (λ some_left.
     let first = reverse (book c.args.pass).entries in
     elim c.loop-index-test.branch [
       | else-loop-index-test w ↦
-          let lane : c.loop-index.session.lane ≡ c.loop-index-test.session.lane = cc in
+          let lane : c.loop-index.session.lane ≡ c.loop-index-test.session.lane = sym (ap (λ x. x.lane) w.session-is) in
           let made = ap (λ (l : Lane). l.made) lane in
           absurd (some_left (omega (arith, w.loop-index-test.false, made, c.loop-index.invariant.count)))
       | then-loop-index-test+in_ok-is_made+then-not-is_made w ↦
           let e = w.call.new.self.engine in
-          let engine : c.into_parts-engine.result.0 ≡ e = ap (λ p. p.0) c.into_parts-engine.ensures ∙ cc in
+          let engine : c.into_parts-engine.result.0 ≡ e = ap (λ p. p.0) c.into_parts-engine.ensures ∙ ap (λ x. x.engine) w.session-is in
           let rest = subst (λ x. IsRest [] 0 (book (pass_of x)) (book c.into_pass.result)) engine c.into_pass.ensures.rest in
           let keeps = subst (λ x. Keeps g.K.Beginning.began (pass_of x) → Keeps g.K.Beginning.began c.into_pass.result) engine c.into_pass.ensures.keeps in
           let call = w.index-calls-index.result in
@@ -165,7 +166,7 @@ returns-clause-stopped g c = rw c.into_parts-engine.ensures (λ some_left.
           let left : c.loop-index.session.lane.made < length c.args.calls.now = omega (arith, w.loop-index-test.true, count) in
           let next : call ≡ get_or c.args.calls.now c.loop-index.session.lane.made call = w.index-calls-index.is ∙ ap (λ (n : ℕ). get_or c.args.calls.now n call) (sym count) in
           let Spent : Lane → Type 0 = λ l. HasSpent c.args.self.now.original.now c.args.self.now.rewritten.now c.args.self.now.limits c.args.calls.now l.made l.used (book c.args.pass) c.into_pass.result in
-          let last : w.call.new.self.lane ≡ c.loop-index-test.session.lane = cc in
+          let last : w.call.new.self.lane ≡ c.loop-index-test.session.lane = sym (ap (λ x. x.lane) w.session-is) in
           subst Spent (sym still.0 ∙ last)
           (has_spent c.args.self.now.original.now c.args.self.now.rewritten.now c.args.self.now.limits c.args.calls.now c.loop-index.session.lane.made c.loop-index.session.lane.used call
           g.K.Beginning.began (book c.args.pass) c.into_pass.result (first ++ so.history) so.conflicts still.1.tried left next so.later still.1.used_up
@@ -179,7 +180,7 @@ returns-clause-all g c = rw c.into_parts-engine.ensures (λ whole.
     let first = reverse (book c.args.pass).entries in
     elim c.loop-index-test.branch [
       | else-loop-index-test w ↦
-          let lane : c.loop-index.session.lane ≡ c.loop-index-test.session.lane = cc in
+          let lane : c.loop-index.session.lane ≡ c.loop-index-test.session.lane = sym (ap (λ x. x.lane) w.session-is) in
           let made = ap (λ (l : Lane). l.made) lane in
           omega (arith, w.loop-index-test.false, made, c.loop-index.invariant.count)
       | then-loop-index-test+in_ok-is_made+then-not-is_made w ↦
@@ -211,8 +212,8 @@ returns-clause-told g c = rw c.into_parts-engine.ensures (
     let Told : Lane → g.row.G.Denot → Type 0 = λ l d. HasTold Q B C l.placed.items (Grows first (g.G.Gate.told d)) in
     elim c.loop-index-test.branch [
       | else-loop-index-test w ↦
-          let lane : c.loop-index.session.lane ≡ c.loop-index-test.session.lane = cc in
-          let gate : c.loop-index.session.gate ≡ c.loop-index-test.session.gate = cc in
+          let lane : c.loop-index.session.lane ≡ c.loop-index-test.session.lane = sym (ap (λ x. x.lane) w.session-is) in
+          let gate : c.loop-index.session.gate ≡ c.loop-index-test.session.gate = sym (ap (λ x. x.gate) w.session-is) in
           subst (λ (l : Lane). Told l c.loop-index-test.session.gate) lane (subst (Told c.loop-index.session.lane) gate c.loop-index.invariant.told)
       | then-loop-index-test+in_ok-is_made+then-not-is_made w ↦
           let so = c.loop-index.invariant.stood in
@@ -221,11 +222,23 @@ returns-clause-told g c = rw c.into_parts-engine.ensures (
           let still = was_left w.in_ok-is_made.is_made c.args.self.now.original.now Q (bounds_with c.args.self.now.limits c.loop-index.session.lane.used) (call_of c.args.self.now.limits.room w.onward-here.result w.index-calls-index.result) S
           (first_entries ++ so.history) so.conflicts c.loop-index.session.lane w.call.new.self.lane w.if-not-is_made.true
           ((rw c.loop-index.invariant.making at w.in_ok-is_made.ensures.adds) (first_entries ++ so.history) so.conflicts (w.set_call.ensures.stands (first_entries ++ so.history) so.conflicts [] [] so.stands)) in
-          let last : w.call.new.self.lane ≡ c.loop-index-test.session.lane = cc in
+          let last : w.call.new.self.lane ≡ c.loop-index-test.session.lane = sym (ap (λ x. x.lane) w.session-is) in
           let lane : c.loop-index.session.lane ≡ c.loop-index-test.session.lane = sym still.0 ∙ last in
-          let gate : w.call.new.self.gate ≡ c.loop-index-test.session.gate = cc in
+          let gate : w.call.new.self.gate ≡ c.loop-index-test.session.gate = sym (ap (λ x. x.gate) w.session-is) in
           let lost = was_lost w.in_ok-is_made.is_made Q (bounds_with c.args.self.now.limits c.loop-index.session.lane.used) w.onward-here.result w.index-calls-index.result c.loop-index.session.lane w.call.new.self.lane _
           w.if-not-is_made.true (rw c.loop-index.invariant.making at w.in_ok-is_made.ensures.told) in
           subst (λ (l : Lane). Told l c.loop-index-test.session.gate) lane (subst (Told c.loop-index.session.lane) gate
           (told_lost Q B C c.loop-index.session.lane.placed.items first (g.G.Gate.told c.loop-index.session.gate) (g.G.Gate.told w.call.new.self.gate) c.loop-index.invariant.told lost))
     ])
+
+pub returns-in_err-is_made-clause-made : goal.returns-in_err-is_made-clause-made
+returns-in_err-is_made-clause-made g c = IfOk-from_err _ _ c.from_residual.ensures.0
+
+pub returns-in_err-is_made-clause-stopped : goal.returns-in_err-is_made-clause-stopped
+returns-in_err-is_made-clause-stopped g c = IfOk-from_err _ _ c.from_residual.ensures.0
+
+pub returns-in_err-is_made-clause-all : goal.returns-in_err-is_made-clause-all
+returns-in_err-is_made-clause-all g c = λ _. IfOk-from_err _ _ c.from_residual.ensures.0
+
+pub returns-in_err-is_made-clause-told : goal.returns-in_err-is_made-clause-told
+returns-in_err-is_made-clause-told g c = IfOk-from_err _ _ c.from_residual.ensures.0
