@@ -1,5 +1,5 @@
 -- How calls end.
-use Rattle.std.proofs.Common.{◌≡◌, ◌≢◌, inl, ℕ, ◌+◌, ◌-◌, ◌<◌, ◌≤◌, ◌^◌, List, [], ◌∷◌, ◌++◌, Result, Ok, Err, refl, sym, subst, arith}
+use Rattle.std.proofs.Common.{◌≡◌, ◌≢◌, inl, ℕ, ◌+◌, ◌-◌, ◌<◌, ◌≤◌, ◌^◌, List, [], ◌∷◌, ◌++◌, Result, Ok, Err, refl, sym, ◌∙◌, subst, arith}
 use Rattle.jmodel.specs.declared.value.Answer.{Answer}
 use Rattle.jmodel.specs.declared.value.Answer.TheVariants as answer
 use Rattle.jmodel.specs.declared.value.Value.{Value}
@@ -18,7 +18,7 @@ use Rattle.machine.specs.declared.running.Stage.TheVariants.{Ready, Open}
 use Rattle.machine.specs.declared.running.Limit.{Limit}
 use Rattle.machine.specs.declared.running.Limit.TheVariants as limit
 use Rattle.machine.specs.declared.running.Todo.{Todo}
-use Rattle.machine.specs.declared.running.Todo.TheVariants.{Go}
+use Rattle.machine.specs.declared.running.Todo.TheVariants.{Go, Refuse}
 use Rattle.machine.specs.declared.machine.End.{End}
 use Rattle.tx_core.specs.declared.engine.TxEnd.{TxEnd}
 use Rattle.tx_core.specs.declared.engine.TxEnd.TheVariants.{Conflict, NoMemory}
@@ -30,7 +30,7 @@ use Rattle.machine.proofs.Comes.{comes_on, comes_trans}
 use Rattle.machine.proofs.Ways.{none_told, nothing_told, none_after, open_append, comes_of}
 use Rattle.machine.proofs.Knowing.{knew_end}
 use Rattle.machine.proofs.Seeing.{KnowsFewer}
-use Rattle.machine.proofs.Seen.{Seen, seen_turned, coming, from_at, to_at, shut}
+use Rattle.machine.proofs.Seen.{Seen, seen_turned, seen_refused, coming, from_at, to_at, shut}
 
 -- within the attempts the clock stays low
 pub within_open : (first attempts clock tried : ℕ) (s : Stage) → IsWithin first attempts clock s tried → s ≡ Open → first + attempts ≤ 2 ^ 40 → clock < 2 ^ 40
@@ -243,6 +243,22 @@ refuses P B start allows T G S S' A A' h n k K e M r es aw later tries begun tol
   };
   told = told;
 }
+
+-- a turn that comes to a refusal ends the run
+pub turn_refused : (P : Program) (B : Bounds) (c : Run) (A A' : Call → ℕ → Type 0) (allows : Entry → Type 0) (T : ℕ → Type 0) (G D : List Event → Type 0) (S0 : ℕ → Log → Log → Type 0) (S S' : List Entry → ℕ → Log → Log → Type 0) (h : List Entry) (n : ℕ) (K : Log → Type 0) (a b : Running) (e : End) (x : Answer) (l : Limit) (D' : List Event → Type 0)
+    → KnowsFewer K → Moves a.stage a.tried b.stage b.tried → b.stage ≡ Open → (o : OnWay P B c D S0 K n a) → ((es : List Event) → D' es → G ((o.events ++ es) ++ event.Ended ∷ [])) → HasTurned P B (at a o.writes o.reads) D' (Holds (S h) K n b.stage b.tried) b (Ok (Refuse l))
+    → ((k : Call) (used : ℕ) → A k used → A' k used) → T b.tried → e.used ≡ B.used → e.answer ≡ x → x ≡ refusal l b.used B.region.size
+    → ((k : ℕ) (r w : Log) → S h k r w → IsOfWrites e.stamp [] × Adds A' allows S' h k x (λ used. used) e.stamp r [])
+    → IsEndBy e.answer P B c A allows T G S' h n K e
+turn_refused P B c A A' allows T G D S0 S S' h n K a b e x l D' fewer moves is o told u aw begun used p q adds =
+    let t = u.turn in
+    let es = u.events ++ t.3.2.0 in
+    let other = refused_unlike l b.used B.region.size in
+    let seen = seen_refused P B K fewer c a o.writes o.reads o.events t.3.2.0 D' (Holds (S h) K n b.stage b.tried) b (Ok (Refuse l)) (refusal l b.used B.region.size) t.0 t.3.0 o.comes o.knows u t.3.1 t.3.2.1 other is moves t.2.knew in
+    let y = p ∙ q in
+    end_by P B c A allows T G S' h n K e (refusal l b.used B.region.size) y (refused_by P B c A allows T G S' h n K e l b.used B.region.size (refuses P B c allows T G S S' A A' h n t.2.conflicts K e (meter b) t.0 (o.events ++ es) aw t.2.later (rw is at t.2.tries) begun (told es t.3.2.3) used
+    (subst (λ (z : Answer). Seen P B K c (o.events ++ es) (Ended z (set_back B (meter b)) [] t.0)) (sym y) seen)
+    (subst (λ (z : Answer). IsOfWrites e.stamp [] × Adds A' allows S' h t.2.conflicts z (λ used. used) e.stamp t.0 []) (sym p) (adds t.2.conflicts t.0 t.1 t.2.stands))))
 
 -- the attempts of a run that ended as an entry: one for each conflict, and one
 pub tries_entry : (P : Program) (B : Bounds) (c : Call) (A : Call → ℕ → Type 0) (allows : Entry → Type 0) (C C' : ℕ → Type 0) (G : List Event → Type 0) (S : List Entry → ℕ → Log → Log → Type 0) (h : List Entry) (n k : ℕ) (K : Log → Type 0) (e : End)

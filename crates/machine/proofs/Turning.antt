@@ -8,6 +8,8 @@ use Rattle.objects.specs.declared.op.Place.{Place}
 use Rattle.objects.specs.declared.op.WordType.{WordType}
 use Rattle.objects.specs.declared.op.Asking.{Asking}
 use Rattle.objects.specs.declared.op.Asking.TheVariants as A
+use Rattle.objects.specs.declared.op.Request.{Request}
+use Rattle.objects.specs.declared.op.Request.TheVariants as request
 use Rattle.objects.specs.declared.op.Use.{Use}
 use Rattle.objects.specs.declared.op.Use.TheVariants as U
 use Rattle.objects.specs.declared.op.Element.TheVariants as element
@@ -374,3 +376,26 @@ not_head (A.Raise o) n = tt
 not_head (A.Make t k d) n = tt
 not_head (A.Head o u) n = absurd (n (o, u, refl))
 not_head (A.Ask q) n = tt
+
+-- what isn't asked for at this stage
+abbrev pub IsUnserved : Request → Stage → Type 0
+IsUnserved (request.Begin n) s = s ≡ stage.Ready → ⊥
+IsUnserved request.Rollback s = s ≡ stage.Doomed → ⊥
+IsUnserved (request.Put p x) s = Unit {0}
+IsUnserved q s = s ≡ stage.Open → ⊥
+
+-- it leads nowhere, and nothing is told
+pub unserved : (P : Program) (B : Bounds) (q : Request) (s : Stage) (v : Reply) (fs : Frames) (m : Meter) (w r : Log) → IsUnserved q s
+    → (on_asking P B (A.Ask q) (phase_of s) v fs m w r ≡ Stuck r) × AreOfAsking P B (A.Ask q) (phase_of s) v m []
+unserved P B (request.Begin n) stage.Ready v fs m w r out = absurd (out refl)
+unserved P B (request.Get p) stage.Open v fs m w r out = absurd (out refl)
+unserved P B (request.Look p) stage.Open v fs m w r out = absurd (out refl)
+unserved P B (request.Read p t) stage.Open v fs m w r out = absurd (out refl)
+unserved P B (request.Write p x) stage.Open v fs m w r out = absurd (out refl)
+unserved P B request.Commit stage.Open v fs m w r out = absurd (out refl)
+unserved P B request.Rollback stage.Doomed v fs m w r out = absurd (out refl)
+unserved P B q s v fs m w r out = (refl, refl)
+
+pub unserved_turn : (P : Program) (B : Bounds) (q : Request) (a : Running) (T : List Event → Type 0) (H : Log → Log → Type 0) (w r : Log) → IsUnserved q a.stage → T [] → H r w
+    → IsTurn B (λ v. on_asking P B (A.Ask q) (phase_of a.stage) v (frames a) (meter a) w r) (λ v. AreOfAsking P B (A.Ask q) (phase_of a.stage) v (meter a)) T H a (Err failure.Wrong)
+unserved_turn P B q a T H w r out t s = let u = unserved P B q a.stage (Gives 0) (frames a) (meter a) w r out in (r, w, s, (Gives 0, u.0, ([], u.1, tt, t)))

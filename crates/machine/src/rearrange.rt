@@ -46,8 +46,7 @@ impl Frame {
         ensures can { IfOk result CanDo }
         ensures place { (self.new.method ≡ self.old.method) × (self.new.pc ≡ self.old.pc) }
     {
-        self.stack.take()?;
-        self.stack.take()?;
+        self.stack.take_two()?;
         Ok(Doing::Next)
     }
 
@@ -69,11 +68,9 @@ impl Frame {
         ensures can { IfOk result CanDo }
         ensures place { (self.new.method ≡ self.old.method) × (self.new.pc ≡ self.old.pc) }
     {
-        let y = self.stack.take()?;
-        let x = self.stack.take()?;
+        let (x, y) = self.stack.take_two()?;
         self.stack.push(y)?;
-        self.stack.push(x)?;
-        self.stack.push(y)?;
+        self.stack.push_two(x, y)?;
         Ok(Doing::Next)
     }
 
@@ -84,11 +81,9 @@ impl Frame {
         ensures place { (self.new.method ≡ self.old.method) × (self.new.pc ≡ self.old.pc) }
     {
         let z = self.stack.take()?;
-        let y = self.stack.take()?;
-        let x = self.stack.take()?;
+        let (x, y) = self.stack.take_two()?;
         self.stack.push(z)?;
-        self.stack.push(x)?;
-        self.stack.push(y)?;
+        self.stack.push_two(x, y)?;
         self.stack.push(z)?;
         Ok(Doing::Next)
     }
@@ -99,12 +94,9 @@ impl Frame {
         ensures can { IfOk result CanDo }
         ensures place { (self.new.method ≡ self.old.method) × (self.new.pc ≡ self.old.pc) }
     {
-        let y = self.stack.take()?;
-        let x = self.stack.take()?;
-        self.stack.push(x)?;
-        self.stack.push(y)?;
-        self.stack.push(x)?;
-        self.stack.push(y)?;
+        let (x, y) = self.stack.take_two()?;
+        self.stack.push_two(x, y)?;
+        self.stack.push_two(x, y)?;
         Ok(Doing::Next)
     }
 
@@ -114,14 +106,11 @@ impl Frame {
         ensures can { IfOk result CanDo }
         ensures place { (self.new.method ≡ self.old.method) × (self.new.pc ≡ self.old.pc) }
     {
-        let z = self.stack.take()?;
-        let y = self.stack.take()?;
+        let (y, z) = self.stack.take_two()?;
         let x = self.stack.take()?;
-        self.stack.push(y)?;
-        self.stack.push(z)?;
+        self.stack.push_two(y, z)?;
         self.stack.push(x)?;
-        self.stack.push(y)?;
-        self.stack.push(z)?;
+        self.stack.push_two(y, z)?;
         Ok(Doing::Next)
     }
 
@@ -131,16 +120,11 @@ impl Frame {
         ensures can { IfOk result CanDo }
         ensures place { (self.new.method ≡ self.old.method) × (self.new.pc ≡ self.old.pc) }
     {
-        let z = self.stack.take()?;
-        let y = self.stack.take()?;
-        let x = self.stack.take()?;
-        let w = self.stack.take()?;
-        self.stack.push(y)?;
-        self.stack.push(z)?;
-        self.stack.push(w)?;
-        self.stack.push(x)?;
-        self.stack.push(y)?;
-        self.stack.push(z)?;
+        let (y, z) = self.stack.take_two()?;
+        let (w, x) = self.stack.take_two()?;
+        self.stack.push_two(y, z)?;
+        self.stack.push_two(w, x)?;
+        self.stack.push_two(y, z)?;
         Ok(Doing::Next)
     }
 
@@ -150,10 +134,8 @@ impl Frame {
         ensures can { IfOk result CanDo }
         ensures place { (self.new.method ≡ self.old.method) × (self.new.pc ≡ self.old.pc) }
     {
-        let y = self.stack.take()?;
-        let x = self.stack.take()?;
-        self.stack.push(y)?;
-        self.stack.push(x)?;
+        let (x, y) = self.stack.take_two()?;
+        self.stack.push_two(y, x)?;
         Ok(Doing::Next)
     }
 }

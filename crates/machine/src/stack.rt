@@ -86,6 +86,15 @@ impl Stack {
         Ok(())
     }
 
+    /// Puts two slots on top, the lower one first.
+    #[inline(always)]
+    pub(crate) fn push_two(&mut self, lower: Slot, upper: Slot) -> Result<(), AllocError>
+        ensures { OnOk result (self.new ≡ upper ∷ lower ∷ self.old) }
+    {
+        self.push(lower)?;
+        self.push(upper)
+    }
+
     /// Puts a long on top, in two slots.
     pub fn push_long(&mut self, x: i64) -> Result<(), AllocError>
         ensures { OnOk result (self.new ≡ Item.Second ∷ Item.Long x ∷ self.old) }
@@ -123,6 +132,7 @@ impl Stack {
 }
 
 impl Stack {
+    ghost use Rattle.std.specs.Prelude.{◌⊎◌};
     ghost use Rattle.machine.specs.Meets.{Lacks};
     ghost use Rattle.machine.specs.declared.failure.Failure.TheVariants as failure;
     ghost use Rattle.objects.specs.semantics.Step.{on_top, on_int, on_ref, on_long, on_context, on_loaded, on_value, on_word, without, object_in, Did};
@@ -134,6 +144,16 @@ impl Stack {
         ensures none { IfErr result (λ _. self.old ≡ []) }
     {
         self.pop().ok_or(Failure::Wrong)
+    }
+
+    /// The two topmost slots, the lower one first, or `Wrong` where there are fewer.
+    #[inline(always)]
+    pub(crate) fn take_two(&mut self) -> Result<(Slot, Slot), Failure>
+        ensures { MatchResult result (λ p. self.old ≡ p.1 ∷ p.0 ∷ self.new) (λ e. (e ≡ failure.Wrong) × ((self.old ≡ []) ⊎ ((x : Item) × (self.old ≡ x ∷ [])))) }
+    {
+        let upper = self.take()?;
+        let lower = self.take()?;
+        Ok((lower, upper))
     }
 
     /// The topmost slot, an int, or `Wrong` where there is none.

@@ -18,20 +18,47 @@ pub returns-in-Enter-clause-run : goal.returns-in-Enter-clause-run
 returns-in-Enter-clause-run g c = λ h n r w k used a s.
     rw c.in-Enter.is (turn_of (bounds_of c.args.limits) _ _ _ _ _ _ r w (Gives 0) (rw (c.count-in-Enter.ensures.stage, c.count-in-Enter.ensures.tried) s) (c.count-in-Enter.ensures.run (bounds_of c.args.limits) r w) ([], refl, tt, grows_same (g.G.Gate.told c.args.gate.now)))
 
-pub returns-in-Raise-clause-run : goal.returns-in-Raise-clause-run
-returns-in-Raise-clause-run g c = λ h n r w k used a s. rw c.in-Raise.is (c.raise.ensures.run h n r w k used a s (bounds_of c.args.limits))
+pub returns-in-Raise : goal.returns-in-Raise
+returns-in-Raise g c = record {
+  run = λ h n r w k used a s. rw c.in-Raise.is (c.raise.ensures.run h n r w k used a s (bounds_of c.args.limits));
+  moves = c.raise.ensures.moves;
+  attempts = c.raise.ensures.attempts;
+  ticks = λ t i. c.raise.ensures.ticks t c.args.limits.attempts i;
+  «open» = λ q. absurd (c.raise.ensures.no_commit q);
+  next = λ q. absurd (c.raise.ensures.no_commit q);
+  spent = λ q. absurd (c.raise.ensures.not_spent q);
+  begun = c.raise.ensures.begun;
+  awaits = c.raise.ensures.awaits;
+  refuse = c.raise.ensures.refuse;
+}
 
-pub returns-in-Raise-clause-ticks : goal.returns-in-Raise-clause-ticks
-returns-in-Raise-clause-ticks g c = λ t i. c.raise.ensures.ticks t c.args.limits.attempts i
+pub returns-in-Make : goal.returns-in-Make
+returns-in-Make g c = record {
+  run = λ h n r w k used a s. rw c.in-Make.is (c.take.ensures.run h n r w k used a s);
+  moves = c.take.ensures.moves;
+  attempts = c.take.ensures.attempts;
+  ticks = λ t i. c.take.ensures.ticks t c.args.limits.attempts i;
+  «open» = λ q. absurd (c.take.ensures.no_commit q);
+  next = λ q. absurd (c.take.ensures.no_commit q);
+  spent = λ q. absurd (c.take.ensures.not_spent q);
+  begun = c.take.ensures.begun;
+  awaits = c.take.ensures.awaits;
+  refuse = c.take.ensures.refuse;
+}
 
-pub returns-in-Make-clause-run : goal.returns-in-Make-clause-run
-returns-in-Make-clause-run g c = λ h n r w k used a s. rw c.in-Make.is (c.take.ensures.run h n r w k used a s)
-
-pub returns-in-Make-clause-ticks : goal.returns-in-Make-clause-ticks
-returns-in-Make-clause-ticks g c = λ t i. c.take.ensures.ticks t c.args.limits.attempts i
-
-pub returns-in-Ask-clause-run : goal.returns-in-Ask-clause-run
-returns-in-Ask-clause-run g c = λ h n r w k used a s. rw c.in-Ask.is (c.serve.ensures.run h n r w k used a s)
+pub returns-in-Ask : goal.returns-in-Ask
+returns-in-Ask g c = record {
+  run = λ h n r w k used a s. rw c.in-Ask.is (c.serve.ensures.run h n r w k used a s);
+  moves = c.serve.ensures.moves;
+  attempts = c.serve.ensures.attempts;
+  ticks = c.serve.ensures.ticks;
+  «open» = c.serve.ensures.«open»;
+  next = c.serve.ensures.next;
+  spent = c.serve.ensures.spent;
+  begun = c.serve.ensures.begun;
+  awaits = c.serve.ensures.awaits;
+  refuse = c.serve.ensures.refuse;
+}
 
 pub returns-in-Return-clause-run : goal.returns-in-Return-clause-run
 returns-in-Return-clause-run g c = λ h n r w k used a s.

@@ -10,9 +10,9 @@ use Rattle.objects.specs.declared.event.Event.{Event}
 use Rattle.objects.specs.rewriting.Events.{Grows}
 use Rattle.machine.proofs.Comes.{comes_trans}
 use Rattle.machine.proofs.Ways.{grows_same, grows_trans, open_append, nothing_told}
-use Rattle.machine.proofs.Ends.{within_open, within_end, way_start, way_on, told_turn, turn_fails, comes_turned, commit_ends, ends_by, end_by, last_made, leaves_of, added_as, may_refuse, refuses, refused_by, refused_unlike}
+use Rattle.machine.proofs.Ends.{within_open, within_end, way_start, way_on, told_turn, turn_fails, comes_turned, commit_ends, ends_by, last_made, leaves_of, added_as, may_refuse, turn_refused, refused_unlike}
 use Rattle.machine.proofs.Knowing.{saw_fewer}
-use Rattle.machine.proofs.Seen.{seen_committed, seen_refused, seen_spent, seen_again}
+use Rattle.machine.proofs.Seen.{seen_committed, seen_spent, seen_again}
 use Rattle.machine.proofs.running.Running.run.Goals as goal
 use Rattle.machine.proofs.running.Running.run.Goals.{in-Go, in-Commit+in_ok-end-in-Commit+in_default}
 
@@ -114,18 +114,13 @@ commit-requires-clause-allowed g c = λ shared.
 pub returns-in-Refuse-clause-run : goal.returns-in-Refuse-clause-run
 returns-in-Refuse-clause-run g c = λ h n kc s aw.
     let o = c.loop.invariant.3 h n kc s aw in
-    let u = (rw c.in-Refuse.is at c.in_ok-turn.ensures.run) h n o.reads o.writes kc c.args.limits.room.used (c.loop.invariant.2 kc c.args.limits.room.used aw) o.holds in
-    let t = u.turn in
-    let e = (rw c.in-Refuse.is at c.in_ok-turn.ensures.refuse) c.in-Refuse.limit refl in
     let k = c.refuse in
-    let q = k.ensures.answer ∙ c.answer-answer.ensures in
-    end_by c.args.program.now (bounds_of c.args.limits) (at c.args.self.now [] []) (g.E.Engine.awaits c.args.tx.now) g.E.Engine.allows (Begins (g.E.Engine.attempts c.args.tx.now) (g.E.Engine.attempts k.new.tx)) (Grows (g.G.Gate.told c.args.gate.now) (g.G.Gate.told k.new.gate)) (g.E.Engine.stands k.new.tx) h n (Saw g.E.Engine.is_shared g.E.Engine.begins g.E.Engine.allows h kc c.args.limits.room.used) k.result (refusal c.in-Refuse.limit c.turn.new.self.used c.args.limits.room.size) q (refused_by c.args.program.now (bounds_of c.args.limits) (at c.args.self.now [] []) (g.E.Engine.awaits c.args.tx.now) g.E.Engine.allows (Begins (g.E.Engine.attempts c.args.tx.now) (g.E.Engine.attempts k.new.tx)) (Grows (g.G.Gate.told c.args.gate.now) (g.G.Gate.told k.new.gate)) (g.E.Engine.stands k.new.tx) h n (Saw g.E.Engine.is_shared g.E.Engine.begins g.E.Engine.allows h kc c.args.limits.room.used) k.result c.in-Refuse.limit _ _ (refuses c.args.program.now (bounds_of c.args.limits) (at c.args.self.now [] []) g.E.Engine.allows (Begins (g.E.Engine.attempts c.args.tx.now) (g.E.Engine.attempts k.new.tx)) (Grows (g.G.Gate.told c.args.gate.now) (g.G.Gate.told k.new.gate)) (g.E.Engine.stands c.args.tx.now) (g.E.Engine.stands k.new.tx)
-    (g.E.Engine.awaits c.args.tx.now) (g.E.Engine.awaits c.turn.new.engine) h n t.2.conflicts (Saw g.E.Engine.is_shared g.E.Engine.begins g.E.Engine.allows h kc c.args.limits.room.used) k.result (meter c.turn.new.self) t.0 (o.events ++ (u.events ++ t.3.2.0))
-    (λ k used a. c.in_ok-turn.ensures.awaits k used (c.loop.invariant.2 k used a)) t.2.later (rw e at t.2.tries)
-    (λ j a. k.ensures.attempts _ (c.in_ok-turn.ensures.attempts j (c.loop.invariant.4 j a)))
-    (grows_trans _ _ _ (o.events ++ (u.events ++ t.3.2.0)) _ (grows_trans _ _ _ o.events (u.events ++ t.3.2.0) o.told t.3.2.3) k.ensures.told) k.ensures.used
-    (rw q (seen_refused c.args.program.now (bounds_of c.args.limits) (Saw g.E.Engine.is_shared g.E.Engine.begins g.E.Engine.allows h kc c.args.limits.room.used) (saw_fewer g.E.Engine.is_shared g.E.Engine.begins g.E.Engine.allows h kc c.args.limits.room.used) (at c.args.self.now [] []) c.loop.self o.writes o.reads o.events t.3.2.0 _ _ c.turn.new.self _ _ t.0 t.3.0 o.comes o.knows u t.3.1 t.3.2.1 (refused_unlike c.in-Refuse.limit _ _) e c.in_ok-turn.ensures.moves t.2.knew))
-    (rw k.ensures.answer (k.ensures.run h t.2.conflicts t.0 t.1 t.2.stands))))
+    let K = Saw g.E.Engine.is_shared g.E.Engine.begins g.E.Engine.allows h kc c.args.limits.room.used in
+    turn_refused c.args.program.now (bounds_of c.args.limits) (at c.args.self.now [] []) (g.E.Engine.awaits c.args.tx.now) (g.E.Engine.awaits c.turn.new.engine) g.E.Engine.allows (Begins (g.E.Engine.attempts c.args.tx.now) (g.E.Engine.attempts k.new.tx)) (Grows (g.G.Gate.told c.args.gate.now) (g.G.Gate.told k.new.gate)) (Grows (g.G.Gate.told c.args.gate.now) (g.G.Gate.told c.loop.gate)) (g.E.Engine.stands c.loop.tx h) (g.E.Engine.stands c.turn.new.engine) (g.E.Engine.stands k.new.tx) h n K c.loop.self c.turn.new.self k.result c.answer-answer.result c.in-Refuse.limit (Grows (g.G.Gate.told c.loop.gate) (g.G.Gate.told c.turn.new.gate))
+    (saw_fewer g.E.Engine.is_shared g.E.Engine.begins g.E.Engine.allows h kc c.args.limits.room.used) c.in_ok-turn.ensures.moves ((rw c.in-Refuse.is at c.in_ok-turn.ensures.refuse) c.in-Refuse.limit refl) o
+    (λ es t. grows_trans _ _ _ (o.events ++ es) _ (grows_trans _ _ _ o.events es o.told t) k.ensures.told)
+    ((rw c.in-Refuse.is at c.in_ok-turn.ensures.run) h n o.reads o.writes kc c.args.limits.room.used (c.loop.invariant.2 kc c.args.limits.room.used aw) o.holds)
+    (λ k used a. c.in_ok-turn.ensures.awaits k used (c.loop.invariant.2 k used a)) (λ j a. k.ensures.attempts _ (c.in_ok-turn.ensures.attempts j (c.loop.invariant.4 j a))) k.ensures.used k.ensures.answer c.answer-answer.ensures (k.ensures.run h)
 
 pub returns-in-Refuse-clause-ticks : goal.returns-in-Refuse-clause-ticks
 returns-in-Refuse-clause-ticks g c = rw c.refuse.ensures.ticks (within_end _ _ _ _ _ (c.in_ok-turn.ensures.ticks _ c.loop.invariant.0))
