@@ -22,3 +22,4 @@ pub mod PutFiles
 pub mod Refused
 pub mod HelperPath
 pub mod Told
+pub mod Statuses
