@@ -12,6 +12,7 @@ use Rattle.driver.proofs.Midway.{may_rest, firsts_within}
 use Rattle.driver.proofs.Resting.{whole_next}
 use Rattle.driver.proofs.Told.{told_phase}
 use Rattle.driver.proofs.Rising.{lanes_rise}
+use Rattle.std.proofs.lemmas.Result.{IfOk-from_err}
 use Rattle.driver.proofs.run.Runner.add_rest.Goals as goal
 
 pub one_after_another-requires-clause-firsts : goal.one_after_another-requires-clause-firsts
@@ -109,3 +110,96 @@ returns-clause-told g c = λ b before m told.
     told_phase Q limits c.args.phase lanes first.placed.items rest.placed.items sorted _ _ before _ _ told c.in_ok-rest.ensures.told moved c.in_ok-add_phase.ensures.placed
     (lanes_rise c.args.phase lanes first.placed.items rest.placed.items gathered.tolds resting.over.tolds first.parts.items rest.parts.items gathered.parts_are resting.over.parts_are whole
     gathered.placed_are resting.over.placed_are)
+
+pub returns-in_err-firsts-clause-whole : goal.returns-in_err-firsts-clause-whole
+returns-in_err-firsts-clause-whole g c = IfOk-from_err _ _ c.from_residual.ensures.0
+
+pub returns-in_err-firsts-clause-used : goal.returns-in_err-firsts-clause-used
+returns-in_err-firsts-clause-used g c = IfOk-from_err _ _ c.from_residual.ensures.0
+
+pub returns-in_err-firsts-clause-adds : goal.returns-in_err-firsts-clause-adds
+returns-in_err-firsts-clause-adds g c = λ _ _. IfOk-from_err _ _ c.from_residual.ensures.0
+
+pub returns-in_err-firsts-clause-told : goal.returns-in_err-firsts-clause-told
+returns-in_err-firsts-clause-told g c = λ _ _ _ _. IfOk-from_err _ _ c.from_residual.ensures.0
+
+pub returns-in_err-rest-clause-whole : goal.returns-in_err-rest-clause-whole
+returns-in_err-rest-clause-whole g c = IfOk-from_err _ _ c.from_residual-in_err-rest.ensures.0
+
+pub returns-in_err-rest-clause-used : goal.returns-in_err-rest-clause-used
+returns-in_err-rest-clause-used g c = IfOk-from_err _ _ c.from_residual-in_err-rest.ensures.0
+
+pub returns-in_err-rest-clause-adds : goal.returns-in_err-rest-clause-adds
+returns-in_err-rest-clause-adds g c = λ _ _. IfOk-from_err _ _ c.from_residual-in_err-rest.ensures.0
+
+pub returns-in_err-rest-clause-told : goal.returns-in_err-rest-clause-told
+returns-in_err-rest-clause-told g c = λ _ _ _ _. IfOk-from_err _ _ c.from_residual-in_err-rest.ensures.0
+
+pub returns-in_err-append-clause-whole : goal.returns-in_err-append-clause-whole
+returns-in_err-append-clause-whole g c = IfOk-from_err _ _ c.from_residual-in_err-append.ensures.0
+
+pub returns-in_err-append-clause-used : goal.returns-in_err-append-clause-used
+returns-in_err-append-clause-used g c = IfOk-from_err _ _ c.from_residual-in_err-append.ensures.0
+
+pub returns-in_err-append-clause-adds : goal.returns-in_err-append-clause-adds
+returns-in_err-append-clause-adds g c = λ _ _. IfOk-from_err _ _ c.from_residual-in_err-append.ensures.0
+
+pub returns-in_err-append-clause-told : goal.returns-in_err-append-clause-told
+returns-in_err-append-clause-told g c = λ _ _ _ _. IfOk-from_err _ _ c.from_residual-in_err-append.ensures.0
+
+pub returns-in_err-sort_placed-clause-whole : goal.returns-in_err-sort_placed-clause-whole
+returns-in_err-sort_placed-clause-whole g c = IfOk-from_err _ _ c.from_residual-in_err-sort_placed.ensures.0
+
+pub returns-in_err-sort_placed-clause-used : goal.returns-in_err-sort_placed-clause-used
+returns-in_err-sort_placed-clause-used g c = IfOk-from_err _ _ c.from_residual-in_err-sort_placed.ensures.0
+
+pub returns-in_err-sort_placed-clause-adds : goal.returns-in_err-sort_placed-clause-adds
+returns-in_err-sort_placed-clause-adds g c = λ _ _. IfOk-from_err _ _ c.from_residual-in_err-sort_placed.ensures.0
+
+pub returns-in_err-sort_placed-clause-told : goal.returns-in_err-sort_placed-clause-told
+returns-in_err-sort_placed-clause-told g c = λ _ _ _ _. IfOk-from_err _ _ c.from_residual-in_err-sort_placed.ensures.0
+
+pub returns-in_err-add_phase-clause-whole : goal.returns-in_err-add_phase-clause-whole
+returns-in_err-add_phase-clause-whole g c = IfOk-from_err _ _ c.from_residual-in_err-add_phase.ensures.0
+
+pub returns-in_err-add_phase-clause-used : goal.returns-in_err-add_phase-clause-used
+returns-in_err-add_phase-clause-used g c = IfOk-from_err _ _ c.from_residual-in_err-add_phase.ensures.0
+
+pub returns-in_err-add_phase-clause-adds : goal.returns-in_err-add_phase-clause-adds
+returns-in_err-add_phase-clause-adds g c = λ _ _. IfOk-from_err _ _ c.from_residual-in_err-add_phase.ensures.0
+
+pub returns-in_err-add_phase-clause-told : goal.returns-in_err-add_phase-clause-told
+returns-in_err-add_phase-clause-told g c = λ _ _ _ _. IfOk-from_err _ _ c.from_residual-in_err-add_phase.ensures.0
+
+pub one_after_another-requires-clause-ready : goal.one_after_another-requires-clause-ready
+one_after_another-requires-clause-ready g c = c.requires.ready
+
+pub one_after_another-requires-clause-calls : goal.one_after_another-requires-clause-calls
+one_after_another-requires-clause-calls g c = c.requires.calls
+
+pub one_after_another-requires-clause-few : goal.one_after_another-requires-clause-few
+one_after_another-requires-clause-few g c = c.requires.few
+
+pub one_after_another-requires-clause-lanes : goal.one_after_another-requires-clause-lanes
+one_after_another-requires-clause-lanes g c = c.requires.lanes
+
+pub one_after_another-requires-clause-attempts : goal.one_after_another-requires-clause-attempts
+one_after_another-requires-clause-attempts g c = c.requires.attempts
+
+pub one_after_another-requires-clause-room_size : goal.one_after_another-requires-clause-room_size
+one_after_another-requires-clause-room_size g c = c.requires.room_size
+
+pub one_after_another-requires-clause-rule : goal.one_after_another-requires-clause-rule
+one_after_another-requires-clause-rule g c = c.requires.rule
+
+pub one_after_another-requires-clause-states : goal.one_after_another-requires-clause-states
+one_after_another-requires-clause-states g c = c.requires.states
+
+pub one_after_another-requires-clause-used : goal.one_after_another-requires-clause-used
+one_after_another-requires-clause-used g c = c.requires.used
+
+pub one_after_another-requires-clause-gates : goal.one_after_another-requires-clause-gates
+one_after_another-requires-clause-gates g c = c.requires.gates
+
+pub returns-clause-used : goal.returns-clause-used
+returns-clause-used g c = c.in_ok-rest.ensures.used

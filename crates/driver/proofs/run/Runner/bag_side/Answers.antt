@@ -10,6 +10,7 @@ use Rattle.driver.proofs.Bags.{count_in_bag}
 use Rattle.driver.proofs.Midway.{room_within, ending_of, midway_of, joined_long}
 use Rattle.driver.proofs.Passing.{used_back}
 use Rattle.driver.proofs.Working.{lanes_long}
+use Rattle.std.proofs.lemmas.Result.{IfOk-from_err}
 use Rattle.driver.proofs.run.Runner.bag_side.Goals as goal
 
 pub start_lanes-requires-clause-pass : goal.start_lanes-requires-clause-pass
@@ -100,3 +101,48 @@ returns-clause-told g c =
     let many : length (map kept_of ends) ≡ c.args.workers = length-map ends kept_of ∙ ended.len ∙ long ∙ c.in_ok-ends.ensures.len ∙ c.in_ok-starts.ensures.len in
     told_side Q limits c.args.phase lanes (map kept_of ends) c.in_ok-side.side.placed.items c.args.workers _ _ c.in_ok-ends.ensures.told
     (c.in_ok-side.ensures.placed ∙ sym (flat_map-map (λ rs. rs) kept_of ends)) many
+
+pub returns-in_err-starts-clause-len : goal.returns-in_err-starts-clause-len
+returns-in_err-starts-clause-len g c = IfOk-from_err _ _ c.from_residual.ensures.0
+
+pub returns-in_err-starts-clause-taken : goal.returns-in_err-starts-clause-taken
+returns-in_err-starts-clause-taken g c = IfOk-from_err _ _ c.from_residual.ensures.0
+
+pub returns-in_err-starts-clause-midway : goal.returns-in_err-starts-clause-midway
+returns-in_err-starts-clause-midway g c = IfOk-from_err _ _ c.from_residual.ensures.0
+
+pub returns-in_err-starts-clause-used : goal.returns-in_err-starts-clause-used
+returns-in_err-starts-clause-used g c = IfOk-from_err _ _ c.from_residual.ensures.0
+
+pub returns-in_err-starts-clause-told : goal.returns-in_err-starts-clause-told
+returns-in_err-starts-clause-told g c = IfOk-from_err _ _ c.from_residual.ensures.0
+
+pub returns-in_err-ends-clause-len : goal.returns-in_err-ends-clause-len
+returns-in_err-ends-clause-len g c = IfOk-from_err _ _ c.from_residual-in_err-ends.ensures.0
+
+pub returns-in_err-ends-clause-taken : goal.returns-in_err-ends-clause-taken
+returns-in_err-ends-clause-taken g c = IfOk-from_err _ _ c.from_residual-in_err-ends.ensures.0
+
+pub returns-in_err-ends-clause-midway : goal.returns-in_err-ends-clause-midway
+returns-in_err-ends-clause-midway g c = IfOk-from_err _ _ c.from_residual-in_err-ends.ensures.0
+
+pub returns-in_err-ends-clause-used : goal.returns-in_err-ends-clause-used
+returns-in_err-ends-clause-used g c = IfOk-from_err _ _ c.from_residual-in_err-ends.ensures.0
+
+pub returns-in_err-ends-clause-told : goal.returns-in_err-ends-clause-told
+returns-in_err-ends-clause-told g c = IfOk-from_err _ _ c.from_residual-in_err-ends.ensures.0
+
+pub returns-in_err-side-clause-len : goal.returns-in_err-side-clause-len
+returns-in_err-side-clause-len g c = IfOk-from_err _ _ c.from_residual-in_err-side.ensures.0
+
+pub returns-in_err-side-clause-taken : goal.returns-in_err-side-clause-taken
+returns-in_err-side-clause-taken g c = IfOk-from_err _ _ c.from_residual-in_err-side.ensures.0
+
+pub returns-in_err-side-clause-midway : goal.returns-in_err-side-clause-midway
+returns-in_err-side-clause-midway g c = IfOk-from_err _ _ c.from_residual-in_err-side.ensures.0
+
+pub returns-in_err-side-clause-used : goal.returns-in_err-side-clause-used
+returns-in_err-side-clause-used g c = IfOk-from_err _ _ c.from_residual-in_err-side.ensures.0
+
+pub returns-in_err-side-clause-told : goal.returns-in_err-side-clause-told
+returns-in_err-side-clause-told g c = IfOk-from_err _ _ c.from_residual-in_err-side.ensures.0

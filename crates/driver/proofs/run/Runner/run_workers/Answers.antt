@@ -8,6 +8,7 @@ use Rattle.driver.specs.Workers.{AreWorkers, HasWorked}
 use Rattle.driver.proofs.Lists.{on_ok}
 use Rattle.driver.proofs.Working.{collected_of, few_claims, whole_bag}
 use Rattle.driver.proofs.HandedWorkers.{told_workers}
+use Rattle.std.proofs.lemmas.Result.{IfOk-from_err}
 use Rattle.driver.proofs.run.Runner.run_workers.Goals as goal
 
 pub work_all-requires-clause-workers : goal.work_all-requires-clause-workers
@@ -146,3 +147,63 @@ returns-clause-told g c =
     let some : 1 ≤ length taken = omega (arith, length-map taken (λ w. w.items), all.len, c.in_ok-workers.ensures.len, c.requires.some.0) in
     told_workers c.args.self.now.rewritten.now c.args.self.now.limits c.args.phase calls c.in_ok-ends.ends.items c.in_ok-ends-2.ends.items taken c.in_ok-rest.rest.items c.index_mut.result.now c.append.new.self _ _
     some c.in_ok-ends-2.ensures.sorted c.in_ok-ends.ensures.told c.index_mut.ensures.value c.in_ok-append.ensures.items
+
+pub returns-in_err-workers-clause-len : goal.returns-in_err-workers-clause-len
+returns-in_err-workers-clause-len g c = IfOk-from_err _ _ c.from_residual.ensures.0
+
+pub returns-in_err-workers-clause-taken : goal.returns-in_err-workers-clause-taken
+returns-in_err-workers-clause-taken g c = IfOk-from_err _ _ c.from_residual.ensures.0
+
+pub returns-in_err-workers-clause-ended : goal.returns-in_err-workers-clause-ended
+returns-in_err-workers-clause-ended g c = λ _ _. IfOk-from_err _ _ c.from_residual.ensures.0
+
+pub returns-in_err-workers-clause-told : goal.returns-in_err-workers-clause-told
+returns-in_err-workers-clause-told g c = IfOk-from_err _ _ c.from_residual.ensures.0
+
+pub returns-in_err-ends-clause-len : goal.returns-in_err-ends-clause-len
+returns-in_err-ends-clause-len g c = IfOk-from_err _ _ c.from_residual-in_err-ends.ensures.0
+
+pub returns-in_err-ends-clause-taken : goal.returns-in_err-ends-clause-taken
+returns-in_err-ends-clause-taken g c = IfOk-from_err _ _ c.from_residual-in_err-ends.ensures.0
+
+pub returns-in_err-ends-clause-ended : goal.returns-in_err-ends-clause-ended
+returns-in_err-ends-clause-ended g c = λ _ _. IfOk-from_err _ _ c.from_residual-in_err-ends.ensures.0
+
+pub returns-in_err-ends-clause-told : goal.returns-in_err-ends-clause-told
+returns-in_err-ends-clause-told g c = IfOk-from_err _ _ c.from_residual-in_err-ends.ensures.0
+
+pub returns-in_err-ends-2-clause-len : goal.returns-in_err-ends-2-clause-len
+returns-in_err-ends-2-clause-len g c = IfOk-from_err _ _ c.from_residual-in_err-ends-2.ensures.0
+
+pub returns-in_err-ends-2-clause-taken : goal.returns-in_err-ends-2-clause-taken
+returns-in_err-ends-2-clause-taken g c = IfOk-from_err _ _ c.from_residual-in_err-ends-2.ensures.0
+
+pub returns-in_err-ends-2-clause-ended : goal.returns-in_err-ends-2-clause-ended
+returns-in_err-ends-2-clause-ended g c = λ _ _. IfOk-from_err _ _ c.from_residual-in_err-ends-2.ensures.0
+
+pub returns-in_err-ends-2-clause-told : goal.returns-in_err-ends-2-clause-told
+returns-in_err-ends-2-clause-told g c = IfOk-from_err _ _ c.from_residual-in_err-ends-2.ensures.0
+
+pub returns-in_err-rest-clause-len : goal.returns-in_err-rest-clause-len
+returns-in_err-rest-clause-len g c = IfOk-from_err _ _ c.from_residual-in_err-rest.ensures.0
+
+pub returns-in_err-rest-clause-taken : goal.returns-in_err-rest-clause-taken
+returns-in_err-rest-clause-taken g c = IfOk-from_err _ _ c.from_residual-in_err-rest.ensures.0
+
+pub returns-in_err-rest-clause-ended : goal.returns-in_err-rest-clause-ended
+returns-in_err-rest-clause-ended g c = λ _ _. IfOk-from_err _ _ c.from_residual-in_err-rest.ensures.0
+
+pub returns-in_err-rest-clause-told : goal.returns-in_err-rest-clause-told
+returns-in_err-rest-clause-told g c = IfOk-from_err _ _ c.from_residual-in_err-rest.ensures.0
+
+pub returns-in_err-append-clause-len : goal.returns-in_err-append-clause-len
+returns-in_err-append-clause-len g c = IfOk-from_err _ _ c.from_residual-in_err-append.ensures.0
+
+pub returns-in_err-append-clause-taken : goal.returns-in_err-append-clause-taken
+returns-in_err-append-clause-taken g c = IfOk-from_err _ _ c.from_residual-in_err-append.ensures.0
+
+pub returns-in_err-append-clause-ended : goal.returns-in_err-append-clause-ended
+returns-in_err-append-clause-ended g c = λ _ _. IfOk-from_err _ _ c.from_residual-in_err-append.ensures.0
+
+pub returns-in_err-append-clause-told : goal.returns-in_err-append-clause-told
+returns-in_err-append-clause-told g c = IfOk-from_err _ _ c.from_residual-in_err-append.ensures.0

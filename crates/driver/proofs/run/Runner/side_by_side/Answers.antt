@@ -7,6 +7,7 @@ use Rattle.tx_table.specs.Passes.{book}
 use Rattle.driver.specs.Passing.{call_count}
 use Rattle.driver.proofs.Midway.{room_within, ending_of, midway_of, joined_long}
 use Rattle.driver.proofs.Passing.{used_back}
+use Rattle.std.proofs.lemmas.Result.{IfOk-from_err}
 use Rattle.driver.proofs.run.Runner.side_by_side.Goals as goal
 
 pub start_lanes-requires-clause-pass : goal.start_lanes-requires-clause-pass
@@ -83,3 +84,30 @@ returns-clause-told g c =
     let many : length (map kept_of ends) ≡ length lanes = length-map ends kept_of ∙ ended.len in
     told_side Q limits c.args.phase lanes (map kept_of ends) c.in_ok-side.side.placed.items (length lanes) _ _ c.in_ok-ends.ensures.told
     (c.in_ok-side.ensures.placed ∙ sym (flat_map-map (λ rs. rs) kept_of ends)) many
+
+pub returns-in_err-starts-clause-midway : goal.returns-in_err-starts-clause-midway
+returns-in_err-starts-clause-midway g c = IfOk-from_err _ _ c.from_residual.ensures.0
+
+pub returns-in_err-starts-clause-used : goal.returns-in_err-starts-clause-used
+returns-in_err-starts-clause-used g c = IfOk-from_err _ _ c.from_residual.ensures.0
+
+pub returns-in_err-starts-clause-told : goal.returns-in_err-starts-clause-told
+returns-in_err-starts-clause-told g c = IfOk-from_err _ _ c.from_residual.ensures.0
+
+pub returns-in_err-ends-clause-midway : goal.returns-in_err-ends-clause-midway
+returns-in_err-ends-clause-midway g c = IfOk-from_err _ _ c.from_residual-in_err-ends.ensures.0
+
+pub returns-in_err-ends-clause-used : goal.returns-in_err-ends-clause-used
+returns-in_err-ends-clause-used g c = IfOk-from_err _ _ c.from_residual-in_err-ends.ensures.0
+
+pub returns-in_err-ends-clause-told : goal.returns-in_err-ends-clause-told
+returns-in_err-ends-clause-told g c = IfOk-from_err _ _ c.from_residual-in_err-ends.ensures.0
+
+pub returns-in_err-side-clause-midway : goal.returns-in_err-side-clause-midway
+returns-in_err-side-clause-midway g c = IfOk-from_err _ _ c.from_residual-in_err-side.ensures.0
+
+pub returns-in_err-side-clause-used : goal.returns-in_err-side-clause-used
+returns-in_err-side-clause-used g c = IfOk-from_err _ _ c.from_residual-in_err-side.ensures.0
+
+pub returns-in_err-side-clause-told : goal.returns-in_err-side-clause-told
+returns-in_err-side-clause-told g c = IfOk-from_err _ _ c.from_residual-in_err-side.ensures.0
