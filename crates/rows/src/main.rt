@@ -1,12 +1,17 @@
 //! Whole runs as data. Each folder of `data/rows` is a row: its file `words` has the words of a command line, one on a line. For each row, in the
-//! order of their names, the program makes the top call over the machine's files, and prints what it answered.
+//! order of their names, the program makes the top call over the machine's files, and prints what it answered. Behind the rows it prints what
+//! rewritten class files mean (`meanings`).
 #![tactic(auto)]
+
+mod meanings;
+mod same;
 
 use deuce::Open;
 use deuce::listing::class_paths;
 use deuce::top::deuce;
 use deuce_io::{Folder, MemSink, RealFolder, names_in};
 use jmodel::Bytes;
+use meanings::print_meanings;
 use std::alloc::{AllocError, Global};
 use std::rt::Runtime;
 use std::thread::Threads;
@@ -19,7 +24,7 @@ fn main(rt: HostRuntime) -> io::Result<()> {
     for name in &names_in(&rt, rt.alloc(), "rows")? {
         print_row(&rt, rt.alloc(), name.as_str())?;
     }
-    Ok(())
+    print_meanings(&rt, rt.alloc())
 }
 
 /// Makes the top call of a row, and prints its name, its status, what it wrote, and the files that it put into the row's folder `out`.

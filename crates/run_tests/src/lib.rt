@@ -1,5 +1,6 @@
 //! Tests of the top call that no row of `rows` can say: faults of folders and sinks in memory, files over their limits, class files with each fault,
-//! and lanes whose order is up to the threads; and of the gate that keeps events. They stand apart, so that `deuce` is proved once and not a second time with its tests.
+//! and lanes whose order is up to the threads; of the gate that keeps events; and of sessions whose calls are held (`held`). They stand apart, so that the
+//! crates below are proved once and not a second time with their tests.
 #![tactic(auto)]
 
 #[cfg(test)]
@@ -10,6 +11,8 @@ mod fixture;
 mod folders;
 #[cfg(test)]
 mod gates;
+#[cfg(test)]
+mod held;
 #[cfg(test)]
 mod lanes;
 #[cfg(test)]

@@ -1,4 +1,0 @@
-use Rattle.engine_tests.proofs.attempts.transfers.split_lane.Given as goal
-
-abbrev pub ghost-split : goal.ghost-split
-ghost-split g a = g.given

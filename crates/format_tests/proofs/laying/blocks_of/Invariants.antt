@@ -1,6 +1,0 @@
-use Rattle.std.proofs.Common.{take}
-use Rattle.format_tests.proofs.GrownLaws.{AreGrown}
-use Rattle.format_tests.proofs.laying.blocks_of.Given as goal
-
-abbrev pub invariant-loop-i : goal.invariant-loop-i
-invariant-loop-i l = AreGrown l.blocks.items (take l.i-index l.i-items)
