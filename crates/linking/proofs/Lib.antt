@@ -4,6 +4,7 @@ pub mod LastBytes
 pub mod Lookups
 pub mod RewrittenMembers
 pub mod Switched
+pub mod Tables
 pub mod BasePlaces
 pub mod Zipped
 pub mod ContextOrder

@@ -1,9 +1,9 @@
 -- The methods of rewritten classes, as loops go from class to class.
-use Rattle.std.proofs.Common.{◌≡◌, ℕ, ◌+◌, ◌<◌, Bool, true, false, ◌||◌, cond, List, [], ◌∷◌, ◌++◌, length, take, drop, get_or, Bor, refl, sym, ap, ◌∙◌}
+use Rattle.std.proofs.Common.{◌≡◌, ℕ, ◌+◌, ◌<◌, Bool, true, false, ◌||◌, cond, List, [], ◌∷◌, ◌++◌, length, map, take, drop, get_or, Bor, refl, sym, ap, ◌∙◌}
 use Rattle.std.specs.Prelude.{filter, min}
 use Rattle.std.specs.List.{list_any, flat_map}
 use Rattle.std.proofs.lemmas.Grind.{flat_map-append}
-use Rattle.std.proofs.lemmas.List.{append-nil, drop-map, take-map, take_min}
+use Rattle.std.proofs.lemmas.List.{append-nil, drop-map, take-map, take_min, map-append}
 use Rattle.std.proofs.lemmas.List.Elements.{filter-append}
 use Rattle.std.specs.Cmp.Lexicographic.{nat_list_eq_equiv}
 use Rattle.jmodel.specs.declared.name.MethodName.{MethodName}
@@ -42,6 +42,13 @@ module _ (f : ClassFile → List Declared) (p : ClassFile → Bool) where
   kind_next classes i c inside is =
       ap kind (map_next (λ (k : Bor ClassFile). k.now) classes i c inside is) ∙ ap (flat_map f) (filter-append p (seen (take i classes)) (c.now ∷ []))
       ∙ flat_map-append f (filter p (seen (take i classes))) (filter p (c.now ∷ []))
+
+  -- marked ones so far, and those of one more class
+  pub marked_next : (mark : Declared → Declared × Bool) (front all : List (Declared × Bool)) (classes : List (Bor ClassFile)) (i : ℕ) (c : Bor ClassFile) → i < length classes → c ≡ get_or classes i c
+      → front ≡ map mark (kind (seen (take i classes))) → all ≡ front ++ map mark (kind (c.now ∷ [])) → all ≡ map mark (kind (seen (take (i + 1) classes)))
+  marked_next mark front all classes i c inside is so_far more =
+      more ∙ ap (λ (l : List (Declared × Bool)). l ++ map mark (kind (c.now ∷ []))) so_far ∙ sym (map-append mark (kind (seen (take i classes))) (kind (c.now ∷ [])))
+      ∙ ap (map mark) (sym (kind_next classes i c inside is))
 
   pub kept : (c : ClassFile) → p c ≡ true → kind (c ∷ []) ≡ f c
   kept c e = ap (λ (b : Bool). flat_map f (cond b (c ∷ []) [])) e ∙ append-nil (f c)

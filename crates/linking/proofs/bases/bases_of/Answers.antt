@@ -1,4 +1,5 @@
-use Rattle.std.proofs.Common.{◌≡◌, ◌+◌, [], ◌∷◌, length-append, arith}
+use Rattle.std.proofs.Common.{◌≡◌, ◌+◌, length, [], ◌∷◌, length-append, arith}
+use Rattle.std.proofs.lemmas.List.{length-map}
 use Rattle.std.proofs.lemmas.Result.{IfOk-from_err}
 use Rattle.objects.specs.linking.StaticBases.{base_of}
 use Rattle.hierarchy.proofs.InOrder.{seen}
@@ -27,3 +28,15 @@ returns-in_err-base_words c = IfOk-from_err _ _ c.from_residual-in_err-base_word
 
 pub returns-in_err-base : goal.returns-in_err-base
 returns-in_err-base c = IfOk-from_err _ _ c.from_residual-in_err-base.ensures.0
+
+pub returns : goal.returns
+returns c =
+    let classes = c.args.classes.now in
+    let i = c.loop-class.class-index in
+    let inv = c.loop-class.invariant in
+    let long : length (seen classes) ≡ length classes = length-map _ _ in
+    let whole : i ≡ length (seen classes) = omega (arith, long, c.loop-class-test.false, c.loop-class.auto.class-index-end) in
+    rw c.in_ok-push-2.ensures.items (record {
+      many = omega (arith, length-append c.loop-class.bases.items (c.loop-class.base ∷ []), inv.many, whole);
+      each = λ n inside. one_more c.loop-class.bases.items (base_of (seen classes)) i c.loop-class.base inv.many inv.each inv.next n (omega (arith, inside, whole));
+    })
