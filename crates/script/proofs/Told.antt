@@ -1,5 +1,5 @@
 -- What a refusal says of the rules behind it.
-use Rattle.std.proofs.Common.{Bool, Result, Ok, Err, refl}
+use Rattle.std.proofs.Common.{◌≡◌, Bool, Result, Ok, Err, refl}
 use Rattle.jmodel.specs.declared.refusal.Refusal.{Refusal}
 use Rattle.jmodel.specs.declared.refusal.Halt.{Halt}
 use Rattle.jmodel.specs.declared.refusal.Halt.TheVariants as halts
@@ -20,3 +20,7 @@ last_test y (Err h) b r told = test_fails b r (Ok y) h told
 pub first_fails : {A B : Type 0} (x : Result A Refusal) (f : A → Result B Refusal) (h : Halt) → Fails h x → Fails h (x >>= f)
 first_fails x f halts.NoMemory fails = tt
 first_fails x f (halts.Refused e) fails = rw fails refl
+
+-- what has a value gives what follows from that value
+pub goes_on : {A B X : Type 0} (view : X → B) (x : Result A Refusal) (f : A → Result B Refusal) (a : A) (o : Result X Halt) → x ≡ Ok a → Gives view o (f a) → Gives view o (x >>= f)
+goes_on view x f a o gives behind = rw gives behind

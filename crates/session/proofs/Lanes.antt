@@ -178,3 +178,7 @@ module _ (S : List Entry → ℕ → Log → Log → Type 0) (room : Room) (at h
       let parts = subst At (sym count) there in
       lane_more at used calls h adds.added old new c adds.told_of new.used made parts.0 parts.1 parts.2 adds.record_is adds.are
       (subst (λ (m : ℕ). Takes m old.used adds.added new.used) region adds.takes) adds.grows
+
+-- the call that is named is this one
+pub same_call : (room other : Room) (here there : Place) (c d : Known) → other ≡ room → there ≡ here → d ≡ c → call_of room here c ≡ call_of other there d
+same_call room other here there c d rooms places calls = rw (rooms, places, calls) refl

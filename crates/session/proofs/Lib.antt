@@ -11,3 +11,4 @@ pub mod Longer
 pub mod Either
 pub mod Telling
 pub mod Tried
+mod Counts

@@ -117,3 +117,18 @@ returns-then-is_spent-clause-prefixes g c = λ h n stands leads.
     let spent : is_spent one.answer ≡ true = sym c.is_spent.ensures ∙ c.if-is_spent.true in
     let unused = spent_one self.original.now self.rewritten.now (bounds_with self.limits old.used) S h n self.limits.room c.args.at k one used old old refl adds spent in
     (one, used, (spent, refl, unused), subst Sees c.with_used-making.ensures (c.make_next-one.ensures.prefixes h n stands) leads)
+
+pub make_next-one-requires-clause-ready : goal.make_next-one-requires-clause-ready
+make_next-one-requires-clause-ready g c = rw c.with_used-making.ensures c.requires.ready
+
+pub make_next-one-requires-clause-call : goal.make_next-one-requires-clause-call
+make_next-one-requires-clause-call g c = rw c.with_used-making.ensures c.requires.call
+
+pub make_next-one-requires-clause-region : goal.make_next-one-requires-clause-region
+make_next-one-requires-clause-region g c = rw c.with_used-making.ensures c.requires.region
+
+pub make_next-one-requires-clause-awaits : goal.make_next-one-requires-clause-awaits
+make_next-one-requires-clause-awaits g c = rw c.with_used-making.ensures c.requires.awaits
+
+pub make_next-one-requires-clause-clock : goal.make_next-one-requires-clause-clock
+make_next-one-requires-clause-clock g c = c.requires.clock
