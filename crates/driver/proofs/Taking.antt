@@ -77,6 +77,10 @@ pub record Resting (n : ℕ) (old v : Claims) (rest : List ℕ) : Type 0 where
   pub kept_are : filter (λ i. nat_lt i n) v.indexes ≡ filter (λ i. nat_lt i n) old.indexes ++ rest
   pub few : length v.indexes ≤ 16 * (n + 1)
 
+-- it made none yet
+pub resting_first : (n : ℕ) (v : Claims) → IsGathered v → length v.indexes ≤ 16 * (n + 1) → Resting n v v []
+resting_first n v gathered few = record { gathered = gathered; kept_are = sym (append-nil (filter (λ i. nat_lt i n) v.indexes)); few = few }
+
 pub resting_more : (n i : ℕ) (old v w : Claims) (rest next : List ℕ) → HasClaimed n v w (Some i) → next ≡ rest ++ i ∷ [] → 0 < v.left → Resting n old v rest
     → Resting n old w next
 resting_more n i old v w rest next claim pushed some r =

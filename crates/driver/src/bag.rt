@@ -11,7 +11,7 @@ ghost use Rattle.driver.specs.Passing.{AreUsed, IsWhole, HasRoom, IsMidway};
 ghost use Rattle.driver.specs.Telling.{AreTold, IsCallAt};
 
 use crate::run::Runner;
-use crate::side::{Kept, Side, keep_used};
+use crate::side::{Kept, Side};
 use crate::table::{Keeping, Opening, start_lanes};
 use crate::threads::gather;
 use script::Known;
@@ -54,8 +54,7 @@ impl<'a> Runner<'a> {
     {
         let starts = start_lanes(self.alloc, shared, pass, workers, &kept.used)?;
         let (ends, taken) = self.run_workers(rt, shared, phase, calls, starts, &mut kept.gates)?;
-        let side = gather(self.alloc, shared, pass, ends)?;
-        keep_used(&mut kept.used, side.parts.as_slice());
+        let side = gather(self.alloc, shared, pass, ends, &mut kept.used)?;
         Ok((side, taken))
     }
 }

@@ -18,11 +18,10 @@ ghost use Rattle.driver.specs.Telling.{AreTold, IsCallAt, TellsPhase};
 
 use crate::journal::Records;
 use crate::memory::LANES;
-use crate::order::sort_placed;
 use crate::run::Runner;
 use crate::side::{Kept, Part, Side};
 use crate::table::{Keeping, Opening};
-use crate::taken::{by_lane, number};
+use crate::taken::by_lane;
 use script::{Calls, Known, LaneCalls, PhaseCalls};
 use session::Gate;
 use std::alloc::{AllocError, Global};
@@ -148,9 +147,7 @@ impl<'a> Runner<'a> {
         let by_worker = by_lane(self.alloc, bag, &taken)?;
         let mut made = Records::new(self.alloc);
         let left = self.add_rest(shared, pass, first, phase, &by_worker, kept, &mut made)?;
-        number(&mut made.placed, &taken);
-        number(&mut made.unplaced, &taken);
-        journal.append(made)?;
+        journal.append(made, &taken)?;
         Ok(left)
     }
 
@@ -218,11 +215,8 @@ impl<'a> Runner<'a> {
             → IfOk result (λ _. TellsPhase self.now.rewritten.now self.now.limits phase (ALanes lanes.now) journal.old.placed.items journal.new.placed.items before (map G.told kept.new.gates.items)) }
     {
         let firsts = made_counts(self.alloc, &first.parts)?;
-        let (mut rest, left) = self.one_after_another(shared, pass, phase, lanes, &firsts, kept)?;
-        let mut placed = first.placed;
-        placed.append(&mut rest.placed)?;
-        sort_placed(&mut placed)?;
-        journal.add_phase(placed, first.parts, rest.parts)?;
+        let (rest, left) = self.one_after_another(shared, pass, phase, lanes, &firsts, kept)?;
+        journal.add_phase(first, rest)?;
         Ok(left)
     }
 

@@ -17,7 +17,7 @@ ghost use Rattle.session.specs.Telling.{IsRecordOf, HasTold};
 ghost use Rattle.driver.specs.Telling.{AreTold, IsCallAt};
 
 use crate::run::Runner;
-use crate::side::{Kept, Part, Side};
+use crate::side::{Kept, Side};
 use crate::table::{Keeping, Opening};
 use script::{Known, LaneCalls};
 use session::{Gate, Lane, Limits as CallLimits, Making, Place};
@@ -57,8 +57,10 @@ impl<'a> Runner<'a> {
         ensures used { IfOk result (λ r. AreUsed kept.new.used (book r.1)) }
         ensures told { IfOk result (λ r. AreTold self.now.rewritten.now self.now.limits (IsCallAt phase (Lanes lanes.now)) (length lanes.now) r.0.placed.items (map G.told kept.old.gates.items) (map G.told kept.new.gates.items)) }
     {
-        let mut placed = Vec::new(self.alloc);
-        let mut parts = Vec::new(self.alloc);
+        let mut side = Side {
+            placed: Vec::new(self.alloc),
+            parts: Vec::new(self.alloc),
+        };
         let mut pass = pass;
         for (number, lane) in lanes.iter().enumerate() {
             let first = firsts[number];
@@ -77,22 +79,11 @@ impl<'a> Runner<'a> {
                 gate,
             )?;
             kept.gates.insert(number, gate)?;
-            let Lane {
-                placed: mut more,
-                unplaced,
-                made,
-                used: taken,
-            } = made;
-            placed.append(&mut more)?;
-            parts.push(Part {
-                made,
-                used: taken,
-                unplaced,
-            })?;
-            kept.used[number] = taken;
+            kept.used[number] = made.used;
+            side.add(made)?;
             pass = left;
         }
-        Ok((Side { placed, parts }, pass))
+        Ok((side, pass))
     }
 }
 

@@ -1,9 +1,9 @@
 //! What a part of a phase's calls leaves.
-ghost use Rattle.std.specs.Prelude.{◌≡◌, ◌<◌, ◌≤◌, ℕ, ◌∷◌, IfOk, length, slice_index, slice_index_or};
+ghost use Rattle.std.specs.Prelude.{◌≡◌, ◌<◌, ◌≤◌, ℕ, [], ◌∷◌, ◌++◌, IfOk, OnOk, length, slice_index, slice_index_or};
 ghost use Rattle.driver.specs.declared.side.Part.{Part as Left};
 
 use crate::memory::LANES;
-use session::Record;
+use session::{Lane, Record};
 use std::alloc::{AllocError, Global};
 
 /// The calls of a lane that were made.
@@ -24,6 +24,28 @@ pub(crate) struct Side {
     pub placed: Vec<Record>,
     /// For each lane how many, and which ran out of memory.
     pub parts: Vec<Part>,
+}
+
+impl Side {
+    /// Adds the calls of one lane more.
+    pub(crate) fn add(&mut self, lane: Lane) -> Result<(), AllocError>
+        ensures placed { OnOk result (self.new.placed.items ≡ self.old.placed.items ++ lane.placed.items) }
+        ensures parts { OnOk result (self.new.parts.items ≡ self.old.parts.items ++ (record { made = lane.made; used = lane.used; unplaced = lane.unplaced }) ∷ []) }
+    {
+        let Lane {
+            mut placed,
+            unplaced,
+            made,
+            used,
+        } = lane;
+        self.placed.append(&mut placed)?;
+        self.parts.push(Part {
+            made,
+            used,
+            unplaced,
+        })?;
+        Ok(())
+    }
 }
 
 /// What lanes keep from phase to phase.

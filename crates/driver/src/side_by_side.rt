@@ -11,7 +11,7 @@ ghost use Rattle.driver.specs.Passing.{AreUsed, call_count, IsWhole, HasRoom, Is
 ghost use Rattle.driver.specs.Telling.{AreTold, IsCallAt};
 
 use crate::run::Runner;
-use crate::side::{Kept, Side, keep_used};
+use crate::side::{Kept, Side};
 use crate::table::{Keeping, Opening, start_lanes};
 use crate::threads::gather;
 use script::LaneCalls;
@@ -51,8 +51,6 @@ impl<'a> Runner<'a> {
     {
         let starts = start_lanes(self.alloc, shared, pass, lanes.len() as u8, &kept.used)?;
         let ends = self.run_all(rt, shared, phase, lanes, starts, &mut kept.gates)?;
-        let side = gather(self.alloc, shared, pass, ends)?;
-        keep_used(&mut kept.used, side.parts.as_slice());
-        Ok(side)
+        gather(self.alloc, shared, pass, ends, &mut kept.used)
     }
 }

@@ -1,5 +1,5 @@
 //! The lanes of a phase on threads, over one table.
-ghost use Rattle.std.specs.Prelude.{◌≡◌, ◌≢◌, ◌≤◌, ◌<◌, ℕ, List, [], length, map, slice_index_or, IfOk};
+ghost use Rattle.std.specs.Prelude.{◌≡◌, ◌≢◌, ◌≤◌, ◌<◌, ℕ, List, [], length, map, slice_index_or, IfOk, OnOk};
 ghost use Rattle.std.specs.List.{AllByRecursion, flat_map};
 ghost use Rattle.jmodel.specs.history.History.{Entry};
 ghost use Rattle.tx_table.specs.Book.{Book};
@@ -7,13 +7,14 @@ ghost use Rattle.jmodel.specs.history.Schedule.{Known as Form, Phase};
 ghost use Rattle.tx_table.specs.Passes.{book};
 ghost use Rattle.driver.specs.Memory.{AreOfStates};
 ghost use Rattle.session.specs.Rule.{IsRuled, IsReady, IsCallOf};
-ghost use Rattle.driver.specs.Passing.{used_of, first_of, call_count, IsOfOne, AreStarting, HasEnded, HaveEnded, AreEnding, IsJoining};
+ghost use Rattle.driver.specs.Passing.{used_of, AreUsed, first_of, call_count, IsOfOne, AreStarting, HasEnded, HaveEnded, AreEnding, IsJoining};
 ghost use Rattle.session.specs.Passes.{HasSpent};
 ghost use Rattle.driver.specs.Telling.{kept_of, lane_limits, AreBegun, HasRunLane, HaveRunLanes, HaveTold};
 
 use crate::gates::{give_gates, take_gates};
+use crate::memory::LANES;
 use crate::run::Runner;
-use crate::side::{Part, Side};
+use crate::side::{Side, keep_used};
 use crate::table::{Keeping, Opening, Start};
 use script::LaneCalls;
 use session::{Gate, Lane, Making, Place};
@@ -126,35 +127,32 @@ impl<'a> Runner<'a> {
     }
 }
 
-/// Joins the passes of lanes that have ended, and gathers what is kept of their calls, lane by lane.
+/// Joins the passes of lanes that have ended, and gathers what is kept of their calls, lane by lane. Keeps how many words of its region each lane has used
+/// then.
 pub(crate) fn gather<K: Keeping>(
     alloc: Global,
     shared: &Shared<Opening<K>>,
     pass: &mut Pass,
     ends: Vec<End>,
+    used: &mut [u64; LANES],
 ) -> Result<Side, AllocError>
-    requires { (b : Book) × (phase : ℕ) × (lanes : Phase) × AreEnding shared.now.table.shared.table_id b phase lanes ends.items pass.old }
+    requires few { length ends.items ≤ 16 }
+    requires ending { (b : Book) × (phase : ℕ) × (lanes : Phase) × AreEnding shared.now.table.shared.table_id b phase lanes ends.items pass.old }
     ensures joining { (b : Book) (phase : ℕ) (lanes : Phase) → AreEnding shared.now.table.shared.table_id b phase lanes ends.items pass.old
         → IfOk result (λ side. IsJoining shared.now.table.shared.table_id b phase (length lanes) (call_count lanes) lanes side.placed.items side.parts.items pass.new) }
     ensures placed { IfOk result (λ side. side.placed.items ≡ flat_map kept_of ends.items) }
+    ensures used { (b : Book) (phase : ℕ) (lanes : Phase) → AreEnding shared.now.table.shared.table_id b phase lanes ends.items pass.old → AreUsed used.old b
+        → OnOk result (AreUsed used.new (book pass.new)) }
 {
-    let mut placed = Vec::new(alloc);
-    let mut parts = Vec::new(alloc);
+    let mut side = Side {
+        placed: Vec::new(alloc),
+        parts: Vec::new(alloc),
+    };
     for end in ends {
         let (lane, other) = end?;
         pass.join(shared, other);
-        let Lane {
-            placed: mut more,
-            unplaced,
-            made,
-            used,
-        } = lane;
-        placed.append(&mut more)?;
-        parts.push(Part {
-            made,
-            used,
-            unplaced,
-        })?;
+        side.add(lane)?;
     }
-    Ok(Side { placed, parts })
+    keep_used(used, side.parts.as_slice());
+    Ok(side)
 }

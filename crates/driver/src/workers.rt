@@ -1,5 +1,5 @@
 //! The workers of a bag on threads, over one table and one bag's claims.
-ghost use Rattle.std.specs.Prelude.{◌≡◌, ◌≢◌, ◌≤◌, ◌<◌, ◌+◌, ◌*◌, ◌^◌, ℕ, List, [], All, length, map, slice_index_or, IfOk, OnOk};
+ghost use Rattle.std.specs.Prelude.{◌≡◌, ◌≢◌, ◌≤◌, ◌<◌, ◌+◌, ◌*◌, ◌^◌, ◌++◌, ℕ, List, [], All, length, map, slice_index_or, IfOk, OnOk};
 ghost use Rattle.std.specs.List.{AllByRecursion};
 ghost use Rattle.atomic_table.specs.Seated.{TableId};
 ghost use Rattle.jmodel.specs.history.History.{Entry};
@@ -198,17 +198,16 @@ fn collect(
     Ok((lanes, indexes))
 }
 
-/// Claims what is left of a bag.
-fn claim_rest(alloc: Global, bag: &Bag, claims: &mut BagPass) -> Result<Vec<u32>, AllocError>
+/// Claims what is left of a bag, and adds it to what a worker took.
+fn claim_rest(bag: &Bag, claims: &mut BagPass, taken: &mut Vec<u32>) -> Result<(), AllocError>
     requires few { (bag.now.length ≤ 100000) × (length (claims_of claims.old).indexes ≤ 16 * (bag.now.length + 1)) }
     requires claims { IsOf bag.now claims.old × IsGathered (claims_of claims.old) }
-    ensures { IfOk result (λ rest. IsRest bag.now.length (claims_of claims.old) rest.items) }
+    ensures { OnOk result ((rest : List ℕ) × IsRest bag.now.length (claims_of claims.old) rest × (taken.new.items ≡ taken.old.items ++ rest)) }
 {
-    let mut rest = Vec::new(alloc);
     while let Some(index) = claims.claim(bag) {
-        rest.push(index)?;
+        taken.push(index)?;
     }
-    Ok(rest)
+    Ok(())
 }
 
 impl<'a> Runner<'a> {
@@ -246,8 +245,7 @@ impl<'a> Runner<'a> {
         let workers = give_claims(self.alloc, &bag, &mut claims, starts)?;
         let ends = self.work_all(rt, shared, phase, &bag, calls, workers, gates)?;
         let (ends, mut taken) = collect(self.alloc, &bag, &mut claims, ends)?;
-        let mut rest = claim_rest(self.alloc, &bag, &mut claims)?;
-        taken[0].append(&mut rest)?;
+        claim_rest(&bag, &mut claims, &mut taken[0])?;
         Ok((ends, taken))
     }
 }

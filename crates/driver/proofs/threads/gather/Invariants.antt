@@ -10,6 +10,6 @@ abbrev pub invariant-loop-end : goal.invariant-loop-end
 invariant-loop-end g l = record {
   joining : (b : Book) (phase : ℕ) (lanes : Phase) → AreEnding l.shared.table.shared.table_id b phase lanes l.fn.ends.items l.fn.pass
       → IsJoining l.shared.table.shared.table_id b phase (length l.fn.ends.items) (call_count (take (length l.yielded) lanes)) (take (length l.yielded) lanes)
-      l.placed.items l.parts.items l.pass;
-  placed : l.placed.items ≡ flat_map kept_of l.yielded;
+      l.side.placed.items l.side.parts.items l.pass;
+  placed : l.side.placed.items ≡ flat_map kept_of l.yielded;
 }

@@ -1,23 +1,12 @@
-use Rattle.std.specs.Vec.Iter.{into_iter_items}
-use Rattle.std.specs.Iterator.Adapters.{zip_first, zip_second}
-use Rattle.driver.proofs.Zipped.{joined_more, joined_all, zip_more, zip_end}
+use Rattle.std.proofs.Common.{List, ◌∙◌, subst}
+use Rattle.std.specs.Prelude.{IsPermutation}
+use Rattle.std.proofs.lemmas.Result.{on_ok_weaker}
+use Rattle.session.specs.declared.record.Record.{Record}
 use Rattle.driver.proofs.journal.Records.add_phase.Goals as goal
 
-pub returns-clause-unplaced : goal.returns-clause-unplaced
-returns-clause-unplaced c =
-    let s = c.loop-one.one-iterator in
-    joined_all c.loop-one.self.unplaced.items _ (into_iter_items (zip_first s)) (into_iter_items (zip_second s)) c.loop-one.invariant.unplaced
-    (zip_end s c.next.new.self c.next.result c.in-None.is c.next.ensures.steps)
-
-pub loop-one-preserved : goal.loop-one-preserved
-loop-one-preserved c =
-    let s = c.loop-one.one-iterator in
-    let t = c.next.new.self in
-    let both = zip_more s t c.next.result c.in-Some.one c.in-Some.other c.in-Some.is c.next.ensures.steps in
-    record {
-      placed = c.loop-one.invariant.placed;
-      unplaced = joined_more c.loop-one.self.unplaced.items c.append-in-loop-one.new.self.items c.append-in-loop-one-2.new.self.items _
-          (into_iter_items (zip_first s)) (into_iter_items (zip_first t)) (into_iter_items (zip_second s))
-          (into_iter_items (zip_second t)) c.in-Some.one c.in-Some.other
-          c.loop-one.invariant.unplaced both.0 both.1 c.in_ok-append-2.ensures.items c.in_ok-append-3.ensures.items;
-    }
+pub returns-clause-placed : goal.returns-clause-placed
+returns-clause-placed c =
+    let sorted = c.sort_placed.new.placed.items in
+    let moved = subst (λ (rs : List Record). IsPermutation rs sorted) c.in_ok-append.ensures.items c.in_ok-sort_placed.ensures.moved in
+    on_ok_weaker c.add_unplaced.result
+    (λ _. (sorted, moved, c.in_ok-sort_placed.ensures.sorted, c.add_unplaced.ensures.placed ∙ c.in_ok-append-2.ensures.items)) c.add_unplaced.ensures.unplaced

@@ -1,9 +1,7 @@
 use Rattle.std.proofs.Common.{◌≡◌, ◌≤◌, ℕ, List, length, get_or, sym, ◌∙◌, ap, subst}
-use Rattle.std.specs.Prelude.{IsPermutation}
 use Rattle.std.proofs.lemmas.Slice.Zip.{AllZip-long}
 use Rattle.jmodel.specs.history.Schedule.{Known}
 use Rattle.tx_table.specs.Passes.{book}
-use Rattle.session.specs.declared.record.Record.{Record}
 use Rattle.session.specs.Passes.{behind}
 use Rattle.driver.specs.Sides.{AreWhole, made_counts}
 use Rattle.driver.specs.Passing.{MayGoOn, first_of, call_count, IsResting}
@@ -84,11 +82,10 @@ returns-clause-adds g c = λ b m.
     let Resting : List ℕ → Type 0 =
     λ ns. IsResting t (book c.args.pass) c.args.phase (call_count lanes) lanes ns rest.placed.items rest.parts.items left in
     let resting = subst Resting counts c.in_ok-rest.ensures.made in
-    let sorted = c.sort_placed.new.placed.items in
+    let sorted = c.in_ok-add_phase.ensures.placed in
     let whole = subst (λ (ns : List ℕ). AreWhole lanes ns rest.parts.items) counts c.in_ok-rest.ensures.whole in
-    let moved = subst (λ (rs : List Record). IsPermutation rs sorted) c.in_ok-append.ensures.items c.in_ok-sort_placed.ensures.moved in
-    phase_added t c.args.phase b lanes first rest.placed.items sorted rest.parts.items c.args.pass left c.args.journal.now c.add_phase.new.self c.requires.lanes m resting
-    whole moved c.in_ok-sort_placed.ensures.sorted c.in_ok-add_phase.ensures.placed c.in_ok-add_phase.ensures.unplaced
+    phase_added t c.args.phase b lanes first rest.placed.items sorted.0 rest.parts.items c.args.pass left c.args.journal.now c.add_phase.new.self c.requires.lanes m resting
+    whole sorted.1 sorted.2 sorted.3 c.in_ok-add_phase.ensures.unplaced
 
 pub returns-clause-told : goal.returns-clause-told
 returns-clause-told g c = λ b before m told.
@@ -103,73 +100,12 @@ returns-clause-told g c = λ b before m told.
     let Resting : List ℕ → Type 0 =
     λ ns. IsResting t (book c.args.pass) c.args.phase (call_count lanes) lanes ns rest.placed.items rest.parts.items left in
     let resting = subst Resting counts c.in_ok-rest.ensures.made in
-    let sorted = c.sort_placed.new.placed.items in
+    let sorted = c.in_ok-add_phase.ensures.placed in
     let whole = subst (λ (ns : List ℕ). AreWhole lanes ns rest.parts.items) counts c.in_ok-rest.ensures.whole in
-    let moved = subst (λ (rs : List Record). IsPermutation rs sorted) c.in_ok-append.ensures.items c.in_ok-sort_placed.ensures.moved in
     let gathered = m.joining.gathered in
-    told_phase Q limits c.args.phase lanes first.placed.items rest.placed.items sorted _ _ before _ _ told c.in_ok-rest.ensures.told moved c.in_ok-add_phase.ensures.placed
+    told_phase Q limits c.args.phase lanes first.placed.items rest.placed.items sorted.0 _ _ before _ _ told c.in_ok-rest.ensures.told sorted.1 sorted.3
     (lanes_rise c.args.phase lanes first.placed.items rest.placed.items gathered.tolds resting.over.tolds first.parts.items rest.parts.items gathered.parts_are resting.over.parts_are whole
     gathered.placed_are resting.over.placed_are)
-
-pub returns-in_err-firsts-clause-whole : goal.returns-in_err-firsts-clause-whole
-returns-in_err-firsts-clause-whole g c = IfOk-from_err _ _ c.from_residual.ensures.0
-
-pub returns-in_err-firsts-clause-used : goal.returns-in_err-firsts-clause-used
-returns-in_err-firsts-clause-used g c = IfOk-from_err _ _ c.from_residual.ensures.0
-
-pub returns-in_err-firsts-clause-adds : goal.returns-in_err-firsts-clause-adds
-returns-in_err-firsts-clause-adds g c = λ _ _. IfOk-from_err _ _ c.from_residual.ensures.0
-
-pub returns-in_err-firsts-clause-told : goal.returns-in_err-firsts-clause-told
-returns-in_err-firsts-clause-told g c = λ _ _ _ _. IfOk-from_err _ _ c.from_residual.ensures.0
-
-pub returns-in_err-rest-clause-whole : goal.returns-in_err-rest-clause-whole
-returns-in_err-rest-clause-whole g c = IfOk-from_err _ _ c.from_residual-in_err-rest.ensures.0
-
-pub returns-in_err-rest-clause-used : goal.returns-in_err-rest-clause-used
-returns-in_err-rest-clause-used g c = IfOk-from_err _ _ c.from_residual-in_err-rest.ensures.0
-
-pub returns-in_err-rest-clause-adds : goal.returns-in_err-rest-clause-adds
-returns-in_err-rest-clause-adds g c = λ _ _. IfOk-from_err _ _ c.from_residual-in_err-rest.ensures.0
-
-pub returns-in_err-rest-clause-told : goal.returns-in_err-rest-clause-told
-returns-in_err-rest-clause-told g c = λ _ _ _ _. IfOk-from_err _ _ c.from_residual-in_err-rest.ensures.0
-
-pub returns-in_err-append-clause-whole : goal.returns-in_err-append-clause-whole
-returns-in_err-append-clause-whole g c = IfOk-from_err _ _ c.from_residual-in_err-append.ensures.0
-
-pub returns-in_err-append-clause-used : goal.returns-in_err-append-clause-used
-returns-in_err-append-clause-used g c = IfOk-from_err _ _ c.from_residual-in_err-append.ensures.0
-
-pub returns-in_err-append-clause-adds : goal.returns-in_err-append-clause-adds
-returns-in_err-append-clause-adds g c = λ _ _. IfOk-from_err _ _ c.from_residual-in_err-append.ensures.0
-
-pub returns-in_err-append-clause-told : goal.returns-in_err-append-clause-told
-returns-in_err-append-clause-told g c = λ _ _ _ _. IfOk-from_err _ _ c.from_residual-in_err-append.ensures.0
-
-pub returns-in_err-sort_placed-clause-whole : goal.returns-in_err-sort_placed-clause-whole
-returns-in_err-sort_placed-clause-whole g c = IfOk-from_err _ _ c.from_residual-in_err-sort_placed.ensures.0
-
-pub returns-in_err-sort_placed-clause-used : goal.returns-in_err-sort_placed-clause-used
-returns-in_err-sort_placed-clause-used g c = IfOk-from_err _ _ c.from_residual-in_err-sort_placed.ensures.0
-
-pub returns-in_err-sort_placed-clause-adds : goal.returns-in_err-sort_placed-clause-adds
-returns-in_err-sort_placed-clause-adds g c = λ _ _. IfOk-from_err _ _ c.from_residual-in_err-sort_placed.ensures.0
-
-pub returns-in_err-sort_placed-clause-told : goal.returns-in_err-sort_placed-clause-told
-returns-in_err-sort_placed-clause-told g c = λ _ _ _ _. IfOk-from_err _ _ c.from_residual-in_err-sort_placed.ensures.0
-
-pub returns-in_err-add_phase-clause-whole : goal.returns-in_err-add_phase-clause-whole
-returns-in_err-add_phase-clause-whole g c = IfOk-from_err _ _ c.from_residual-in_err-add_phase.ensures.0
-
-pub returns-in_err-add_phase-clause-used : goal.returns-in_err-add_phase-clause-used
-returns-in_err-add_phase-clause-used g c = IfOk-from_err _ _ c.from_residual-in_err-add_phase.ensures.0
-
-pub returns-in_err-add_phase-clause-adds : goal.returns-in_err-add_phase-clause-adds
-returns-in_err-add_phase-clause-adds g c = λ _ _. IfOk-from_err _ _ c.from_residual-in_err-add_phase.ensures.0
-
-pub returns-in_err-add_phase-clause-told : goal.returns-in_err-add_phase-clause-told
-returns-in_err-add_phase-clause-told g c = λ _ _ _ _. IfOk-from_err _ _ c.from_residual-in_err-add_phase.ensures.0
 
 pub one_after_another-requires-clause-ready : goal.one_after_another-requires-clause-ready
 one_after_another-requires-clause-ready g c = c.requires.ready
@@ -203,3 +139,33 @@ one_after_another-requires-clause-gates g c = c.requires.gates
 
 pub returns-clause-used : goal.returns-clause-used
 returns-clause-used g c = c.in_ok-rest.ensures.used
+
+pub returns-in_err-firsts : goal.returns-in_err-firsts
+returns-in_err-firsts g c =
+    let none = c.from_residual.ensures.0 in
+    record {
+      whole = IfOk-from_err _ _ none;
+      used = IfOk-from_err _ _ none;
+      adds = λ _ _. IfOk-from_err _ _ none;
+      told = λ _ _ _ _. IfOk-from_err _ _ none;
+    }
+
+pub returns-in_err-rest : goal.returns-in_err-rest
+returns-in_err-rest g c =
+    let none = c.from_residual-in_err-rest.ensures.0 in
+    record {
+      whole = IfOk-from_err _ _ none;
+      used = IfOk-from_err _ _ none;
+      adds = λ _ _. IfOk-from_err _ _ none;
+      told = λ _ _ _ _. IfOk-from_err _ _ none;
+    }
+
+pub returns-in_err-add_phase : goal.returns-in_err-add_phase
+returns-in_err-add_phase g c =
+    let none = c.from_residual-in_err-add_phase.ensures.0 in
+    record {
+      whole = IfOk-from_err _ _ none;
+      used = IfOk-from_err _ _ none;
+      adds = λ _ _. IfOk-from_err _ _ none;
+      told = λ _ _ _ _. IfOk-from_err _ _ none;
+    }

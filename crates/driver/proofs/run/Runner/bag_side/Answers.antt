@@ -1,14 +1,13 @@
-use Rattle.std.proofs.Common.{ℕ, ◌≡◌, length, map, sym, ◌∙◌, subst, arith}
+use Rattle.std.proofs.Common.{ℕ, ◌≡◌, ◌≤◌, length, map, sym, ◌∙◌, subst, arith}
 use Rattle.std.proofs.lemmas.List.{length-map}
 use Rattle.std.proofs.lemmas.List.Folds.{flat_map-map}
 use Rattle.driver.specs.Telling.{kept_of}
 use Rattle.driver.proofs.Told.{told_side}
 use Rattle.tx_table.specs.Passes.{book}
 use Rattle.driver.specs.Bags.{lists, as_lanes}
-use Rattle.driver.specs.Passing.{call_count, HasRoom}
+use Rattle.driver.specs.Passing.{HasRoom}
 use Rattle.driver.proofs.Bags.{count_in_bag}
-use Rattle.driver.proofs.Midway.{room_within, ending_of, midway_of, joined_long}
-use Rattle.driver.proofs.Passing.{used_back}
+use Rattle.driver.proofs.Midway.{room_within, ending_of, midway_of}
 use Rattle.driver.proofs.Working.{lanes_long}
 use Rattle.std.proofs.lemmas.Result.{IfOk-from_err}
 use Rattle.driver.proofs.run.Runner.bag_side.Goals as goal
@@ -22,8 +21,8 @@ start_lanes-requires-clause-room g c = room_within 0 (length c.args.calls.now) (
 pub run_workers-requires-clause-starts : goal.run_workers-requires-clause-starts
 run_workers-requires-clause-starts g c = λ κs lives. ((book c.args.pass.now).seen, c.in_ok-starts.ensures.starts c.args.phase c.requires.pass)
 
-pub gather-requires : goal.gather-requires
-gather-requires g c =
+pub gather-requires-clause-ending : goal.gather-requires-clause-ending
+gather-requires-clause-ending g c =
     let t = c.args.shared.now.table.shared.table_id in
     let b = book c.args.pass.now in
     let taken = lists c.in_ok-ends.taken.items in
@@ -53,41 +52,6 @@ returns-clause-midway g c =
     ending_of t b c.args.phase c.args.workers lanes c.in_ok-ends.ends.items c.start_lanes.new.pass room whole c.in_ok-starts.ensures.pass ended in
     midway_of t c.args.phase lanes c.in_ok-side.side p c.gather.new.pass c.requires.pass room (c.in_ok-side.ensures.joining b c.args.phase lanes ending)
 
-pub keep_used-requires : goal.keep_used-requires
-keep_used-requires g c =
-    let t = c.args.shared.now.table.shared.table_id in
-    let b = book c.args.pass.now in
-    let taken = lists c.in_ok-ends.taken.items in
-    let lanes = as_lanes c.args.calls.now taken in
-    let ended = c.in_ok-ends.ensures.ended b.seen (c.in_ok-starts.ensures.starts c.args.phase c.requires.pass) in
-    let room = subst (λ (n : ℕ). HasRoom n b) (sym (count_in_bag c.args.calls.now taken c.in_ok-ends.ensures.taken)) c.requires.room in
-    let long = lanes_long c.args.calls.now c.in_ok-ends.taken.items in
-    let whole : c.args.workers ≡ length lanes = omega (arith, long, c.in_ok-ends.ensures.len, c.in_ok-starts.ensures.len) in
-    let ending =
-    ending_of t b c.args.phase c.args.workers lanes c.in_ok-ends.ends.items c.start_lanes.new.pass room whole c.in_ok-starts.ensures.pass ended in
-    let j = c.in_ok-side.ensures.joining b c.args.phase lanes ending in
-    let as_many = joined_long t b c.args.phase lanes c.in_ok-side.side c.gather.new.pass j in
-    rw c.as_slice.ensures.value (omega (arith, as_many, whole, c.requires.workers.1))
-
-pub returns-clause-used : goal.returns-clause-used
-returns-clause-used g c =
-    let t = c.args.shared.now.table.shared.table_id in
-    let b = book c.args.pass.now in
-    let taken = lists c.in_ok-ends.taken.items in
-    let lanes = as_lanes c.args.calls.now taken in
-    let ended = c.in_ok-ends.ensures.ended b.seen (c.in_ok-starts.ensures.starts c.args.phase c.requires.pass) in
-    let room = subst (λ (n : ℕ). HasRoom n b) (sym (count_in_bag c.args.calls.now taken c.in_ok-ends.ensures.taken)) c.requires.room in
-    let long = lanes_long c.args.calls.now c.in_ok-ends.taken.items in
-    let whole : c.args.workers ≡ length lanes = omega (arith, long, c.in_ok-ends.ensures.len, c.in_ok-starts.ensures.len) in
-    let ending =
-    ending_of t b c.args.phase c.args.workers lanes c.in_ok-ends.ends.items c.start_lanes.new.pass room whole c.in_ok-starts.ensures.pass ended in
-    let j = c.in_ok-side.ensures.joining b c.args.phase lanes ending in
-    let as_many = joined_long t b c.args.phase lanes c.in_ok-side.side c.gather.new.pass j in
-    let kept = rw c.as_slice.ensures.value at c.keep_used.ensures.lanes in
-    let others = rw c.as_slice.ensures.value at c.keep_used.ensures.others in
-    used_back t b c.args.phase (call_count lanes) lanes c.in_ok-side.side.placed.items c.in_ok-side.side.parts.items c.gather.new.pass c.args.kept.now.used
-    c.keep_used.new.used j c.requires.used as_many kept others
-
 pub returns-clause-told : goal.returns-clause-told
 returns-clause-told g c =
     let Q = c.args.self.now.rewritten.now in
@@ -102,47 +66,90 @@ returns-clause-told g c =
     told_side Q limits c.args.phase lanes (map kept_of ends) c.in_ok-side.side.placed.items c.args.workers _ _ c.in_ok-ends.ensures.told
     (c.in_ok-side.ensures.placed ∙ sym (flat_map-map (λ rs. rs) kept_of ends)) many
 
-pub returns-in_err-starts-clause-len : goal.returns-in_err-starts-clause-len
-returns-in_err-starts-clause-len g c = IfOk-from_err _ _ c.from_residual.ensures.0
+pub run_workers-requires-clause-ready : goal.run_workers-requires-clause-ready
+run_workers-requires-clause-ready g c = λ κs lives. c.requires.ready
 
-pub returns-in_err-starts-clause-taken : goal.returns-in_err-starts-clause-taken
-returns-in_err-starts-clause-taken g c = IfOk-from_err _ _ c.from_residual.ensures.0
+pub run_workers-requires-clause-calls : goal.run_workers-requires-clause-calls
+run_workers-requires-clause-calls g c = λ κs lives. c.requires.calls
 
-pub returns-in_err-starts-clause-midway : goal.returns-in_err-starts-clause-midway
-returns-in_err-starts-clause-midway g c = IfOk-from_err _ _ c.from_residual.ensures.0
+pub run_workers-requires-clause-few : goal.run_workers-requires-clause-few
+run_workers-requires-clause-few g c = λ κs lives. c.requires.few
 
-pub returns-in_err-starts-clause-used : goal.returns-in_err-starts-clause-used
-returns-in_err-starts-clause-used g c = IfOk-from_err _ _ c.from_residual.ensures.0
+pub run_workers-requires-clause-attempts : goal.run_workers-requires-clause-attempts
+run_workers-requires-clause-attempts g c = λ κs lives. c.requires.attempts
 
-pub returns-in_err-starts-clause-told : goal.returns-in_err-starts-clause-told
-returns-in_err-starts-clause-told g c = IfOk-from_err _ _ c.from_residual.ensures.0
+pub run_workers-requires-clause-room_size : goal.run_workers-requires-clause-room_size
+run_workers-requires-clause-room_size g c = λ κs lives. c.requires.room_size
 
-pub returns-in_err-ends-clause-len : goal.returns-in_err-ends-clause-len
-returns-in_err-ends-clause-len g c = IfOk-from_err _ _ c.from_residual-in_err-ends.ensures.0
+pub run_workers-requires-clause-rule : goal.run_workers-requires-clause-rule
+run_workers-requires-clause-rule g c = λ κs lives. c.requires.rule
 
-pub returns-in_err-ends-clause-taken : goal.returns-in_err-ends-clause-taken
-returns-in_err-ends-clause-taken g c = IfOk-from_err _ _ c.from_residual-in_err-ends.ensures.0
+pub run_workers-requires-clause-states : goal.run_workers-requires-clause-states
+run_workers-requires-clause-states g c = λ κs lives. c.requires.states
 
-pub returns-in_err-ends-clause-midway : goal.returns-in_err-ends-clause-midway
-returns-in_err-ends-clause-midway g c = IfOk-from_err _ _ c.from_residual-in_err-ends.ensures.0
+pub run_workers-requires-clause-some : goal.run_workers-requires-clause-some
+run_workers-requires-clause-some g c = λ κs lives.
+    subst (λ (n : ℕ). (1 ≤ n) × (n ≤ 16)) (sym c.in_ok-starts.ensures.len) c.requires.workers
 
-pub returns-in_err-ends-clause-used : goal.returns-in_err-ends-clause-used
-returns-in_err-ends-clause-used g c = IfOk-from_err _ _ c.from_residual-in_err-ends.ensures.0
+pub run_workers-requires-clause-gates : goal.run_workers-requires-clause-gates
+run_workers-requires-clause-gates g c = λ κs lives. omega (arith, c.in_ok-starts.ensures.len, c.requires.workers.1, c.requires.gates)
 
-pub returns-in_err-ends-clause-told : goal.returns-in_err-ends-clause-told
-returns-in_err-ends-clause-told g c = IfOk-from_err _ _ c.from_residual-in_err-ends.ensures.0
+pub returns-clause-len : goal.returns-clause-len
+returns-clause-len g c = c.in_ok-ends.ensures.len ∙ c.in_ok-starts.ensures.len
 
-pub returns-in_err-side-clause-len : goal.returns-in_err-side-clause-len
-returns-in_err-side-clause-len g c = IfOk-from_err _ _ c.from_residual-in_err-side.ensures.0
+pub returns-clause-taken : goal.returns-clause-taken
+returns-clause-taken g c = c.in_ok-ends.ensures.taken
 
-pub returns-in_err-side-clause-taken : goal.returns-in_err-side-clause-taken
-returns-in_err-side-clause-taken g c = IfOk-from_err _ _ c.from_residual-in_err-side.ensures.0
+pub returns-in_err-starts : goal.returns-in_err-starts
+returns-in_err-starts g c =
+    let none = c.from_residual.ensures.0 in
+    record {
+      len = IfOk-from_err _ _ none;
+      taken = IfOk-from_err _ _ none;
+      midway = IfOk-from_err _ _ none;
+      used = IfOk-from_err _ _ none;
+      told = IfOk-from_err _ _ none;
+    }
 
-pub returns-in_err-side-clause-midway : goal.returns-in_err-side-clause-midway
-returns-in_err-side-clause-midway g c = IfOk-from_err _ _ c.from_residual-in_err-side.ensures.0
+pub returns-in_err-ends : goal.returns-in_err-ends
+returns-in_err-ends g c =
+    let none = c.from_residual-in_err-ends.ensures.0 in
+    record {
+      len = IfOk-from_err _ _ none;
+      taken = IfOk-from_err _ _ none;
+      midway = IfOk-from_err _ _ none;
+      used = IfOk-from_err _ _ none;
+      told = IfOk-from_err _ _ none;
+    }
 
-pub returns-in_err-side-clause-used : goal.returns-in_err-side-clause-used
-returns-in_err-side-clause-used g c = IfOk-from_err _ _ c.from_residual-in_err-side.ensures.0
+pub returns-in_err-side : goal.returns-in_err-side
+returns-in_err-side g c =
+    let none = c.from_residual-in_err-side.ensures.0 in
+    record {
+      len = IfOk-from_err _ _ none;
+      taken = IfOk-from_err _ _ none;
+      midway = IfOk-from_err _ _ none;
+      used = IfOk-from_err _ _ none;
+      told = IfOk-from_err _ _ none;
+    }
 
-pub returns-in_err-side-clause-told : goal.returns-in_err-side-clause-told
-returns-in_err-side-clause-told g c = IfOk-from_err _ _ c.from_residual-in_err-side.ensures.0
+pub gather-requires-clause-few : goal.gather-requires-clause-few
+gather-requires-clause-few g c =
+    let b = book c.args.pass.now in
+    let ended = c.in_ok-ends.ensures.ended b.seen (c.in_ok-starts.ensures.starts c.args.phase c.requires.pass) in
+    let long = lanes_long c.args.calls.now c.in_ok-ends.taken.items in
+    omega (arith, ended.len, long, c.in_ok-ends.ensures.len, c.in_ok-starts.ensures.len, c.requires.workers.1)
+
+pub returns-clause-used : goal.returns-clause-used
+returns-clause-used g c =
+    let t = c.args.shared.now.table.shared.table_id in
+    let b = book c.args.pass.now in
+    let taken = lists c.in_ok-ends.taken.items in
+    let lanes = as_lanes c.args.calls.now taken in
+    let ended = c.in_ok-ends.ensures.ended b.seen (c.in_ok-starts.ensures.starts c.args.phase c.requires.pass) in
+    let long = lanes_long c.args.calls.now c.in_ok-ends.taken.items in
+    let room = subst (λ (n : ℕ). HasRoom n b) (sym (count_in_bag c.args.calls.now taken c.in_ok-ends.ensures.taken)) c.requires.room in
+    let whole : c.args.workers ≡ length lanes = omega (arith, long, c.in_ok-ends.ensures.len, c.in_ok-starts.ensures.len) in
+    let ending =
+    ending_of t b c.args.phase c.args.workers lanes c.in_ok-ends.ends.items c.start_lanes.new.pass room whole c.in_ok-starts.ensures.pass ended in
+    c.in_ok-side.ensures.used b c.args.phase lanes ending c.requires.used

@@ -8,6 +8,7 @@ use Rattle.tx_table.specs.declared.shared.Pass.{Pass}
 use Rattle.session.specs.declared.record.Lane.{Lane}
 use Rattle.session.specs.Lane.{HasMade}
 use Rattle.session.specs.Passes.{IsStarting, IsEnding, HasSpent}
+use Rattle.session.specs.Rule.{IsRuled}
 use Rattle.std.specs.Prelude.{IfOk}
 use Rattle.driver.specs.Telling.{HasRunLane, lane_limits}
 use Rattle.driver.specs.Passing.{first_of, HasEnded}
@@ -106,3 +107,17 @@ returns-clause-stopped g c =
     λ cs l r. r.0.0.made ≢ length cs → HasSpent c.args.self.now.original.now c.args.self.now.rewritten.now l cs r.0.0.made r.0.0.used (book start.pass) r.0.1 in
     subst (λ (cs : List Known). IfOk c.make_shared.result (Stopped cs (lane_limits limits start.lane start.used))) same
     (subst (λ (l : CallLimits). IfOk c.make_shared.result (Stopped calls l)) own c.make_shared.ensures.stopped)
+
+pub make_shared-requires-clause-ready : goal.make_shared-requires-clause-ready
+make_shared-requires-clause-ready g c = c.requires.ready
+
+pub make_shared-requires-clause-attempts : goal.make_shared-requires-clause-attempts
+make_shared-requires-clause-attempts g c =
+    subst (λ (l : CallLimits). (1 ≤ l.attempts) × (l.attempts ≤ 1000000)) (sym c.in_region.ensures) c.requires.attempts
+
+pub make_shared-requires-clause-rule : goal.make_shared-requires-clause-rule
+make_shared-requires-clause-rule g c =
+    let P = c.args.self.now.original.now in
+    let Q = c.args.self.now.rewritten.now in
+    let rule = g.K.Keeping.rule in
+    subst (λ (l : CallLimits). (e : Entry) → IsRuled P Q l.room.size l.budget l.attempts e → rule e) (sym c.in_region.ensures) c.requires.rule

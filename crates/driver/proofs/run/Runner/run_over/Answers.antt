@@ -19,6 +19,7 @@ use Rattle.driver.proofs.Spending.{room_for, ticks_next}
 use Rattle.std.specs.Prelude.{slice_get, Some}
 use Rattle.std.proofs.lemmas.List.{length-map}
 use Rattle.std.proofs.lemmas.Option.{slice_get_read}
+use Rattle.std.proofs.lemmas.Result.{IfOk-from_err}
 use Rattle.driver.specs.Telling.{TellsPhase}
 use Rattle.driver.proofs.ToldRuns.{ToldTo, told_to_first, told_to_next}
 use Rattle.driver.proofs.run.Runner.run_over.Goals as goal
@@ -141,3 +142,42 @@ run_phase-requires-clause-gates g c = λ κs lives.
 
 pub returns-clause-told : goal.returns-clause-told
 returns-clause-told g c = c.loop-number.invariant.told.script
+
+pub run_phase-requires-clause-ready : goal.run_phase-requires-clause-ready
+run_phase-requires-clause-ready g c = λ κs lives. c.requires.ready
+
+pub run_phase-requires-clause-attempts : goal.run_phase-requires-clause-attempts
+run_phase-requires-clause-attempts g c = λ κs lives. c.requires.attempts
+
+pub run_phase-requires-clause-room_size : goal.run_phase-requires-clause-room_size
+run_phase-requires-clause-room_size g c = λ κs lives. c.requires.room_size
+
+pub run_phase-requires-clause-rule : goal.run_phase-requires-clause-rule
+run_phase-requires-clause-rule g c = λ κs lives. c.requires.rule
+
+pub run_phase-requires-clause-used : goal.run_phase-requires-clause-used
+run_phase-requires-clause-used g c = λ κs lives. c.loop-number.invariant.used
+
+pub returns-in_err-shared : goal.returns-in_err-shared
+returns-in_err-shared g c =
+    let none = c.from_residual.ensures.0 in
+    record {
+      run = IfOk-from_err _ _ none;
+      told = IfOk-from_err _ _ none;
+    }
+
+pub returns-in_err-pass : goal.returns-in_err-pass
+returns-in_err-pass g c =
+    let none = c.from_residual-in_err-pass.ensures.0 in
+    record {
+      run = IfOk-from_err _ _ none;
+      told = IfOk-from_err _ _ none;
+    }
+
+pub returns-in_err-used : goal.returns-in_err-used
+returns-in_err-used g c =
+    let none = c.from_residual-in_err-used.ensures.0 in
+    record {
+      run = IfOk-from_err _ _ none;
+      told = IfOk-from_err _ _ none;
+    }

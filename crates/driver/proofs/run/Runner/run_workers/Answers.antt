@@ -96,10 +96,10 @@ returns-clause-len g c =
     let count = length c.in_ok-workers.workers.items in
     let all = collected_of t seen c.in-Ok.bag c.args.phase calls count (claims_of c.collect.new.claims) (lists taken) c.in_ok-ends.ends.items
     c.in_ok-ends-2.ends.items (c.in_ok-ends.ensures.worked seen workers) (c.in_ok-ends-2.ensures.collected t seen c.args.phase calls c.in-Ok.ensures.0) in
-    let some : 1 ≤ count = omega (arith, c.in_ok-workers.ensures.len, c.requires.some.0) in
-    let left = subst (λ (n : ℕ). IsRest n (claims_of c.collect.new.claims) c.in_ok-rest.rest.items) c.in-Ok.ensures.0 c.in_ok-rest.ensures in
-    (whole_bag t seen c.args.phase calls count (claims_of c.collect.new.claims) taken c.in_ok-rest.rest.items c.index_mut.result.now c.append.new.self
-    c.in_ok-ends-2.ends.items all some left c.index_mut.ensures.value c.in_ok-append.ensures.items).0 ∙ c.in_ok-workers.ensures.len
+    let some : 1 ≤ count = subst (λ (n : ℕ). 1 ≤ n) (sym c.in_ok-workers.ensures.len) c.requires.some.0 in
+    let left = subst (λ (n : ℕ). IsRest n (claims_of c.collect.new.claims) c.in_ok-claim_rest.ensures.0) c.in-Ok.ensures.0 c.in_ok-claim_rest.ensures.1 in
+    (whole_bag t seen c.args.phase calls count (claims_of c.collect.new.claims) taken c.in_ok-claim_rest.ensures.0 c.index_mut.result.now c.claim_rest.new.taken
+    c.in_ok-ends-2.ends.items all some left c.index_mut.ensures.value c.in_ok-claim_rest.ensures.2).0 ∙ c.in_ok-workers.ensures.len
 
 pub returns-clause-taken : goal.returns-clause-taken
 returns-clause-taken g c =
@@ -113,10 +113,10 @@ returns-clause-taken g c =
     let count = length c.in_ok-workers.workers.items in
     let all = collected_of t seen c.in-Ok.bag c.args.phase calls count (claims_of c.collect.new.claims) (lists taken) c.in_ok-ends.ends.items
     c.in_ok-ends-2.ends.items (c.in_ok-ends.ensures.worked seen workers) (c.in_ok-ends-2.ensures.collected t seen c.args.phase calls c.in-Ok.ensures.0) in
-    let some : 1 ≤ count = omega (arith, c.in_ok-workers.ensures.len, c.requires.some.0) in
-    let left = subst (λ (n : ℕ). IsRest n (claims_of c.collect.new.claims) c.in_ok-rest.rest.items) c.in-Ok.ensures.0 c.in_ok-rest.ensures in
-    (whole_bag t seen c.args.phase calls count (claims_of c.collect.new.claims) taken c.in_ok-rest.rest.items c.index_mut.result.now c.append.new.self
-    c.in_ok-ends-2.ends.items all some left c.index_mut.ensures.value c.in_ok-append.ensures.items).1
+    let some : 1 ≤ count = subst (λ (n : ℕ). 1 ≤ n) (sym c.in_ok-workers.ensures.len) c.requires.some.0 in
+    let left = subst (λ (n : ℕ). IsRest n (claims_of c.collect.new.claims) c.in_ok-claim_rest.ensures.0) c.in-Ok.ensures.0 c.in_ok-claim_rest.ensures.1 in
+    (whole_bag t seen c.args.phase calls count (claims_of c.collect.new.claims) taken c.in_ok-claim_rest.ensures.0 c.index_mut.result.now c.claim_rest.new.taken
+    c.in_ok-ends-2.ends.items all some left c.index_mut.ensures.value c.in_ok-claim_rest.ensures.2).1
 
 pub returns-clause-ended : goal.returns-clause-ended
 returns-clause-ended g c = λ seen starting.
@@ -128,10 +128,10 @@ returns-clause-ended g c = λ seen starting.
     let count = length c.in_ok-workers.workers.items in
     let all = collected_of t seen c.in-Ok.bag c.args.phase calls count (claims_of c.collect.new.claims) (lists taken) c.in_ok-ends.ends.items
     c.in_ok-ends-2.ends.items (c.in_ok-ends.ensures.worked seen workers) (c.in_ok-ends-2.ensures.collected t seen c.args.phase calls c.in-Ok.ensures.0) in
-    let some : 1 ≤ count = omega (arith, c.in_ok-workers.ensures.len, c.requires.some.0) in
-    let left = subst (λ (n : ℕ). IsRest n (claims_of c.collect.new.claims) c.in_ok-rest.rest.items) c.in-Ok.ensures.0 c.in_ok-rest.ensures in
-    (whole_bag t seen c.args.phase calls count (claims_of c.collect.new.claims) taken c.in_ok-rest.rest.items c.index_mut.result.now c.append.new.self
-    c.in_ok-ends-2.ends.items all some left c.index_mut.ensures.value c.in_ok-append.ensures.items).2
+    let some : 1 ≤ count = subst (λ (n : ℕ). 1 ≤ n) (sym c.in_ok-workers.ensures.len) c.requires.some.0 in
+    let left = subst (λ (n : ℕ). IsRest n (claims_of c.collect.new.claims) c.in_ok-claim_rest.ensures.0) c.in-Ok.ensures.0 c.in_ok-claim_rest.ensures.1 in
+    (whole_bag t seen c.args.phase calls count (claims_of c.collect.new.claims) taken c.in_ok-claim_rest.ensures.0 c.index_mut.result.now c.claim_rest.new.taken
+    c.in_ok-ends-2.ends.items all some left c.index_mut.ensures.value c.in_ok-claim_rest.ensures.2).2
 
 pub returns-clause-told : goal.returns-clause-told
 returns-clause-told g c =
@@ -144,66 +144,74 @@ returns-clause-told g c =
     let count = length c.in_ok-workers.workers.items in
     let all = collected_of t seen c.in-Ok.bag c.args.phase calls count (claims_of c.collect.new.claims) (lists taken) c.in_ok-ends.ends.items
     c.in_ok-ends-2.ends.items (c.in_ok-ends.ensures.worked seen workers) (c.in_ok-ends-2.ensures.collected t seen c.args.phase calls c.in-Ok.ensures.0) in
-    let some : 1 ≤ length taken = omega (arith, length-map taken (λ w. w.items), all.len, c.in_ok-workers.ensures.len, c.requires.some.0) in
-    told_workers c.args.self.now.rewritten.now c.args.self.now.limits c.args.phase calls c.in_ok-ends.ends.items c.in_ok-ends-2.ends.items taken c.in_ok-rest.rest.items c.index_mut.result.now c.append.new.self _ _
-    some c.in_ok-ends-2.ensures.sorted c.in_ok-ends.ensures.told c.index_mut.ensures.value c.in_ok-append.ensures.items
+    let many : length taken ≡ length c.args.starts.items = sym (length-map taken (λ w. w.items)) ∙ all.len ∙ c.in_ok-workers.ensures.len in
+    let some : 1 ≤ length taken = subst (λ (n : ℕ). 1 ≤ n) (sym many) c.requires.some.0 in
+    told_workers c.args.self.now.rewritten.now c.args.self.now.limits c.args.phase calls c.in_ok-ends.ends.items c.in_ok-ends-2.ends.items taken c.in_ok-claim_rest.ensures.0 c.index_mut.result.now c.claim_rest.new.taken _ _
+    some c.in_ok-ends-2.ensures.sorted c.in_ok-ends.ensures.told c.index_mut.ensures.value c.in_ok-claim_rest.ensures.2
 
-pub returns-in_err-workers-clause-len : goal.returns-in_err-workers-clause-len
-returns-in_err-workers-clause-len g c = IfOk-from_err _ _ c.from_residual.ensures.0
+pub work_all-requires-clause-ready : goal.work_all-requires-clause-ready
+work_all-requires-clause-ready g c = λ κs lives. c.requires.ready
 
-pub returns-in_err-workers-clause-taken : goal.returns-in_err-workers-clause-taken
-returns-in_err-workers-clause-taken g c = IfOk-from_err _ _ c.from_residual.ensures.0
+pub work_all-requires-clause-calls : goal.work_all-requires-clause-calls
+work_all-requires-clause-calls g c = λ κs lives. c.requires.calls
 
-pub returns-in_err-workers-clause-ended : goal.returns-in_err-workers-clause-ended
-returns-in_err-workers-clause-ended g c = λ _ _. IfOk-from_err _ _ c.from_residual.ensures.0
+pub work_all-requires-clause-few : goal.work_all-requires-clause-few
+work_all-requires-clause-few g c = λ κs lives. c.requires.few
 
-pub returns-in_err-workers-clause-told : goal.returns-in_err-workers-clause-told
-returns-in_err-workers-clause-told g c = IfOk-from_err _ _ c.from_residual.ensures.0
+pub work_all-requires-clause-attempts : goal.work_all-requires-clause-attempts
+work_all-requires-clause-attempts g c = λ κs lives. c.requires.attempts
 
-pub returns-in_err-ends-clause-len : goal.returns-in_err-ends-clause-len
-returns-in_err-ends-clause-len g c = IfOk-from_err _ _ c.from_residual-in_err-ends.ensures.0
+pub work_all-requires-clause-room_size : goal.work_all-requires-clause-room_size
+work_all-requires-clause-room_size g c = λ κs lives. c.requires.room_size
 
-pub returns-in_err-ends-clause-taken : goal.returns-in_err-ends-clause-taken
-returns-in_err-ends-clause-taken g c = IfOk-from_err _ _ c.from_residual-in_err-ends.ensures.0
+pub work_all-requires-clause-rule : goal.work_all-requires-clause-rule
+work_all-requires-clause-rule g c = λ κs lives. c.requires.rule
 
-pub returns-in_err-ends-clause-ended : goal.returns-in_err-ends-clause-ended
-returns-in_err-ends-clause-ended g c = λ _ _. IfOk-from_err _ _ c.from_residual-in_err-ends.ensures.0
+pub work_all-requires-clause-states : goal.work_all-requires-clause-states
+work_all-requires-clause-states g c = λ κs lives. c.requires.states
 
-pub returns-in_err-ends-clause-told : goal.returns-in_err-ends-clause-told
-returns-in_err-ends-clause-told g c = IfOk-from_err _ _ c.from_residual-in_err-ends.ensures.0
+pub work_all-requires-clause-bag : goal.work_all-requires-clause-bag
+work_all-requires-clause-bag g c = λ κs lives. c.in-Ok.ensures.0
 
-pub returns-in_err-ends-2-clause-len : goal.returns-in_err-ends-2-clause-len
-returns-in_err-ends-2-clause-len g c = IfOk-from_err _ _ c.from_residual-in_err-ends-2.ensures.0
+pub work_all-requires-clause-gates : goal.work_all-requires-clause-gates
+work_all-requires-clause-gates g c = λ κs lives. omega (arith, c.in_ok-workers.ensures.len, c.requires.gates)
 
-pub returns-in_err-ends-2-clause-taken : goal.returns-in_err-ends-2-clause-taken
-returns-in_err-ends-2-clause-taken g c = IfOk-from_err _ _ c.from_residual-in_err-ends-2.ensures.0
+pub returns-in_err-workers : goal.returns-in_err-workers
+returns-in_err-workers g c =
+    let none = c.from_residual.ensures.0 in
+    record {
+      len = IfOk-from_err _ _ none;
+      taken = IfOk-from_err _ _ none;
+      ended = λ _ _. IfOk-from_err _ _ none;
+      told = IfOk-from_err _ _ none;
+    }
 
-pub returns-in_err-ends-2-clause-ended : goal.returns-in_err-ends-2-clause-ended
-returns-in_err-ends-2-clause-ended g c = λ _ _. IfOk-from_err _ _ c.from_residual-in_err-ends-2.ensures.0
+pub returns-in_err-ends : goal.returns-in_err-ends
+returns-in_err-ends g c =
+    let none = c.from_residual-in_err-ends.ensures.0 in
+    record {
+      len = IfOk-from_err _ _ none;
+      taken = IfOk-from_err _ _ none;
+      ended = λ _ _. IfOk-from_err _ _ none;
+      told = IfOk-from_err _ _ none;
+    }
 
-pub returns-in_err-ends-2-clause-told : goal.returns-in_err-ends-2-clause-told
-returns-in_err-ends-2-clause-told g c = IfOk-from_err _ _ c.from_residual-in_err-ends-2.ensures.0
+pub returns-in_err-ends-2 : goal.returns-in_err-ends-2
+returns-in_err-ends-2 g c =
+    let none = c.from_residual-in_err-ends-2.ensures.0 in
+    record {
+      len = IfOk-from_err _ _ none;
+      taken = IfOk-from_err _ _ none;
+      ended = λ _ _. IfOk-from_err _ _ none;
+      told = IfOk-from_err _ _ none;
+    }
 
-pub returns-in_err-rest-clause-len : goal.returns-in_err-rest-clause-len
-returns-in_err-rest-clause-len g c = IfOk-from_err _ _ c.from_residual-in_err-rest.ensures.0
-
-pub returns-in_err-rest-clause-taken : goal.returns-in_err-rest-clause-taken
-returns-in_err-rest-clause-taken g c = IfOk-from_err _ _ c.from_residual-in_err-rest.ensures.0
-
-pub returns-in_err-rest-clause-ended : goal.returns-in_err-rest-clause-ended
-returns-in_err-rest-clause-ended g c = λ _ _. IfOk-from_err _ _ c.from_residual-in_err-rest.ensures.0
-
-pub returns-in_err-rest-clause-told : goal.returns-in_err-rest-clause-told
-returns-in_err-rest-clause-told g c = IfOk-from_err _ _ c.from_residual-in_err-rest.ensures.0
-
-pub returns-in_err-append-clause-len : goal.returns-in_err-append-clause-len
-returns-in_err-append-clause-len g c = IfOk-from_err _ _ c.from_residual-in_err-append.ensures.0
-
-pub returns-in_err-append-clause-taken : goal.returns-in_err-append-clause-taken
-returns-in_err-append-clause-taken g c = IfOk-from_err _ _ c.from_residual-in_err-append.ensures.0
-
-pub returns-in_err-append-clause-ended : goal.returns-in_err-append-clause-ended
-returns-in_err-append-clause-ended g c = λ _ _. IfOk-from_err _ _ c.from_residual-in_err-append.ensures.0
-
-pub returns-in_err-append-clause-told : goal.returns-in_err-append-clause-told
-returns-in_err-append-clause-told g c = IfOk-from_err _ _ c.from_residual-in_err-append.ensures.0
+pub returns-in_err-claim_rest : goal.returns-in_err-claim_rest
+returns-in_err-claim_rest g c =
+    let none = c.from_residual-in_err-claim_rest.ensures.0 in
+    record {
+      len = IfOk-from_err _ _ none;
+      taken = IfOk-from_err _ _ none;
+      ended = λ _ _. IfOk-from_err _ _ none;
+      told = IfOk-from_err _ _ none;
+    }

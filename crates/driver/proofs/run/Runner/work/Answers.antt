@@ -1,5 +1,7 @@
-use Rattle.std.proofs.Common.{◌≡◌, ◌≢◌, ℕ, suc, ◌+◌, length, arith, sym, ap, subst, ◌∙◌}
+use Rattle.std.proofs.Common.{◌≡◌, ◌≢◌, ◌≤◌, ℕ, suc, ◌+◌, length, arith, sym, ap, subst, ◌∙◌}
 use Rattle.tx_table.specs.Passes.{book}
+use Rattle.jmodel.specs.history.History.{Entry}
+use Rattle.session.specs.Rule.{IsRuled}
 use Rattle.session.specs.Claimed.{calls_at}
 use Rattle.machine.specs.declared.machine.Limits.{Limits as CallLimits}
 use Rattle.session.specs.Passes.{IsStarting, HasSpent}
@@ -82,3 +84,20 @@ returns-clause-stopped g c =
 
 pub returns-clause-emptied : goal.returns-clause-emptied
 returns-clause-emptied g c = c.in_ok-taken.ensures.emptied
+
+pub make_claimed-requires-clause-ready : goal.make_claimed-requires-clause-ready
+make_claimed-requires-clause-ready g c = c.requires.ready
+
+pub make_claimed-requires-clause-attempts : goal.make_claimed-requires-clause-attempts
+make_claimed-requires-clause-attempts g c =
+    subst (λ (l : CallLimits). (1 ≤ l.attempts) × (l.attempts ≤ 1000000)) (sym c.in_region.ensures) c.requires.attempts
+
+pub make_claimed-requires-clause-rule : goal.make_claimed-requires-clause-rule
+make_claimed-requires-clause-rule g c =
+    let P = c.args.self.now.original.now in
+    let Q = c.args.self.now.rewritten.now in
+    let rule = g.K.Keeping.rule in
+    subst (λ (l : CallLimits). (e : Entry) → IsRuled P Q l.room.size l.budget l.attempts e → rule e) (sym c.in_region.ensures) c.requires.rule
+
+pub make_claimed-requires-clause-calls : goal.make_claimed-requires-clause-calls
+make_claimed-requires-clause-calls g c = c.requires.calls

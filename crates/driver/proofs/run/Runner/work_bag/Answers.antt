@@ -11,7 +11,6 @@ use Rattle.std.proofs.lemmas.Result.{IfOk-from_err}
 use Rattle.driver.specs.Bags.{lists, as_lanes, IsOfWorker, numbered}
 use Rattle.driver.specs.Over.{AddsPhase}
 use Rattle.driver.specs.Passing.{call_count, IsMidway}
-use Rattle.driver.proofs.Giving.{take_whole}
 use Rattle.driver.proofs.Together.{all_under, taken_hold, few_taken}
 use Rattle.driver.proofs.Bags.{adds_bag, made_inside, count_in_bag}
 use Rattle.session.specs.Claimed.{calls_at}
@@ -58,8 +57,8 @@ add_rest-requires-clause-side g c =
       subst (λ (l : Phase). IsMidway t (book c.args.pass) c.args.phase l c.in_ok-first.first c.bag_side.new.pass) (sym same) c.in_ok-first.ensures.midway,
     )
 
-pub number-requires : goal.number-requires
-number-requires g c =
+pub append-requires : goal.append-requires
+append-requires g c =
     let B = c.args.bag.now in
     let taken = c.in_ok-first.taken.items in
     let are = c.in_ok-first.ensures.taken in
@@ -75,28 +74,7 @@ number-requires g c =
     let adds = subst (λ (k : ℕ). AddsPhase n k (Lanes (as_lanes B (lists taken))) b (book left) c.new-made.result made) count
     (subst (λ (l : Phase). AddsPhase n (call_count l) (Lanes l) b (book left) c.new-made.result made) same (c.in_ok-left.ensures.adds b midway)) in
     let inside = made_inside n (length B) B (lists taken) b (book left) c.new-made.result made are c.new-made.ensures.placed c.new-made.ensures.unplaced adds in
-    let In : List (Vec ℕ Global) → List Record → Type 0 = λ vs rs. All (IsOfWorker (lists vs)) rs in
-    subst (λ rs. In c.deref-3.result.now rs) (sym c.deref_mut.ensures.value) (subst (λ vs. In vs made.placed.items) (sym c.deref-3.ensures.value) inside.0)
-
-pub number-requires-2 : goal.number-requires-2
-number-requires-2 g c =
-    let B = c.args.bag.now in
-    let taken = c.in_ok-first.taken.items in
-    let are = c.in_ok-first.ensures.taken in
-    let same : c.deref-2.result.now ≡ as_lanes B (lists taken) =
-    c.deref-2.ensures.value ∙ c.in_ok-by_worker.ensures ∙ ap (λ (vs : List (Vec ℕ Global)). as_lanes B (lists vs)) c.deref.ensures.value in
-    let t = c.args.shared.now.table.shared.table_id in
-    let n = c.args.phase in
-    let b = book c.args.pass in
-    let made = c.add_rest.new.journal in
-    let left = c.in_ok-left.left in
-    let midway = subst (λ (l : Phase). IsMidway t b n l c.in_ok-first.first c.bag_side.new.pass) (sym same) c.in_ok-first.ensures.midway in
-    let count = count_in_bag B (lists taken) are in
-    let adds = subst (λ (k : ℕ). AddsPhase n k (Lanes (as_lanes B (lists taken))) b (book left) c.new-made.result made) count
-    (subst (λ (l : Phase). AddsPhase n (call_count l) (Lanes l) b (book left) c.new-made.result made) same (c.in_ok-left.ensures.adds b midway)) in
-    let inside = made_inside n (length B) B (lists taken) b (book left) c.new-made.result made are c.new-made.ensures.placed c.new-made.ensures.unplaced adds in
-    let In : List (Vec ℕ Global) → List Record → Type 0 = λ vs rs. All (IsOfWorker (lists vs)) rs in
-    subst (λ rs. In c.deref-4.result.now rs) (sym c.deref_mut-2.ensures.value) (subst (λ vs. In vs made.unplaced.items) (sym c.deref-4.ensures.value) inside.1)
+    subst (λ (vs : List (Vec ℕ Global)). All (IsOfWorker (lists vs)) made.placed.items × All (IsOfWorker (lists vs)) made.unplaced.items) (sym c.deref-3.ensures.value) inside
 
 pub returns-clause-adds : goal.returns-clause-adds
 returns-clause-adds g c = λ lanes some.
@@ -115,21 +93,12 @@ returns-clause-adds g c = λ lanes some.
     let adds = subst (λ (k : ℕ). AddsPhase n k (Lanes (as_lanes B (lists taken))) b (book left) c.new-made.result made) count
     (subst (λ (l : Phase). AddsPhase n (call_count l) (Lanes l) b (book left) c.new-made.result made) same (c.in_ok-left.ensures.adds b midway)) in
     let old = c.args.journal.now in
-    let Number : List (Vec ℕ Global) → List Record → List Record = λ vs rs. map (numbered (lists vs)) rs in
-    let placed = c.number.ensures ∙ ap (λ vs. Number vs c.deref_mut.result.now) c.deref-3.ensures.value ∙ ap (Number taken) c.deref_mut.ensures.value in
-    let unplaced = c.number-2.ensures ∙ ap (λ vs. Number vs c.deref_mut-2.result.now) c.deref-4.ensures.value ∙ ap (Number taken) c.deref_mut-2.ensures.value in
-    let count_of : made.placed.len ≡ length c.number.new.records =
-    made.placed.ok.0 ∙ sym (ap length placed ∙ length-map made.placed.items (numbered (lists taken))) in
-    let count_too : made.unplaced.len ≡ length c.number-2.new.records =
-    made.unplaced.ok.0 ∙ sym (ap length unplaced ∙ length-map made.unplaced.items (numbered (lists taken))) in
-    let appended : c.append.new.self.placed.items ≡ old.placed.items ++ c.number.new.records =
-    c.in_ok-append.ensures.placed ∙ ap (λ (l : List Record). old.placed.items ++ l) (take_whole made.placed.len c.number.new.records _ count_of) in
-    let appended_too : c.append.new.self.unplaced.items ≡ old.unplaced.items ++ c.number-2.new.records =
-    c.in_ok-append.ensures.unplaced ∙ ap (λ (l : List Record). old.unplaced.items ++ l) (take_whole made.unplaced.len c.number-2.new.records _ count_too) in
+    let placed = c.in_ok-append.ensures.placed ∙ ap (λ (vs : List (Vec ℕ Global)). old.placed.items ++ map (numbered (lists vs)) made.placed.items) c.deref-3.ensures.value in
+    let unplaced = c.in_ok-append.ensures.unplaced ∙ ap (λ (vs : List (Vec ℕ Global)). old.unplaced.items ++ map (numbered (lists vs)) made.unplaced.items) c.deref-3.ensures.value in
     let long = length-map taken (λ (v : Vec ℕ Global). v.items) in
     let few : length (lists taken) ≤ min lanes (length B) = omega (arith, c.in_ok-first.ensures.len, long, some, c.requires.workers.2) in
     adds_bag n (length B) lanes B (lists taken) b (book left) c.new-made.result made old c.append.new.self are few c.new-made.ensures.placed c.new-made.ensures.unplaced adds
-    (appended ∙ ap (λ l. old.placed.items ++ l) placed) (appended_too ∙ ap (λ l. old.unplaced.items ++ l) unplaced)
+    placed unplaced
 
 pub returns-clause-told : goal.returns-clause-told
 returns-clause-told g c = λ lanes some.
@@ -157,60 +126,120 @@ returns-clause-told g c = λ lanes some.
     let old = c.args.journal.now in
     let all = subst (λ (rs : List Record). TellsPhase Q limits n (Lanes ls) rs made.placed.items x z) c.new-made.ensures.placed
     (subst (λ (l : Phase). TellsPhase Q limits n (Lanes l) c.new-made.result.placed.items made.placed.items x z) same told) in
-    let Number : List (Vec ℕ Global) → List Record → List Record = λ vs rs. map (numbered (lists vs)) rs in
-    let placed = c.number.ensures ∙ ap (λ vs. Number vs c.deref_mut.result.now) c.deref-3.ensures.value ∙ ap (Number taken) c.deref_mut.ensures.value in
-    let count_of : made.placed.len ≡ length c.number.new.records =
-    made.placed.ok.0 ∙ sym (ap length placed ∙ length-map made.placed.items (numbered (lists taken))) in
-    let appended : c.append.new.self.placed.items ≡ old.placed.items ++ c.number.new.records =
-    c.in_ok-append.ensures.placed ∙ ap (λ (l : List Record). old.placed.items ++ l) (take_whole made.placed.len c.number.new.records _ count_of) in
+    let placed = c.in_ok-append.ensures.placed ∙ ap (λ (vs : List (Vec ℕ Global)). old.placed.items ++ map (numbered (lists vs)) made.placed.items) c.deref-3.ensures.value in
     let few : length (lists taken) ≤ lanes = omega (arith, c.in_ok-first.ensures.len, length-map taken (λ (v : Vec ℕ Global). v.items), some) in
     told_in_bag n B (lists taken) are Q limits lanes few made.placed.items old.placed.items c.append.new.self.placed.items x z all
-    (appended ∙ ap (λ l. old.placed.items ++ l) placed)
+    placed
 
-pub returns-in_err-first-clause-whole : goal.returns-in_err-first-clause-whole
-returns-in_err-first-clause-whole g c = IfOk-from_err _ _ c.from_residual.ensures.0
+pub bag_side-requires-clause-ready : goal.bag_side-requires-clause-ready
+bag_side-requires-clause-ready g c = λ κs lives. c.requires.ready
 
-pub returns-in_err-first-clause-used : goal.returns-in_err-first-clause-used
-returns-in_err-first-clause-used g c = IfOk-from_err _ _ c.from_residual.ensures.0
+pub bag_side-requires-clause-calls : goal.bag_side-requires-clause-calls
+bag_side-requires-clause-calls g c = λ κs lives. c.requires.calls
 
-pub returns-in_err-first-clause-adds : goal.returns-in_err-first-clause-adds
-returns-in_err-first-clause-adds g c = λ _ _. IfOk-from_err _ _ c.from_residual.ensures.0
+pub bag_side-requires-clause-few : goal.bag_side-requires-clause-few
+bag_side-requires-clause-few g c = λ κs lives. c.requires.few
 
-pub returns-in_err-first-clause-told : goal.returns-in_err-first-clause-told
-returns-in_err-first-clause-told g c = λ _ _. IfOk-from_err _ _ c.from_residual.ensures.0
+pub bag_side-requires-clause-attempts : goal.bag_side-requires-clause-attempts
+bag_side-requires-clause-attempts g c = λ κs lives. c.requires.attempts
 
-pub returns-in_err-by_worker-clause-whole : goal.returns-in_err-by_worker-clause-whole
-returns-in_err-by_worker-clause-whole g c = IfOk-from_err _ _ c.from_residual-in_err-by_worker.ensures.0
+pub bag_side-requires-clause-room_size : goal.bag_side-requires-clause-room_size
+bag_side-requires-clause-room_size g c = λ κs lives. c.requires.room_size
 
-pub returns-in_err-by_worker-clause-used : goal.returns-in_err-by_worker-clause-used
-returns-in_err-by_worker-clause-used g c = IfOk-from_err _ _ c.from_residual-in_err-by_worker.ensures.0
+pub bag_side-requires-clause-rule : goal.bag_side-requires-clause-rule
+bag_side-requires-clause-rule g c = λ κs lives. c.requires.rule
 
-pub returns-in_err-by_worker-clause-adds : goal.returns-in_err-by_worker-clause-adds
-returns-in_err-by_worker-clause-adds g c = λ _ _. IfOk-from_err _ _ c.from_residual-in_err-by_worker.ensures.0
+pub bag_side-requires-clause-states : goal.bag_side-requires-clause-states
+bag_side-requires-clause-states g c = λ κs lives. c.requires.states
 
-pub returns-in_err-by_worker-clause-told : goal.returns-in_err-by_worker-clause-told
-returns-in_err-by_worker-clause-told g c = λ _ _. IfOk-from_err _ _ c.from_residual-in_err-by_worker.ensures.0
+pub bag_side-requires-clause-pass : goal.bag_side-requires-clause-pass
+bag_side-requires-clause-pass g c = λ κs lives. c.requires.pass
 
-pub returns-in_err-left-clause-whole : goal.returns-in_err-left-clause-whole
-returns-in_err-left-clause-whole g c = IfOk-from_err _ _ c.from_residual-in_err-left.ensures.0
+pub bag_side-requires-clause-room : goal.bag_side-requires-clause-room
+bag_side-requires-clause-room g c = λ κs lives. c.requires.room
 
-pub returns-in_err-left-clause-used : goal.returns-in_err-left-clause-used
-returns-in_err-left-clause-used g c = IfOk-from_err _ _ c.from_residual-in_err-left.ensures.0
+pub bag_side-requires-clause-used : goal.bag_side-requires-clause-used
+bag_side-requires-clause-used g c = λ κs lives. c.requires.used
 
-pub returns-in_err-left-clause-adds : goal.returns-in_err-left-clause-adds
-returns-in_err-left-clause-adds g c = λ _ _. IfOk-from_err _ _ c.from_residual-in_err-left.ensures.0
+pub bag_side-requires-clause-gates : goal.bag_side-requires-clause-gates
+bag_side-requires-clause-gates g c = λ κs lives. c.requires.gates
 
-pub returns-in_err-left-clause-told : goal.returns-in_err-left-clause-told
-returns-in_err-left-clause-told g c = λ _ _. IfOk-from_err _ _ c.from_residual-in_err-left.ensures.0
+pub bag_side-requires-clause-workers : goal.bag_side-requires-clause-workers
+bag_side-requires-clause-workers g c = λ κs lives. (c.requires.workers.0, c.requires.workers.1)
 
-pub returns-in_err-append-clause-whole : goal.returns-in_err-append-clause-whole
-returns-in_err-append-clause-whole g c = IfOk-from_err _ _ c.from_residual-in_err-append.ensures.0
+pub add_rest-requires-clause-ready : goal.add_rest-requires-clause-ready
+add_rest-requires-clause-ready g c = c.requires.ready
 
-pub returns-in_err-append-clause-used : goal.returns-in_err-append-clause-used
-returns-in_err-append-clause-used g c = IfOk-from_err _ _ c.from_residual-in_err-append.ensures.0
+pub add_rest-requires-clause-attempts : goal.add_rest-requires-clause-attempts
+add_rest-requires-clause-attempts g c = c.requires.attempts
 
-pub returns-in_err-append-clause-adds : goal.returns-in_err-append-clause-adds
-returns-in_err-append-clause-adds g c = λ _ _. IfOk-from_err _ _ c.from_residual-in_err-append.ensures.0
+pub add_rest-requires-clause-room_size : goal.add_rest-requires-clause-room_size
+add_rest-requires-clause-room_size g c = c.requires.room_size
 
-pub returns-in_err-append-clause-told : goal.returns-in_err-append-clause-told
-returns-in_err-append-clause-told g c = λ _ _. IfOk-from_err _ _ c.from_residual-in_err-append.ensures.0
+pub add_rest-requires-clause-rule : goal.add_rest-requires-clause-rule
+add_rest-requires-clause-rule g c = c.requires.rule
+
+pub add_rest-requires-clause-states : goal.add_rest-requires-clause-states
+add_rest-requires-clause-states g c = c.requires.states
+
+pub add_rest-requires-clause-lanes : goal.add_rest-requires-clause-lanes
+add_rest-requires-clause-lanes g c =
+    let B = c.args.bag.now in
+    let taken = c.in_ok-first.taken.items in
+    let same : c.deref-2.result.now ≡ as_lanes B (lists taken) =
+    c.deref-2.ensures.value ∙ c.in_ok-by_worker.ensures ∙ ap (λ (vs : List (Vec ℕ Global)). as_lanes B (lists vs)) c.deref.ensures.value in
+    omega (arith, ap length same, length-map (lists taken) (calls_at B), length-map taken (λ (v : Vec ℕ Global). v.items), c.in_ok-first.ensures.len, c.requires.workers.1)
+
+pub add_rest-requires-clause-used : goal.add_rest-requires-clause-used
+add_rest-requires-clause-used g c = c.in_ok-first.ensures.used
+
+pub add_rest-requires-clause-gates : goal.add_rest-requires-clause-gates
+add_rest-requires-clause-gates g c =
+    let T = g.G.Gate.told in
+    omega (arith, c.in_ok-first.ensures.told.len, length-map c.bag_side.new.kept.gates.items T, length-map c.args.kept.now.gates.items T, c.requires.gates)
+
+pub returns-clause-whole : goal.returns-clause-whole
+returns-clause-whole g c = c.in_ok-left.ensures.whole
+
+pub returns-clause-used : goal.returns-clause-used
+returns-clause-used g c = c.in_ok-left.ensures.used
+
+pub returns-in_err-first : goal.returns-in_err-first
+returns-in_err-first g c =
+    let none = c.from_residual.ensures.0 in
+    record {
+      whole = IfOk-from_err _ _ none;
+      used = IfOk-from_err _ _ none;
+      adds = λ _ _. IfOk-from_err _ _ none;
+      told = λ _ _. IfOk-from_err _ _ none;
+    }
+
+pub returns-in_err-by_worker : goal.returns-in_err-by_worker
+returns-in_err-by_worker g c =
+    let none = c.from_residual-in_err-by_worker.ensures.0 in
+    record {
+      whole = IfOk-from_err _ _ none;
+      used = IfOk-from_err _ _ none;
+      adds = λ _ _. IfOk-from_err _ _ none;
+      told = λ _ _. IfOk-from_err _ _ none;
+    }
+
+pub returns-in_err-left : goal.returns-in_err-left
+returns-in_err-left g c =
+    let none = c.from_residual-in_err-left.ensures.0 in
+    record {
+      whole = IfOk-from_err _ _ none;
+      used = IfOk-from_err _ _ none;
+      adds = λ _ _. IfOk-from_err _ _ none;
+      told = λ _ _. IfOk-from_err _ _ none;
+    }
+
+pub returns-in_err-append : goal.returns-in_err-append
+returns-in_err-append g c =
+    let none = c.from_residual-in_err-append.ensures.0 in
+    record {
+      whole = IfOk-from_err _ _ none;
+      used = IfOk-from_err _ _ none;
+      adds = λ _ _. IfOk-from_err _ _ none;
+      told = λ _ _. IfOk-from_err _ _ none;
+    }
