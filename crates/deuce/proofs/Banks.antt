@@ -1,17 +1,21 @@
 -- A bank that can be run is run, and one of whose numbers is outside its limits is refused.
-use Rattle.std.proofs.Common.{◌≡◌, ℕ, List, Ok, Err, Result, inl, inr, sym, ap, subst}
+use Rattle.std.proofs.Common.{◌≡◌, ℕ, List, Option, Ok, Err, Result, inl, inr, sym, ap, subst}
 use Rattle.std.specs.Prelude.{String}
 use Rattle.std.specs.declared.alloc.Global.{Global}
 use Rattle.deuce_io.specs.Seen.{Seen}
 use Rattle.jmodel.specs.declared.refusal.Refusal.{Refusal}
 use Rattle.jmodel.specs.format.ClassFile.{ClassFile}
 use Rattle.deuce.specs.declared.words.BankWords.{BankWords}
+use Rattle.objects.specs.declared.event.Event.{Event}
+use Rattle.bankgen.specs.Summary.{summary_lines}
 use Rattle.bankgen.specs.Workload.{workload}
-use Rattle.runner.specs.Headline.{CanRun}
+use Rattle.runner.specs.Headline.{CanRun, AreCountsOf, answer_in}
+use Rattle.runner.specs.Telling.{TellsCountsOf}
 use Rattle.runner.specs.Faults.{IsBadProgram, IsUntypable, IsBadScript, IsUnopened, EndsRun}
 use Rattle.runner.proofs.Complete.{no_bad_program, all_typed, good_script, opens}
-use Rattle.deuce.specs.Command.{AsksBank}
-use Rattle.deuce.specs.Bank.{IsWorkload, IsOutside, OfBank}
+use Rattle.deuce.specs.Command.{AsksBank, engine_word}
+use Rattle.deuce.specs.Bank.{IsWorkload, IsOutside, IsSummaryOf, OfBank, engine_of}
+use Rattle.deuce.specs.Telling.{TellsBankOf}
 use Rattle.deuce.specs.declared.outcome.Outcome.{Outcome}
 use Rattle.deuce.specs.declared.outcome.Outcome.TheVariants.{Journal, Summary, Rewritten, Usage, BadClass, BadProgram, Untyped, BadScript, Unopened, Outside, NotPut}
 use Rattle.deuce.specs.Outcomes.{Says, IsRefusedAs, IsOutcome, FailedOutside, CanRunBankOfWords, IsOutsideOfWords, IsBankRunOrFailed, IsOutsideOrFailed, status_of}
@@ -29,6 +33,34 @@ both x files others script other p q =
 
 never : (x : Result (List ClassFile × List ℕ) Refusal) (files : List ClassFile) (script : List ℕ) (r : Refusal) → x ≡ Ok (files, script) → x ≡ Err r → ⊥
 never x files script r p q = cc
+
+-- what is printed of a bank that was run, and what its gates were told
+module _ (b : BankWords) (files : List ClassFile) (script text : List ℕ) (placed unplaced : ℕ) (answer : List ℕ) (made : IsWorkload b.figures files script)
+    (run : AreCountsOf files script 1 placed unplaced answer) (is : text ≡ summary_lines b.figures (engine_word (engine_of b.engine)) placed unplaced answer) where
+  pub summary_of : IsSummaryOf b text
+  summary_of = record {
+    files = files;
+    script = script;
+    made = made;
+    program = run.program;
+    placed = run.placed;
+    unplaced = run.unplaced;
+    are_calls = run.are_calls;
+    is_text = rw (run.count_is, run.shortages_are, run.answer_is) at is;
+    lawful = run.lawful;
+  }
+
+  pub told_bank : (before after : List (Option (List Event))) → TellsCountsOf files script placed before after → TellsBankOf b text before after
+  told_bank before after told = record {
+    files = files;
+    script = script;
+    made = made;
+    placed = placed;
+    unplaced = unplaced;
+    answer = answer_in 1 run.placed;
+    is_text = rw run.answer_is at is;
+    told = told;
+  }
 
 module _ (words : List (String Global)) (k : BankWords) (asked : AsksBank words k) where
   -- what a folder's words say isn't said

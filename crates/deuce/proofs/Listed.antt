@@ -27,6 +27,13 @@ read_more paths i e old new input more so_far lt is =
     ap paths_of more ∙ map-append (λ (k : ClassInput). string_bytes k.relative) old (input ∷ [])
     ∙ ap (λ (l : List (List ℕ)). l ++ path ∷ []) so_far ∙ ap (λ (n : List ℕ). take i (seen_texts paths) ++ n ∷ []) (sym at) ∙ sym (take_more (seen_texts paths) i path (omega (arith, length-map paths string_bytes, lt)))
 
+-- counts that don't fall
+pub no_less : (n : ℕ) → n ≤ n
+no_less n = omega arith
+
+pub no_less_since : (first before now : ℕ) → first ≤ before → before ≤ now → first ≤ now
+no_less_since first before now so_far later = omega arith
+
 -- what is asked later is asked since, and is more that may be asked
 module _ (Asks Other : Call → Type 0) (first before now : Seen) (later : first.faults ≤ before.faults) (as_other : (call : Call) → Asks call → Other call) where
   failed_as : (path : List ℕ) → Failed Asks path before now → Failed Other path first now

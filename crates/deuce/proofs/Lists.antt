@@ -40,6 +40,11 @@ pub err_is : {A E : Type 0} (r : Result A E) (e : E) (Q : E → Type 0) → IsEr
 err_is (Ok x) e Q h q = tt
 err_is (Err y) e Q h q = subst Q (sym h) q
 
+-- and the result with it
+pub err_at : {A E : Type 0} (r : Result A E) (e : E) → IsErrAnd r (λ y. y ≡ e) → r ≡ Err e
+err_at (Ok x) e h = absurd h
+err_at (Err y) e h = ap Err h
+
 -- what holds of each up to a place, and there, holds of each up to the next
 pub all_more : {A : Type 0} (P : A → Type 0) (xs : List A) (n : ℕ) → AllByRecursion P (take n xs) → ((x : A) → slice_get xs n ≡ Some x → P x) → AllByRecursion P (take (n + 1) xs)
 all_more P xs n so_far next = rw add-one (go P xs n so_far next)

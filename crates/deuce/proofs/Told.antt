@@ -1,6 +1,6 @@
 -- What the gates were told, by how a command ends.
 use Rattle.std.proofs.Common.{◌≡◌, ℕ, List, Option, inl, inr, subst, arith}
-use Rattle.std.specs.Prelude.{String, string_bytes, codes}
+use Rattle.std.specs.Prelude.{String}
 use Rattle.std.specs.declared.alloc.Global.{Global}
 use Rattle.objects.specs.declared.event.Event.{Event}
 use Rattle.deuce_io.specs.Files.{Files}

@@ -1,4 +1,5 @@
 pub mod Contents
+pub mod Ends
 pub mod Items
 pub mod Listed
 pub mod Shows

@@ -31,6 +31,26 @@ pub struct RealFolder<R: Files + AllocGlobal + Clone + Drop> {
     pub failed: Option<FailedCall>,
 }
 
+/// The first `most` bytes that a reader gives, or all where there are fewer.
+fn first_bytes<F: Read>(alloc: Global, from: &mut F, most: usize) -> io::Result<Bytes>
+    ensures { IfOk result (λ bytes. length bytes ≤ most) }
+{
+    let mut bytes = Vec::new(alloc);
+    let mut piece = [0u8; PIECE];
+    for _ in 0..u64::MAX {
+        let room = PIECE.min(most - bytes.len());
+        if room == 0 {
+            break;
+        }
+        let taken = from.read(&mut piece[..room])?;
+        if taken == 0 {
+            break;
+        }
+        bytes.extend_from_slice(&piece[..taken])?;
+    }
+    Ok(Bytes::from_vec(bytes))
+}
+
 impl<R: Files + AllocGlobal + Clone + Drop> RealFolder<R> {
     /// The files of a runtime. Takes no memory.
     pub fn new(alloc: Global, rt: R) -> Self
@@ -67,20 +87,7 @@ impl<R: Files + AllocGlobal + Clone + Drop> RealFolder<R> {
             return Err(io::Error::from(ErrorKind::InvalidInput));
         }
         let mut file = fs::open(&self.rt, path)?;
-        let mut bytes = Vec::new(self.alloc);
-        let mut piece = [0u8; PIECE];
-        for _ in 0..u64::MAX {
-            let room = PIECE.min(most - bytes.len());
-            if room == 0 {
-                break;
-            }
-            let taken = file.read(&mut piece[..room])?;
-            if taken == 0 {
-                break;
-            }
-            bytes.extend_from_slice(&piece[..taken])?;
-        }
-        Ok(Bytes::from_vec(bytes))
+        first_bytes(self.alloc, &mut file, most)
     }
 
     /// Makes a file have these bytes, and makes the folders above it where they are missing.

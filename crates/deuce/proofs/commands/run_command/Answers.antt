@@ -23,81 +23,89 @@ pub reserved-requires-clause-few : goal.reserved-requires-clause-few
 reserved-requires-clause-few g c =
     rw c.as_slice-3.ensures.value (few_files (g.F.Folder.seen c.args.folder.now).files c.args.dir.now c.in-Ok.inputs.classes.items c.in-Ok-classes_of.files.items c.in-Ok.ensures.inputs.of_classes (rw c.as_slice.ensures.value at c.in-Ok-classes_of.ensures.classes))
 
-pub returns-in-Some-clause-outcome : goal.returns-in-Some-clause-outcome
-returns-in-Some-clause-outcome g c = λ words w.
-    kept_for_helper words (g.F.Folder.seen c.args.folder.now) (g.F.Folder.seen c.read_inputs.new.folder) c.args.dir.now c.read_inputs.ensures.files_kept (c.args.script.now, inl w)
-    c.in-Ok.inputs.classes.items c.in-Ok.ensures.inputs.of_classes c.in-Ok-classes_of.files.items (rw c.as_slice.ensures.value at c.in-Ok-classes_of.ensures.classes)
-    c.in_ok-refusal.field-0 c.in-Some.refusal (rw (c.as_slice-2.ensures.value, c.as_slice-3.ensures.value) at c.in_ok-refusal.ensures) c.in-Some.is
+pub returns-in-Some : goal.returns-in-Some
+returns-in-Some g c = record {
+  outcome = λ words w.
+      kept_for_helper words (g.F.Folder.seen c.args.folder.now) (g.F.Folder.seen c.read_inputs.new.folder) c.args.dir.now c.read_inputs.ensures.files_kept (c.args.script.now, inl w)
+      c.in-Ok.inputs.classes.items c.in-Ok.ensures.inputs.of_classes c.in-Ok-classes_of.files.items (rw c.as_slice.ensures.value at c.in-Ok-classes_of.ensures.classes)
+      c.in_ok-refusal.field-0 c.in-Some.refusal (rw (c.as_slice-2.ensures.value, c.as_slice-3.ensures.value) at c.in_ok-refusal.ensures) c.in-Some.is;
+  told = λ words w. tt;
+  files_kept = c.read_inputs.ensures.files_kept;
+}
 
-pub returns-in-Err-clause-outcome : goal.returns-in-Err-clause-outcome
-returns-in-Err-clause-outcome g c =
-    let old = g.F.Folder.seen c.args.folder.now in
-    let new = g.F.Folder.seen c.read_inputs.new.folder in
-    on_ok c.unread.result (IsUnreadAs c.in-Err.end) _
-    (λ o is words w. unread words old new c.args.dir.now c.read_inputs.ensures.files_kept (c.args.script.now, inl w)
-    (IsCallOfRun (g.F.Folder.seen c.args.folder.now).files c.args.dir.now c.args.script.now) c.in-Err.end o (λ path failed. (c.args.dir.now, c.args.script.now, inl (w, failed)))
-    (λ r over. inl (c.args.dir.now, (c.args.script.now, inl w), inl over)) c.in-Err.ensures.cause is) c.unread.ensures
+pub returns-in-Err : goal.returns-in-Err
+returns-in-Err g c = record {
+  outcome =
+      let old = g.F.Folder.seen c.args.folder.now in
+      let new = g.F.Folder.seen c.read_inputs.new.folder in
+      on_ok c.unread.result (IsUnreadAs c.in-Err.end) _
+      (λ o is words w. unread words old new c.args.dir.now c.read_inputs.ensures.files_kept (c.args.script.now, inl w)
+      (IsCallOfRun (g.F.Folder.seen c.args.folder.now).files c.args.dir.now c.args.script.now) c.in-Err.end o (λ path failed. (c.args.dir.now, c.args.script.now, inl (w, failed)))
+      (λ r over. inl (c.args.dir.now, (c.args.script.now, inl w), inl over)) c.in-Err.ensures.cause is) c.unread.ensures;
+  told =
+      on_ok c.unread.result (IsUnreadAs c.in-Err.end) _
+      (λ o is words w. told_unread words (g.F.Folder.seen c.args.folder.now).files _ _ c.in-Err.end o is) c.unread.ensures;
+  files_kept = c.read_inputs.ensures.files_kept;
+}
 
-pub returns-in-Err-classes_of-clause-outcome : goal.returns-in-Err-classes_of-clause-outcome
-returns-in-Err-classes_of-clause-outcome g c =
-    let old = g.F.Folder.seen c.args.folder.now in
-    let new = g.F.Folder.seen c.read_inputs.new.folder in
-    on_ok c.unread-in-Err-classes_of.result (IsUnreadAs c.in-Err-classes_of.end) _
-    (λ o is words w. not_good words old new c.args.dir.now c.read_inputs.ensures.files_kept (c.args.script.now, inl w)
-    c.in-Ok.inputs.classes.items c.in-Ok.ensures.inputs.of_classes c.in-Err-classes_of.end o (rw c.as_slice.ensures.value at c.in-Err-classes_of.ensures.cause) is) c.unread-in-Err-classes_of.ensures
+pub returns-in-Err-classes_of : goal.returns-in-Err-classes_of
+returns-in-Err-classes_of g c = record {
+  outcome =
+      let old = g.F.Folder.seen c.args.folder.now in
+      let new = g.F.Folder.seen c.read_inputs.new.folder in
+      on_ok c.unread-in-Err-classes_of.result (IsUnreadAs c.in-Err-classes_of.end) _
+      (λ o is words w. not_good words old new c.args.dir.now c.read_inputs.ensures.files_kept (c.args.script.now, inl w)
+      c.in-Ok.inputs.classes.items c.in-Ok.ensures.inputs.of_classes c.in-Err-classes_of.end o (rw c.as_slice.ensures.value at c.in-Err-classes_of.ensures.cause) is) c.unread-in-Err-classes_of.ensures;
+  told =
+      on_ok c.unread-in-Err-classes_of.result (IsUnreadAs c.in-Err-classes_of.end) _
+      (λ o is words w. told_unread words (g.F.Folder.seen c.args.folder.now).files _ _ c.in-Err-classes_of.end o is) c.unread-in-Err-classes_of.ensures;
+  files_kept = c.read_inputs.ensures.files_kept;
+}
 
-pub returns-in-Ok-run_files-clause-outcome : goal.returns-in-Ok-run_files-clause-outcome
-returns-in-Ok-run_files-clause-outcome g c = λ words w. (
-  c.read_inputs.ensures.files_kept,
-  (
+pub returns-in-Ok-run_files : goal.returns-in-Ok-run_files
+returns-in-Ok-run_files g c = record {
+  outcome = λ words w. (
+    c.read_inputs.ensures.files_kept,
+    (
+      c.args.dir.now,
+      c.args.script.now,
+      w,
+      journal_of (g.F.Folder.seen c.args.folder.now).files c.args.dir.now c.args.script.now c.in-Ok.inputs c.in-Ok-classes_of.files.items c.in-Ok-run_files.text c.in-Ok.ensures.inputs
+          (rw c.as_slice.ensures.value at c.in-Ok-classes_of.ensures.classes)
+          (lacks_helper (g.F.Folder.seen c.args.folder.now).files c.args.dir.now c.in-Ok.inputs.classes.items c.in-Ok.ensures.inputs.of_classes
+          (are_elsewhere c.in-Ok.inputs.classes.items c.in-Ok-classes_of.files.items c.in_ok-refusal.field-0 (rw (c.as_slice-2.ensures.value, c.as_slice-3.ensures.value) at c.in_ok-refusal.ensures) c.in_default.not-Some)) (rw (c.as_slice-4.ensures.value, c.as_slice-5.ensures) at c.in-Ok-run_files.ensures.run),
+    ),
+  );
+  told = λ words w. (
     c.args.dir.now,
     c.args.script.now,
     w,
-    journal_of (g.F.Folder.seen c.args.folder.now).files c.args.dir.now c.args.script.now c.in-Ok.inputs c.in-Ok-classes_of.files.items c.in-Ok-run_files.text c.in-Ok.ensures.inputs
-        (rw c.as_slice.ensures.value at c.in-Ok-classes_of.ensures.classes)
-        (lacks_helper (g.F.Folder.seen c.args.folder.now).files c.args.dir.now c.in-Ok.inputs.classes.items c.in-Ok.ensures.inputs.of_classes
-        (are_elsewhere c.in-Ok.inputs.classes.items c.in-Ok-classes_of.files.items c.in_ok-refusal.field-0 (rw (c.as_slice-2.ensures.value, c.as_slice-3.ensures.value) at c.in_ok-refusal.ensures) c.in_default.not-Some)) (rw (c.as_slice-4.ensures.value, c.as_slice-5.ensures) at c.in-Ok-run_files.ensures.run),
-  ),
-)
+    told_journal (g.F.Folder.seen c.args.folder.now).files c.args.dir.now c.args.script.now c.in-Ok.inputs c.in-Ok-classes_of.files.items c.in-Ok-run_files.text _ _ c.in-Ok.ensures.inputs
+        (rw c.as_slice.ensures.value at c.in-Ok-classes_of.ensures.classes) (rw (c.as_slice-4.ensures.value, c.as_slice-5.ensures) at c.in-Ok-run_files.ensures.run).are_calls.is_script.fits
+        (rw (c.as_slice-4.ensures.value, c.as_slice-5.ensures) at c.in-Ok-run_files.ensures.told),
+  );
+  files_kept = c.read_inputs.ensures.files_kept;
+}
 
-pub returns-clause-outcome : goal.returns-clause-outcome
-returns-clause-outcome g c =
-    let old = g.F.Folder.seen c.args.folder.now in
-    let new = g.F.Folder.seen c.read_inputs.new.folder in
-    let files = (g.F.Folder.seen c.args.folder.now).files in
-    let dir = c.args.dir.now in
-    let a = c.in-Ok.ensures.inputs in
-    let bytes = c.in-Ok.inputs.script in
-    let free : LacksHelper files dir = lacks_helper (g.F.Folder.seen c.args.folder.now).files c.args.dir.now c.in-Ok.inputs.classes.items c.in-Ok.ensures.inputs.of_classes
-    (are_elsewhere c.in-Ok.inputs.classes.items c.in-Ok-classes_of.files.items c.in_ok-refusal.field-0 (rw (c.as_slice-2.ensures.value, c.as_slice-3.ensures.value) at c.in_ok-refusal.ensures) c.in_default.not-Some) in
-    on_ok c.refused.result (IsRefusedAs c.in-Err-run_files.end) _
-    (λ o is words w. refused words old new dir c.read_inputs.ensures.files_kept (c.args.script.now, inl w)
-    c.in-Ok.inputs.classes.items a.of_classes c.in-Ok-classes_of.files.items (rw c.as_slice.ensures.value at c.in-Ok-classes_of.ensures.classes) free bytes c.in-Err-run_files.end o
-    (λ r bad has. inl (dir, c.args.script.now, w, record { free = free; script_bytes = bytes; script_front = a.script_bytes; of_classes = has }))
-    (λ name x h has. inl (dir, c.args.script.now, w, unopened_of files dir c.args.script.now bytes name x free a.script_bytes h.is_script.fits has))
-    (rw (c.as_slice-4.ensures.value, c.as_slice-5.ensures) at c.in-Err-run_files.ensures.cause) is) c.refused.ensures
-
-pub returns-in-Err-clause-told : goal.returns-in-Err-clause-told
-returns-in-Err-clause-told g c =
-    on_ok c.unread.result (IsUnreadAs c.in-Err.end) _
-    (λ o is words w. told_unread words (g.F.Folder.seen c.args.folder.now).files _ _ c.in-Err.end o is) c.unread.ensures
-
-pub returns-in-Err-classes_of-clause-told : goal.returns-in-Err-classes_of-clause-told
-returns-in-Err-classes_of-clause-told g c =
-    on_ok c.unread-in-Err-classes_of.result (IsUnreadAs c.in-Err-classes_of.end) _
-    (λ o is words w. told_unread words (g.F.Folder.seen c.args.folder.now).files _ _ c.in-Err-classes_of.end o is) c.unread-in-Err-classes_of.ensures
-
-pub returns-in-Ok-run_files-clause-told : goal.returns-in-Ok-run_files-clause-told
-returns-in-Ok-run_files-clause-told g c = λ words w. (
-  c.args.dir.now,
-  c.args.script.now,
-  w,
-  told_journal (g.F.Folder.seen c.args.folder.now).files c.args.dir.now c.args.script.now c.in-Ok.inputs c.in-Ok-classes_of.files.items c.in-Ok-run_files.text _ _ c.in-Ok.ensures.inputs
-      (rw c.as_slice.ensures.value at c.in-Ok-classes_of.ensures.classes) (rw (c.as_slice-4.ensures.value, c.as_slice-5.ensures) at c.in-Ok-run_files.ensures.run).are_calls.is_script.fits
-      (rw (c.as_slice-4.ensures.value, c.as_slice-5.ensures) at c.in-Ok-run_files.ensures.told),
-)
-
-pub returns-clause-told : goal.returns-clause-told
-returns-clause-told g c =
-    on_ok c.refused.result (IsRefusedAs c.in-Err-run_files.end) _
-    (λ o is words w. told_refused words (g.F.Folder.seen c.args.folder.now).files _ _ c.in-Err-run_files.end o is) c.refused.ensures
+pub returns : goal.returns
+returns g c = record {
+  outcome =
+      let old = g.F.Folder.seen c.args.folder.now in
+      let new = g.F.Folder.seen c.read_inputs.new.folder in
+      let files = (g.F.Folder.seen c.args.folder.now).files in
+      let dir = c.args.dir.now in
+      let a = c.in-Ok.ensures.inputs in
+      let bytes = c.in-Ok.inputs.script in
+      let free : LacksHelper files dir = lacks_helper (g.F.Folder.seen c.args.folder.now).files c.args.dir.now c.in-Ok.inputs.classes.items c.in-Ok.ensures.inputs.of_classes
+      (are_elsewhere c.in-Ok.inputs.classes.items c.in-Ok-classes_of.files.items c.in_ok-refusal.field-0 (rw (c.as_slice-2.ensures.value, c.as_slice-3.ensures.value) at c.in_ok-refusal.ensures) c.in_default.not-Some) in
+      on_ok c.refused.result (IsRefusedAs c.in-Err-run_files.end) _
+      (λ o is words w. refused words old new dir c.read_inputs.ensures.files_kept (c.args.script.now, inl w)
+      c.in-Ok.inputs.classes.items a.of_classes c.in-Ok-classes_of.files.items (rw c.as_slice.ensures.value at c.in-Ok-classes_of.ensures.classes) free bytes c.in-Err-run_files.end o
+      (λ r bad has. inl (dir, c.args.script.now, w, record { free = free; script_bytes = bytes; script_front = a.script_bytes; of_classes = has }))
+      (λ name x h has. inl (dir, c.args.script.now, w, unopened_of files dir c.args.script.now bytes name x free a.script_bytes h.is_script.fits has))
+      (rw (c.as_slice-4.ensures.value, c.as_slice-5.ensures) at c.in-Err-run_files.ensures.cause) is) c.refused.ensures;
+  told =
+      on_ok c.refused.result (IsRefusedAs c.in-Err-run_files.end) _
+      (λ o is words w. told_refused words (g.F.Folder.seen c.args.folder.now).files _ _ c.in-Err-run_files.end o is) c.refused.ensures;
+  files_kept = c.read_inputs.ensures.files_kept;
+}

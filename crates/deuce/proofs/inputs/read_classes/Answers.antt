@@ -6,18 +6,38 @@ use Rattle.deuce_io.specs.Files.{Files}
 use Rattle.deuce.specs.Listing.{seen_texts}
 use Rattle.deuce.specs.Ending.{IsRead, IsCallOfFolder, EndsInputs, EndsReads}
 use Rattle.deuce.proofs.Levels.{text_in}
-use Rattle.deuce.proofs.Listed.{reads_as, too_many, not_read}
-use Rattle.deuce.proofs.Lists.{on_err}
+use Rattle.deuce.proofs.Listed.{reads_as, unread, too_many, not_read}
+use Rattle.deuce.proofs.Lists.{on_err, err_at}
 use Rattle.deuce.proofs.inputs.read_classes.Goals as goal
 
-pub returns-then-len-gt-CLASSES_LIMIT-clause-cause : goal.returns-then-len-gt-CLASSES_LIMIT-clause-cause
-returns-then-len-gt-CLASSES_LIMIT-clause-cause g c =
+pub returns-then-len-gt-CLASSES_LIMIT : goal.returns-then-len-gt-CLASSES_LIMIT
+returns-then-len-gt-CLASSES_LIMIT g c =
     let dir = c.args.dir.now in
     let files = (g.F.Folder.seen c.args.folder.now).files in
     let paths = c.in_ok-paths.paths in
     let many = c.len-then-len-gt-CLASSES_LIMIT.ensures ∙ paths.ok.0 ∙ sym (length-map paths.items string_bytes) in
-    too_many dir (g.F.Folder.seen c.args.folder.now) (g.F.Folder.seen c.class_paths.new.folder) (IsCallOfFolder files dir) (seen_texts paths.items)
-    c.len-then-len-gt-CLASSES_LIMIT.result c.over_limit.result c.in_ok-paths.ensures.paths many (omega (arith, c.if-len-gt-CLASSES_LIMIT.true, c.len.ensures, c.len-then-len-gt-CLASSES_LIMIT.ensures)) c.over_limit.ensures
+    let ends = c.class_paths.ensures in
+    record {
+      inputs = tt;
+      files_kept = ends.files_kept;
+      counts = ends.counts;
+      put_counts = ends.put_counts;
+      cause =
+          too_many dir (g.F.Folder.seen c.args.folder.now) (g.F.Folder.seen c.class_paths.new.folder) (IsCallOfFolder files dir) (seen_texts paths.items)
+          c.len-then-len-gt-CLASSES_LIMIT.result c.over_limit.result c.in_ok-paths.ensures.paths many (omega (arith, c.if-len-gt-CLASSES_LIMIT.true, c.len.ensures, c.len-then-len-gt-CLASSES_LIMIT.ensures)) c.over_limit.ensures;
+    }
+
+pub returns-in_err-paths : goal.returns-in_err-paths
+returns-in_err-paths g c =
+    let ends = c.class_paths.ensures in
+    let end = c.in_err-paths.field-0.0 in
+    rw (err_at c.from_residual.result end c.from_residual.ensures.1) record {
+      inputs = tt;
+      files_kept = ends.files_kept;
+      counts = ends.counts;
+      put_counts = ends.put_counts;
+      cause = unread c.args.dir.now (g.F.Folder.seen c.args.folder.now) (g.F.Folder.seen c.class_paths.new.folder) end c.in_err-paths.ensures.cause;
+    }
 
 pub read_each-requires : goal.read_each-requires
 read_each-requires g c =

@@ -1,9 +1,12 @@
 use Rattle.std.proofs.Common.{◌≡◌, ◌∙◌, ap, get_or, sym, subst, arith}
 use Rattle.std.specs.Prelude.{Option, string_bytes}
+use Rattle.std.proofs.lemmas.List.{length-map, take_all}
 use Rattle.deuce_io.specs.Files.{Files}
-use Rattle.deuce.specs.Ending.{IsClassInput, IsCallOfFolder, IsRead, EndsReads}
-use Rattle.deuce.proofs.Listed.{read_more, reads_as}
-use Rattle.deuce.proofs.Lists.{all_pushed, err_is}
+use Rattle.deuce.specs.Ending.{IsClassInput, IsCallOfFolder, IsRead}
+use Rattle.deuce.specs.Listing.{seen_texts}
+use Rattle.deuce.specs.declared.inputs.InputEnd.TheVariants.{NoMemory}
+use Rattle.deuce.proofs.Listed.{no_less_since, read_more, reads_as}
+use Rattle.deuce.proofs.Lists.{all_pushed, err_at}
 use Rattle.deuce.proofs.inputs.read_each.Goals as goal
 
 pub read_class_file-requires : goal.read_class_file-requires
@@ -26,18 +29,52 @@ loop-relative-preserved g c =
           (c.in_ok-read_class_file.ensures.relative ∙ c.as_str.ensures.value ∙ ap string_bytes c.relative-item.is);
       each = rw c.in_ok-push.ensures.items (all_pushed (IsClassInput (g.F.Folder.seen c.args.folder.now).files dir) old input so_far.each one);
       kept = c.read_class_file.ensures.files_kept ∙ so_far.kept;
-      counts = omega (arith, so_far.counts, c.read_class_file.ensures.counts);
-      put_counts = omega (arith, so_far.put_counts, c.read_class_file.ensures.put_counts);
+      counts = no_less_since _ _ _ so_far.counts c.read_class_file.ensures.counts;
+      put_counts = no_less_since _ _ _ so_far.put_counts c.read_class_file.ensures.put_counts;
     }
 
-pub returns-in_err-read_class_file-clause-cause : goal.returns-in_err-read_class_file-clause-cause
-returns-in_err-read_class_file-clause-cause g c =
+pub returns-in_err-read_class_file : goal.returns-in_err-read_class_file
+returns-in_err-read_class_file g c =
     let dir = c.args.dir.now in
-    let files = (g.F.Folder.seen c.args.folder.now).files in
     let first = g.F.Folder.seen c.args.folder.now in
     let before = g.F.Folder.seen c.loop-relative.folder in
     let now = g.F.Folder.seen c.read_class_file.new.folder in
     let end = c.in_err-read_class_file.field-0.0 in
-    err_is c.from_residual.result end (EndsReads (IsCallOfFolder files dir) first now) c.from_residual.ensures.1
-    (reads_as (IsCallOfFolder (g.F.Folder.seen c.loop-relative.folder).files dir) (IsCallOfFolder files dir) first before now c.loop-relative.invariant.counts
-    (λ call asked. subst (λ (f : Option Files). IsCallOfFolder f dir call) c.loop-relative.invariant.kept asked) end c.in_err-read_class_file.ensures.cause)
+    let so_far = c.loop-relative.invariant in
+    let ends = c.read_class_file.ensures in
+    rw (err_at c.from_residual.result end c.from_residual.ensures.1) record {
+      paths = tt;
+      inputs = tt;
+      files_kept = ends.files_kept ∙ so_far.kept;
+      counts = no_less_since _ _ _ so_far.counts ends.counts;
+      put_counts = no_less_since _ _ _ so_far.put_counts ends.put_counts;
+      cause =
+          reads_as (IsCallOfFolder before.files dir) (IsCallOfFolder first.files dir) first before now so_far.counts
+          (λ call asked. subst (λ (f : Option Files). IsCallOfFolder f dir call) so_far.kept asked) end c.in_err-read_class_file.ensures.cause;
+    }
+
+pub returns-in_err-push : goal.returns-in_err-push
+returns-in_err-push g c =
+    let so_far = c.loop-relative.invariant in
+    let ends = c.read_class_file.ensures in
+    rw (err_at c.from_residual-in_err-push.result NoMemory c.from_residual-in_err-push.ensures.1) record {
+      paths = tt;
+      inputs = tt;
+      files_kept = ends.files_kept ∙ so_far.kept;
+      counts = no_less_since _ _ _ so_far.counts ends.counts;
+      put_counts = no_less_since _ _ _ so_far.put_counts ends.put_counts;
+      cause = tt;
+    }
+
+pub returns : goal.returns
+returns g c =
+    let so_far = c.loop-relative.invariant in
+    let paths = c.args.paths.now in
+    record {
+      paths = so_far.paths_are ∙ take_all c.loop-relative.relative-index (seen_texts paths) (omega (arith, c.loop-relative-test.false, length-map paths string_bytes));
+      inputs = so_far.each;
+      files_kept = so_far.kept;
+      counts = so_far.counts;
+      put_counts = so_far.put_counts;
+      cause = tt;
+    }

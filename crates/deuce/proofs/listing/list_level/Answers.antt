@@ -3,26 +3,12 @@ use Rattle.std.proofs.lemmas.List.{length-map, get_or-map, map-append, take_more
 use Rattle.deuce_io.specs.Fault.{list_of}
 use Rattle.deuce_io.specs.Files.{inside, StandsIn}
 use Rattle.deuce.specs.Listing.{seen_texts, TakesIn}
-use Rattle.deuce.specs.Ending.{IsCallOfFolder, IsListed, EndsReads}
+use Rattle.deuce.specs.Ending.{IsCallOfFolder, IsListed}
+use Rattle.deuce.specs.declared.inputs.InputEnd.TheVariants.{NoMemory}
 use Rattle.deuce.proofs.Levels.{AreTaken, level_more, found_next}
-use Rattle.deuce.proofs.Listed.{reads_as}
-use Rattle.deuce.proofs.Lists.{err_is}
+use Rattle.deuce.proofs.Listed.{no_less_since, reads_as}
+use Rattle.deuce.proofs.Lists.{err_at}
 use Rattle.deuce.proofs.listing.list_level.Goals as goal
-
-pub returns-in_err-folders-clause-cause : goal.returns-in_err-folders-clause-cause
-returns-in_err-folders-clause-cause g c =
-    let dir = c.args.dir.now in
-    let files = (g.F.Folder.seen c.args.folder.now).files in
-    let first = g.F.Folder.seen c.args.folder.now in
-    let before = g.F.Folder.seen c.loop-relative.folder in
-    let now = g.F.Folder.seen c.list_folder.new.folder in
-    let end = c.in_err-folders.field-0.0 in
-    let relative = string_bytes c.relative-item.result in
-    let path : c.as_str.result.now ≡ inside dir relative = c.as_str.ensures.value ∙ c.in_ok-path.ensures.ok in
-    let listed = subst (IsListed files dir) (ap string_bytes (sym c.relative-item.is)) (c.requires c.loop-relative.relative-index c.relative-item.result c.loop-relative-test.true) in
-    err_is c.from_residual-in_err-folders.result end (EndsReads (IsCallOfFolder files dir) first now) c.from_residual-in_err-folders.ensures.1
-    (reads_as (λ call. call ≡ list_of c.as_str.result.now) (IsCallOfFolder files dir) first before now c.loop-relative.invariant.counts
-    (λ call is. inr (inl (relative, listed, is ∙ ap list_of path))) end c.in_err-folders.ensures.cause)
 
 pub loop-relative-preserved : goal.loop-relative-preserved
 loop-relative-preserved g c =
@@ -52,17 +38,86 @@ loop-relative-preserved g c =
           (subst (λ (p : List ℕ). TakesIn (StandsIn told p) c.as_str-in-loop-relative.result.now between new some) path found)) (so_far.taken told is);
       named = λ all. c.in_ok-folders.ensures.named (so_far.named all);
       kept = c.list_folder.ensures.files_kept ∙ so_far.kept;
-      counts = omega (arith, so_far.counts, c.list_folder.ensures.counts);
-      put_counts = omega (arith, so_far.put_counts, c.list_folder.ensures.put_counts);
+      counts = no_less_since _ _ _ so_far.counts c.list_folder.ensures.counts;
+      put_counts = no_less_since _ _ _ so_far.put_counts c.list_folder.ensures.put_counts;
     }
 
-pub returns-clause-found : goal.returns-clause-found
-returns-clause-found g c = λ told is levels found.
+pub returns-in_err-path : goal.returns-in_err-path
+returns-in_err-path g c =
+    let so_far = c.loop-relative.invariant in
+    rw (err_at c.from_residual.result NoMemory c.from_residual.ensures.1) record {
+      found = λ told is. tt;
+      named = tt;
+      files_kept = so_far.kept;
+      counts = so_far.counts;
+      put_counts = so_far.put_counts;
+      cause = tt;
+    }
+
+pub returns-in_err-front : goal.returns-in_err-front
+returns-in_err-front g c =
+    let so_far = c.loop-relative.invariant in
+    rw (err_at c.from_residual-in_err-front.result NoMemory c.from_residual-in_err-front.ensures.1) record {
+      found = λ told is. tt;
+      named = tt;
+      files_kept = so_far.kept;
+      counts = so_far.counts;
+      put_counts = so_far.put_counts;
+      cause = tt;
+    }
+
+pub returns-in_err-folders : goal.returns-in_err-folders
+returns-in_err-folders g c =
     let dir = c.args.dir.now in
-    let level = seen_texts c.args.level.now in
-    let i = c.loop-relative.relative-index in
-    let old = seen_texts c.args.classes.now.keys in
-    let new = seen_texts c.loop-relative.classes.keys in
-    let next = seen_texts c.loop-relative.next.items in
-    let all : take i level ≡ level = take_all i level (omega (arith, c.loop-relative-test.false, length-map c.args.level.now string_bytes)) in
-    found_next told dir levels old new level next found (subst (λ (l : List (List ℕ)). AreTaken told dir l old new next) all (c.loop-relative.invariant.taken told is))
+    let first = g.F.Folder.seen c.args.folder.now in
+    let before = g.F.Folder.seen c.loop-relative.folder in
+    let now = g.F.Folder.seen c.list_folder.new.folder in
+    let end = c.in_err-folders.field-0.0 in
+    let so_far = c.loop-relative.invariant in
+    let ends = c.list_folder.ensures in
+    let relative = string_bytes c.relative-item.result in
+    let path : c.as_str.result.now ≡ inside dir relative = c.as_str.ensures.value ∙ c.in_ok-path.ensures.ok in
+    let listed = subst (IsListed first.files dir) (ap string_bytes (sym c.relative-item.is)) (c.requires c.loop-relative.relative-index c.relative-item.result c.loop-relative-test.true) in
+    rw (err_at c.from_residual-in_err-folders.result end c.from_residual-in_err-folders.ensures.1) record {
+      found = λ told is. tt;
+      named = tt;
+      files_kept = ends.files_kept ∙ so_far.kept;
+      counts = no_less_since _ _ _ so_far.counts ends.counts;
+      put_counts = no_less_since _ _ _ so_far.put_counts ends.put_counts;
+      cause =
+          reads_as (λ call. call ≡ list_of c.as_str.result.now) (IsCallOfFolder first.files dir) first before now so_far.counts
+          (λ call is. inr (inl (relative, listed, is ∙ ap list_of path))) end c.in_err-folders.ensures.cause;
+    }
+
+pub returns-in_err-append : goal.returns-in_err-append
+returns-in_err-append g c =
+    let so_far = c.loop-relative.invariant in
+    let ends = c.list_folder.ensures in
+    rw (err_at c.from_residual-in_err-append.result NoMemory c.from_residual-in_err-append.ensures.1) record {
+      found = λ told is. tt;
+      named = tt;
+      files_kept = ends.files_kept ∙ so_far.kept;
+      counts = no_less_since _ _ _ so_far.counts ends.counts;
+      put_counts = no_less_since _ _ _ so_far.put_counts ends.put_counts;
+      cause = tt;
+    }
+
+pub returns : goal.returns
+returns g c =
+    let so_far = c.loop-relative.invariant in
+    record {
+      found = λ told is levels found.
+          let dir = c.args.dir.now in
+          let level = seen_texts c.args.level.now in
+          let i = c.loop-relative.relative-index in
+          let old = seen_texts c.args.classes.now.keys in
+          let new = seen_texts c.loop-relative.classes.keys in
+          let next = seen_texts c.loop-relative.next.items in
+          let all : take i level ≡ level = take_all i level (omega (arith, c.loop-relative-test.false, length-map c.args.level.now string_bytes)) in
+          found_next told dir levels old new level next found (subst (λ (l : List (List ℕ)). AreTaken told dir l old new next) all (so_far.taken told is));
+      named = so_far.named;
+      files_kept = so_far.kept;
+      counts = so_far.counts;
+      put_counts = so_far.put_counts;
+      cause = tt;
+    }
